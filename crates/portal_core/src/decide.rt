@@ -1,0 +1,100 @@
+//! Whether a command is accepted, and what it then changes. Each decision answers the first refusal whose condition holds, in the order of its verdict.
+ghost use Rattle.std.specs.Prelude.{◌≡◌, ◌≤◌, IfOk, IfErr, Some, None};
+ghost use Rattle.portal_model.specs.History.{amount_left};
+ghost use Rattle.portal_model.specs.Verdict.{sell_verdict, report_verdict, refund_verdict, close_verdict};
+ghost use Rattle.portal_model.specs.Change.{sell_change, report_change, refund_change, close_change};
+
+mod issue;
+mod plans;
+mod redeem;
+
+pub use issue::decide_issue;
+pub use plans::decide_plans;
+use portal_model::change::{Changes, Closing, Repayment, Sale, Usage};
+use portal_model::moment::Moment;
+use portal_model::plan::Plan;
+use portal_model::record::{Session, Voucher};
+use portal_model::refusal::Refusal;
+pub use redeem::decide_redeem;
+
+/// The sale of the voucher that was found under the code. Refused: `UnknownCode` where there is none, `SoldAlready`, `Expired` from its expiry moment on. A refunded voucher stays sold.
+pub fn decide_sell(voucher: Option<Voucher>, t: Moment) -> Result<Changes, Refusal>
+    ensures accepted { IfOk result (λ _. sell_verdict voucher t ≡ None) }
+    ensures refused { IfErr result (λ r. sell_verdict voucher t ≡ Some r) }
+    ensures change { IfOk result (λ change. sell_change voucher t ≡ Some change) }
+{
+    let Some(voucher) = voucher else {
+        return Err(Refusal::UnknownCode);
+    };
+    if voucher.sold.is_some() {
+        return Err(Refusal::SoldAlready);
+    }
+    if t >= voucher.expires {
+        return Err(Refusal::Expired);
+    }
+    Ok(Changes::Sale(Sale { at: t, voucher }))
+}
+
+/// A report of bytes for the session of that number, also one that is closed or has ended. Refused: `UnknownSession` where there is none.
+pub fn decide_report(session: Option<Session>, bytes: u64, t: Moment) -> Result<Changes, Refusal>
+    ensures accepted { IfOk result (λ _. report_verdict session ≡ None) }
+    ensures refused { IfErr result (λ r. report_verdict session ≡ Some r) }
+    ensures change { IfOk result (λ change. report_change session bytes t ≡ Some change) }
+{
+    let Some(session) = session else {
+        return Err(Refusal::UnknownSession);
+    };
+    Ok(Changes::Usage(Usage {
+        at: t,
+        session,
+        bytes,
+    }))
+}
+
+/// The price of the uses that are left, rounded down.
+fn amount_left(plan: Plan, redeemed: u64) -> u64
+    requires { redeemed ≤ plan.uses }
+    ensures { result ≡ amount_left plan redeemed }
+{
+    u64::from(plan.price) * (u64::from(plan.uses) - redeemed) / u64::from(plan.uses)
+}
+
+/// The refund of the uses that are left of the voucher found under the code, also of an expired one. Refused: `UnknownCode` where there is none, `NotSold`, `Refunded`, `NothingLeft` where no use is left.
+pub fn decide_refund(voucher: Option<Voucher>, t: Moment) -> Result<Changes, Refusal>
+    ensures accepted { IfOk result (λ _. refund_verdict voucher ≡ None) }
+    ensures refused { IfErr result (λ r. refund_verdict voucher ≡ Some r) }
+    ensures change { IfOk result (λ change. refund_change voucher t ≡ Some change) }
+{
+    let Some(voucher) = voucher else {
+        return Err(Refusal::UnknownCode);
+    };
+    if voucher.sold.is_none() {
+        return Err(Refusal::NotSold);
+    }
+    if voucher.refund.is_some() {
+        return Err(Refusal::Refunded);
+    }
+    if voucher.redeemed >= u64::from(voucher.plan.uses) {
+        return Err(Refusal::NothingLeft);
+    }
+    Ok(Changes::Repayment(Repayment {
+        at: t,
+        voucher,
+        amount: amount_left(voucher.plan, voucher.redeemed),
+    }))
+}
+
+/// The close of the session of that number. Refused: `UnknownSession` where there is none, `ClosedAlready`.
+pub fn decide_close(session: Option<Session>, t: Moment) -> Result<Changes, Refusal>
+    ensures accepted { IfOk result (λ _. close_verdict session ≡ None) }
+    ensures refused { IfErr result (λ r. close_verdict session ≡ Some r) }
+    ensures change { IfOk result (λ change. close_change session t ≡ Some change) }
+{
+    let Some(session) = session else {
+        return Err(Refusal::UnknownSession);
+    };
+    if session.closed.is_some() {
+        return Err(Refusal::ClosedAlready);
+    }
+    Ok(Changes::Closing(Closing { at: t, session }))
+}

@@ -1,0 +1,25 @@
+//! The decisions of the desk over the records that were read for them, and what is told of sessions.
+#![tactic(auto)]
+
+pub mod decide;
+pub mod state;
+
+pub use decide::{
+    decide_close, decide_issue, decide_plans, decide_redeem, decide_refund, decide_report,
+    decide_sell,
+};
+pub use portal_model::captive::{Captive, OpenSession};
+pub use portal_model::change::{
+    Answer, Changes, Closing, Issuance, Loading, Redemption, Repayment, Sale, Usage,
+};
+pub use portal_model::command::Command;
+pub use portal_model::lists::{Codes, Plans};
+pub use portal_model::moment::Moment;
+pub use portal_model::name::{Device, Id};
+pub use portal_model::plan::Plan;
+pub use portal_model::record::{Batch, Head, Session, Voucher, is_open};
+pub use portal_model::refusal::Refusal;
+pub use state::{captive_of, effective, open_session};
+
+#[cfg(test)]
+mod tests;

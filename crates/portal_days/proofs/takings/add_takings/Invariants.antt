@@ -1,0 +1,10 @@
+use Rattle.std.proofs.Common.{◌≡◌, map, pos, ◌+ℤ◌}
+use Rattle.std.specs.List.{range_with_len}
+use Rattle.portal_days.specs.Takings.{takings_on, TotalsFit}
+use Rattle.portal_days.proofs.takings.add_takings.Given as goal
+
+abbrev pub invariant-loop-after : goal.invariant-loop-after
+invariant-loop-after l = record {
+  so_far : l.all.items ≡ map (takings_on l.sales l.refunds) (map (λ k. l.range.first +ℤ pos k) (range_with_len 0 l.after));
+  totals : TotalsFit l.all.items;
+}

@@ -1,0 +1,113 @@
+ghost use Rattle.std.specs.Prelude.{◌≡◌, ◌↔◌, ◌<◌, pos, ◌+ℤ◌, IsSome, IfSome};
+ghost use Rattle.portal_days.specs.Span.{Span, IsSpan, day_count};
+
+use std::marker::Model;
+
+/// A civil day, by its number from 1970-01-01 on: from 1969-01-01 (-365) to 9999-12-31 (2,932,896).
+#[derive(Clone, Copy, Debug, PartialEq, Eq)]
+pub struct Day {
+    number: i32,
+}
+
+impl Model for Day {
+    ghost use Rattle.std.specs.Prelude.{ℤ};
+    ghost use Rattle.portal_days.specs.Span.{IsDay};
+
+    ghost Value = { ℤ };
+
+    ghost view = { λ d. d.number };
+
+    ghost invariant = { λ d. IsDay d.number };
+
+    ghost inverse = { λ z. record { number = z } };
+}
+
+impl Day {
+    ghost use Rattle.portal_days.specs.Span.{IsDay};
+
+    /// The day of that number, or `None` outside of -365 to 2,932,896.
+    pub fn new(number: i32) -> Option<Day>
+        ensures accepts { IsSome result ↔ IsDay number }
+        ensures value { IfSome result (λ day. day ≡ number) }
+    {
+        if number < -365 || number > 2_932_896 {
+            return None;
+        }
+        Some(Day { number })
+    }
+
+    /// The number of the day: the days from 1970-01-01 to it.
+    pub fn get(&self) -> i32
+        ensures value { result ≡ self.now }
+        ensures range { IsDay result }
+    {
+        self.number
+    }
+}
+
+/// Days in a row, from a first to a last: at least one, at most 366.
+#[derive(Clone, Copy, Debug, PartialEq, Eq)]
+pub struct DayRange {
+    first: Day,
+    last: Day,
+}
+
+impl Model for DayRange {
+    ghost use Rattle.portal_days.specs.Span.{Span, IsRange};
+
+    ghost Value = { Span };
+
+    ghost view = { λ r. record { first = r.first; last = r.last } };
+
+    ghost invariant = { λ r. IsRange r.first r.last };
+
+    ghost inverse = { λ s. record { first = s.first; last = s.last } };
+}
+
+impl DayRange {
+    /// The days from one to another, both included; `None` where the second is before the first, and
+    /// where they are more than 366 days.
+    pub fn new(from: Day, to: Day) -> Option<DayRange>
+        ensures accepts { IsSome result ↔ IsSpan from to }
+        ensures value { IfSome result (λ range. range ≡ record { first = from; last = to }) }
+    {
+        if to.get() < from.get() || to.get() - from.get() > 365 {
+            return None;
+        }
+        Some(DayRange {
+            first: from,
+            last: to,
+        })
+    }
+
+    /// The first day.
+    pub fn first(&self) -> Day
+        ensures { result ≡ self.now.first }
+    {
+        self.first
+    }
+
+    /// The last day.
+    pub fn last(&self) -> Day
+        ensures { result ≡ self.now.last }
+    {
+        self.last
+    }
+
+    /// How many days there are.
+    pub(crate) fn count(&self) -> u32
+        ensures { result ≡ day_count self.now }
+    {
+        (self.last.get() - self.first.get() + 1) as u32
+    }
+
+    /// The day that is so many after the first.
+    pub(crate) fn day(&self, after: u32) -> Day
+        requires { after < day_count self.now }
+        ensures { result ≡ self.now.first +ℤ pos after }
+    {
+        Day {
+            number: self.first.get() + after as i32,
+        }
+    }
+}

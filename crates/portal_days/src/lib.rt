@@ -1,0 +1,11 @@
+//! Civil days, ranges of days, and what was taken on each day.
+#![tactic(auto)]
+
+mod calendar;
+mod takings;
+
+pub use calendar::{Day, DayRange};
+pub use takings::{DayTakings, add_takings};
+
+#[cfg(test)]
+mod tests;

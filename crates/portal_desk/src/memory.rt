@@ -1,0 +1,108 @@
+//! A desk that keeps its head and its plans in memory.
+ghost use Rattle.std.specs.Prelude.{◌≡◌, ◌≤◌, [], max};
+ghost use Rattle.portal_desk.specs.States.{running};
+ghost use Rattle.portal_desk.specs.Memory.{StandsInMemory};
+
+use crate::Desk;
+use crate::prepared::Prepared;
+use portal_core::{captive_of, decide_plans, effective};
+use portal_files::Settings;
+use portal_laws::plan_is_row;
+use portal_model::captive::Captive;
+use portal_model::change::Changes;
+use portal_model::command::{Command, command_is_typed};
+use portal_model::moment::Moment;
+use portal_model::name::Device;
+use portal_model::plan::Plan;
+use portal_model::record::Head;
+use portal_model::refusal::Refusal;
+use std::alloc::Global;
+
+/// A desk in memory. It keeps plans alone: a command of another kind stops it, and no route makes one.
+#[derive(Drop)]
+pub struct MemoryDesk {
+    head: Head,
+    plans: Vec<Plan>,
+    is_stopped: bool,
+    settings: Settings,
+}
+
+impl MemoryDesk {
+    /// A desk that was told nothing yet.
+    pub fn new(alloc: Global, settings: Settings) -> MemoryDesk
+        ensures stands { ⟦<MemoryDesk as Desk>⟧.stands result (running []) }
+        ensures told { ⟦<MemoryDesk as Desk>⟧.settings result ≡ settings }
+    {
+        let Some(start) = Moment::new(0) else {
+            unreachable!();
+        };
+        MemoryDesk {
+            head: Head {
+                last: start,
+                grants: 0,
+                sessions: 0,
+            },
+            plans: Vec::new(alloc),
+            is_stopped: false,
+            settings,
+        }
+    }
+}
+
+impl Desk for MemoryDesk {
+    ghost stands = { λ d s. StandsInMemory d.head d.plans.items d.is_stopped s };
+
+    ghost settings = { λ d. d.settings };
+
+    fn settings(&self) -> &Settings {
+        &self.settings
+    }
+
+    fn state(&mut self, moment: Moment, device: Device) -> Result<Captive, Refusal> {
+        let _asked = device;
+        if self.is_stopped {
+            return Err(Refusal::Stopped);
+        }
+        // no session was ever opened
+        Ok(captive_of(None, effective(moment, self.head.last)))
+    }
+
+    fn prepare(
+        &mut self,
+        alloc: Global,
+        moment: Moment,
+        command: Command,
+    ) -> Result<Prepared, Refusal> {
+        if self.is_stopped {
+            return Err(Refusal::Stopped);
+        }
+        command_is_typed(&command);
+        let Command::Load { plans } = &command else {
+            self.is_stopped = true;
+            return Err(Refusal::Stopped);
+        };
+        let t = effective(moment, self.head.last);
+        plan_is_row();
+        match decide_plans(alloc, &self.plans, plans.as_slice(), t) {
+            Ok(changes) => Ok(Prepared::new(changes)),
+            Err(r) => Err(r),
+        }
+    }
+
+    fn finish(&mut self, prepared: Prepared) -> Result<(), Refusal> {
+        if self.is_stopped {
+            return Err(Refusal::Stopped);
+        }
+        let Changes::Loading(loading) = prepared.into_changes() else {
+            self.is_stopped = true;
+            return Err(Refusal::Stopped);
+        };
+        match self.plans.extend_from_slice(loading.added.as_slice()) {
+            Ok(()) => {
+                self.head.last = loading.at;
+                Ok(())
+            }
+            Err(_) => Err(Refusal::NoMemory),
+        }
+    }
+}

@@ -1,0 +1,7 @@
+pub mod DayText
+pub mod Laws
+pub mod LocalDay
+pub mod PlansFile
+pub mod Sample
+pub mod SettingsFile
+pub mod Texts

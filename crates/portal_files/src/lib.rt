@@ -1,0 +1,21 @@
+//! What an operator writes by hand and what the counter prints: plans and settings from TOML, civil
+//! days, print files and takings reports.
+#![tactic(auto)]
+
+mod days;
+mod document;
+mod fault;
+mod fields;
+mod laws;
+mod plans;
+mod settings;
+mod settings_file;
+mod sheet;
+
+pub use days::{day_text, local_day, local_time, read_day};
+pub use fault::FileFault;
+pub use laws::{file_fixes_plans, file_fixes_settings, text_names_day};
+pub use plans::read_plans;
+pub use settings::Settings;
+pub use settings_file::{read_settings, sample_settings};
+pub use sheet::BatchSheet;

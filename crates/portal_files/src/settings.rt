@@ -1,0 +1,66 @@
+ghost use Rattle.std.specs.Prelude.{◌≡◌, option_map};
+ghost use Rattle.jiff.specs.ZoneView.{plain_zone};
+
+use jiff::tz::TimeZone;
+use std::marker::Model;
+
+/// What the desk is told at its start: the zone of its civil days, the URLs that guests are given, and
+/// the tokens of the counter and of the gateway.
+#[derive(Drop)]
+pub struct Settings {
+    pub(crate) zone: TimeZone<'static>,
+    pub(crate) portal_url: String,
+    pub(crate) venue_url: Option<String>,
+    pub(crate) desk_token: String,
+    pub(crate) gateway_token: String,
+}
+
+impl Model for Settings {
+    ghost use Rattle.std.specs.Prelude.{string_bytes, option_map};
+    ghost use Rattle.jiff.specs.ZoneView.{plain_zone};
+    ghost use Rattle.portal_files.specs.SettingsFile.{SettingsValue};
+
+    ghost Value = { SettingsValue };
+
+    ghost view = { λ s. record { zone = plain_zone s.zone; portal_url = string_bytes s.portal_url; venue_url = option_map string_bytes s.venue_url; desk_token = string_bytes s.desk_token; gateway_token = string_bytes s.gateway_token } };
+}
+
+impl Settings {
+    /// The zone in which days and times are told.
+    pub fn zone(&self) -> TimeZone<'static>
+        ensures { plain_zone result ≡ self.now.zone }
+    {
+        self.zone
+    }
+
+    /// The URL of the portal (`user-portal-url`, RFC 8908 section 5).
+    pub fn portal_url(&self) -> &str
+        ensures { result.now ≡ self.now.portal_url }
+    {
+        self.portal_url.as_str()
+    }
+
+    /// The URL of the venue, if it has one (`venue-info-url`, RFC 8908 section 5).
+    pub fn venue_url(&self) -> Option<&str>
+        ensures { option_map (λ url. url.now) result ≡ self.now.venue_url }
+    {
+        match &self.venue_url {
+            Some(url) => Some(url.as_str()),
+            None => None,
+        }
+    }
+
+    /// The token that the counter's requests carry.
+    pub fn desk_token(&self) -> &str
+        ensures { result.now ≡ self.now.desk_token }
+    {
+        self.desk_token.as_str()
+    }
+
+    /// The token that the gateway's requests carry.
+    pub fn gateway_token(&self) -> &str
+        ensures { result.now ≡ self.now.gateway_token }
+    {
+        self.gateway_token.as_str()
+    }
+}

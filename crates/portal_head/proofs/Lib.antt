@@ -1,0 +1,6 @@
+pub mod FieldLemmas
+pub mod RequestLemmas
+pub mod LineLemmas
+pub mod LineFeedLemmas
+pub mod DecidedLemmas
+pub mod ReadingLemmas

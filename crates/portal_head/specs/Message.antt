@@ -1,0 +1,78 @@
+-- What the bytes of a request say.
+use Rattle.std.specs.Prelude.{ℕ, ◌≤◌, List, length, take, drop, map, nat_lt, if◌then◌else◌, Option, Some, None, option_map, Result, Ok, Err, codes}
+use Rattle.std.specs.Borrow.{Bor}
+use Rattle.httparse.specs.Grammar.{RequestHead, ReadsRequest, print_request}
+use Rattle.httparse.specs.Spans.{name_and_value}
+use Rattle.portal_head.specs.declared.limits.TheConstants.{HEAD_LIMIT, FIELD_LIMIT}
+use Rattle.portal_head.specs.declared.faults.HeadFault.{HeadFault}
+use Rattle.portal_head.specs.declared.faults.HeadFault.TheVariants.{BadRequest}
+use Rattle.portal_head.specs.declared.head.Request.{Request}
+use Rattle.portal_head.specs.Fields.{FieldList, values_of, only_of}
+use Rattle.portal_head.specs.Lengths.{declared_length}
+
+-- the bytes begin with that head, and it has few enough fields
+abbrev pub BeginsWith : List ℕ → RequestHead → Type 0
+BeginsWith bytes head = (rest : List ℕ) × ReadsRequest bytes head rest × (length head.fields ≤ FIELD_LIMIT)
+
+-- the head that the front of the bytes begins with, or none
+abbrev pub HeadOf : List ℕ → Option RequestHead → Type 0
+HeadOf bytes None = (head : RequestHead) → ¬ (BeginsWith (take HEAD_LIMIT bytes) head)
+HeadOf bytes (Some head) = BeginsWith (take HEAD_LIMIT bytes) head
+
+-- the names and values of a head's fields
+abbrev pub fields_of : RequestHead → FieldList
+fields_of head = map name_and_value head.fields
+
+-- the bytes that come after a head
+abbrev pub bytes_after : RequestHead → List ℕ → List ℕ
+bytes_after head bytes = drop (length (print_request head)) bytes
+
+-- the length that a head declares for its body
+abbrev pub length_of : RequestHead → Result ℕ HeadFault
+length_of head = declared_length head.minor (fields_of head)
+
+-- the body of the declared length in the bytes after the head
+abbrev pub body_after : Result ℕ HeadFault → List ℕ → Result (List ℕ) HeadFault
+body_after (Err fault) after = Err fault
+body_after (Ok declared) after = if nat_lt (length after) declared then Err BadRequest else Ok (take declared after)
+
+-- what a request says
+pub record Message : Type 0 where
+  pub method : List ℕ
+  pub target : List ℕ
+  -- the values of Portal-Token and Portal-Device, each where there is just one
+  pub token : Option (List ℕ)
+  pub device : Option (List ℕ)
+  pub body : List ℕ
+
+-- what a request of that head says, where its body is as it should be
+abbrev pub message_with : RequestHead → Result (List ℕ) HeadFault → Result Message HeadFault
+message_with head (Err fault) = Err fault
+message_with head (Ok body) = Ok (record {
+  method = head.method;
+  target = head.target;
+  token = only_of (values_of (codes "portal-token") (fields_of head));
+  device = only_of (values_of (codes "portal-device") (fields_of head));
+  body = body;
+})
+
+-- what the bytes say that begin with that head
+abbrev pub message_in : Option RequestHead → List ℕ → Result Message HeadFault
+message_in None bytes = Err BadRequest
+message_in (Some head) bytes = message_with head (body_after (length_of head) (bytes_after head bytes))
+
+-- the message in place of the borrowed parts
+abbrev pub message_of : Result Request HeadFault → Result Message HeadFault
+message_of (Err fault) = Err fault
+message_of (Ok request) = Ok (record {
+  method = request.method.now;
+  target = request.target.now;
+  token = option_map (λ value. value.now) request.token;
+  device = option_map (λ value. value.now) request.device;
+  body = request.body.now;
+})
+
+-- the bytes in place of the borrow
+abbrev pub bytes_of : Result (Bor (List ℕ)) HeadFault → Result (List ℕ) HeadFault
+bytes_of (Err fault) = Err fault
+bytes_of (Ok body) = Ok body.now

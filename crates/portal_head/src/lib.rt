@@ -1,0 +1,29 @@
+//! The shape of a request: what the bytes that came in say, or what is wrong with them.
+//!
+//! `parse_request` reads a whole request, as far as any route needs it. `read_request` reads one from
+//! a connection in pieces, no further than its reply needs, which `is_decided` tells of the first
+//! bytes. `write_response` writes in pieces, and says how far it came.
+#![tactic(auto)]
+
+mod decided;
+mod faults;
+mod fields;
+mod head;
+mod hosts;
+mod laws;
+mod lengths;
+mod limits;
+mod lines;
+mod reading;
+mod writing;
+
+pub use crate::decided::is_decided;
+pub use crate::faults::HeadFault;
+pub use crate::head::{Request, parse_request};
+pub use crate::laws::one_head_at_most;
+pub use crate::limits::{BODY_LIMIT, FIELD_LIMIT, HEAD_LIMIT, LINE_LIMIT, PIECE_LIMIT};
+pub use crate::reading::{ReadFault, read_request};
+pub use crate::writing::{WriteFault, write_response};
+
+#[cfg(test)]
+mod tests;

@@ -1,0 +1,4 @@
+pub mod Arrived
+pub mod Checks
+pub mod Replies
+pub mod Runs

@@ -1,0 +1,48 @@
+//! A run of requests.
+ghost use Rattle.std.specs.Prelude.{◌≡◌, ◌<◌, ◌≤◌, ◌++◌, ℕ, List, IfErr, MatchResult, length};
+ghost use Rattle.std.specs.Prelude.{Vec as Items};
+ghost use Rattle.std.specs.declared.alloc.Global.{Global as Heap};
+ghost use Rattle.portal_desk.specs.States.{State};
+ghost use Rattle.portal_http.specs.Runs.{Served, bytes_of};
+
+use crate::arrivals::Arrival;
+use crate::serving::serve;
+use portal_desk::Desk;
+use portal_model::refusal::Refusal;
+use std::alloc::Global;
+
+/// Serves the requests in order and appends one response for each to `out`.
+///
+/// Each response is the reply that the commands accepted by then give at the moment handed in, or that of `no_memory`, which
+/// has changed nothing, or that of `stopped`, after which the desk answers nothing else. The response and the room for it in
+/// `out` are taken before the desk is asked to keep a command, so want of memory never covers an accepted one.
+///
+/// Refusal: `NoMemory` alone, where no response could be made: that request changed nothing, and the run ends there.
+pub fn run<D: Desk>(
+    desk: &mut D,
+    alloc: Global,
+    arrivals: &[Arrival],
+    out: &mut Vec<Vec<u8>>,
+) -> Result<(), Refusal>
+    ensures told { D.settings desk.new ≡ D.settings desk.old }
+    ensures err { IfErr result (λ r. r ≡ Refusal.NoMemory) }
+    ensures served { (old : State) → D.stands desk.old old
+        → (new : State) × (responses : List (Items ℕ Heap)) × D.stands desk.new new
+        × (out.new.items ≡ out.old.items ++ responses)
+        × Served (D.settings desk.old) old arrivals.now (bytes_of responses) new
+        × MatchResult result (λ _. length responses ≡ length arrivals.now) (λ _. length responses < length arrivals.now) }
+{
+    for arrival in arrivals {
+        if out.reserve(1).is_err() {
+            return Err(Refusal::NoMemory);
+        }
+        match serve(desk, alloc, arrival) {
+            Err(r) => return Err(r),
+            Ok(response) => match out.push(response) {
+                Ok(()) => {}
+                Err(_) => unreachable!(),
+            },
+        }
+    }
+    Ok(())
+}

@@ -1,0 +1,3 @@
+pub mod ObjectLemmas
+pub mod SessionLemmas
+pub mod TextLemmas

@@ -1,0 +1,85 @@
+-- The bodies that go out: JSON with no space between its signs, keys in byte order.
+use Rattle.std.specs.Prelude.{ℕ, List, [], ◌∷◌, Option, Some, option_map, map, codes}
+use Rattle.serde_json.specs.Data.{Data, boolean, string, array}
+use Rattle.serde_json.specs.View.{items_of}
+use Rattle.serde_json.specs.Written.{compact_text}
+use Rattle.portal_codes.specs.Code.{text_of}
+use Rattle.portal_model.specs.declared.captive.Captive.{Captive}
+use Rattle.portal_model.specs.declared.captive.OpenSession.{OpenSession}
+use Rattle.portal_model.specs.declared.record.Voucher.{Voucher}
+use Rattle.portal_model.specs.declared.change.Answer.{Answer}
+use Rattle.portal_model.specs.declared.change.Answer.TheVariants.{Plans, Issued, Sold, Redeemed, Reported, Refunded, Closed}
+use Rattle.portal_model.specs.declared.refusal.Refusal.{Refusal}
+use Rattle.portal_model.specs.Device.{text_of_device}
+use Rattle.portal_model.specs.Refusal.{word_of}
+use Rattle.portal_json.specs.Objects.{whole, whole_or_null, Keyed, object_of}
+
+-- a captive state, with the URLs of the portal and, where there is one, of the venue (RFC 8908, section 5)
+abbrev pub captive_keys : Captive → List ℕ → Option (List ℕ) → List Keyed
+captive_keys state portal_url venue_url =
+    (codes "bytes-remaining", option_map whole state.bytes)
+    ∷ (codes "can-extend-session", option_map boolean state.extend)
+    ∷ (codes "captive", Some (boolean state.captive))
+    ∷ (codes "seconds-remaining", option_map whole state.seconds)
+    ∷ (codes "user-portal-url", Some (string portal_url))
+    ∷ (codes "venue-info-url", option_map string venue_url)
+    ∷ []
+
+abbrev pub captive_data : Captive → List ℕ → Option (List ℕ) → Data
+captive_data state portal_url venue_url = object_of (captive_keys state portal_url venue_url)
+
+-- the answer to a command
+abbrev pub answer_data : Answer → Data
+answer_data (Plans plans) = object_of ((codes "plans", Some (whole plans)) ∷ [])
+answer_data (Issued batch count expires) = object_of (
+    (codes "batch", Some (string batch)) ∷ (codes "count", Some (whole count)) ∷ (codes "expires", Some (whole expires)) ∷ [])
+answer_data (Sold code price) = object_of (
+    (codes "code", Some (string (text_of code))) ∷ (codes "price", Some (whole price)) ∷ [])
+answer_data (Redeemed extended session uses_left) = object_of (
+    (codes "extended", Some (boolean extended)) ∷ (codes "session", Some (whole session))
+    ∷ (codes "uses_left", Some (whole uses_left)) ∷ [])
+answer_data (Reported still_open session used) = object_of (
+    (codes "open", Some (boolean still_open)) ∷ (codes "session", Some (whole session)) ∷ (codes "used", Some (whole used)) ∷ [])
+answer_data (Refunded amount code) = object_of (
+    (codes "amount", Some (whole amount)) ∷ (codes "code", Some (string (text_of code))) ∷ [])
+answer_data (Closed session) = object_of ((codes "session", Some (whole session)) ∷ [])
+
+-- a refusal
+abbrev pub error_data : Refusal → Data
+error_data refusal = object_of ((codes "error", Some (string (word_of refusal))) ∷ [])
+
+-- the state of a voucher; null where it was not sold or not refunded
+abbrev pub voucher_data : Voucher → Data
+voucher_data v = object_of (
+    (codes "batch", Some (string v.batch)) ∷ (codes "code", Some (string (text_of v.code))) ∷ (codes "expires", Some (whole v.expires))
+    ∷ (codes "plan", Some (string v.plan.id)) ∷ (codes "redeemed", Some (whole v.redeemed)) ∷ (codes "refund", Some (whole_or_null v.refund))
+    ∷ (codes "sold", Some (whole_or_null v.sold)) ∷ (codes "uses", Some (whole v.plan.uses)) ∷ [])
+
+-- an open session
+abbrev pub session_keys : OpenSession → List Keyed
+session_keys s =
+    (codes "bytes-remaining", option_map whole s.bytes) ∷ (codes "device", Some (string (text_of_device s.device)))
+    ∷ (codes "seconds-remaining", option_map whole s.seconds) ∷ (codes "session", Some (whole s.number)) ∷ []
+
+abbrev pub session_data : OpenSession → Data
+session_data s = object_of (session_keys s)
+
+-- open sessions, in the order listed
+abbrev pub sessions_data : List OpenSession → Data
+sessions_data sessions = object_of ((codes "sessions", Some (array (items_of (map session_data sessions)))) ∷ [])
+
+-- the texts of these
+unfoldable pub captive_body : Captive → List ℕ → Option (List ℕ) → List ℕ
+captive_body state portal_url venue_url = compact_text (captive_data state portal_url venue_url)
+
+unfoldable pub answer_body : Answer → List ℕ
+answer_body answer = compact_text (answer_data answer)
+
+unfoldable pub error_body : Refusal → List ℕ
+error_body refusal = compact_text (error_data refusal)
+
+unfoldable pub voucher_body : Voucher → List ℕ
+voucher_body voucher = compact_text (voucher_data voucher)
+
+unfoldable pub sessions_body : List OpenSession → List ℕ
+sessions_body sessions = compact_text (sessions_data sessions)

@@ -1,0 +1,72 @@
+//! What the callers of commands are told.
+ghost use Rattle.std.specs.Prelude.{◌≡◌, IfOk, IfErr, string_bytes};
+ghost use Rattle.serde_json.specs.View.{view};
+ghost use Rattle.portal_json.specs.Bodies.{answer_data, error_data, answer_body, error_body};
+
+use crate::objects::{as_text, written};
+use portal_model::change::Answer;
+use portal_model::refusal::Refusal;
+use serde_json::{Value, json};
+use std::alloc::{AllocError, Global};
+
+fn answer_value(alloc: Global, answer: Answer) -> Result<Value, AllocError>
+    ensures { IfOk result (λ v. view v ≡ answer_data answer) }
+{
+    match answer {
+        Answer::Plans { plans } => json!(in alloc; {"plans": plans}),
+        Answer::Issued {
+            batch,
+            count,
+            expires,
+        } => { json!(in alloc; {"batch": batch.text(), "count": count, "expires": expires.get()}) }
+        Answer::Sold { code, price } => {
+            let code = code.text();
+            json!(in alloc; {"code": as_text(&code), "price": price})
+        }
+        Answer::Redeemed {
+            extended,
+            session,
+            uses_left,
+        } => { json!(in alloc; {"extended": extended, "session": session, "uses_left": uses_left}) }
+        Answer::Reported {
+            still_open,
+            session,
+            used,
+        } => { json!(in alloc; {"open": still_open, "session": session, "used": used}) }
+        Answer::Refunded { amount, code } => {
+            let code = code.text();
+            json!(in alloc; {"amount": amount, "code": as_text(&code)})
+        }
+        Answer::Closed { session } => json!(in alloc; {"session": session}),
+    }
+}
+
+/// The body that answers an accepted command. Refused (`NoMemory`) only for want of memory.
+#[tactic(auto, unfolding(crate::specs::Bodies::answer_body))]
+pub fn answer_text(alloc: Global, answer: Answer) -> Result<String, Refusal>
+    ensures ok { IfOk result (λ text. string_bytes text ≡ answer_body answer) }
+    ensures err { IfErr result (λ refusal. refusal ≡ Refusal.NoMemory) }
+{
+    match answer_value(alloc, answer) {
+        Ok(value) => written(alloc, &value),
+        Err(_) => Err(Refusal::NoMemory),
+    }
+}
+
+fn error_value(alloc: Global, refusal: Refusal) -> Result<Value, AllocError>
+    ensures { IfOk result (λ v. view v ≡ error_data refusal) }
+{
+    json!(in alloc; {"error": refusal.word()})
+}
+
+/// The body that tells a refusal, by its word. Refused (`NoMemory`) only for want of memory.
+#[tactic(auto, unfolding(crate::specs::Bodies::error_body))]
+pub fn error_text(alloc: Global, refusal: Refusal) -> Result<String, Refusal>
+    ensures ok { IfOk result (λ text. string_bytes text ≡ error_body refusal) }
+    ensures err { IfErr result (λ refusal. refusal ≡ Refusal.NoMemory) }
+{
+    match error_value(alloc, refusal) {
+        Ok(value) => written(alloc, &value),
+        Err(_) => Err(Refusal::NoMemory),
+    }
+}

@@ -1,0 +1,64 @@
+//! The captive state, as a guest's device reads it.
+ghost use Rattle.std.specs.Prelude.{◌≡◌, IfOk, IfErr, option_map, string_bytes};
+ghost use Rattle.serde_json.specs.View.{view};
+ghost use Rattle.serde_json.specs.Data.{object, no_members};
+ghost use Rattle.portal_json.specs.Objects.{put_all};
+ghost use Rattle.portal_json.specs.Bodies.{captive_keys, captive_body};
+
+use crate::objects::{flag, number, put_some, text, written};
+use portal_model::captive::Captive;
+use portal_model::refusal::Refusal;
+use serde_json::{Map, Value};
+use std::alloc::{AllocError, Global};
+
+fn captive_value(
+    alloc: Global,
+    state: &Captive,
+    portal_url: &str,
+    venue_url: Option<&str>,
+) -> Result<Value, AllocError>
+    ensures { IfOk result (λ v. view v ≡ object (put_all (captive_keys state.now portal_url.now
+        (option_map (λ url. url.now) venue_url.entry)) no_members)) }
+{
+    let portal_url = text(alloc, Some(portal_url))?;
+    let venue_url = text(alloc, venue_url)?;
+    let mut members = Map::new(alloc);
+    put_some(&mut members, alloc, "bytes-remaining", number(state.bytes))?;
+    put_some(
+        &mut members,
+        alloc,
+        "can-extend-session",
+        flag(state.extend),
+    )?;
+    put_some(&mut members, alloc, "captive", flag(Some(state.captive)))?;
+    put_some(
+        &mut members,
+        alloc,
+        "seconds-remaining",
+        number(state.seconds),
+    )?;
+    put_some(&mut members, alloc, "user-portal-url", portal_url)?;
+    put_some(&mut members, alloc, "venue-info-url", venue_url)?;
+    Ok(Value::Object(members))
+}
+
+/// The body that tells a captive state (RFC 8908, section 5): whether the device is captive, what
+/// is left to it in seconds and bytes and whether its session may be extended, each where the
+/// state has it, the URL of the portal, and the URL of the venue where there is one.
+///
+/// Refused (`NoMemory`) only for want of memory.
+pub fn captive_text(
+    alloc: Global,
+    state: &Captive,
+    portal_url: &str,
+    venue_url: Option<&str>,
+) -> Result<String, Refusal>
+    ensures ok { IfOk result (λ text. string_bytes text
+        ≡ captive_body state.now portal_url.now (option_map (λ url. url.now) venue_url.entry)) }
+    ensures err { IfErr result (λ refusal. refusal ≡ Refusal.NoMemory) }
+{
+    match captive_value(alloc, state, portal_url, venue_url) {
+        Ok(value) => written(alloc, &value),
+        Err(_) => Err(Refusal::NoMemory),
+    }
+}

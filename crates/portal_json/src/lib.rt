@@ -1,0 +1,21 @@
+//! The bodies of requests and responses, as JSON (RFC 8259).
+#![tactic(auto)]
+
+mod answers;
+mod captives;
+mod objects;
+mod orders;
+mod sessions;
+mod vouchers;
+
+pub use answers::{answer_text, error_text};
+pub use captives::captive_text;
+pub use orders::{
+    BatchOrder, ReportOrder, read_batch, read_close, read_redeem, read_refund, read_report,
+    read_sale,
+};
+pub use sessions::sessions_text;
+pub use vouchers::voucher_text;
+
+#[cfg(test)]
+mod tests;

@@ -1,0 +1,90 @@
+//! JSON objects, key by key, and their texts.
+ghost use Rattle.std.specs.Prelude.{◌≡◌, false, IfOk, IfErr, OnOk, IsAscii, option_map, string_bytes};
+ghost use Rattle.serde_json.specs.Data.{boolean, string};
+ghost use Rattle.serde_json.specs.View.{view, members_view};
+ghost use Rattle.serde_json.specs.Written.{compact_text, has_float};
+ghost use Rattle.portal_json.specs.Objects.{whole, whole_or_null, put_some};
+
+use portal_model::refusal::Refusal;
+use serde_json::{Map, Value};
+use std::alloc::{AllocError, Global};
+use std::str;
+
+/// Puts a value under a key, where there is one.
+pub fn put_some(
+    members: &mut Map<String, Value>,
+    alloc: Global,
+    key: &str,
+    value: Option<Value>,
+) -> Result<(), AllocError>
+    ensures { OnOk result (members_view members.new.entries
+        ≡ put_some key.now (option_map view value) (members_view members.old.entries)) }
+{
+    match value {
+        None => Ok(()),
+        Some(value) => serde_json::put(members, alloc, key, value),
+    }
+}
+
+/// A whole number, where there is one.
+pub fn number(value: Option<u64>) -> Option<Value>
+    ensures { option_map view result ≡ option_map whole value }
+{
+    match value {
+        None => None,
+        Some(number) => Some(Value::from(number)),
+    }
+}
+
+/// A truth value, where there is one.
+pub fn flag(value: Option<bool>) -> Option<Value>
+    ensures { option_map view result ≡ option_map boolean value }
+{
+    match value {
+        None => None,
+        Some(flag) => Some(Value::Bool(flag)),
+    }
+}
+
+/// A text, where there is one.
+pub fn text(alloc: Global, value: Option<&str>) -> Result<Option<Value>, AllocError>
+    ensures { IfOk result (λ v. option_map view v ≡ option_map string (option_map (λ s. s.now) value.entry)) }
+{
+    match value {
+        None => Ok(None),
+        Some(text) => {
+            let text = String::from_str(alloc, text)?;
+            Ok(Some(Value::String(text)))
+        }
+    }
+}
+
+/// A whole number, or null where there is none.
+pub fn number_or_null(value: Option<u64>) -> Value
+    ensures { view result ≡ whole_or_null value }
+{
+    match value {
+        None => Value::Null,
+        Some(number) => Value::from(number),
+    }
+}
+
+/// ASCII bytes, as text.
+pub fn as_text(bytes: &[u8]) -> &str
+    requires { IsAscii bytes.now }
+    ensures { result.now ≡ bytes.now }
+{
+    str::from_utf8(bytes).unwrap()
+}
+
+/// The text of a value, with no space between its signs.
+pub fn written(alloc: Global, value: &Value) -> Result<String, Refusal>
+    requires { has_float (view value.now) ≡ false }
+    ensures ok { IfOk result (λ text. string_bytes text ≡ compact_text (view value.now)) }
+    ensures err { IfErr result (λ refusal. refusal ≡ Refusal.NoMemory) }
+{
+    match value.to_string(alloc) {
+        Ok(text) => Ok(text),
+        Err(_) => Err(Refusal::NoMemory),
+    }
+}

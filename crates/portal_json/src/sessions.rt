@@ -1,0 +1,75 @@
+//! The open sessions, as the gateway reads them.
+ghost use Rattle.std.specs.Prelude.{◌≡◌, Some, IfOk, IfErr, map, string_bytes};
+ghost use Rattle.serde_json.specs.Data.{object, no_members};
+ghost use Rattle.serde_json.specs.View.{view};
+ghost use Rattle.portal_json.specs.Objects.{put_all};
+ghost use Rattle.portal_json.specs.Bodies.{session_keys, session_data, sessions_data, sessions_body};
+
+use crate::objects::{as_text, number, put_some, text, written};
+use portal_model::captive::OpenSession;
+use portal_model::refusal::Refusal;
+use serde_json::{Map, Value};
+use std::alloc::{AllocError, Global};
+
+fn session_object(alloc: Global, session: &OpenSession) -> Result<Value, AllocError>
+    ensures { IfOk result (λ v. view v ≡ object (put_all (session_keys session.now) no_members)) }
+{
+    let signs = session.device.text();
+    let device = text(alloc, Some(as_text(&signs)))?;
+    let mut members = Map::new(alloc);
+    put_some(
+        &mut members,
+        alloc,
+        "bytes-remaining",
+        number(session.bytes),
+    )?;
+    put_some(&mut members, alloc, "device", device)?;
+    put_some(
+        &mut members,
+        alloc,
+        "seconds-remaining",
+        number(session.seconds),
+    )?;
+    put_some(&mut members, alloc, "session", number(Some(session.number)))?;
+    Ok(Value::Object(members))
+}
+
+fn session_value(alloc: Global, session: &OpenSession) -> Result<Value, AllocError>
+    ensures { IfOk result (λ v. view v ≡ session_data session.now) }
+{
+    let value = session_object(alloc, session)?;
+    Ok(value)
+}
+
+fn session_values(alloc: Global, sessions: &[OpenSession]) -> Result<Vec<Value>, AllocError>
+    ensures { IfOk result (λ values. map view values.items ≡ map session_data sessions.now) }
+{
+    let mut values = Vec::new(alloc);
+    for session in sessions {
+        let value = session_value(alloc, session)?;
+        values.push(value)?;
+    }
+    Ok(values)
+}
+
+fn sessions_value(alloc: Global, sessions: &[OpenSession]) -> Result<Value, AllocError>
+    ensures { IfOk result (λ v. view v ≡ sessions_data sessions.now) }
+{
+    let values = session_values(alloc, sessions)?;
+    let mut members = Map::new(alloc);
+    put_some(&mut members, alloc, "sessions", Some(Value::Array(values)))?;
+    Ok(Value::Object(members))
+}
+
+/// The body that tells the open sessions, in the order given: of each its number, its device, and
+/// what is left to it in seconds and bytes, where the session is so limited. Refused (`NoMemory`)
+/// only for want of memory.
+pub fn sessions_text(alloc: Global, sessions: &[OpenSession]) -> Result<String, Refusal>
+    ensures ok { IfOk result (λ text. string_bytes text ≡ sessions_body sessions.now) }
+    ensures err { IfErr result (λ refusal. refusal ≡ Refusal.NoMemory) }
+{
+    match sessions_value(alloc, sessions) {
+        Ok(value) => written(alloc, &value),
+        Err(_) => Err(Refusal::NoMemory),
+    }
+}

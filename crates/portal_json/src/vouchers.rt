@@ -1,0 +1,51 @@
+//! The state of a voucher.
+ghost use Rattle.std.specs.Prelude.{◌≡◌, IfOk, IfErr, string_bytes};
+ghost use Rattle.serde_json.specs.View.{view};
+ghost use Rattle.portal_json.specs.Bodies.{voucher_data, voucher_body};
+
+use crate::objects::{as_text, number_or_null, written};
+use portal_model::moment::Moment;
+use portal_model::record::Voucher;
+use portal_model::refusal::Refusal;
+use serde_json::{Value, json};
+use std::alloc::{AllocError, Global};
+
+/// The seconds of a moment, where there is one.
+fn seconds(moment: Option<Moment>) -> Option<u64>
+    ensures { result ≡ moment }
+{
+    match moment {
+        None => None,
+        Some(moment) => Some(moment.get()),
+    }
+}
+
+fn voucher_value(alloc: Global, voucher: &Voucher) -> Result<Value, AllocError>
+    ensures { IfOk result (λ v. view v ≡ voucher_data voucher.now) }
+{
+    let code = voucher.code.text();
+    json!(in alloc; {
+        "batch": voucher.batch.text(),
+        "code": as_text(&code),
+        "expires": voucher.expires.get(),
+        "plan": voucher.plan.id.text(),
+        "redeemed": voucher.redeemed,
+        "refund": number_or_null(voucher.refund),
+        "sold": number_or_null(seconds(voucher.sold)),
+        "uses": voucher.plan.uses
+    })
+}
+
+/// The body that tells a voucher's state: its batch, its code, the moment at which it expires, its
+/// plan, how often it was redeemed, the amount refunded in hundredths or null, the moment of its
+/// sale or null, and the uses that its plan gives. Refused (`NoMemory`) only for want of memory.
+#[tactic(auto, unfolding(crate::specs::Bodies::voucher_body))]
+pub fn voucher_text(alloc: Global, voucher: &Voucher) -> Result<String, Refusal>
+    ensures ok { IfOk result (λ text. string_bytes text ≡ voucher_body voucher.now) }
+    ensures err { IfErr result (λ refusal. refusal ≡ Refusal.NoMemory) }
+{
+    match voucher_value(alloc, voucher) {
+        Ok(value) => written(alloc, &value),
+        Err(_) => Err(Refusal::NoMemory),
+    }
+}

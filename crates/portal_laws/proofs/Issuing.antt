@@ -1,0 +1,121 @@
+-- Each issued code has its place in a batch, and each batch its plan.
+use Rattle.std.proofs.Common.{◌≡◌, ℕ, ◌+◌, Bool, true, false, cond, List, [], ◌∷◌, length, Option, Some, None, refl, ap, sym, ◌∙◌}
+use Rattle.std.specs.Prelude.{bytes_eq, option_map, option_and_then, find}
+use Rattle.std.specs.Option.{option_or}
+use Rattle.std.proofs.lemmas.List.Folds.{find-append}
+use Rattle.portal_model.specs.declared.command.Command.TheVariants.{Load, Issue, Sell, Redeem, Report, Refund, Close}
+use Rattle.portal_model.specs.declared.plan.Plan.{Plan}
+use Rattle.portal_model.specs.declared.record.Batch.{Batch}
+use Rattle.portal_model.specs.History.{entry, History, Place, placed, Issued, issued_of, issued_at, plan_of, batch_of, batch_row}
+use Rattle.portal_model.specs.Rows.{places_of}
+use Rattle.portal_model.specs.Verdict.{IsLegal, any_held}
+use Rattle.portal_laws.proofs.Basics.{bytes_same, bytes_refl, or-some, cond-true}
+use Rattle.portal_laws.proofs.Plans.{plan-id}
+use Rattle.portal_laws.proofs.Accepted.{issuable}
+
+-- the place of a code
+abbrev pub place_among : List Place → List ℕ → Option Place
+place_among places code = find (λ k. bytes_eq k.code code) places
+
+-- what is known of an issued code: its batch, and the plan of the batch
+pub record IsBacked (batches : List ℕ → Option Batch) (plans : List ℕ → Option Plan) (i : Issued) (k : Place) : Type 0 where
+  pub batch : Batch
+  pub of_batch : i.batch ≡ k.batch
+  pub at_place : i.place ≡ k.place
+  pub found : batches k.batch ≡ Some batch
+  pub plan : plans batch.plan ≡ Some i.plan
+  pub expires : batch.expires ≡ i.expires
+
+-- a code is issued where it has a place
+abbrev pub Agrees : (List ℕ → Option Batch) → (List ℕ → Option Plan) → Option Issued → Option Place → Type 0
+Agrees batches plans None None = Unit {0}
+Agrees batches plans None (Some k) = ⊥
+Agrees batches plans (Some i) None = ⊥
+Agrees batches plans (Some i) (Some k) = IsBacked batches plans i k
+
+-- what was found of an id is found later too
+abbrev Keeps : {A : Type 0} → (List ℕ → Option A) → (List ℕ → Option A) → Type 0
+Keeps {A} f g = (id : List ℕ) (x : A) → f id ≡ Some x → g id ≡ Some x
+
+keeps_all : {A : Type 0} (f : List ℕ → Option A) → Keeps f f
+keeps_all f = λ id x e. e
+
+agrees-later : (b c : List ℕ → Option Batch) (p q : List ℕ → Option Plan) → Keeps b c → Keeps p q → (o : Option Issued) (k : Option Place) → Agrees b p o k → Agrees c q o k
+agrees-later b c p q kb kp None None h = tt
+agrees-later b c p q kb kp None (Some k) h = h
+agrees-later b c p q kb kp (Some i) None h = h
+agrees-later b c p q kb kp (Some i) (Some k) h = record {
+  batch = h.batch;
+  of_batch = h.of_batch;
+  at_place = h.at_place;
+  found = kb k.batch h.batch h.found;
+  plan = kp h.batch.plan i.plan h.plan;
+  expires = h.expires;
+}
+
+-- a place of a batch is of that batch
+pub placed-batch : (code b : List ℕ) (n : ℕ) (codes : List (List ℕ)) (k : Place) → place_among (placed b n codes) code ≡ Some k → k.batch ≡ b
+placed-batch code b n [] k e = cc
+placed-batch code b n (c ∷ codes) k e = go (placed-batch code b (n + 1) codes k) (bytes_eq c code) e
+  where
+    go : (place_among (placed b (n + 1) codes) code ≡ Some k → k.batch ≡ b) → (x : Bool) → cond x (Some (record { code = c; batch = b; place = n })) (place_among (placed b (n + 1) codes) code) ≡ Some k → k.batch ≡ b
+    go rest true is = cc
+    go rest false is = rest is
+
+new_batch-keeps : (H : History) (t : ℕ) (b p : List ℕ) (codes : List (List ℕ)) → batch_of H b ≡ None → Keeps (batch_of H) (batch_of (entry t (Issue b p codes) ∷ H))
+new_batch-keeps H t b p codes none = λ id x e. go id x e (bytes_eq b id) refl
+  where
+    go : (id : List ℕ) (x : Batch) → batch_of H id ≡ Some x → (same : Bool) → bytes_eq b id ≡ same → cond same (option_map (batch_row t b (length codes)) (plan_of H p)) (batch_of H id) ≡ Some x
+    go id x e true is = let here : batch_of H id ≡ None = ap (batch_of H) (sym (bytes_same b id is)) ∙ none in cc
+    go id x e false is = e
+
+module _ (H : History) (t : ℕ) (b p : List ℕ) (codes : List (List ℕ)) (plan : Plan) (known : plan_of H p ≡ Some plan) (none : batch_of H b ≡ None) where
+  issue_found : batch_of (entry t (Issue b p codes) ∷ H) b ≡ Some (batch_row t b (length codes) plan)
+  issue_found = cond-true (bytes_eq b b) (option_map (batch_row t b (length codes)) (plan_of H p)) (batch_of H b) (bytes_refl b) ∙ ap (option_map (batch_row t b (length codes))) known
+
+  agrees-new : (q : Option Place) → ((k : Place) → q ≡ Some k → k.batch ≡ b)
+      → Agrees (batch_of (entry t (Issue b p codes) ∷ H)) (plan_of H) (option_and_then (λ k. option_map (issued_at t b k.place) (plan_of H p)) q) q
+  agrees-new None of_b = tt
+  agrees-new (Some k) of_b =
+      let is : k.batch ≡ b = of_b k refl in
+      rw known (record {
+        batch = batch_row t b (length codes) plan;
+        of_batch = sym is;
+        at_place = refl;
+        found = ap (batch_of (entry t (Issue b p codes) ∷ H)) is ∙ issue_found;
+        plan = ap (plan_of H) (plan-id H p plan known) ∙ known;
+        expires = refl;
+      })
+
+  agrees-issued : (code : List ℕ) (o : Option Issued) (q : Option Place) → Agrees (batch_of H) (plan_of H) o q
+      → Agrees (batch_of (entry t (Issue b p codes) ∷ H)) (plan_of H)
+      (option_or o (option_and_then (λ k. option_map (issued_at t b k.place) (plan_of H p)) (place_among (placed b 0 codes) code))) (option_or q (place_among (placed b 0 codes) code))
+  agrees-issued code None None h = agrees-new (place_among (placed b 0 codes) code) (λ k e. placed-batch code b 0 codes k e)
+  agrees-issued code None (Some k) h = absurd h
+  agrees-issued code (Some i) None h = absurd h
+  agrees-issued code (Some i) (Some k) h = agrees-later (batch_of H) (batch_of (entry t (Issue b p codes) ∷ H)) (plan_of H) (plan_of H) (new_batch-keeps H t b p codes none) (keeps_all (plan_of H)) (Some i) (Some k) h
+
+-- a code is issued where it has a place, and its batch and its plan are held
+pub issued_is_placed : (H : History) → IsLegal H → (code : List ℕ) → Agrees (batch_of H) (plan_of H) (issued_of H code) (place_among (places_of H) code)
+issued_is_placed [] legal code = tt
+issued_is_placed (entry t (Load plans) ∷ H) legal code =
+    agrees-later (batch_of H) (batch_of H) (plan_of H) (plan_of (entry t (Load plans) ∷ H)) (keeps_all (batch_of H)) (λ id x e. or-some (plan_of H id) (find (λ p. bytes_eq p.id id) plans) x e)
+    (issued_of H code) (place_among (places_of H) code) (issued_is_placed H legal.1 code)
+issued_is_placed (entry t (Issue b p codes) ∷ H) legal code =
+    let facts = issuable (plan_of H p) (batch_of H b) (any_held H codes) codes t legal.0.accepted in
+    rw (find-append (λ (k : Place). bytes_eq k.code code) (places_of H) (placed b 0 codes))
+    (agrees-issued H t b p codes facts.plan_is facts.known facts.unknown code (issued_of H code) (place_among (places_of H) code) (issued_is_placed H legal.1 code))
+issued_is_placed (entry t (Sell c) ∷ H) legal code = issued_is_placed H legal.1 code
+issued_is_placed (entry t (Redeem d c) ∷ H) legal code = issued_is_placed H legal.1 code
+issued_is_placed (entry t (Report n bytes) ∷ H) legal code = issued_is_placed H legal.1 code
+issued_is_placed (entry t (Refund c) ∷ H) legal code = issued_is_placed H legal.1 code
+issued_is_placed (entry t (Close n) ∷ H) legal code = issued_is_placed H legal.1 code
+
+agrees-none : (b : List ℕ → Option Batch) (p : List ℕ → Option Plan) (o : Option Issued) (q : Option Place) → Agrees b p o q → o ≡ None → q ≡ None
+agrees-none b p None None h e = refl
+agrees-none b p None (Some k) h e = absurd h
+agrees-none b p (Some i) q h e = cc
+
+-- a code that was not issued has no place
+pub unplaced : (H : History) → IsLegal H → (code : List ℕ) → issued_of H code ≡ None → place_among (places_of H) code ≡ None
+unplaced H legal code none = agrees-none (batch_of H) (plan_of H) (issued_of H code) (place_among (places_of H) code) (issued_is_placed H legal code) none

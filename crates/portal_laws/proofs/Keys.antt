@@ -1,0 +1,186 @@
+-- Each key stands once in the rows of its table, and the reader of a key finds its row.
+use Rattle.std.proofs.Common.{◌≡◌, ℕ, ◌+◌, Bool, true, false, cond, List, [], ◌∷◌, ◌++◌, map, filter, Option, Some, None, refl, subst, ap, sym, ◌∙◌}
+use Rattle.std.specs.Prelude.{bytes_eq, option_map, is_some, is_none, ◌||◌, find, length}
+use Rattle.std.specs.List.{list_any}
+use Rattle.std.specs.Option.{option_or, option_to_list}
+use Rattle.std.proofs.lemmas.List.{map-append}
+use Rattle.std.proofs.lemmas.List.Folds.{find-append, list_any-append}
+use Rattle.portal_model.specs.declared.command.Command.TheVariants.{Load, Issue, Sell, Redeem, Report, Refund, Close}
+use Rattle.portal_model.specs.declared.plan.Plan.{Plan}
+use Rattle.portal_model.specs.declared.record.Batch.{Batch}
+use Rattle.portal_model.specs.History.{entry, History, Place, placed, issued_of, plan_of, batch_of, batch_row}
+use Rattle.portal_model.specs.Verdict.{IsLegal, any_held, stands_twice}
+use Rattle.portal_model.specs.Change.{added}
+use Rattle.portal_model.specs.Rows.{places_of, plans_of, batches_of, batch_among}
+use Rattle.portal_laws.specs.Laws.{BatchIsRow}
+use Rattle.portal_laws.proofs.Accepted.{issuable}
+use Rattle.portal_laws.proofs.Plans.{plan_is_row}
+use Rattle.portal_laws.proofs.Issuing.{place_among, unplaced}
+use Rattle.portal_laws.proofs.Basics.{bytes_same, bytes_swap, false_if, is_none-true, is_some-none, not_both, or-false, or-right}
+
+-- Keys that stand once
+
+-- no key of the second list stands in the first
+abbrev AreNew : List (List ℕ) → List (List ℕ) → Type 0
+AreNew xs ys = list_any (λ y. list_any (bytes_eq y) xs) ys ≡ false
+
+any-swap : (x : List ℕ) (xs ys : List (List ℕ)) → list_any (λ y. bytes_eq y x || list_any (bytes_eq y) xs) ys ≡ false
+    → (list_any (bytes_eq x) ys ≡ false) × AreNew xs ys
+any-swap x xs [] h = (refl, refl)
+any-swap x xs (y ∷ ys) h =
+    let first = or-false (bytes_eq y x || list_any (bytes_eq y) xs) (list_any (λ z. bytes_eq z x || list_any (bytes_eq z) xs) ys) h in
+    let parts = or-false (bytes_eq y x) (list_any (bytes_eq y) xs) first.0 in
+    let rest = any-swap x xs ys first.1 in
+    let other : bytes_eq x y ≡ false = false_if (bytes_eq x y) (λ e. not_both (bytes_eq y x) (bytes_swap x y e) parts.0) in
+    (rw (other, rest.0), rw (parts.1, rest.1))
+
+pub apart-append : (xs ys : List (List ℕ)) → stands_twice xs ≡ false → stands_twice ys ≡ false → AreNew xs ys → stands_twice (xs ++ ys) ≡ false
+apart-append [] ys hx hy new = hy
+apart-append (x ∷ xs) ys hx hy new =
+    let parts = or-false (list_any (bytes_eq x) xs) (stands_twice xs) hx in
+    let split = any-swap x xs ys new in
+    rw (list_any-append (bytes_eq x) xs ys, parts.0, split.0) (apart-append xs ys parts.1 hy split.1)
+
+-- Codes
+
+abbrev pub codes_in : List Place → List (List ℕ)
+codes_in places = map (λ k. k.code) places
+
+-- a key that is not found does not stand among the keys
+unfound : {A : Type 0} (key : A → List ℕ) (id : List ℕ) (xs : List A) → find (λ x. bytes_eq (key x) id) xs ≡ None → list_any (bytes_eq id) (map key xs) ≡ false
+unfound key id [] e = refl
+unfound key id (x ∷ xs) e = go (unfound key id xs) (bytes_eq (key x) id) refl e
+  where
+    go : (find (λ y. bytes_eq (key y) id) xs ≡ None → list_any (bytes_eq id) (map key xs) ≡ false) → (b : Bool) → bytes_eq (key x) id ≡ b → cond b (Some x) (find (λ y. bytes_eq (key y) id) xs) ≡ None → (bytes_eq id (key x) || list_any (bytes_eq id) (map key xs)) ≡ false
+    go rest true same h = cc
+    go rest false same h =
+        let other : bytes_eq id (key x) ≡ false = false_if (bytes_eq id (key x)) (λ y. not_both (bytes_eq (key x) id) (bytes_swap id (key x) y) same) in
+        rw other (rest h)
+
+placeless : (code : List ℕ) (places : List Place) → place_among places code ≡ None → list_any (bytes_eq code) (codes_in places) ≡ false
+placeless code places none = unfound (λ (k : Place). k.code) code places none
+
+codes-placed : (b : List ℕ) (n : ℕ) (codes : List (List ℕ)) → codes_in (placed b n codes) ≡ codes
+codes-placed b n [] = refl
+codes-placed b n (code ∷ codes) = ap (λ cs. code ∷ cs) (codes-placed b (n + 1) codes)
+
+-- a code that stands in the rows was issued
+abbrev HeldIfPlaced : History → Type 0
+HeldIfPlaced H = (code : List ℕ) → issued_of H code ≡ None → list_any (bytes_eq code) (codes_in (places_of H)) ≡ false
+
+held_if_placed : (H : History) → IsLegal H → HeldIfPlaced H
+held_if_placed H legal = λ code none. placeless code (places_of H) (unplaced H legal code none)
+
+new_codes : (H : History) → IsLegal H → (codes : List (List ℕ)) → any_held H codes ≡ false → AreNew (codes_in (places_of H)) codes
+new_codes H legal [] h = refl
+new_codes H legal (code ∷ codes) h =
+    let free = or-false (is_some (issued_of H code)) (any_held H codes) h in
+    rw (held_if_placed H legal code (is_some-none (issued_of H code) free.0)) (new_codes H legal codes free.1)
+
+pub codes_apart : (H : History) → IsLegal H → stands_twice (codes_in (places_of H)) ≡ false
+codes_apart [] legal = refl
+codes_apart (entry t (Load plans) ∷ H) legal = codes_apart H legal.1
+codes_apart (entry t (Issue b p codes) ∷ H) legal =
+    let facts = issuable (plan_of H p) (batch_of H b) (any_held H codes) codes t legal.0.accepted in
+    rw (map-append (λ (k : Place). k.code) (places_of H) (placed b 0 codes), codes-placed b 0 codes)
+    (apart-append (codes_in (places_of H)) codes (codes_apart H legal.1) facts.once (new_codes H legal.1 codes facts.free))
+codes_apart (entry t (Sell c) ∷ H) legal = codes_apart H legal.1
+codes_apart (entry t (Redeem d c) ∷ H) legal = codes_apart H legal.1
+codes_apart (entry t (Report n bytes) ∷ H) legal = codes_apart H legal.1
+codes_apart (entry t (Refund c) ∷ H) legal = codes_apart H legal.1
+codes_apart (entry t (Close n) ∷ H) legal = codes_apart H legal.1
+
+-- Plans stand once
+
+abbrev ids_in : List Plan → List (List ℕ)
+ids_in plans = map (λ p. p.id) plans
+
+fewer : (x : List ℕ) (f : Plan → Bool) (plans : List Plan) → list_any (bytes_eq x) (ids_in plans) ≡ false → list_any (bytes_eq x) (ids_in (filter f plans)) ≡ false
+fewer x f [] h = refl
+fewer x f (p ∷ plans) h =
+    let parts : (bytes_eq x p.id ≡ false) × (list_any (bytes_eq x) (ids_in plans) ≡ false) = or-false (bytes_eq x p.id) (list_any (bytes_eq x) (ids_in plans)) h in
+    go parts.0 (fewer x f plans parts.1) (f p)
+  where
+    go : bytes_eq x p.id ≡ false → list_any (bytes_eq x) (ids_in (filter f plans)) ≡ false → (b : Bool) → list_any (bytes_eq x) (ids_in (cond b (p ∷ filter f plans) (filter f plans))) ≡ false
+    go other rest true = rw other rest
+    go other rest false = rest
+
+apart-filter : (f : Plan → Bool) (plans : List Plan) → stands_twice (ids_in plans) ≡ false → stands_twice (ids_in (filter f plans)) ≡ false
+apart-filter f [] h = refl
+apart-filter f (p ∷ plans) h =
+    let parts : (list_any (bytes_eq p.id) (ids_in plans) ≡ false) × (stands_twice (ids_in plans) ≡ false) = or-false (list_any (bytes_eq p.id) (ids_in plans)) (stands_twice (ids_in plans)) h in
+    go (fewer p.id f plans parts.0) (apart-filter f plans parts.1) (f p)
+  where
+    go : list_any (bytes_eq p.id) (ids_in (filter f plans)) ≡ false → stands_twice (ids_in (filter f plans)) ≡ false → (b : Bool) → stands_twice (ids_in (cond b (p ∷ filter f plans) (filter f plans))) ≡ false
+    go other rest true = rw other rest
+    go other rest false = rest
+
+new_plans : (H : History) (plans : List Plan) → AreNew (ids_in (plans_of H)) (ids_in (added (plan_of H) plans))
+new_plans H [] = refl
+new_plans H (p ∷ plans) = go (new_plans H plans) (is_none (plan_of H p.id)) refl
+  where
+    go : AreNew (ids_in (plans_of H)) (ids_in (added (plan_of H) plans)) → (b : Bool) → is_none (plan_of H p.id) ≡ b → AreNew (ids_in (plans_of H)) (ids_in (cond b (p ∷ added (plan_of H) plans) (added (plan_of H) plans)))
+    go rest true new = rw (unfound (λ (q : Plan). q.id) p.id (plans_of H) (sym (plan_is_row H p.id) ∙ is_none-true (plan_of H p.id) new)) rest
+    go rest false new = rest
+
+pub plans_apart : (H : History) → IsLegal H → stands_twice (ids_in (plans_of H)) ≡ false
+plans_apart [] legal = refl
+plans_apart (entry t (Load plans) ∷ H) legal =
+    rw (map-append (λ (p : Plan). p.id) (plans_of H) (added (plan_of H) plans))
+    (apart-append (ids_in (plans_of H)) (ids_in (added (plan_of H) plans)) (plans_apart H legal.1) (apart-filter (λ p. is_none (plan_of H p.id)) plans legal.0.well_formed.2) (new_plans H plans))
+plans_apart (entry t (Issue b p codes) ∷ H) legal = plans_apart H legal.1
+plans_apart (entry t (Sell c) ∷ H) legal = plans_apart H legal.1
+plans_apart (entry t (Redeem d c) ∷ H) legal = plans_apart H legal.1
+plans_apart (entry t (Report n bytes) ∷ H) legal = plans_apart H legal.1
+plans_apart (entry t (Refund c) ∷ H) legal = plans_apart H legal.1
+plans_apart (entry t (Close n) ∷ H) legal = plans_apart H legal.1
+
+-- Batches
+
+one-more : (batches : List Batch) (r : Batch) (id : List ℕ) (before : Option Batch) → before ≡ batch_among batches id → (bytes_eq r.id id ≡ true → before ≡ None)
+    → cond (bytes_eq r.id id) (Some r) before ≡ batch_among (batches ++ r ∷ []) id
+one-more batches r id before is new = go (bytes_eq r.id id) new ∙ sym (find-append (λ b. bytes_eq b.id id) batches (r ∷ []))
+  where
+    go : (b : Bool) → (b ≡ true → before ≡ None) → cond b (Some r) before ≡ option_or (batch_among batches id) (cond b (Some r) None)
+    go true h = let none : batch_among batches id ≡ None = sym is ∙ h refl in rw none
+    go false h = is ∙ sym (or-right (batch_among batches id))
+
+batches-issued : (H : History) (t : ℕ) (b p : List ℕ) (codes : List (List ℕ)) (plan : Plan) → plan_of H p ≡ Some plan
+    → batches_of (entry t (Issue b p codes) ∷ H) ≡ batches_of H ++ batch_row t b (length codes) plan ∷ []
+batches-issued H t b p codes plan e = ap (λ o. batches_of H ++ option_to_list (option_map (batch_row t b (length codes)) o)) e
+
+pub batch_is_row : BatchIsRow
+batch_is_row [] legal id = refl
+batch_is_row (entry t (Load plans) ∷ H) legal id = batch_is_row H legal.1 id
+batch_is_row (entry t (Issue b p codes) ∷ H) legal id =
+    let facts = issuable (plan_of H p) (batch_of H b) (any_held H codes) codes t legal.0.accepted in
+    let plan : Plan = facts.plan_is in
+    let new : bytes_eq b id ≡ true → batch_of H id ≡ None = λ same. subst (λ (x : List ℕ). batch_of H x ≡ None) (bytes_same b id same) facts.unknown in
+    ap (λ o. cond (bytes_eq b id) (option_map (batch_row t b (length codes)) o) (batch_of H id)) facts.known
+    ∙ one-more (batches_of H) (batch_row t b (length codes) plan) id (batch_of H id) (batch_is_row H legal.1 id) new
+    ∙ ap (λ (bs : List Batch). batch_among bs id) (sym (batches-issued H t b p codes plan facts.known))
+batch_is_row (entry t (Sell c) ∷ H) legal id = batch_is_row H legal.1 id
+batch_is_row (entry t (Redeem d c) ∷ H) legal id = batch_is_row H legal.1 id
+batch_is_row (entry t (Report n bytes) ∷ H) legal id = batch_is_row H legal.1 id
+batch_is_row (entry t (Refund c) ∷ H) legal id = batch_is_row H legal.1 id
+batch_is_row (entry t (Close n) ∷ H) legal id = batch_is_row H legal.1 id
+
+abbrev batch_ids : List Batch → List (List ℕ)
+batch_ids batches = map (λ b. b.id) batches
+
+pub batches_apart : (H : History) → IsLegal H → stands_twice (batch_ids (batches_of H)) ≡ false
+batches_apart [] legal = refl
+batches_apart (entry t (Load plans) ∷ H) legal = batches_apart H legal.1
+batches_apart (entry t (Issue b p codes) ∷ H) legal =
+    let facts = issuable (plan_of H p) (batch_of H b) (any_held H codes) codes t legal.0.accepted in
+    let r : Batch = batch_row t b (length codes) facts.plan_is in
+    let new : list_any (bytes_eq b) (batch_ids (batches_of H)) ≡ false = unfound (λ (x : Batch). x.id) b (batches_of H) (sym (batch_is_row H legal.1 b) ∙ facts.unknown) in
+    let apart : stands_twice (batch_ids (batches_of H) ++ b ∷ []) ≡ false = apart-append (batch_ids (batches_of H)) (b ∷ []) (batches_apart H legal.1) refl (rw new) in
+    ap (λ (bs : List Batch). stands_twice (batch_ids bs)) (batches-issued H t b p codes facts.plan_is facts.known)
+    ∙ ap stands_twice (map-append (λ (x : Batch). x.id) (batches_of H) (r ∷ []))
+    ∙ apart
+batches_apart (entry t (Sell c) ∷ H) legal = batches_apart H legal.1
+batches_apart (entry t (Redeem d c) ∷ H) legal = batches_apart H legal.1
+batches_apart (entry t (Report n bytes) ∷ H) legal = batches_apart H legal.1
+batches_apart (entry t (Refund c) ∷ H) legal = batches_apart H legal.1
+batches_apart (entry t (Close n) ∷ H) legal = batches_apart H legal.1

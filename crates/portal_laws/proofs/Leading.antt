@@ -1,0 +1,300 @@
+-- What an accepted command makes of the rows.
+use Rattle.std.proofs.Common.{◌≡◌, ℕ, ◌+◌, ◌≤◌, max, Bool, true, false, cond, List, [], ◌∷◌, ◌++◌, map, length, Option, Some, None, refl, arith, subst, ap, sym, ◌∙◌}
+use Rattle.std.specs.Prelude.{bytes_eq, option_map, nat_eq, nat_lt, is_some, unwrap_or}
+use Rattle.std.specs.Option.{option_to_list}
+use Rattle.std.proofs.lemmas.List.{map-append, append-nil}
+use Rattle.std.proofs.lemmas.List.Elements.{All-weaker}
+use Rattle.std.proofs.lemmas.Bool.Decides.{nat_tests}
+use Rattle.portal_model.specs.declared.command.Command.TheVariants.{Load, Issue, Sell, Redeem, Report, Refund, Close}
+use Rattle.portal_model.specs.declared.plan.Plan.{Plan}
+use Rattle.portal_model.specs.declared.record.Batch.{Batch}
+use Rattle.portal_model.specs.declared.record.Voucher.{Voucher}
+use Rattle.portal_model.specs.declared.record.Session.{Session}
+use Rattle.portal_model.specs.declared.record.Head.{Head}
+use Rattle.portal_model.specs.declared.change.Changes.{Changes}
+use Rattle.portal_model.specs.declared.change.Changes.TheVariants.{Issuance, Sale, Usage, Repayment, Closing}
+use Rattle.portal_model.specs.History.{entry, History, Place, placed, Issued, Grant, issued_of, uses_of, voucher_of, voucher_row, sold_of, refund_of, Repaid, repaid_at, plan_of, batch_of, batch_row, amount_left, grants_of, grant_at, greatest_session, members, oldest, last_number, session_of, session_row, last_session_of, used_of, closed_of, kept_if, is_open_at, head_of}
+use Rattle.portal_model.specs.Verdict.{IsLegal, any_held}
+use Rattle.portal_model.specs.Change.{session_after, head_after, changes_of, load_change, redemption, reported}
+use Rattle.portal_model.specs.Rows.{row_of_grant, VoucherRow, SessionRow, GrantRow, Rows, places_of, row_of_place, row_of_opening, openings, grant_rows, batches_of, vouchers_of, sessions_of, rows_of, lead, moved_to, new_vouchers, sold_if, refunded_if, used_if, closed_if, new_session, new_grant, CountRow, TotalRow, count_of_place, counts_of, new_counts, counted_if, session_opened, total_row, total_of_opening, totals_of, totalled_if, totals_after}
+use Rattle.portal_laws.specs.Laws.{RowsLead}
+use Rattle.portal_laws.proofs.Placing.{kept-some, number-of, number-le, unreported, granted, redeem_leads}
+use Rattle.portal_laws.proofs.Openings.{IsFirst, still-first, new-first, openings_first, session_at, total-changed, report_session}
+use Rattle.portal_laws.proofs.Accepted.{issuable}
+use Rattle.portal_laws.proofs.Unissued.{unissued}
+use Rattle.portal_laws.proofs.Basics.{bytes_same, cond-false, cond-true, is_some-none, map-changed, map-changed_all, map-same, nat_eq-other, nat_eq-refl, nat_eq-same, or-false, some-of-map, some-same}
+
+-- Load
+
+load_leads : (H : History) (t : ℕ) (plans : List Plan) (ch : Changes) → changes_of H (Load plans) t ≡ Some ch → rows_of (entry t (Load plans) ∷ H) ≡ lead ch (rows_of H)
+load_leads H t plans ch e =
+    let is : load_change (plan_of H) plans t ≡ ch = cc in
+    subst (λ (c : Changes). rows_of (entry t (Load plans) ∷ H) ≡ lead c (rows_of H)) is refl
+
+-- Issue
+
+row_of_new : (H : History) → IsLegal H → (b code : List ℕ) (n : ℕ) → issued_of H code ≡ None
+    → row_of_place H (record { code = code; batch = b; place = n }) ≡ record { code = code; batch = b; place = n; sold = None; refunded = None; amount = None }
+row_of_new H legal b code n none = let h = unissued H legal code none in rw (h.sold, h.refund)
+
+new_rows : (H : History) → IsLegal H → (b : List ℕ) (n : ℕ) (codes : List (List ℕ)) → any_held H codes ≡ false → map (row_of_place H) (placed b n codes) ≡ new_vouchers b n codes
+new_rows H legal b n [] h = refl
+new_rows H legal b n (code ∷ codes) h =
+    let free = or-false (is_some (issued_of H code)) (any_held H codes) h in
+    rw (row_of_new H legal b code n (is_some-none (issued_of H code) free.0), new_rows H legal b (n + 1) codes free.1)
+
+count_of_new : (H : History) → IsLegal H → (b code : List ℕ) (n : ℕ) → issued_of H code ≡ None → count_of_place H (record { code = code; batch = b; place = n }) ≡ record { code = code; redeemed = 0 }
+count_of_new H legal b code n none = rw ((unissued H legal code none).uses)
+
+new_count_rows : (H : History) → IsLegal H → (b : List ℕ) (n : ℕ) (codes : List (List ℕ)) → any_held H codes ≡ false → map (count_of_place H) (placed b n codes) ≡ new_counts codes
+new_count_rows H legal b n [] h = refl
+new_count_rows H legal b n (code ∷ codes) h =
+    let free = or-false (is_some (issued_of H code)) (any_held H codes) h in
+    rw (count_of_new H legal b code n (is_some-none (issued_of H code) free.0), new_count_rows H legal b (n + 1) codes free.1)
+
+abbrev with_batch : History → ℕ → List Batch → List VoucherRow → List CountRow → Rows
+with_batch H t batches vouchers counts = record (rows_of H) { head = moved_to t (head_of H); batches = batches; vouchers = vouchers; counts = counts }
+
+issue_leads : (H : History) → IsLegal H → (t : ℕ) (b p : List ℕ) (codes : List (List ℕ)) → any_held H codes ≡ false → (ch : Changes) → changes_of H (Issue b p codes) t ≡ Some ch
+    → rows_of (entry t (Issue b p codes) ∷ H) ≡ lead ch (rows_of H)
+issue_leads H legal t b p codes free ch e =
+    let found = some-of-map (λ (plan : Plan). Issuance (record { at = t; batch = batch_row t b (length codes) plan; codes = codes })) (plan_of H p) ch e in
+    let row : Batch = batch_row t b (length codes) found.0 in
+    let batches : batches_of (entry t (Issue b p codes) ∷ H) ≡ batches_of H ++ row ∷ [] = ap (λ o. batches_of H ++ option_to_list (option_map (batch_row t b (length codes)) o)) found.1 in
+    let vouchers : map (row_of_place H) (places_of H ++ placed b 0 codes) ≡ vouchers_of H ++ new_vouchers b 0 codes =
+    map-append (row_of_place H) (places_of H) (placed b 0 codes) ∙ ap (λ rows. vouchers_of H ++ rows) (new_rows H legal b 0 codes free) in
+    let counts : map (count_of_place H) (places_of H ++ placed b 0 codes) ≡ counts_of H ++ new_counts codes =
+    map-append (count_of_place H) (places_of H) (placed b 0 codes) ∙ ap (λ rows. counts_of H ++ rows) (new_count_rows H legal b 0 codes free) in
+    subst (λ (c : Changes). rows_of (entry t (Issue b p codes) ∷ H) ≡ lead c (rows_of H)) found.2
+    (ap (λ bs. with_batch H t bs (vouchers_of (entry t (Issue b p codes) ∷ H)) (counts_of (entry t (Issue b p codes) ∷ H))) batches
+    ∙ ap (λ vs. with_batch H t (batches_of H ++ row ∷ []) vs (counts_of (entry t (Issue b p codes) ∷ H))) vouchers
+    ∙ ap (with_batch H t (batches_of H ++ row ∷ []) (vouchers_of H ++ new_vouchers b 0 codes)) counts)
+
+-- Sell
+
+abbrev with_vouchers : History → ℕ → List VoucherRow → Rows
+with_vouchers H t vouchers = record (rows_of H) { head = moved_to t (head_of H); vouchers = vouchers }
+
+sell_row : (H : History) (t : ℕ) (c : List ℕ) (k : Place) → row_of_place (entry t (Sell c) ∷ H) k ≡ sold_if c t (row_of_place H k)
+sell_row H t c k = go (bytes_eq c k.code)
+  where
+    go : (b : Bool) → record (row_of_place H k) { sold = cond b (Some t) (sold_of H k.code) } ≡ cond b (record (row_of_place H k) { sold = Some t }) (row_of_place H k)
+    go true = refl
+    go false = refl
+
+sell_leads : (H : History) (t : ℕ) (c : List ℕ) (ch : Changes) → changes_of H (Sell c) t ≡ Some ch → rows_of (entry t (Sell c) ∷ H) ≡ lead ch (rows_of H)
+sell_leads H t c ch e =
+    let found = some-of-map (λ (v : Voucher). Sale (record { at = t; voucher = v })) (voucher_of H c) ch e in
+    let issued = some-of-map (voucher_row H c) (issued_of H c) found.0 found.1 in
+    let at_row : rows_of (entry t (Sell c) ∷ H) ≡ lead (Sale (record { at = t; voucher = voucher_row H c issued.0 })) (rows_of H) =
+    ap (with_vouchers H t) (map-changed (row_of_place H) (row_of_place (entry t (Sell c) ∷ H)) (sold_if c t) (sell_row H t c) (places_of H)) in
+    subst (λ (x : Changes). rows_of (entry t (Sell c) ∷ H) ≡ lead x (rows_of H)) found.2
+    (subst (λ (v : Voucher). rows_of (entry t (Sell c) ∷ H) ≡ lead (Sale (record { at = t; voucher = v })) (rows_of H)) issued.2 at_row)
+
+-- Refund
+
+refund_row : (H : History) (t : ℕ) (c : List ℕ) (i : Issued) → issued_of H c ≡ Some i → (k : Place)
+    → row_of_place (entry t (Refund c) ∷ H) k ≡ refunded_if c t (amount_left i.plan (uses_of H c)) (row_of_place H k)
+refund_row H t c i e k = go (bytes_eq c k.code) refl
+  where
+    repaid : List ℕ → Option Repaid
+    repaid x = option_map (repaid_at t (uses_of H x)) (issued_of H x)
+
+    go : (b : Bool) → bytes_eq c k.code ≡ b
+        → record (row_of_place H k) { refunded = option_map (λ r. r.at) (cond b (repaid k.code) (refund_of H k.code)); amount = option_map (λ r. r.amount) (cond b (repaid k.code) (refund_of H k.code)) }
+        ≡ cond b (record (row_of_place H k) { refunded = Some t; amount = Some (amount_left i.plan (uses_of H c)) }) (row_of_place H k)
+    go true same =
+        let here : repaid k.code ≡ Some (record { at = t; amount = amount_left i.plan (uses_of H c) }) =
+        subst (λ (x : List ℕ). repaid x ≡ Some (record { at = t; amount = amount_left i.plan (uses_of H c) })) (bytes_same c k.code same) (ap (option_map (repaid_at t (uses_of H c))) e) in
+        ap (λ (o : Option Repaid). record (row_of_place H k) { refunded = option_map (λ r. r.at) o; amount = option_map (λ r. r.amount) o }) here
+    go false same = refl
+
+refund_leads : (H : History) (t : ℕ) (c : List ℕ) (ch : Changes) → changes_of H (Refund c) t ≡ Some ch → rows_of (entry t (Refund c) ∷ H) ≡ lead ch (rows_of H)
+refund_leads H t c ch e =
+    let found = some-of-map (λ (v : Voucher). Repayment (record { at = t; voucher = v; amount = amount_left v.plan v.redeemed })) (voucher_of H c) ch e in
+    let issued = some-of-map (voucher_row H c) (issued_of H c) found.0 found.1 in
+    let i : Issued = issued.0 in
+    let at_row : rows_of (entry t (Refund c) ∷ H) ≡ lead (Repayment (record { at = t; voucher = voucher_row H c i; amount = amount_left i.plan (uses_of H c) })) (rows_of H) =
+    ap (with_vouchers H t) (map-changed (row_of_place H) (row_of_place (entry t (Refund c) ∷ H)) (refunded_if c t (amount_left i.plan (uses_of H c))) (refund_row H t c i issued.1) (places_of H)) in
+    subst (λ (x : Changes). rows_of (entry t (Refund c) ∷ H) ≡ lead x (rows_of H)) found.2
+    (subst (λ (v : Voucher). rows_of (entry t (Refund c) ∷ H) ≡ lead (Repayment (record { at = t; voucher = v; amount = amount_left v.plan v.redeemed })) (rows_of H)) issued.2 at_row)
+
+-- Report and close
+
+abbrev with_sessions : History → ℕ → List SessionRow → Rows
+with_sessions H t sessions = record (rows_of H) { head = moved_to t (head_of H); sessions = sessions }
+
+-- a session's number and its greatest report
+session_is : (H : History) (n : ℕ) (s : Session) → session_of H n ≡ Some s → (s.number ≡ n) × (s.used ≡ used_of H n)
+session_is H n s e =
+    let found = some-of-map (session_row H n (members (grants_of H) n)) (oldest (members (grants_of H) n)) s e in
+    (sym (ap (λ (r : Session). r.number) found.2), sym (ap (λ (r : Session). r.used) found.2))
+
+report_row : (H : History) (t n bytes : ℕ) (g : Grant) → row_of_opening (entry t (Report n bytes) ∷ H) g ≡ used_if n (max bytes (used_of H n)) (row_of_opening H g)
+report_row H t n bytes g = go (nat_eq n g.session) refl
+  where
+    go : (b : Bool) → nat_eq n g.session ≡ b
+        → record (row_of_opening H g) { used = cond b (max bytes (used_of H g.session)) (used_of H g.session) } ≡ cond b (record (row_of_opening H g) { used = max bytes (used_of H n) }) (row_of_opening H g)
+    go true same = ap (λ (m : ℕ). record (row_of_opening H g) { used = max bytes (used_of H m) }) (sym (nat_eq-same n g.session same))
+    go false same = refl
+
+abbrev with_usage : History → ℕ → List SessionRow → List TotalRow → Rows
+with_usage H t sessions totals = record (rows_of H) { head = moved_to t (head_of H); sessions = sessions; totals = totals }
+
+report_leads : (H : History) (t n bytes : ℕ) (ch : Changes) → changes_of H (Report n bytes) t ≡ Some ch → rows_of (entry t (Report n bytes) ∷ H) ≡ lead ch (rows_of H)
+report_leads H t n bytes ch e =
+    let after : History = entry t (Report n bytes) ∷ H in
+    let found = some-of-map (λ (s : Session). Usage (record { at = t; session = s; bytes = bytes })) (session_of H n) ch e in
+    let s : Session = found.0 in
+    let is = session_is H n s found.1 in
+    let rows = map-changed (row_of_opening H) (row_of_opening after) (used_if n (max bytes (used_of H n))) (report_row H t n bytes) (openings (grants_of H)) in
+    let totals : totals_of after ≡ map (totalled_if (reported bytes s)) (totals_of H) =
+    map-changed_all (total_of_opening H) (total_of_opening after) (totalled_if (reported bytes s)) (openings (grants_of H))
+    (All-weaker (IsFirst (grants_of H)) (λ g. total_of_opening after g ≡ totalled_if (reported bytes s) (total_of_opening H g))
+    (λ g first. total-changed H after (reported bytes s) g first first (report_session H t n bytes s found.1 g.session)) (openings (grants_of H)) (openings_first (grants_of H))) in
+    subst (λ (x : Changes). rows_of after ≡ lead x (rows_of H)) found.2
+    (ap (λ ts. with_usage H t (map (row_of_opening after) (openings (grants_of H))) ts) totals
+    ∙ ap (λ rs. with_usage H t rs (map (totalled_if (reported bytes s)) (totals_of H))) rows
+    ∙ ap (λ (m : ℕ). with_usage H t (map (used_if m (max bytes (used_of H n))) (sessions_of H)) (map (totalled_if (reported bytes s)) (totals_of H))) (sym is.0)
+    ∙ ap (λ (m : ℕ). with_usage H t (map (used_if s.number (max bytes m)) (sessions_of H)) (map (totalled_if (reported bytes s)) (totals_of H))) (sym is.1))
+
+close_row : (H : History) (t n : ℕ) (g : Grant) → row_of_opening (entry t (Close n) ∷ H) g ≡ closed_if n t (row_of_opening H g)
+close_row H t n g = go (nat_eq n g.session)
+  where
+    go : (b : Bool) → record (row_of_opening H g) { closed = cond b (Some t) (closed_of H g.session) } ≡ cond b (record (row_of_opening H g) { closed = Some t }) (row_of_opening H g)
+    go true = refl
+    go false = refl
+
+close_leads : (H : History) (t n : ℕ) (ch : Changes) → changes_of H (Close n) t ≡ Some ch → rows_of (entry t (Close n) ∷ H) ≡ lead ch (rows_of H)
+close_leads H t n ch e =
+    let found = some-of-map (λ (s : Session). Closing (record { at = t; session = s })) (session_of H n) ch e in
+    let is = session_is H n found.0 found.1 in
+    let rows = map-changed (row_of_opening H) (row_of_opening (entry t (Close n) ∷ H)) (closed_if n t) (close_row H t n) (openings (grants_of H)) in
+    subst (λ (x : Changes). rows_of (entry t (Close n) ∷ H) ≡ lead x (rows_of H)) found.2
+    (ap (with_sessions H t) rows ∙ ap (λ (m : ℕ). with_sessions H t (map (closed_if m t) (sessions_of H))) (sym is.0))
+
+-- Redeem
+
+abbrev rows_with : History → Head → List SessionRow → List GrantRow → List CountRow → List TotalRow → Rows
+rows_with H head sessions grants counts totals = record (rows_of H) { head = head; sessions = sessions; grants = grants; counts = counts; totals = totals }
+
+-- the count of the redeemed voucher is one more
+redeem_count : (H : History) (t : ℕ) (d c : List ℕ) (k : Place) → count_of_place (entry t (Redeem d c) ∷ H) k ≡ counted_if c (uses_of H c + 1) (count_of_place H k)
+redeem_count H t d c k = go (bytes_eq c k.code) refl
+  where
+    go : (b : Bool) → bytes_eq c k.code ≡ b
+        → record (count_of_place H k) { redeemed = cond b (uses_of H k.code + 1) (uses_of H k.code) } ≡ cond b (record (count_of_place H k) { redeemed = uses_of H c + 1 }) (count_of_place H k)
+    go true same = ap (λ (x : List ℕ). record (count_of_place H k) { redeemed = uses_of H x + 1 }) (sym (bytes_same c k.code same))
+    go false same = refl
+
+-- the rows of the sessions, with one more grant
+opening-after : (H : History) → IsLegal H → (d c : List ℕ) (i : Issued) (t : ℕ) (v : Voucher) (running : Option Session)
+    → kept_if (is_open_at t) (last_session_of H d) ≡ running → v.plan ≡ i.plan
+    → map (row_of_opening H) (openings (granted (grants_of H) running d c i t ∷ grants_of H)) ≡ sessions_of H ++ new_session running v (session_after (head_of H) v.plan running d t)
+opening-after H legal d c i t v None is plan =
+    let gs : List Grant = grants_of H in
+    let g : Grant = granted gs None d c i t in
+    let fresh : (used_of H (greatest_session gs + 1) ≡ 0) × (closed_of H (greatest_session gs + 1) ≡ None) = unreported H legal (greatest_session gs + 1) (omega arith) in
+    let above : nat_lt (greatest_session gs) (greatest_session gs + 1) ≡ true = grind (arith, nat_tests) in
+    ap (λ (b : Bool). map (row_of_opening H) (openings gs ++ cond b (g ∷ []) [])) above
+    ∙ map-append (row_of_opening H) (openings gs) (g ∷ [])
+    ∙ rw (fresh.0, fresh.1, plan)
+opening-after H legal d c i t v (Some s) is plan =
+    let gs : List Grant = grants_of H in
+    let g : Grant = granted gs (Some s) d c i t in
+    let last : session_of H (last_number gs d) ≡ Some s = kept-some (is_open_at t) (last_session_of H d) s is in
+    let low : last_number gs d ≤ greatest_session gs = number-le gs H (last_number gs d) s last in
+    let same : s.number ≡ last_number gs d = number-of H gs (last_number gs d) s last in
+    let not_above : nat_lt (greatest_session gs) s.number ≡ false = grind (arith, nat_tests) in
+    ap (λ (b : Bool). map (row_of_opening H) (openings gs ++ cond b (g ∷ []) [])) not_above
+    ∙ map-append (row_of_opening H) (openings gs) []
+
+grant-after : (H : History) (d c : List ℕ) (i : Issued) (t : ℕ) (running : Option Session)
+    → row_of_grant (length (grants_of H) + 1) (granted (grants_of H) running d c i t)
+    ≡ new_grant (head_of H) (voucher_row H c i) (session_after (head_of H) i.plan running d t) t
+grant-after H d c i t None = refl
+grant-after H d c i t (Some s) = refl
+
+-- the rows of totals, with one more grant
+totals-redeemed : (H : History) → IsLegal H → (t : ℕ) (d c : List ℕ) (i : Issued) (running : Option Session)
+    → kept_if (is_open_at t) (last_session_of H d) ≡ running
+    → grants_of (entry t (Redeem d c) ∷ H) ≡ granted (grants_of H) running d c i t ∷ grants_of H
+    → ((n : ℕ) → session_of (entry t (Redeem d c) ∷ H) n
+    ≡ cond (nat_eq (session_after (head_of H) i.plan running d t).number n) (Some (session_after (head_of H) i.plan running d t)) (session_of H n))
+    → totals_of (entry t (Redeem d c) ∷ H) ≡ totals_after running (session_after (head_of H) i.plan running d t) (totals_of H)
+totals-redeemed H legal t d c i None is one leaves =
+    let gs : List Grant = grants_of H in
+    let g : Grant = granted gs None d c i t in
+    let after : History = entry t (Redeem d c) ∷ H in
+    let s : Session = session_after (head_of H) i.plan None d t in
+    let above : nat_lt (greatest_session gs) (greatest_session gs + 1) ≡ true = grind (arith, nat_tests) in
+    let later : (x : Grant) → IsFirst gs x → IsFirst (grants_of after) x = λ x first. subst (λ (xs : List Grant). IsFirst xs x) (sym one) (still-first g gs x first) in
+    let kept : (x : Grant) → IsFirst gs x → total_of_opening after x ≡ total_of_opening H x = λ x first.
+    let known = session_at H x first in
+    let low = number-le gs H x.session (session_opened H x) known in
+    let other : nat_eq s.number x.session ≡ false = nat_eq-other s.number x.session (λ e. omega arith) in
+    ap total_row (some-same (session_opened after x) (session_opened H x)
+    (sym (session_at after x (later x first)) ∙ leaves x.session ∙ cond-false (nat_eq s.number x.session) (Some s) (session_of H x.session) other ∙ known)) in
+    let fresh : total_of_opening after g ≡ total_row s =
+    let first : IsFirst (grants_of after) g = subst (λ (xs : List Grant). IsFirst xs g) (sym one) (new-first g gs (omega arith)) in
+    ap total_row (some-same (session_opened after g) s
+    (sym (session_at after g first) ∙ leaves g.session ∙ cond-true (nat_eq s.number g.session) (Some s) (session_of H g.session) (nat_eq-refl g.session))) in
+    ap (λ (xs : List Grant). map (total_of_opening after) (openings xs)) one
+    ∙ ap (λ (b : Bool). map (total_of_opening after) (openings gs ++ cond b (g ∷ []) [])) above
+    ∙ map-append (total_of_opening after) (openings gs) (g ∷ [])
+    ∙ ap (λ (rows : List TotalRow). rows ++ total_of_opening after g ∷ [])
+    (map-same (total_of_opening after) (total_of_opening H) (openings gs) (All-weaker (IsFirst gs) (λ x. total_of_opening after x ≡ total_of_opening H x) kept (openings gs) (openings_first gs)))
+    ∙ ap (λ (row : TotalRow). totals_of H ++ row ∷ []) fresh
+totals-redeemed H legal t d c i (Some r) is one leaves =
+    let gs : List Grant = grants_of H in
+    let g : Grant = granted gs (Some r) d c i t in
+    let after : History = entry t (Redeem d c) ∷ H in
+    let s : Session = session_after (head_of H) i.plan (Some r) d t in
+    let last : session_of H (last_number gs d) ≡ Some r = kept-some (is_open_at t) (last_session_of H d) r is in
+    let low : last_number gs d ≤ greatest_session gs = number-le gs H (last_number gs d) r last in
+    let same : r.number ≡ last_number gs d = number-of H gs (last_number gs d) r last in
+    let not_above : nat_lt (greatest_session gs) r.number ≡ false = grind (arith, nat_tests) in
+    let changed : (x : Grant) → IsFirst gs x → total_of_opening after x ≡ totalled_if s (total_of_opening H x) = λ x first.
+    total-changed H after s x first (subst (λ (xs : List Grant). IsFirst xs x) (sym one) (still-first g gs x first)) (leaves x.session) in
+    ap (λ (xs : List Grant). map (total_of_opening after) (openings xs)) one
+    ∙ ap (λ (b : Bool). map (total_of_opening after) (openings gs ++ cond b (g ∷ []) [])) not_above
+    ∙ map-append (total_of_opening after) (openings gs) []
+    ∙ append-nil (map (total_of_opening after) (openings gs))
+    ∙ map-changed_all (total_of_opening H) (total_of_opening after) (totalled_if s) (openings gs)
+    (All-weaker (IsFirst gs) (λ x. total_of_opening after x ≡ totalled_if s (total_of_opening H x)) changed (openings gs) (openings_first gs))
+
+redeem_leads_rows : (H : History) → IsLegal H → (t : ℕ) (d c : List ℕ) (ch : Changes) → changes_of H (Redeem d c) t ≡ Some ch → rows_of (entry t (Redeem d c) ∷ H) ≡ lead ch (rows_of H)
+redeem_leads_rows H legal t d c ch e =
+    let gs : List Grant = grants_of H in
+    let after : History = entry t (Redeem d c) ∷ H in
+    let running : Option Session = kept_if (is_open_at t) (last_session_of H d) in
+    let found = some-of-map (redemption (head_of H) running d t) (voucher_of H c) ch e in
+    let issued = some-of-map (voucher_row H c) (issued_of H c) found.0 found.1 in
+    let i : Issued = issued.0 in
+    let v : Voucher = voucher_row H c i in
+    let s : Session = session_after (head_of H) i.plan running d t in
+    let one : grants_of after ≡ granted gs running d c i t ∷ gs = ap (λ o. unwrap_or (option_map (grant_at t d c gs running) o) gs) issued.1 in
+    let leaves = redeem_leads H legal d c t v (ap (option_map (voucher_row H c)) issued.1) in
+    let counts : counts_of after ≡ map (counted_if c (uses_of H c + 1)) (counts_of H) = map-changed (count_of_place H) (count_of_place after) (counted_if c (uses_of H c + 1)) (redeem_count H t d c) (places_of H) in
+    let totals : totals_of after ≡ totals_after running s (totals_of H) = totals-redeemed H legal t d c i running refl one leaves.session in
+    let sessions : map (row_of_opening H) (openings (grants_of after)) ≡ sessions_of H ++ new_session running v s =
+    ap (λ (x : List Grant). map (row_of_opening H) (openings x)) one ∙ opening-after H legal d c i t v running refl refl in
+    let grants : grant_rows (grants_of after) ≡ grant_rows gs ++ new_grant (head_of H) v s t ∷ [] =
+    ap grant_rows one ∙ ap (λ (row : GrantRow). grant_rows gs ++ row ∷ []) (grant-after H d c i t running) in
+    let at_row : rows_of after ≡ lead (redemption (head_of H) running d t v) (rows_of H) =
+    ap (λ (x : Head). rows_with H x (sessions_of after) (grant_rows (grants_of after)) (counts_of after) (totals_of after)) leaves.head
+    ∙ ap (λ (x : List SessionRow). rows_with H (head_after (head_of H) running t) x (grant_rows (grants_of after)) (counts_of after) (totals_of after)) sessions
+    ∙ ap (λ (x : List GrantRow). rows_with H (head_after (head_of H) running t) (sessions_of H ++ new_session running v s) x (counts_of after) (totals_of after)) grants
+    ∙ ap (λ (x : List CountRow). rows_with H (head_after (head_of H) running t) (sessions_of H ++ new_session running v s) (grant_rows gs ++ new_grant (head_of H) v s t ∷ []) x (totals_of after)) counts
+    ∙ ap (rows_with H (head_after (head_of H) running t) (sessions_of H ++ new_session running v s) (grant_rows gs ++ new_grant (head_of H) v s t ∷ []) (map (counted_if c (uses_of H c + 1)) (counts_of H))) totals in
+    subst (λ (x : Changes). rows_of after ≡ lead x (rows_of H)) found.2
+    (subst (λ (w : Voucher). rows_of after ≡ lead (redemption (head_of H) running d t w) (rows_of H)) issued.2 at_row)
+
+pub rows_lead : RowsLead
+rows_lead H legal (Load plans) t follows ch e = load_leads H t plans ch e
+rows_lead H legal (Issue b p codes) t follows ch e = issue_leads H legal t b p codes (issuable (plan_of H p) (batch_of H b) (any_held H codes) codes t follows.accepted).free ch e
+rows_lead H legal (Sell c) t follows ch e = sell_leads H t c ch e
+rows_lead H legal (Redeem d c) t follows ch e = redeem_leads_rows H legal t d c ch e
+rows_lead H legal (Report n bytes) t follows ch e = report_leads H t n bytes ch e
+rows_lead H legal (Refund c) t follows ch e = refund_leads H t c ch e
+rows_lead H legal (Close n) t follows ch e = close_leads H t n ch e

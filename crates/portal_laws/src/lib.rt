@@ -1,0 +1,199 @@
+//! The laws of histories: what holds of every history that the desk can have accepted.
+//! The functions do nothing. Each contract is a law, which `specs/Laws.antt` states.
+#![tactic(auto)]
+
+ghost use Rattle.portal_laws.specs.Everyday.{EveryCommandIsLegal};
+ghost use Rattle.portal_laws.specs.Laws.{AnswersAreTold, BatchIsRow, ClosedOnce, CodesAreRows, CountsAreSums, GrantsAreBounded, HeldLoadAlike, HeldServe, KeysAreApart, LastSessionIsRow, OneIsOpen, OpenIsLast, PlanIsRow, RecordsLead, RedeemLeads, RefundedOnce, RefundsAreBounded, RefundsAreRows, RemainsIsBounded, RowsAreNumbered, RowsAreTyped, RowsAreWithin, RowsJudgeAlike, RowsLead, SalesAreRows, SessionIsRow, SessionsAreFewer, SessionsAreRows, SoldOnce, TakenAreRows, TotalsAreSums, UsesAreBounded, UsesAreRows, VoucherIsRow};
+
+/// A history in which each of the seven commands occurs is legal.
+pub fn every_command_is_legal()
+    ensures { EveryCommandIsLegal }
+{}
+
+// Accepted commands
+
+/// An accepted command makes of the rows what its changes say: rows appended at the end, and rows replaced by key, in all eight tables.
+pub fn rows_lead()
+    ensures { RowsLead }
+{}
+
+/// An accepted command makes of the records what its changes say: the plans, batches, vouchers and sessions are those before with just the changes.
+pub fn records_lead()
+    ensures { RecordsLead }
+{}
+
+/// The answer to an accepted command is what the history says that has it.
+pub fn answers_are_told()
+    ensures { AnswersAreTold }
+{}
+
+/// A command is judged over the rows as over the history, and changes the same.
+pub fn rows_judge_alike()
+    ensures { RowsJudgeAlike }
+{}
+
+/// A redemption leaves its voucher with one redemption more, and its session extended or opened.
+pub fn redemption_leads()
+    ensures { RedeemLeads }
+{}
+
+// Records by key
+
+/// The plan of an id is its row.
+pub fn plan_is_row()
+    ensures { PlanIsRow }
+{}
+
+/// The batch of an id is its row.
+pub fn batch_is_row()
+    ensures { BatchIsRow }
+{}
+
+/// The voucher of a code is its row, joined with its count, its batch and the plan of the batch.
+pub fn voucher_is_row()
+    ensures { VoucherIsRow }
+{}
+
+/// The session of a number is its row, joined with its totals and its plan.
+pub fn session_is_row()
+    ensures { SessionIsRow }
+{}
+
+/// The last session of a device is the one of its rows that was made last.
+pub fn last_session_is_row()
+    ensures { LastSessionIsRow }
+{}
+
+/// One of the codes was issued exactly where one of them stands in the rows of the vouchers.
+pub fn taken_are_rows()
+    ensures { TakenAreRows }
+{}
+
+// Plans that answer for a file
+
+/// The rows that have the listed ids answer for these ids what all rows answer.
+pub fn held_serve()
+    ensures { HeldServe }
+{}
+
+/// Over plans that answer for the listed ids, a file has the verdict of the history, and changes the same.
+pub fn held_load_alike()
+    ensures { HeldLoadAlike }
+{}
+
+// Lists
+
+/// The sessions of a history are those of its rows, in their order.
+pub fn sessions_are_rows()
+    ensures { SessionsAreRows }
+{}
+
+/// The codes of a batch are those of its rows, in their places from 0, and the batch has their number.
+pub fn codes_are_rows()
+    ensures { CodesAreRows }
+{}
+
+/// The sales of a history are those of the rows of its vouchers, in another order.
+pub fn sales_are_rows()
+    ensures { SalesAreRows }
+{}
+
+/// The refunds of a history are those of the rows of its vouchers, in another order.
+pub fn refunds_are_rows()
+    ensures { RefundsAreRows }
+{}
+
+// Counters
+
+/// The redemptions of a code are its rows among the grants.
+pub fn uses_are_rows()
+    ensures { UsesAreRows }
+{}
+
+/// The count of each voucher is the number of its rows among the grants.
+pub fn counts_are_sums()
+    ensures { CountsAreSums }
+{}
+
+/// The end of each session and what remains of it are the sums over its rows among the grants, less what was used.
+pub fn totals_are_sums()
+    ensures { TotalsAreSums }
+{}
+
+// Keys
+
+/// In no table a key stands twice.
+pub fn keys_are_apart()
+    ensures { KeysAreApart }
+{}
+
+/// Sessions and grants are numbered from 1 without a gap, and the head has the numbers of their rows.
+pub fn rows_are_numbered()
+    ensures { RowsAreNumbered }
+{}
+
+// Vouchers
+
+/// No voucher is redeemed beyond its uses.
+pub fn uses_are_bounded()
+    ensures { UsesAreBounded }
+{}
+
+/// In the rows no voucher has more grants than its plan has uses, and a code with no voucher has none.
+pub fn grants_are_bounded()
+    ensures { GrantsAreBounded }
+{}
+
+/// A refund is at most the price.
+pub fn refunds_are_bounded()
+    ensures { RefundsAreBounded }
+{}
+
+/// A voucher is sold at most once.
+pub fn sold_once()
+    ensures { SoldOnce }
+{}
+
+/// A voucher is refunded at most once.
+pub fn refunded_once()
+    ensures { RefundedOnce }
+{}
+
+// Sessions
+
+/// There are at most as many sessions as redemptions.
+pub fn sessions_are_fewer()
+    ensures { SessionsAreFewer }
+{}
+
+/// What remains of an open session is at least 1, and at most what was granted.
+pub fn remains_is_bounded()
+    ensures { RemainsIsBounded }
+{}
+
+/// A session that is open at the effective moment is the last one of its device.
+pub fn open_is_last()
+    ensures { OpenIsLast }
+{}
+
+/// At the effective moment at most one session of a device is open.
+pub fn one_is_open()
+    ensures { OneIsOpen }
+{}
+
+/// A session is closed at most once.
+pub fn closed_once()
+    ensures { ClosedOnce }
+{}
+
+// What the rows hold
+
+/// In every row ids are id texts, codes are codes and devices are devices.
+pub fn rows_are_typed()
+    ensures { RowsAreTyped }
+{}
+
+/// In every row moments and numbers are within their limits.
+pub fn rows_are_within()
+    ensures { RowsAreWithin }
+{}

@@ -1,0 +1,44 @@
+-- What a guest and the gateway are told (RFC 8908 section 5).
+use Rattle.std.specs.Prelude.{ℕ, ◌-◌, true, false, List, map, filter, Option, Some, None}
+use Rattle.portal_model.specs.declared.record.Session.{Session}
+use Rattle.portal_model.specs.declared.captive.Captive.{Captive}
+use Rattle.portal_model.specs.declared.captive.OpenSession.{OpenSession}
+use Rattle.portal_model.specs.History.{History, effective_moment, kept_if, is_open_at, last_session_of, grants_of}
+use Rattle.portal_model.specs.Rows.{openings, session_opened}
+
+-- what is left below the limit, where there is one
+abbrev pub left_below : ℕ → Option ℕ → Option ℕ
+left_below done None = None
+left_below done (Some limit) = Some (limit - done)
+
+-- a guest with that open session, or with none
+abbrev pub told_of : ℕ → Option Session → Captive
+told_of t None = record { captive = true; seconds = None; bytes = None; extend = None }
+told_of t (Some s) = record {
+  captive = false;
+  seconds = left_below t s.ends;
+  bytes = left_below s.used s.allowance;
+  extend = Some s.extend;
+}
+
+-- a guest whose device had that session last
+abbrev pub captive_state : ℕ → Option Session → Captive
+captive_state t last = told_of t (kept_if (is_open_at t) last)
+
+-- what the device is told where t is the moment handed in
+abbrev pub captive_of : History → List ℕ → ℕ → Captive
+captive_of H device t = captive_state (effective_moment H t) (last_session_of H device)
+
+-- what the gateway is told of an open session
+abbrev pub open_session : ℕ → Session → OpenSession
+open_session t s = record { bytes = left_below s.used s.allowance; device = s.device; seconds = left_below t s.ends; number = s.number }
+
+-- the sessions, by their numbers
+abbrev pub all_sessions : History → List Session
+all_sessions H = map (session_opened H) (openings (grants_of H))
+
+-- those that are open where t is the moment handed in
+abbrev pub open_sessions_of : History → ℕ → List OpenSession
+open_sessions_of H t =
+    let t' = effective_moment H t in
+    map (open_session t') (filter (is_open_at t') (all_sessions H))

@@ -1,0 +1,35 @@
+-- Devices, by the six octets of their MAC address.
+use Rattle.std.specs.Prelude.{◌≡◌, ℕ, ◌+◌, ◌/◌, ◌%◌, ◌<◌, ◌⊎◌, nat_lt, if◌then◌else◌, List, [], ◌∷◌, length, map, All}
+use Rattle.std.specs.List.{join_with_byte}
+use Rattle.std.specs.Str.{str_to_ascii_lowercase}
+
+-- six octets
+pub record IsDevice (octets : List ℕ) : Type 0 where
+  pub six : length octets ≡ 6
+  pub below : All (λ x. x < 256) octets
+
+-- the sign of a hexadecimal digit, in lower case
+abbrev pub hex_sign : ℕ → ℕ
+hex_sign digit = if nat_lt digit 10 then 48 + digit else (87 + digit)
+
+-- an octet, in two digits
+abbrev pub octet_text : ℕ → List ℕ
+octet_text octet = hex_sign (octet / 16) ∷ hex_sign (octet % 16) ∷ []
+
+-- the octets, with that sign between them
+abbrev pub text_with : ℕ → List ℕ → List ℕ
+text_with sign octets = join_with_byte sign (map octet_text octets)
+
+-- the text of a device: colons between its octets
+abbrev pub text_of_device : List ℕ → List ℕ
+text_of_device octets = text_with 58 octets
+
+-- the text spells the device: in lower case it is the octets with colons, or with hyphens, between them
+pub record SpellsDevice (text octets : List ℕ) : Type 0 where
+  pub is_device : IsDevice octets
+  pub written : (str_to_ascii_lowercase text ≡ text_with 58 octets) ⊎ (str_to_ascii_lowercase text ≡ text_with 45 octets)
+
+-- the text of a device spells that device, and no other
+abbrev pub DeviceTextReadsBack : Type 0
+DeviceTextReadsBack = (device : List ℕ) → IsDevice device
+    → SpellsDevice (text_of_device device) device × ((other : List ℕ) → SpellsDevice (text_of_device device) other → other ≡ device)

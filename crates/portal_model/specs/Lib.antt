@@ -1,0 +1,12 @@
+pub mod IdText
+pub mod Names
+pub mod Device
+pub mod Terms
+pub mod Refusal
+pub mod History
+pub mod Verdict
+pub mod Change
+pub mod Rows
+pub mod Captive
+pub mod Payments
+pub mod Worked

@@ -1,0 +1,333 @@
+-- The rows of the tables, and what an accepted command makes of them.
+use Rattle.std.specs.Prelude.{ℕ, ◌+◌, ℤ, pos, ◌+ℤ◌, ◌-ℤ◌, nat_abs, max, cond, nat_eq, nat_lt, List, [], ◌∷◌, ◌++◌, map, filter, find, length, sum_by, count_by, Option, Some, None, option_map, option_and_then, bytes_eq}
+use Rattle.std.specs.Option.{option_or, option_to_list}
+use Rattle.portal_model.specs.declared.command.Command.TheVariants.{Load, Issue}
+use Rattle.portal_model.specs.declared.plan.Plan.{Plan}
+use Rattle.portal_model.specs.declared.record.Batch.{Batch}
+use Rattle.portal_model.specs.declared.record.Voucher.{Voucher}
+use Rattle.portal_model.specs.declared.record.Session.{Session}
+use Rattle.portal_model.specs.declared.record.Head.{Head}
+use Rattle.portal_model.specs.declared.change.Changes.{Changes}
+use Rattle.portal_model.specs.declared.change.Changes.TheVariants.{Loading, Issuance, Sale, Redemption, Usage, Repayment, Closing}
+use Rattle.portal_model.specs.History.{entry, History, plan_of, batch_row, Place, placed, Grant, grants_of, members, greatest_session, session_row, sold_of, uses_of, refund_of, used_of, closed_of, head_of, limited}
+use Rattle.portal_model.specs.Change.{added, head_after, reported, plan_among}
+
+-- a row of portal_vouchers
+pub record VoucherRow : Type 0 where
+  pub code : List ℕ
+  pub batch : List ℕ
+  pub place : ℕ
+  pub sold : Option ℕ
+  pub refunded : Option ℕ
+  pub amount : Option ℕ
+
+-- a row of portal_sessions
+pub record SessionRow : Type 0 where
+  pub number : ℕ
+  pub device : List ℕ
+  pub plan : List ℕ
+  pub opened : ℕ
+  pub used : ℕ
+  pub closed : Option ℕ
+
+-- a row of portal_grants
+pub record GrantRow : Type 0 where
+  pub number : ℕ
+  pub code : List ℕ
+  pub session : ℕ
+  pub moment : ℕ
+  pub seconds : ℕ
+  pub bytes : ℕ
+
+-- a row of portal_counts
+pub record CountRow : Type 0 where
+  pub code : List ℕ
+  pub redeemed : ℕ
+
+-- a row of portal_totals
+pub record TotalRow : Type 0 where
+  pub number : ℕ
+  pub ends : Option ℕ
+  pub remaining : Option ℤ
+
+-- The rows of each table in the order in which they were made. The one row of portal_head has the layout beside `head`.
+pub record Rows : Type 0 where
+  pub head : Head
+  pub plans : List Plan
+  pub batches : List Batch
+  pub vouchers : List VoucherRow
+  pub sessions : List SessionRow
+  pub grants : List GrantRow
+  pub counts : List CountRow
+  pub totals : List TotalRow
+
+-- The rows of a history
+
+-- each plan, of the first file that lists it
+abbrev pub plans_of : History → List Plan
+plans_of [] = []
+plans_of (entry t (Load plans) ∷ H) = plans_of H ++ added (plan_of H) plans
+plans_of (_ ∷ H) = plans_of H
+
+-- each batch, in order of issue
+abbrev pub batches_of : History → List Batch
+batches_of [] = []
+batches_of (entry t (Issue b p codes) ∷ H) = batches_of H ++ option_to_list (option_map (batch_row t b (length codes)) (plan_of H p))
+batches_of (_ ∷ H) = batches_of H
+
+-- each issued code
+abbrev pub places_of : History → List Place
+places_of [] = []
+places_of (entry t (Issue b p codes) ∷ H) = places_of H ++ placed b 0 codes
+places_of (_ ∷ H) = places_of H
+
+-- a voucher with its sale and its refund
+abbrev pub row_of_place : History → Place → VoucherRow
+row_of_place H k = record {
+  code = k.code;
+  batch = k.batch;
+  place = k.place;
+  sold = sold_of H k.code;
+  refunded = option_map (λ r. r.at) (refund_of H k.code);
+  amount = option_map (λ r. r.amount) (refund_of H k.code);
+}
+
+-- each voucher, in order of issue
+abbrev pub vouchers_of : History → List VoucherRow
+vouchers_of H = map (row_of_place H) (places_of H)
+
+-- the session that a grant opened
+abbrev pub row_of_opening : History → Grant → SessionRow
+row_of_opening H g = record { number = g.session; device = g.device; plan = g.plan.id; opened = g.at; used = used_of H g.session; closed = closed_of H g.session }
+
+-- the grants that opened a session: those whose number was not there before
+abbrev pub openings : List Grant → List Grant
+openings [] = []
+openings (g ∷ gs) = openings gs ++ cond (nat_lt (greatest_session gs) g.session) (g ∷ []) []
+
+-- each session, by its number
+abbrev pub sessions_of : History → List SessionRow
+sessions_of H = map (row_of_opening H) (openings (grants_of H))
+
+-- a redemption, under that number
+abbrev pub row_of_grant : ℕ → Grant → GrantRow
+row_of_grant number g = record { number = number; code = g.code; session = g.session; moment = g.at; seconds = g.plan.seconds; bytes = g.plan.bytes }
+
+-- each redemption, numbered from 1
+abbrev pub grant_rows : List Grant → List GrantRow
+grant_rows [] = []
+grant_rows (g ∷ gs) = grant_rows gs ++ row_of_grant (length gs + 1) g ∷ []
+
+-- a voucher with the number of its redemptions
+abbrev pub count_of_place : History → Place → CountRow
+count_of_place H k = record { code = k.code; redeemed = uses_of H k.code }
+
+-- each voucher's, in order of issue
+abbrev pub counts_of : History → List CountRow
+counts_of H = map (count_of_place H) (places_of H)
+
+-- what is left of a limit, below 0 where more was used
+abbrev pub remaining_of : ℕ → Option ℕ → Option ℤ
+remaining_of used allowance = option_map (λ all. pos all -ℤ pos used) allowance
+
+-- the row of portal_totals of a session
+abbrev pub total_row : Session → TotalRow
+total_row s = record { number = s.number; ends = s.ends; remaining = remaining_of s.used s.allowance }
+
+-- the session that a grant opened
+abbrev pub session_opened : History → Grant → Session
+session_opened H g = session_row H g.session (members (grants_of H) g.session) g
+
+-- a session with its end and what remains of its allowance
+abbrev pub total_of_opening : History → Grant → TotalRow
+total_of_opening H g = total_row (session_opened H g)
+
+-- each session's, by its number
+abbrev pub totals_of : History → List TotalRow
+totals_of H = map (total_of_opening H) (openings (grants_of H))
+
+-- the rows of a history
+abbrev pub rows_of : History → Rows
+rows_of H = record {
+  head = head_of H;
+  plans = plans_of H;
+  batches = batches_of H;
+  vouchers = vouchers_of H;
+  sessions = sessions_of H;
+  grants = grant_rows (grants_of H);
+  counts = counts_of H;
+  totals = totals_of H;
+}
+
+-- The two tables of counters, as sums over the rows of the others: what a store that lacks them is given, and what an audit compares them with
+
+-- the redemptions with the voucher's code
+abbrev pub count_from : List GrantRow → VoucherRow → CountRow
+count_from grants v = record { code = v.code; redeemed = count_by (λ g. bytes_eq g.code v.code) grants }
+
+-- those of each voucher
+abbrev pub counts_from : Rows → List CountRow
+counts_from r = map (count_from r.grants) r.vouchers
+
+-- the session's end and what remains, by the sums over its redemptions and by its first plan
+abbrev pub total_from : Rows → SessionRow → TotalRow
+total_from r s =
+    let grants = filter (λ g. nat_eq g.session s.number) r.grants in
+    let plan = plan_among r.plans s.plan in
+    record {
+      number = s.number;
+      ends = option_and_then (λ p. limited p.seconds (s.opened + sum_by (λ g. g.seconds) grants)) plan;
+      remaining = remaining_of s.used (option_and_then (λ p. limited p.bytes (sum_by (λ g. g.bytes) grants)) plan);
+    }
+
+-- those of each session
+abbrev pub totals_from : Rows → List TotalRow
+totals_from r = map (total_from r) r.sessions
+
+-- What an accepted command makes of the rows
+
+-- the head, with t as the last moment
+abbrev pub moved_to : ℕ → Head → Head
+moved_to t head = record head { last = t }
+
+-- the rows of a new batch, from place n on
+abbrev pub new_vouchers : List ℕ → ℕ → List (List ℕ) → List VoucherRow
+new_vouchers b n [] = []
+new_vouchers b n (code ∷ codes) = record { code = code; batch = b; place = n; sold = None; refunded = None; amount = None } ∷ new_vouchers b (n + 1) codes
+
+-- the voucher of that code is sold at t
+abbrev pub sold_if : List ℕ → ℕ → VoucherRow → VoucherRow
+sold_if code t v = cond (bytes_eq code v.code) (record v { sold = Some t }) v
+
+-- the voucher of that code is refunded at t
+abbrev pub refunded_if : List ℕ → ℕ → ℕ → VoucherRow → VoucherRow
+refunded_if code t amount v = cond (bytes_eq code v.code) (record v { refunded = Some t; amount = Some amount }) v
+
+-- the session of that number has used so much
+abbrev pub used_if : ℕ → ℕ → SessionRow → SessionRow
+used_if number used s = cond (nat_eq number s.number) (record s { used = used }) s
+
+-- the session of that number is closed at t
+abbrev pub closed_if : ℕ → ℕ → SessionRow → SessionRow
+closed_if number t s = cond (nat_eq number s.number) (record s { closed = Some t }) s
+
+-- a redemption adds a row of portal_sessions where it opens one
+abbrev pub new_session : Option Session → Voucher → Session → List SessionRow
+new_session (Some running) v s = []
+new_session None v s = record { number = s.number; device = s.device; plan = v.plan.id; opened = s.opened; used = 0; closed = None } ∷ []
+
+-- a redemption adds a row of portal_grants, with the next number
+abbrev pub new_grant : Head → Voucher → Session → ℕ → GrantRow
+new_grant head v s t = record { number = head.grants + 1; code = v.code; session = s.number; moment = t; seconds = v.plan.seconds; bytes = v.plan.bytes }
+
+-- the counts of a new batch
+abbrev pub new_counts : List (List ℕ) → List CountRow
+new_counts codes = map (λ code. record { code = code; redeemed = 0 }) codes
+
+-- the voucher of that code was redeemed so often
+abbrev pub counted_if : List ℕ → ℕ → CountRow → CountRow
+counted_if code redeemed k = cond (bytes_eq code k.code) (record k { redeemed = redeemed }) k
+
+-- the row of that session, as the session is now
+abbrev pub totalled_if : Session → TotalRow → TotalRow
+totalled_if s total = cond (nat_eq s.number total.number) (total_row s) total
+
+-- a redemption changes the row of the session that it extends, or adds one for the session that it opens
+abbrev pub totals_after : Option Session → Session → List TotalRow → List TotalRow
+totals_after (Some running) s totals = map (totalled_if s) totals
+totals_after None s totals = totals ++ total_row s ∷ []
+
+-- what the changes make of the rows: some are added at the end, some are changed in their place
+abbrev pub lead : Changes → Rows → Rows
+lead (Loading c) r = record r { head = moved_to c.at r.head; plans = r.plans ++ c.added }
+lead (Issuance c) r = record r {
+  head = moved_to c.at r.head;
+  batches = r.batches ++ c.batch ∷ [];
+  vouchers = r.vouchers ++ new_vouchers c.batch.id 0 c.codes;
+  counts = r.counts ++ new_counts c.codes;
+}
+lead (Sale c) r = record r { head = moved_to c.at r.head; vouchers = map (sold_if c.voucher.code c.at) r.vouchers }
+lead (Redemption c) r = record r {
+  head = head_after r.head c.running c.at;
+  sessions = r.sessions ++ new_session c.running c.voucher c.session;
+  grants = r.grants ++ new_grant c.head c.voucher c.session c.at ∷ [];
+  counts = map (counted_if c.voucher.code (c.voucher.redeemed + 1)) r.counts;
+  totals = totals_after c.running c.session r.totals;
+}
+lead (Usage c) r = record r {
+  head = moved_to c.at r.head;
+  sessions = map (used_if c.session.number (max c.bytes c.session.used)) r.sessions;
+  totals = map (totalled_if (reported c.bytes c.session)) r.totals;
+}
+lead (Repayment c) r = record r { head = moved_to c.at r.head; vouchers = map (refunded_if c.voucher.code c.at c.amount) r.vouchers }
+lead (Closing c) r = record r { head = moved_to c.at r.head; sessions = map (closed_if c.session.number c.at) r.sessions }
+
+-- The records, read from the rows by their keys
+
+-- the batch of that id
+abbrev pub batch_among : List Batch → List ℕ → Option Batch
+batch_among batches id = find (λ b. bytes_eq b.id id) batches
+
+-- the voucher's row
+abbrev pub row_among : List VoucherRow → List ℕ → Option VoucherRow
+row_among rows code = find (λ v. bytes_eq v.code code) rows
+
+-- the voucher's count
+abbrev pub count_among : List CountRow → List ℕ → Option CountRow
+count_among rows code = find (λ k. bytes_eq k.code code) rows
+
+-- a row of portal_vouchers with its count, its batch and its plan
+abbrev pub joined : VoucherRow → CountRow → Batch → Plan → Voucher
+joined row count batch plan = record {
+  code = row.code;
+  batch = row.batch;
+  plan = plan;
+  expires = batch.expires;
+  sold = row.sold;
+  refund = row.amount;
+  redeemed = count.redeemed;
+}
+
+-- the voucher of that code
+abbrev pub voucher_from : Rows → List ℕ → Option Voucher
+voucher_from r code =
+    option_and_then (λ row. option_and_then (λ count. option_and_then (λ batch. option_map (joined row count batch) (plan_among r.plans batch.plan)) (batch_among r.batches row.batch)) (count_among r.counts code)) (row_among r.vouchers code)
+
+-- the session's row
+abbrev pub session_among : List SessionRow → ℕ → Option SessionRow
+session_among rows number = find (λ s. nat_eq s.number number) rows
+
+-- the session's totals
+abbrev pub total_among : List TotalRow → ℕ → Option TotalRow
+total_among rows number = find (λ s. nat_eq s.number number) rows
+
+-- what was granted in all, by what remains and what was used
+abbrev pub allowance_from : Option ℤ → ℕ → Option ℕ
+allowance_from remaining used = option_map (λ left. nat_abs (left +ℤ pos used)) remaining
+
+-- a row of portal_sessions with its totals and its plan
+abbrev pub joined_session : SessionRow → TotalRow → Plan → Session
+joined_session row total plan = record {
+  number = row.number;
+  device = row.device;
+  extend = plan.extend;
+  opened = row.opened;
+  ends = total.ends;
+  allowance = allowance_from total.remaining row.used;
+  used = row.used;
+  closed = row.closed;
+}
+
+-- the session of that number
+abbrev pub session_from : Rows → ℕ → Option Session
+session_from r number =
+    option_and_then (λ row. option_and_then (λ total. option_map (joined_session row total) (plan_among r.plans row.plan)) (total_among r.totals number)) (session_among r.sessions number)
+
+-- the last made of the rows of a device
+abbrev pub last_among : List SessionRow → List ℕ → Option SessionRow
+last_among [] device = None
+last_among (s ∷ rows) device = option_or (last_among rows device) (cond (bytes_eq s.device device) (Some s) None)
+
+-- the last session of the device
+abbrev pub last_session_from : Rows → List ℕ → Option Session
+last_session_from r device = option_and_then (λ row. session_from r row.number) (last_among r.sessions device)

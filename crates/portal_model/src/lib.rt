@@ -1,0 +1,15 @@
+//! The records of the desk and the commands that change them.
+#![tactic(auto)]
+
+pub mod captive;
+pub mod change;
+pub mod command;
+pub mod lists;
+pub mod moment;
+pub mod name;
+pub mod plan;
+pub mod record;
+pub mod refusal;
+#[cfg(test)]
+mod tests;
+pub mod worked;

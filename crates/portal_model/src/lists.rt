@@ -1,0 +1,95 @@
+ghost use Rattle.std.specs.Prelude.{◌≡◌, ◌++◌, ◌∷◌, [], IfOk, IfErr, All};
+ghost use Rattle.portal_codes.specs.Code.{IsCode};
+
+use crate::plan::Plan;
+use portal_codes::Code;
+use std::alloc::{AllocError, Global};
+use std::marker::Model;
+
+/// Plans, in order.
+#[derive(Drop)]
+pub struct Plans {
+    items: Vec<Plan>,
+}
+
+impl Model for Plans {
+    ghost use Rattle.std.specs.Prelude.{List};
+    ghost use Rattle.portal_model.specs.declared.plan.Plan.{Plan};
+
+    ghost Value = { List Plan };
+
+    ghost view = { λ a. a.items.items };
+}
+
+impl Plans {
+    /// No plans.
+    pub fn new(alloc: Global) -> Plans
+        ensures { result ≡ [] }
+    {
+        Plans {
+            items: Vec::new(alloc),
+        }
+    }
+
+    /// The plans, in order.
+    pub fn as_slice(&self) -> &[Plan]
+        ensures { result.now ≡ self.now }
+    {
+        &self.items
+    }
+
+    /// Adds a plan at the end. Only want of memory is an error.
+    pub fn push(&mut self, plan: Plan) -> Result<(), AllocError>
+        ensures ok { IfOk result (λ _. self.new ≡ self.old ++ plan ∷ []) }
+        ensures err { IfErr result (λ _. self.new ≡ self.old) }
+    {
+        self.items.push(plan)?;
+        Ok(())
+    }
+}
+
+/// Codes, in order.
+#[derive(Drop)]
+pub struct Codes {
+    items: Vec<Code>,
+}
+
+impl Model for Codes {
+    ghost use Rattle.std.specs.Prelude.{List, ℕ, All};
+    ghost use Rattle.portal_codes.specs.Code.{IsCode};
+
+    ghost Value = { List (List ℕ) };
+
+    ghost view = { λ a. a.items.items };
+
+    ghost invariant = { λ a. All IsCode a.items.items };
+}
+
+impl Codes {
+    /// No codes.
+    pub fn new(alloc: Global) -> Codes
+        ensures { result ≡ [] }
+    {
+        Codes {
+            items: Vec::new(alloc),
+        }
+    }
+
+    /// The codes, in order.
+    pub fn as_slice(&self) -> &[Code]
+        ensures value { result.now ≡ self.now }
+        ensures codes { All IsCode self.now }
+    {
+        &self.items
+    }
+
+    /// Adds a code at the end. Only want of memory is an error.
+    pub fn push(&mut self, code: Code) -> Result<(), AllocError>
+        ensures ok { IfOk result (λ _. self.new ≡ self.old ++ code ∷ []) }
+        ensures err { IfErr result (λ _. self.new ≡ self.old) }
+    {
+        let _ = code.text();
+        self.items.push(code)?;
+        Ok(())
+    }
+}

@@ -1,0 +1,189 @@
+ghost use Rattle.std.specs.Prelude.{◌≡◌, ◌≢◌, ◌<◌, ◌≤◌, ℕ, List, [], ◌∷◌, IfOk, IfErr, IfSome, IfNone, None, IsTrue, ◌↔◌, ◌⊎◌, replicate, bytes_eq};
+ghost use Rattle.std.specs.List.{list_all};
+ghost use Rattle.std.specs.Char.{to_ascii_lowercase};
+ghost use Rattle.portal_model.specs.IdText.{IsIdText, is_id_sign};
+ghost use Rattle.portal_model.specs.Device.{IsDevice, SpellsDevice, DeviceTextReadsBack, hex_sign, octet_text, text_of_device};
+
+use crate::refusal::Refusal;
+use std::marker::Model;
+
+/// The id of a plan or a batch: 1 to 32 small letters, digits and hyphens.
+#[derive(Clone, Copy, Debug, PartialEq, Eq)]
+pub struct Id {
+    bytes: [u8; 32],
+    len: usize,
+}
+
+impl Model for Id {
+    ghost use Rattle.std.specs.Prelude.{List, ℕ};
+    ghost use Rattle.portal_model.specs.Names.{padded, IsPadded};
+
+    ghost Value = { List ℕ };
+
+    ghost view = { λ a. Rattle.std.specs.Prelude.take a.len a.bytes };
+
+    ghost invariant = { λ a. IsPadded a.len a.bytes };
+
+    ghost inverse = { λ v. record { bytes = padded v; len = Rattle.std.specs.Prelude.length v } };
+
+    ghost inverse_ok = { λ a h. Prim.rw (h.zeros, h.shown) };
+}
+
+impl Id {
+    /// The id that a text is, where it is one.
+    pub fn read(text: &str) -> Option<Id>
+        ensures value { IfSome result (λ id. id ≡ text.now) }
+        ensures some { IfSome result (λ _. IsIdText text.now) }
+        ensures none { result ≡ None → IsIdText text.now → ⊥ }
+    {
+        let signs = text.as_bytes();
+        let len = signs.len();
+        if len == 0 || len > 32 || !are_signs(signs) {
+            return None;
+        }
+        let mut bytes = [0u8; 32];
+        bytes[..len].copy_from_slice(signs);
+        Some(Id { bytes, len })
+    }
+
+    /// The text of the id, from which it reads back.
+    pub fn text(&self) -> &str
+        ensures value { result.now ≡ self.now }
+        ensures id_text { IsIdText self.now }
+    {
+        str::from_utf8(&self.bytes[..self.len]).unwrap()
+    }
+
+    /// The two ids are the same text.
+    pub fn is(&self, other: &Id) -> bool
+        ensures { result ≡ bytes_eq self.now other.now }
+    {
+        self.bytes[..self.len] == other.bytes[..other.len]
+    }
+}
+
+fn are_signs(bytes: &[u8]) -> bool
+    ensures { result ≡ list_all is_id_sign bytes.now }
+{
+    bytes.iter().all(|b| is_sign(*b))
+}
+
+fn is_sign(b: u8) -> bool
+    ensures { result ≡ is_id_sign b }
+{
+    b.is_ascii_lowercase() || b.is_ascii_digit() || b == b'-'
+}
+
+/// A device, by the six octets of its MAC address.
+#[derive(Clone, Copy, Debug, PartialEq, Eq)]
+pub struct Device {
+    octets: [u8; 6],
+}
+
+impl Model for Device {
+    ghost use Rattle.std.specs.Prelude.{List, ℕ};
+
+    ghost Value = { List ℕ };
+
+    ghost view = { λ a. a.octets };
+
+    ghost inverse = { λ v. record { octets = v } };
+}
+
+const HEX_SIGNS: [u8; 16] = *b"0123456789abcdef";
+
+impl Device {
+    /// The device that a text spells: six groups of two hexadecimal digits of either case, with a colon between each two groups, or with a hyphen between each two. Any other text is refused (`BadDevice`).
+    pub fn read(text: &str) -> Result<Device, Refusal>
+        ensures ok { IfOk result (SpellsDevice text.now) }
+        ensures err { IfErr result (λ r. (r ≡ Refusal.BadDevice) × ((device : List ℕ) → ¬ SpellsDevice text.now device)) }
+    {
+        let signs = text.as_bytes();
+        if signs.len() != 17 {
+            return Err(Refusal::BadDevice);
+        }
+        if !is_separated([signs[2], signs[5], signs[8], signs[11], signs[14]]) {
+            return Err(Refusal::BadDevice);
+        }
+        let octets = [
+            octet(signs[0], signs[1])?,
+            octet(signs[3], signs[4])?,
+            octet(signs[6], signs[7])?,
+            octet(signs[9], signs[10])?,
+            octet(signs[12], signs[13])?,
+            octet(signs[15], signs[16])?,
+        ];
+        Ok(Device { octets })
+    }
+
+    /// The device in lower case, with colons between its octets.
+    pub fn text(&self) -> [u8; 17]
+        ensures value { result ≡ text_of_device self.now }
+        ensures device { IsDevice self.now }
+    {
+        let [a, b, c, d, e, f] = self.octets;
+        [
+            hex_sign(a / 16),
+            hex_sign(a % 16),
+            b':',
+            hex_sign(b / 16),
+            hex_sign(b % 16),
+            b':',
+            hex_sign(c / 16),
+            hex_sign(c % 16),
+            b':',
+            hex_sign(d / 16),
+            hex_sign(d % 16),
+            b':',
+            hex_sign(e / 16),
+            hex_sign(e % 16),
+            b':',
+            hex_sign(f / 16),
+            hex_sign(f % 16),
+        ]
+    }
+}
+
+/// All are colons, or all are hyphens.
+fn is_separated(between: [u8; 5]) -> bool
+    ensures { IsTrue result ↔ ((between ≡ replicate 5 58) ⊎ (between ≡ replicate 5 45)) }
+{
+    between == [b':'; 5] || between == [b'-'; 5]
+}
+
+/// The sign of a hexadecimal digit.
+fn hex_sign(digit: u8) -> u8
+    requires { digit < 16 }
+    ensures { result ≡ hex_sign digit }
+{
+    HEX_SIGNS[usize::from(digit)]
+}
+
+/// The value of a hexadecimal digit of either case.
+fn digit(sign: u8) -> Option<u8>
+    ensures some { IfSome result (λ v. (v < 16) × (hex_sign v ≡ to_ascii_lowercase sign)) }
+    ensures none { IfNone result ((v : ℕ) → v < 16 → hex_sign v ≢ to_ascii_lowercase sign) }
+{
+    match sign {
+        b'0'..=b'9' => Some(sign - b'0'),
+        b'a'..=b'f' => Some(sign - b'a' + 10),
+        b'A'..=b'F' => Some(sign - b'A' + 10),
+        _ => None,
+    }
+}
+
+/// The octet that two hexadecimal digits write.
+fn octet(high: u8, low: u8) -> Result<u8, Refusal>
+    ensures ok { IfOk result (λ n. octet_text n ≡ to_ascii_lowercase high ∷ to_ascii_lowercase low ∷ []) }
+    ensures err { IfErr result (λ r. (r ≡ Refusal.BadDevice) × ((n : ℕ) → n < 256 → octet_text n ≢ to_ascii_lowercase high ∷ to_ascii_lowercase low ∷ [])) }
+{
+    match (digit(high), digit(low)) {
+        (Some(high), Some(low)) => Ok(16 * high + low),
+        _ => Err(Refusal::BadDevice),
+    }
+}
+
+/// The text of a device spells that device and no other.
+pub fn device_text_reads_back()
+    ensures { DeviceTextReadsBack }
+{}

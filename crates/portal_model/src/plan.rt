@@ -1,0 +1,71 @@
+ghost use Rattle.std.specs.Prelude.{◌≡◌, ◌+◌, ◌<◌, ◌≤◌, IfOk, IfErr};
+ghost use Rattle.portal_model.specs.IdText.{IsIdText};
+
+use crate::name::Id;
+use crate::refusal::Refusal;
+
+/// What a voucher of this plan gives. Every value is within the limits.
+#[derive(Clone, Copy, Debug, PartialEq, Eq)]
+pub struct Plan {
+    pub id: Id,
+    /// The price of a voucher in hundredths, at most 100,000,000.
+    pub price: u32,
+    /// How often a voucher may be redeemed, 1 to 1,000.
+    pub uses: u32,
+    /// The seconds that a redemption gives, at most 31,622,400; 0 where time is not limited.
+    pub seconds: u32,
+    /// The bytes that a redemption gives, at most 1,000,000,000,000,000; 0 where bytes are not limited. Seconds and bytes are not both 0.
+    pub bytes: u64,
+    /// The days from its issue until a voucher expires, 1 to 3,660.
+    pub shelf_days: u32,
+    /// Whether an open session that such a voucher opened may be extended.
+    pub extend: bool,
+    pub ghost id_text: { IsIdText id },
+    pub ghost price_limit: { price ≤ 100000000 },
+    ghost uses_least: { 1 ≤ uses },
+    ghost uses_limit: { uses ≤ 1000 },
+    pub ghost seconds_limit: { seconds ≤ 31622400 },
+    pub ghost bytes_limit: { bytes ≤ 1000000000000000 },
+    pub ghost shelf_least: { 1 ≤ shelf_days },
+    pub ghost shelf_limit: { shelf_days ≤ 3660 },
+    pub ghost limits_something: { 0 < seconds + bytes },
+}
+
+impl Plan {
+    ghost use Rattle.portal_model.specs.Terms.{AreTerms, IsPlanOf};
+
+    /// The plan of these terms. Refused (`BadPlans`) exactly where a term is out of its limits, or where seconds and bytes are both 0.
+    pub fn new(
+        id: Id,
+        price: u64,
+        uses: u64,
+        seconds: u64,
+        bytes: u64,
+        shelf_days: u64,
+        extend: bool,
+    ) -> Result<Plan, Refusal>
+        ensures ok { IfOk result (IsPlanOf id price uses seconds bytes shelf_days extend) }
+        ensures terms { IfOk result (λ _. AreTerms price uses seconds bytes shelf_days) }
+        ensures err { IfErr result (λ r. (r ≡ Refusal.BadPlans) × ¬ AreTerms price uses seconds bytes shelf_days) }
+    {
+        let _ = id.text();
+        if price > 100_000_000 || uses < 1 || uses > 1_000 || seconds > 31_622_400 {
+            return Err(Refusal::BadPlans);
+        }
+        if bytes > 1_000_000_000_000_000 || shelf_days < 1 || shelf_days > 3_660 {
+            return Err(Refusal::BadPlans);
+        }
+        if seconds == 0 && bytes == 0 {
+            return Err(Refusal::BadPlans);
+        }
+        Ok(Plan {
+            id,
+            price: price as u32,
+            uses: uses as u32,
+            seconds: seconds as u32,
+            bytes,
+            shelf_days: shelf_days as u32,
+            extend,
+        })
+    }
+}

@@ -1,0 +1,13 @@
+use Rattle.std.proofs.Common.{◌≡◌, ℕ, List, [], ◌∷◌, codes}
+use Rattle.portal_route.specs.Targets.{after, parameter_of}
+use Rattle.portal_route.specs.Laws.{IsSegment, print_path, voucher_path}
+use Rattle.portal_route.proofs.TargetLemmas.{before_segment, before_last}
+use Rattle.portal_route.proofs.laws.parameters_are_exact.Goals as goal
+
+exact : (word : List ℕ) → IsSegment word → (parameter_of (print_path word) ≡ word) × (parameter_of (voucher_path word) ≡ word)
+unfolding after
+exact [] seg = absurd seg
+exact (b ∷ rest) seg = (before_segment (b ∷ rest) (codes "print") seg, before_last (b ∷ rest) seg)
+
+pub returns : goal.returns
+returns c = λ word seg. exact word seg

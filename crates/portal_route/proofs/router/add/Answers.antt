@@ -1,0 +1,20 @@
+use Rattle.std.proofs.Common.{◌≡◌}
+use Rattle.std.specs.Prelude.{Result, Ok, Err, OnOk}
+use Rattle.matchit.specs.Rows.{RowsOf}
+use Rattle.matchit.specs.Router.{RouteOf, InsertsRead}
+use Rattle.matchit.specs.Route.{Scan, parse_route}
+use Rattle.matchit.specs.declared.error.InsertError.{InsertError}
+use Rattle.portal_route.specs.declared.Route.{Route}
+use Rattle.portal_route.specs.Table.{place_read, place_route}
+use Rattle.portal_route.proofs.router.add.Goals as goal
+
+placed_ok : (x : Result Scan InsertError) (value : Route) (old new : RowsOf (RouteOf Route)) (r : Result (Unit {0}) InsertError)
+    → InsertsRead x value old new r → OnOk r (new ≡ place_read x value old)
+placed_ok (Ok s) value old new (Ok u) h = h.1
+placed_ok (Ok s) value old new (Err e) h = tt
+placed_ok (Err e) value old new (Ok u) h = h.0
+placed_ok (Err e) value old new (Err f) h = tt
+
+pub returns : goal.returns
+unfolding place_route
+returns c = placed_ok (parse_route c.args.text.now) c.args.route _ _ c.insert.result c.insert.ensures

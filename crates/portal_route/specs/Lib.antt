@@ -1,0 +1,4 @@
+pub mod Route
+pub mod Targets
+pub mod Table
+pub mod Laws

@@ -1,0 +1,97 @@
+//! The routes of the desk: which of them a request's target names, by which method it is asked,
+//! and by whom.
+#![tactic(auto)]
+
+ghost use Rattle.std.specs.Prelude.{◌≡◌};
+ghost use Rattle.portal_route.specs.Route.{method_of, caller_of};
+
+use http::Method;
+
+pub mod laws;
+mod router;
+mod targets;
+
+pub use router::Routes;
+pub use targets::{cut_at, parameter, split_target};
+
+/// What a request asks for.
+#[derive(Clone, Copy, Debug, PartialEq, Eq)]
+pub enum Route {
+    /// `/captive`: the captive state of the guest's device (RFC 8908, section 5).
+    Captive,
+    /// `/portal/redeem`: redeems a code for the guest's device.
+    Redeem,
+    /// `/desk/plans`: loads plans.
+    Plans,
+    /// `/desk/batches`: issues a batch of vouchers.
+    Batches,
+    /// `/desk/batches/{id}/print`: the print file of a batch.
+    Print,
+    /// `/desk/sales`: sells a voucher.
+    Sales,
+    /// `/desk/refunds`: refunds a voucher.
+    Refunds,
+    /// `/desk/closes`: closes a session.
+    Closes,
+    /// `/desk/vouchers/{code}`: the state of a voucher.
+    Voucher,
+    /// `/desk/takings`: the takings of a range of days.
+    Takings,
+    /// `/gateway/reports`: reports the bytes that a session used.
+    Reports,
+    /// `/gateway/sessions`: the open sessions.
+    Sessions,
+}
+
+/// Who may ask.
+#[derive(Clone, Copy, Debug, PartialEq, Eq)]
+pub enum Caller {
+    /// A guest, known by the device that the front end names.
+    Guest,
+    /// The desk, known by its token.
+    Desk,
+    /// The gateway, known by its token.
+    Gateway,
+}
+
+impl Route {
+    /// The one method of the route, which `Allow` names where another is asked (RFC 9110, section
+    /// 15.5.6): `GET` where the route only reads, else `POST`.
+    pub fn method(self) -> Method
+        ensures { result ≡ method_of self }
+    {
+        match self {
+            Route::Captive | Route::Print | Route::Voucher | Route::Takings | Route::Sessions => {
+                Method::GET
+            }
+            Route::Redeem
+            | Route::Plans
+            | Route::Batches
+            | Route::Sales
+            | Route::Refunds
+            | Route::Closes
+            | Route::Reports => Method::POST,
+        }
+    }
+
+    /// Who may ask for it.
+    pub fn caller(self) -> Caller
+        ensures { result ≡ caller_of self }
+    {
+        match self {
+            Route::Captive | Route::Redeem => Caller::Guest,
+            Route::Plans
+            | Route::Batches
+            | Route::Print
+            | Route::Sales
+            | Route::Refunds
+            | Route::Closes
+            | Route::Voucher
+            | Route::Takings => Caller::Desk,
+            Route::Reports | Route::Sessions => Caller::Gateway,
+        }
+    }
+}
+
+#[cfg(test)]
+mod tests;

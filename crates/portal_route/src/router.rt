@@ -1,0 +1,73 @@
+//! The router that holds the routes.
+ghost use Rattle.std.specs.Prelude.{◌≡◌, IfOk, OnOk, option_map};
+ghost use Rattle.portal_route.specs.Table.{place_route, table, route_of, FindsRoute};
+
+use crate::Route;
+use crate::targets::is_path;
+use matchit::{InsertError, Router};
+use std::alloc::{AllocError, Global};
+use std::str;
+
+/// The table of the routes, ready to be searched.
+#[derive(Drop)]
+pub struct Routes {
+    router: Router<Route>,
+    ghost is_whole: { router ≡ table },
+}
+
+fn add(router: &mut Router<Route>, text: &str, route: Route) -> Result<(), InsertError>
+    ensures { OnOk result (router.new ≡ place_route text.now route router.old) }
+{
+    router.insert(text, route)
+}
+
+/// The router with all the routes in it.
+fn whole_router(alloc: Global) -> Result<Router<Route>, InsertError>
+    ensures { IfOk result (λ router. router ≡ table) }
+{
+    let mut router = Router::new(alloc);
+    add(&mut router, "/captive", Route::Captive)?;
+    add(&mut router, "/portal/redeem", Route::Redeem)?;
+    add(&mut router, "/desk/plans", Route::Plans)?;
+    add(&mut router, "/desk/batches", Route::Batches)?;
+    add(&mut router, "/desk/batches/{id}/print", Route::Print)?;
+    add(&mut router, "/desk/sales", Route::Sales)?;
+    add(&mut router, "/desk/refunds", Route::Refunds)?;
+    add(&mut router, "/desk/closes", Route::Closes)?;
+    add(&mut router, "/desk/vouchers/{code}", Route::Voucher)?;
+    add(&mut router, "/desk/takings", Route::Takings)?;
+    add(&mut router, "/gateway/reports", Route::Reports)?;
+    add(&mut router, "/gateway/sessions", Route::Sessions)?;
+    Ok(router)
+}
+
+impl Routes {
+    /// The twelve routes of the desk. The only error is want of memory.
+    pub fn new(alloc: Global) -> Result<Routes, AllocError> {
+        match whole_router(alloc) {
+            Ok(router) => Ok(Routes { router }),
+            Err(_) => Err(AllocError),
+        }
+    }
+
+    fn at(&self, path: &str) -> Option<Route>
+        ensures { result ≡ route_of path.now }
+    {
+        match self.router.at(path) {
+            Ok(found) => Some(*found.value),
+            Err(_) => None,
+        }
+    }
+
+    /// The route of a target's path: none where the path is no UTF-8, does not begin with a
+    /// slash, has an empty segment, or names no route. A segment in the place of `{id}` or
+    /// `{code}` is taken as it stands, with nothing decoded.
+    pub fn find(&self, path: &[u8]) -> Option<Route>
+        ensures { FindsRoute path.now result }
+    {
+        match str::from_utf8(path) {
+            Err(_) => None,
+            Ok(text) => if is_path(path) { self.at(text) } else { None },
+        }
+    }
+}
