@@ -1,14 +1,13 @@
 -- Dates and their texts, and the years of day numbers.
-use Rattle.std.proofs.Common.{◌≡◌, ℕ, ◌+◌, ◌*◌, ◌/◌, ◌%◌, ◌<◌, ◌≤◌, zero, suc, ℤ, pos, negsuc, ◌+ℤ◌, ◌≤ℤ◌, ◌<ℤ◌, List, [], ◌∷◌, ◌++◌, length, get_or, take, drop, refl, ap, sym, ◌∙◌, subst, arith, Option, Some, None, is_some, IsSome, ◌↔◌, true, false, inl, inr, lit≤}
+use Rattle.std.proofs.Common.{◌≡◌, ℕ, ◌+◌, ◌*◌, ◌/◌, ◌%◌, ◌<◌, ◌≤◌, ℤ, pos, negsuc, ◌≤ℤ◌, List, [], ◌∷◌, ◌++◌, length, get_or, take, drop, refl, ap, sym, ◌∙◌, subst, arith, Option, Some, None, is_some, IsSome, ◌↔◌, true, inl, inr, lit≤}
 use Rattle.std.specs.Prelude.{IfSome}
 use Rattle.std.proofs.lemmas.Bool.{false≢true}
 use Rattle.std.proofs.lemmas.Int.{ints, by_lt_z}
 use Rattle.jiff_core.specs.declared.civil.date.Date.{Date}
-use Rattle.jiff_core.specs.Calendar.{IsDate, IsYear, IsBetween, days_in_month, days_from_civil}
-use Rattle.jiff_core.specs.Date.{IsYmd}
-use Rattle.jiff_core.proofs.CalendarLemmas.{days_in_month_bounds, days_from_civil-day_count, day_count-last_of_year, day_count-next_year}
+use Rattle.jiff_core.specs.Calendar.{IsDate, IsYear}
+use Rattle.jiff_core.proofs.CalendarLemmas.{days_in_month_bounds, days_from_civil-day_count, day_count-last_of_year}
 use Rattle.jiff_core.proofs.SignedLemmas.{signed_arith}
-use Rattle.jiff_core.proofs.DateLemmas.{IsEarlier, epoch_day-lt, epoch_day_range, epoch_day_same, epoch_day_injective, cases_date, days_from_civil-next_year}
+use Rattle.jiff_core.proofs.DateLemmas.{epoch_day-lt, epoch_day_range, epoch_day_same, epoch_day_injective, cases_date, days_from_civil-next_year}
 use Rattle.jiff_core.proofs.StandardFacts.{known_days}
 use Rattle.jiff_fmt.specs.Text.{pad2, year_text}
 use Rattle.jiff.specs.Words.{epoch_day, date_text}
@@ -174,13 +173,14 @@ same-text a b e =
     λ i. ymd_text (same.0 i) (same.1 i) (same.2 i)
 
 pub names-days : (text later : List ℕ) (day next : ℤ) → IsDayText text day → IsDayText later next → (text ≡ later) ↔ (day ≡ next)
-names-days text later day next is so =
-    ((λ e. sym is.day_is
-        ∙ same-day is.date so.date later
-          (record { text_is = sym e ∙ is.text_is; year = omega (arith, ints, is.year) })
-          (record { text_is = so.text_is; year = omega (arith, ints, so.year) })
-        ∙ so.day_is),
-     (λ e. is.text_is ∙ same-text is.date so.date (is.day_is ∙ e ∙ sym so.day_is) ∙ sym so.text_is))
+names-days text later day next is so = (
+  (λ e. sym is.day_is
+      ∙ same-day is.date so.date later
+      (record { text_is = sym e ∙ is.text_is; year = omega (arith, ints, is.year) })
+      (record { text_is = so.text_is; year = omega (arith, ints, so.year) })
+      ∙ so.day_is),
+  (λ e. is.text_is ∙ same-text is.date so.date (is.day_is ∙ e ∙ sym so.day_is) ∙ sym so.text_is),
+)
 
 -- the text of a day's date
 pub day-text : (text : List ℕ) (date : Date) (day : ℤ) → text ≡ date_text date → epoch_day date ≡ day → IsDay day → IsDayText text day

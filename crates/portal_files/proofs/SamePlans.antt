@@ -76,7 +76,7 @@ same-id_text id = hlevel props
 pub same-plan : (p q : Plan) → fields_of p ≡ fields_of q → p ≡ q
 same-plan p q e =
     subst (λ t. (h : Limits t) (text : IsIdText t.id) → p ≡ plan_with t h text) e
-      (λ h text i. plan_with (fields_of p) (same-limits (fields_of p) (limits_of p) h i) (same-id_text p.id p.id_text text i)) (limits_of q) q.id_text
+    (λ h text i. plan_with (fields_of p) (same-limits (fields_of p) (limits_of p) h i) (same-id_text p.id p.id_text text i)) (limits_of q) q.id_text
 
 pub same-table : (ms : Members) (p q : Plan) → IsPlanTable ms p → IsPlanTable ms q → p ≡ q
 same-table ms p q is so =

@@ -1,5 +1,5 @@
 -- The texts of a settings table.
-use Rattle.std.proofs.Common.{◌≡◌, ℕ, ◌≤◌, Bool, true, false, List, codes, length, Option, Some, None, refl, ap, sym, ◌∙◌, subst, arith}
+use Rattle.std.proofs.Common.{◌≡◌, ℕ, Bool, true, false, List, codes, Option, Some, None, refl, ap, sym, ◌∙◌, subst}
 use Rattle.std.specs.Prelude.{option_and_then, option_map, IsSome, is_some}
 use Rattle.std.proofs.lemmas.Bool.{false≢true}
 use Rattle.jiff_tz.specs.declared.timezone.TimeZone.{TimeZone}
@@ -7,7 +7,7 @@ use Rattle.jiff_tz.specs.declared.timezone.TimeZone.TheVariants.{UTC, Unknown, F
 use Rattle.jiff_tz.specs.PosixReader.{read_whole}
 use Rattle.jiff.specs.Placed.{IsPosixZone}
 use Rattle.toml.specs.Data.{Data, string, Members, get_member, as_str}
-use Rattle.portal_files.specs.SettingsFile.{SettingsValue, is_url, IsTextAt, IsVenueAt, IsZoneAt, key_count, IsSettingsTable, IsSettingsFile}
+use Rattle.portal_files.specs.SettingsFile.{SettingsValue, is_url, IsTextAt, IsVenueAt, IsZoneAt, IsSettingsTable, IsSettingsFile}
 use Rattle.portal_files.specs.Laws.{SameSettings}
 use Rattle.toml.specs.Parse.{parse_document}
 use Rattle.portal_files.proofs.Tables.{string-is}

@@ -19,3 +19,6 @@ pub use plans::read_plans;
 pub use settings::Settings;
 pub use settings_file::{read_settings, sample_settings};
 pub use sheet::BatchSheet;
+
+#[cfg(test)]
+mod tests;

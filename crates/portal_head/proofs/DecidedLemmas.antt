@@ -1,16 +1,17 @@
 -- What the parser's spans say of a decided reply.
-use Rattle.std.proofs.Common.{◌≡◌, ℕ, ◌+◌, ◌-◌, ◌<◌, ◌≤◌, ◌⊎◌, List, [], ◌++◌, length, take, drop, Result, Ok, Err, sym, ap, ◌∙◌, subst, inl, inr, arith, append-nil}
+use Rattle.std.proofs.Common.{◌≡◌, ℕ, ◌+◌, ◌-◌, ◌<◌, ◌≤◌, ◌⊎◌, List, [], ◌++◌, length, take, drop, Result, Ok, Err, sym, ap, ◌∙◌, subst, inl, inr, arith, append-nil, None}
 use Rattle.std.proofs.lemmas.Bool.Decides.{leb_tells}
-use Rattle.std.proofs.lemmas.List.{take_all, take-append-le, length-drop, length-append}
-use Rattle.std.proofs.Math.Seq.{take-append-add}
+use Rattle.std.proofs.lemmas.List.{take_all, take-append-le, take-append-drop, length-drop, length-append}
+use Rattle.std.proofs.Math.Seq.{take-append-add, take-append_seam}
 use Rattle.httparse.specs.Grammar.{RequestHead, ReadsRequest, NeverHasRequest, MayBecomeRequest, EndsInTarget, print_request}
 use Rattle.httparse.proofs.GrammarLemmas.{request_unique, ReadsRequest-append}
 use Rattle.portal_head.specs.declared.limits.TheConstants.{HEAD_LIMIT, BODY_LIMIT}
 use Rattle.portal_head.specs.declared.faults.HeadFault.{HeadFault}
-use Rattle.portal_head.specs.Message.{BeginsWith, length_of, bytes_after}
+use Rattle.portal_head.specs.Message.{HeadOf, BeginsWith, length_of, bytes_after}
 use Rattle.portal_head.specs.Lines.{HasManyLines}
+use Rattle.portal_head.proofs.LineFeedLemmas.{too_late}
 use Rattle.portal_head.specs.Findings.{HasNoHead}
-use Rattle.portal_head.specs.Decided.{IsSettled, IsDecided, IsDecidedByHead, IsPastHead, IsOpen, IsDecidedAt}
+use Rattle.portal_head.specs.Decided.{IsSettled, IsDecided, IsDecidedByHead, IsDecidedWithout, IsPastHead, IsOpen, IsDecidedAt}
 
 -- ---- with no whole head
 
@@ -73,7 +74,7 @@ front_grows n bytes more =
     ]
 
 -- a head stays where more bytes follow
-stays : (bytes more : List ℕ) (head : RequestHead) → BeginsWith (take HEAD_LIMIT bytes) head → BeginsWith (take HEAD_LIMIT (bytes ++ more)) head
+pub stays : (bytes more : List ℕ) (head : RequestHead) → BeginsWith (take HEAD_LIMIT bytes) head → BeginsWith (take HEAD_LIMIT (bytes ++ more)) head
 stays bytes more head begins =
     let grown = front_grows HEAD_LIMIT bytes more in (
       begins.0 ++ grown.0,
@@ -105,7 +106,7 @@ pub whole_body : (bytes : List ℕ) (head : RequestHead) (start declared : ℕ) 
 whole_body bytes head start declared begins at sized enough =
     inl (head, begins, subst (λ (P : Type 0). P) (sym (declared_settles head bytes start declared at sized)) enough)
 
-by_one : (bytes : List ℕ) (head : RequestHead) → BeginsWith (take HEAD_LIMIT bytes) head → IsDecidedByHead bytes
+pub by_one : (bytes : List ℕ) (head : RequestHead) → BeginsWith (take HEAD_LIMIT bytes) head → IsDecidedByHead bytes
     → IsSettled (length_of head) (length (bytes_after head bytes))
 by_one bytes head begins d =
     subst (λ (h : RequestHead). IsSettled (length_of h) (length (bytes_after h bytes))) (one_head (take HEAD_LIMIT bytes) d.0 head d.1 begins) d.2
@@ -138,3 +139,36 @@ waits bytes head start declared begins at within there sized small few =
           (omega (arith, length-drop start (bytes ++ more), length-append bytes more)),
     ) in
     (open_at bytes head start declared begins at within sized small few, omega (arith, length-drop start bytes), total)
+
+-- ---- bytes that follow
+
+-- the front of many bytes stays
+same_front : (bytes more : List ℕ) → HEAD_LIMIT ≤ length bytes → take HEAD_LIMIT (bytes ++ more) ≡ take HEAD_LIMIT bytes
+same_front bytes more many = take-append-le HEAD_LIMIT bytes more many
+
+-- bytes that begin with others begin with those that are no longer
+prefix_of : (p rest xs more : List ℕ) → xs ++ more ≡ p ++ rest → length p ≤ length xs → xs ≡ p ++ drop (length p) xs
+prefix_of p rest xs more e fits =
+    let start : take (length p) xs ≡ p = sym (take-append-le (length p) xs more fits) ∙ ap (take (length p)) e ∙ take-append_seam p rest in
+    sym (take-append-drop (length p) xs) ∙ ap (λ (l : List ℕ). l ++ drop (length p) xs) start
+
+-- where none came, none comes
+pub none_comes : (bytes more : List ℕ) → IsDecidedWithout bytes → HeadOf (bytes ++ more) None
+none_comes bytes more without head begins =
+    elim (leb_tells HEAD_LIMIT (length bytes)) [
+      | inl p ↦ without.0 head (subst (λ (f : List ℕ). BeginsWith f head) (same_front bytes more p.1) begins)
+      | inr q ↦
+          let own : take HEAD_LIMIT bytes ≡ bytes = take_all HEAD_LIMIT bytes (omega arith) in
+          let grown = front_grows HEAD_LIMIT bytes more in
+          let front : take HEAD_LIMIT (bytes ++ more) ≡ bytes ++ grown.0 = grown.1 ∙ ap (λ (l : List ℕ). l ++ grown.0) own in
+          let reads : ReadsRequest (bytes ++ grown.0) head begins.0 = subst (λ (f : List ℕ). ReadsRequest f head begins.0) front begins.1 in
+          elim without.1 [
+            | inl late ↦ elim late [
+              | inl long ↦ absurd (omega arith)
+              | inr lines ↦
+                  let fits : length (print_request head) ≤ length bytes = too_late bytes grown.0 head begins.0 lines reads begins.2 in
+                  without.0 head (subst (λ (f : List ℕ). BeginsWith f head) (sym own) (drop (length (print_request head)) bytes, (reads.0, prefix_of (print_request head) begins.0 bytes grown.0 reads.1 fits), begins.2))
+            ]
+            | inr never ↦ never grown.0 head begins.0 reads
+          ]
+    ]

@@ -81,7 +81,8 @@ fn take_body(after: &[u8], declared: Result<usize, HeadFault>) -> Result<&[u8], 
 /// `TooLarge`, and fewer bytes after the head than declared `BadRequest`. Bytes after the body are
 /// not looked at.
 pub fn parse_request(bytes: &[u8]) -> Result<Request<'_>, HeadFault>
-    ensures { (head : Option RequestHead) × HeadOf bytes.now head × (message_of result ≡ message_in head bytes.now) }
+    ensures { (head : Option RequestHead) × HeadOf bytes.now head
+        × (message_of result ≡ message_in head bytes.now) }
 {
     let mut headers = [EMPTY_HEADER_SPAN; FIELD_LIMIT];
     let front = front(bytes);

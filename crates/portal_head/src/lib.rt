@@ -20,7 +20,7 @@ mod writing;
 pub use crate::decided::is_decided;
 pub use crate::faults::HeadFault;
 pub use crate::head::{Request, parse_request};
-pub use crate::laws::one_head_at_most;
+pub use crate::laws::{decided_stays, one_head_at_most};
 pub use crate::limits::{BODY_LIMIT, FIELD_LIMIT, HEAD_LIMIT, LINE_LIMIT, PIECE_LIMIT};
 pub use crate::reading::{ReadFault, read_request};
 pub use crate::writing::{WriteFault, write_response};

@@ -14,7 +14,7 @@ use Rattle.portal_model.specs.Device.{text_of_device}
 use Rattle.portal_model.specs.Refusal.{word_of}
 use Rattle.portal_json.specs.Objects.{whole, whole_or_null, Keyed, object_of}
 
--- a captive state, with the URLs of the portal and, where there is one, of the venue (RFC 8908, section 5)
+-- the keys of a captive state, with the URLs of the portal and, where there is one, of the venue (RFC 8908, section 5)
 abbrev pub captive_keys : Captive → List ℕ → Option (List ℕ) → List Keyed
 captive_keys state portal_url venue_url =
     (codes "bytes-remaining", option_map whole state.bytes)
@@ -25,6 +25,7 @@ captive_keys state portal_url venue_url =
     ∷ (codes "venue-info-url", option_map string venue_url)
     ∷ []
 
+-- a captive state
 abbrev pub captive_data : Captive → List ℕ → Option (List ℕ) → Data
 captive_data state portal_url venue_url = object_of (captive_keys state portal_url venue_url)
 
@@ -55,12 +56,13 @@ voucher_data v = object_of (
     ∷ (codes "plan", Some (string v.plan.id)) ∷ (codes "redeemed", Some (whole v.redeemed)) ∷ (codes "refund", Some (whole_or_null v.refund))
     ∷ (codes "sold", Some (whole_or_null v.sold)) ∷ (codes "uses", Some (whole v.plan.uses)) ∷ [])
 
--- an open session
+-- the keys of an open session
 abbrev pub session_keys : OpenSession → List Keyed
 session_keys s =
     (codes "bytes-remaining", option_map whole s.bytes) ∷ (codes "device", Some (string (text_of_device s.device)))
     ∷ (codes "seconds-remaining", option_map whole s.seconds) ∷ (codes "session", Some (whole s.number)) ∷ []
 
+-- an open session
 abbrev pub session_data : OpenSession → Data
 session_data s = object_of (session_keys s)
 
@@ -68,18 +70,22 @@ session_data s = object_of (session_keys s)
 abbrev pub sessions_data : List OpenSession → Data
 sessions_data sessions = object_of ((codes "sessions", Some (array (items_of (map session_data sessions)))) ∷ [])
 
--- the texts of these
+-- the text of a captive state
 unfoldable pub captive_body : Captive → List ℕ → Option (List ℕ) → List ℕ
 captive_body state portal_url venue_url = compact_text (captive_data state portal_url venue_url)
 
+-- the text of the answer to a command
 unfoldable pub answer_body : Answer → List ℕ
 answer_body answer = compact_text (answer_data answer)
 
+-- the text of a refusal
 unfoldable pub error_body : Refusal → List ℕ
 error_body refusal = compact_text (error_data refusal)
 
+-- the text of a voucher's state
 unfoldable pub voucher_body : Voucher → List ℕ
 voucher_body voucher = compact_text (voucher_data voucher)
 
+-- the text of open sessions
 unfoldable pub sessions_body : List OpenSession → List ℕ
 sessions_body sessions = compact_text (sessions_data sessions)

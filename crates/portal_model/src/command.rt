@@ -18,7 +18,7 @@ pub enum Command {
     Close { session: u64 },
 }
 
-/// Every command is typed: its ids are id texts, its codes are codes, and its device is six octets.
+/// Every command is typed: its ids are id texts, its codes are codes, and its device is six octets. It does nothing but look at the values that tell so.
 pub fn command_is_typed(command: &Command)
     ensures { IsTyped command.now }
 {

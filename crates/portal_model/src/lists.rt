@@ -48,7 +48,7 @@ impl Plans {
     }
 }
 
-/// Codes, in order.
+/// Codes, in order. Each is a code, which callers learn from `as_slice`.
 #[derive(Drop)]
 pub struct Codes {
     items: Vec<Code>,
@@ -80,7 +80,7 @@ impl Codes {
         ensures value { result.now ≡ self.now }
         ensures codes { All IsCode self.now }
     {
-        &self.items
+        self.items.as_slice()
     }
 
     /// Adds a code at the end. Only want of memory is an error.
@@ -88,6 +88,7 @@ impl Codes {
         ensures ok { IfOk result (λ _. self.new ≡ self.old ++ code ∷ []) }
         ensures err { IfErr result (λ _. self.new ≡ self.old) }
     {
+        // A code's text tells that it is one, which the list keeps of each.
         let _ = code.text();
         self.items.push(code)?;
         Ok(())

@@ -48,6 +48,7 @@ impl Plan {
         ensures terms { IfOk result (λ _. AreTerms price uses seconds bytes shelf_days) }
         ensures err { IfErr result (λ r. (r ≡ Refusal.BadPlans) × ¬ AreTerms price uses seconds bytes shelf_days) }
     {
+        // An id's text tells that it is one, which the plan keeps.
         let _ = id.text();
         if price > 100_000_000 || uses < 1 || uses > 1_000 || seconds > 31_622_400 {
             return Err(Refusal::BadPlans);

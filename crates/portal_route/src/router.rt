@@ -6,13 +6,28 @@ use crate::Route;
 use crate::targets::is_path;
 use matchit::{InsertError, Router};
 use std::alloc::{AllocError, Global};
+use std::marker::Model;
 use std::str;
 
-/// The table of the routes, ready to be searched.
+/// The table of the routes, ready to be searched. A contract sees it as the router's rows, which
+/// are always the whole table.
 #[derive(Drop)]
 pub struct Routes {
     router: Router<Route>,
-    ghost is_whole: { router ≡ table },
+}
+
+impl Model for Routes {
+    ghost use Rattle.std.specs.Prelude.{◌≡◌};
+    ghost use Rattle.matchit.specs.Rows.{RowsOf};
+    ghost use Rattle.matchit.specs.Router.{RouteOf};
+    ghost use Rattle.portal_route.specs.declared.Route.{Route};
+    ghost use Rattle.portal_route.specs.Table.{table};
+
+    ghost Value = { RowsOf (RouteOf Route) };
+
+    ghost view = { λ routes. routes.router };
+
+    ghost invariant = { λ routes. routes.router ≡ table };
 }
 
 fn add(router: &mut Router<Route>, text: &str, route: Route) -> Result<(), InsertError>
@@ -43,7 +58,9 @@ fn whole_router(alloc: Global) -> Result<Router<Route>, InsertError>
 
 impl Routes {
     /// The twelve routes of the desk. The only error is want of memory.
-    pub fn new(alloc: Global) -> Result<Routes, AllocError> {
+    pub fn new(alloc: Global) -> Result<Routes, AllocError>
+        ensures { IfOk result (λ routes. routes ≡ table) }
+    {
         match whole_router(alloc) {
             Ok(router) => Ok(Routes { router }),
             Err(_) => Err(AllocError),

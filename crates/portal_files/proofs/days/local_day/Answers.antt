@@ -1,6 +1,6 @@
-use Rattle.std.proofs.Common.{arith, ◌≡◌, ◌≤◌, ℤ, w32, to_z, of_z, sym, ap, subst, ◌∙◌, IsSome, Some}
+use Rattle.std.proofs.Common.{arith, ◌≡◌, w32, to_z, of_z, sym, ap, subst, ◌∙◌}
 use Rattle.std.proofs.lemmas.Int.{ints}
-use Rattle.jiff.specs.Words.{epoch_day, plain_zone}
+use Rattle.jiff.specs.Words.{epoch_day}
 use Rattle.portal_days.specs.Span.{IsDay}
 use Rattle.portal_files.specs.LocalDay.{local_day_of}
 use Rattle.portal_files.proofs.ShownDays.{day-from_seconds, local-day}

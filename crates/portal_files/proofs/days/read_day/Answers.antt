@@ -1,8 +1,8 @@
-use Rattle.std.proofs.Common.{◌≡◌, ℤ, w32, to_z, of_z, ap, ◌∙◌, refl, subst, sym, List, ℕ, arith}
+use Rattle.std.proofs.Common.{◌≡◌, w32, to_z, of_z, ap, ◌∙◌, subst, arith}
 use Rattle.std.proofs.lemmas.Int.{ints}
 use Rattle.jiff.specs.Words.{epoch_day}
 use Rattle.portal_files.specs.DayText.{IsDateText}
-use Rattle.portal_files.proofs.DateTexts.{day-found, no-day, no-date}
+use Rattle.portal_files.proofs.DateTexts.{day-found, no-day}
 use Rattle.portal_files.proofs.days.read_day.Goals as goal
 use Rattle.portal_files.proofs.days.read_day.Goals.{After-new}
 

@@ -1,4 +1,4 @@
-use Rattle.std.proofs.Common.{◌≡◌, List, ℕ, subst, sym}
+use Rattle.std.proofs.Common.{◌≡◌, subst, sym}
 use Rattle.std.proofs.lemmas.Result.{IfOk-weaker, IfErr-weaker}
 use Rattle.portal_files.specs.SettingsFile.{IsSettingsFile}
 use Rattle.portal_files.proofs.SampleText.{sample_text, sample-settings}

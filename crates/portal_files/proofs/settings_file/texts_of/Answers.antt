@@ -1,4 +1,4 @@
-use Rattle.std.proofs.Common.{◌≡◌, ◌∙◌, arith, ap, sym, refl}
+use Rattle.std.proofs.Common.{◌∙◌, arith, ap, sym, refl}
 use Rattle.toml.specs.View.{table_view}
 use Rattle.portal_files.specs.SettingsFile.{key_count}
 use Rattle.portal_files.proofs.Tables.{member_count-view}

@@ -1,0 +1,16 @@
+-- What the program says, and the status with which it ends, when it cannot do what it was asked.
+use Rattle.std.specs.Prelude.{ℕ, List, codes}
+use Rattle.portal.specs.declared.fault.Fault.{Fault}
+use Rattle.portal.specs.declared.fault.Fault.TheVariants.{Usage, Cut, NoMemory}
+
+-- the word after `portal: `
+abbrev pub word_of : Fault → List ℕ
+word_of Usage = codes "usage"
+word_of Cut = codes "cut"
+word_of NoMemory = codes "no_memory"
+
+-- 2 for what the user wrote, 3 for what the program met
+abbrev pub status_of : Fault → ℕ
+status_of Usage = 2
+status_of Cut = 3
+status_of NoMemory = 3

@@ -1,0 +1,5 @@
+pub mod Fault
+pub mod Input
+pub mod Status
+pub mod Replies
+pub mod Answer

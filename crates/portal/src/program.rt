@@ -1,0 +1,41 @@
+//! The whole program, over its words, a reader and two writers.
+
+use crate::answer::answer;
+use crate::fault::Fault;
+use crate::output::write_output;
+use portal_cli::{NoOrder, Order, read_words};
+use std::alloc::Global;
+use std::convert::AsStr;
+use std::io::{Read, Write};
+
+/// Prints what is told in place of an order, and gives the status: 0 at help, which goes to `output`, 2
+/// at a fault in the words, which goes to `errors`, and 3 where there was no memory to read them or
+/// the help cannot be printed.
+pub fn tell<W: Write, E: Write>(told: &NoOrder, output: &mut W, errors: &mut E) -> u8 {
+    match told {
+        NoOrder::Help(text) => match write_output(output, text.as_bytes()) {
+            Ok(()) => 0,
+            Err(_) => Fault::Cut.report(errors),
+        },
+        NoOrder::Fault(text) => {
+            let _printed = write_output(errors, text.as_bytes());
+            2
+        }
+        NoOrder::NoMemory => Fault::NoMemory.report(errors),
+    }
+}
+
+/// Does what the words of the command line ask for, of which the first is the program's own name, and
+/// gives the status with which the program ends.
+pub fn run_program<S: AsStr, R: Read, W: Write, E: Write>(
+    alloc: Global,
+    words: &[S],
+    input: &mut R,
+    output: &mut W,
+    errors: &mut E,
+) -> u8 {
+    match read_words(alloc, words) {
+        Ok(Order::Answer { now, seed }) => answer(alloc, now, seed, input, output, errors),
+        Err(told) => tell(&told, output, errors),
+    }
+}

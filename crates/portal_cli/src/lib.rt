@@ -1,0 +1,12 @@
+//! The command line of the program `portal`: from its words to an order.
+#![tactic(auto)]
+
+mod command;
+mod line;
+mod order;
+
+pub use crate::line::read_words;
+pub use crate::order::{NoOrder, Order};
+
+#[cfg(test)]
+mod tests;

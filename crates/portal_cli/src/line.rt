@@ -1,0 +1,71 @@
+//! From words to an order.
+ghost use Rattle.std.specs.Prelude.{◌≡◌, MatchOption, MatchResult, IfOk, IfErr, map};
+ghost use Rattle.clap.specs.Words.{kind_of, subcommand_rows_of};
+ghost use Rattle.portal_cli.specs.Orders.{IsOrder, IsNoOrder, Orders, Tells, TellsKind, IsNoHelp};
+
+use crate::command::command_line;
+use crate::order::{NoOrder, Order};
+use clap::error::ErrorKind;
+use clap::{ArgMatches, Error};
+use std::alloc::Global;
+use std::convert::AsStr;
+
+/// The order that was found.
+fn order_of<'a>(matches: &ArgMatches<'a>) -> Option<Order<'a>>
+    ensures { MatchOption result (IsNoOrder (subcommand_rows_of matches.now)) (IsOrder (subcommand_rows_of matches.now)) }
+{
+    match matches.subcommand_matches("answer") {
+        None => None,
+        Some(answer) => match answer.get_one::<u64>("now") {
+            None => None,
+            Some(now) => match answer.get_str("seed") {
+                None => None,
+                Some(seed) => Some(Order::Answer { now, seed }),
+            },
+        },
+    }
+}
+
+/// What is told of an error.
+fn told(alloc: Global, error: &Error) -> NoOrder
+    ensures { TellsKind (kind_of error.now) result }
+{
+    let Ok(text) = format!(in alloc; "{error}") else {
+        return NoOrder::NoMemory;
+    };
+    match error.kind() {
+        ErrorKind::OutOfMemory => NoOrder::NoMemory,
+        ErrorKind::DisplayHelp => NoOrder::Help(text),
+        _ => NoOrder::Fault(text),
+    }
+}
+
+/// What is told where the words are right and yet name no order.
+fn told_nothing(alloc: Global) -> NoOrder
+    ensures { IsNoHelp result }
+{
+    match String::from_str(alloc, "error: the command line names no order\n") {
+        Ok(text) => NoOrder::Fault(text),
+        Err(_) => NoOrder::NoMemory,
+    }
+}
+
+/// Reads the words of a command line, of which the first is the program's own name.
+///
+/// An `Err` is what is told instead: help where it was asked for, what is wrong with the words, or
+/// that there was no memory to read them.
+pub fn read_words<'a, S: AsStr>(alloc: Global, words: &'a [S]) -> Result<Order<'a>, NoOrder>
+    ensures order { IfOk result (Orders (map S.text words.entry.now)) }
+    ensures told { IfErr result (Tells (map S.text words.entry.now)) }
+{
+    let Ok(command) = command_line(alloc) else {
+        return Err(NoOrder::NoMemory);
+    };
+    match command.try_get_matches_from(words) {
+        Err(error) => Err(told(alloc, &error)),
+        Ok(matches) => match order_of(&matches) {
+            Some(order) => Ok(order),
+            None => Err(told_nothing(alloc)),
+        },
+    }
+}

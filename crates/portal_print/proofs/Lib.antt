@@ -1,0 +1,5 @@
+pub mod Columns
+pub mod PlainFields
+pub mod PrintLines
+pub mod ReportLines
+pub mod ShownTimes

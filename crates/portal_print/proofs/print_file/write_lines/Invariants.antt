@@ -1,0 +1,10 @@
+use Rattle.std.proofs.Common.{◌≡◌, ◌++◌, take}
+use Rattle.std.specs.List.{flat_map}
+use Rattle.portal_print.specs.Written.{IsReady, written, shared_of, header_row, code_row}
+use Rattle.portal_print.proofs.print_file.write_lines.Given as goal
+
+abbrev pub invariant-loop-code : goal.invariant-loop-code
+invariant-loop-code l = record {
+  ready : IsReady l.writer;
+  text : written l.writer ≡ header_row ++ flat_map (code_row (shared_of l.plan l.seconds l.bytes l.price l.expires)) (take l.code-index l.codes);
+}

@@ -1,0 +1,12 @@
+use Rattle.std.proofs.Common.{◌∙◌}
+use Rattle.std.specs.Prelude.{decimal}
+use Rattle.std.proofs.lemmas.Result.{IfOk-weaker}
+use Rattle.portal_print.proofs.Columns.{right-column}
+use Rattle.portal_print.proofs.ReportLines.{number-line}
+use Rattle.portal_print.proofs.report.number_line.Goals as goal
+
+pub returns : goal.returns
+returns c =
+    IfOk-weaker c.format.result _ _ (λ s e. rw (c.laid_out.ensures, c.laid_out-2.ensures) at e
+    ∙ number-line c.args.label.now _ _ _ _ c.args.sold c.args.sales c.args.refunded c.args.refunds c.requires
+    (right-column 8 (decimal c.args.sold)) c.in_ok-sales.ensures (right-column 8 (decimal c.args.refunded)) c.in_ok-refunds.ensures) c.format.ensures.ok

@@ -1,0 +1,5 @@
+pub mod Amount
+pub mod Minute
+pub mod PrintFile
+pub mod Report
+pub mod Written
