@@ -1,8 +1,7 @@
 -- From a run of one request to what the program does.
-use Rattle.std.proofs.Common.{◌≡◌, ◌<◌, ℕ, List, [], length, take, Option, Some, None, Ok, sym, subst}
+use Rattle.std.proofs.Common.{◌≡◌, ℕ, List, [], Option, Some, None, Ok, subst}
 use Rattle.std.specs.Prelude.{IfSome, MatchOption, Vec}
 use Rattle.std.specs.declared.alloc.Global.{Global}
-use Rattle.std.specs.Io.KnownBytes.{Appends}
 use Rattle.hex.specs.Hex.{decode_of}
 use Rattle.portal_files.specs.SettingsFile.{SettingsValue}
 use Rattle.portal_files.specs.Sample.{IsSample}

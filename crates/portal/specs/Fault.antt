@@ -1,5 +1,5 @@
 -- What the program says, and the status with which it ends, when it cannot do what it was asked.
-use Rattle.std.specs.Prelude.{ℕ, List, codes}
+use Rattle.std.specs.Prelude.{ℕ, List, ◌++◌, codes}
 use Rattle.portal.specs.declared.fault.Fault.{Fault}
 use Rattle.portal.specs.declared.fault.Fault.TheVariants.{Usage, Cut, NoMemory}
 
@@ -8,6 +8,10 @@ abbrev pub word_of : Fault → List ℕ
 word_of Usage = codes "usage"
 word_of Cut = codes "cut"
 word_of NoMemory = codes "no_memory"
+
+-- the line that is printed
+abbrev pub line_of : Fault → List ℕ
+line_of fault = codes "portal: " ++ (word_of fault ++ codes "\n")
 
 -- 2 for what the user wrote, 3 for what the program met
 abbrev pub status_of : Fault → ℕ

@@ -1,10 +1,9 @@
 //! One request in, one response out.
-ghost use Rattle.std.specs.Prelude.{◌≡◌, ℕ, List, [], IfSome, MatchOption, MatchResult, Result};
-ghost use Rattle.portal_files.specs.Sample.{IsSample};
+ghost use Rattle.std.specs.Prelude.{◌≡◌, ℕ, List, [], IfSome, MatchOption, MatchResult};
 ghost use Rattle.portal_desk.specs.States.{State, running};
 ghost use Rattle.portal_http.specs.Runs.{Step};
-ghost use Rattle.portal.specs.declared.fault.Fault.{Fault as Failure};
-ghost use Rattle.portal.specs.Answer.{Answers, Fails, outcome_status};
+ghost use Rattle.portal.specs.Streams.{Streams};
+ghost use Rattle.portal.specs.Answer.{Answers, Fails, EndsAnswer};
 
 use crate::fault::Fault;
 use crate::input::read_input;
@@ -49,9 +48,8 @@ fn exchange<R: Read, W: Write>(
     input: &mut R,
     output: &mut W,
 ) -> Result<u8, Fault>
-    ensures { MatchResult result
-        (Answers (R.remaining input.old) (R.remaining input.new) (W.contents output.old) (W.contents output.new) now seed.now)
-        (Fails (R.remaining input.old) (R.remaining input.new) (W.contents output.old) (W.contents output.new) now seed.now) }
+    ensures { let s : Streams = record { input = R.remaining input.old; input_after = R.remaining input.new; output = W.contents output.old; output_after = W.contents output.new } in
+        MatchResult result (Answers s now seed.now) (Fails s now seed.now) }
 {
     if Moment::new(now).is_none() {
         return Err(Fault::Usage);
@@ -93,9 +91,8 @@ pub fn answer<R: Read, W: Write, E: Write>(
     output: &mut W,
     errors: &mut E,
 ) -> u8
-    ensures { (outcome : Result ℕ Failure) × (result ≡ outcome_status outcome) × MatchResult outcome
-        (Answers (R.remaining input.old) (R.remaining input.new) (W.contents output.old) (W.contents output.new) now seed.now)
-        (Fails (R.remaining input.old) (R.remaining input.new) (W.contents output.old) (W.contents output.new) now seed.now) }
+    ensures { let s : Streams = record { input = R.remaining input.old; input_after = R.remaining input.new; output = W.contents output.old; output_after = W.contents output.new } in
+        EndsAnswer s (E.contents errors.old) (E.contents errors.new) now seed.now result }
 {
     match exchange(alloc, now, seed, input, output) {
         Ok(status) => status,

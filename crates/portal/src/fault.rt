@@ -1,7 +1,9 @@
 //! What the program says when it cannot do what it was asked.
 ghost use Rattle.std.specs.Prelude.{◌≡◌};
-ghost use Rattle.portal.specs.Fault.{word_of, status_of};
+ghost use Rattle.portal.specs.Streams.{Prints};
+ghost use Rattle.portal.specs.Fault.{line_of, status_of};
 
+use crate::output::write_output;
 use std::io::Write;
 
 /// Why the program ends without having done what it was asked.
@@ -16,14 +18,14 @@ pub enum Fault {
 }
 
 impl Fault {
-    /// The word that is printed.
-    pub fn word(self) -> &'static str
-        ensures { result.now ≡ word_of self }
+    /// The line that is printed: `portal: ` and the word of the fault.
+    pub fn line(self) -> &'static str
+        ensures { result.now ≡ line_of self }
     {
         match self {
-            Fault::Usage => "usage",
-            Fault::Cut => "cut",
-            Fault::NoMemory => "no_memory",
+            Fault::Usage => "portal: usage\n",
+            Fault::Cut => "portal: cut\n",
+            Fault::NoMemory => "portal: no_memory\n",
         }
     }
 
@@ -37,13 +39,12 @@ impl Fault {
         }
     }
 
-    /// Prints `portal: ` and the word on a line of its own, and gives the status, which is the same
-    /// where the line cannot be printed.
+    /// Prints the line, or as much of it as goes out, and gives the status.
     pub fn report<E: Write>(self, errors: &mut E) -> u8
-        ensures { result ≡ status_of self }
+        ensures status { result ≡ status_of self }
+        ensures printed { Prints (E.contents errors.old) (E.contents errors.new) (line_of self) }
     {
-        let word = self.word();
-        let _printed = writeln!(errors, "portal: {word}");
+        let _printed = write_output(errors, self.line().as_bytes());
         self.status()
     }
 }

@@ -8,6 +8,8 @@ mod output;
 mod program;
 mod seed;
 mod status;
+#[cfg(test)]
+mod tests;
 
 use crate::fault::Fault;
 use crate::program::run_program;

@@ -1,4 +1,7 @@
 //! The whole program, over its words, a reader and two writers.
+ghost use Rattle.std.specs.Prelude.{map};
+ghost use Rattle.portal.specs.Streams.{Streams};
+ghost use Rattle.portal.specs.Program.{EndsTelling, EndsOrder, EndsProgram};
 
 use crate::answer::answer;
 use crate::fault::Fault;
@@ -11,7 +14,9 @@ use std::io::{Read, Write};
 /// Prints what is told in place of an order, and gives the status: 0 at help, which goes to `output`, 2
 /// at a fault in the words, which goes to `errors`, and 3 where there was no memory to read them or
 /// the help cannot be printed.
-pub fn tell<W: Write, E: Write>(told: &NoOrder, output: &mut W, errors: &mut E) -> u8 {
+pub fn tell<W: Write, E: Write>(told: &NoOrder, output: &mut W, errors: &mut E) -> u8
+    ensures { EndsTelling (W.contents output.old) (W.contents output.new) (E.contents errors.old) (E.contents errors.new) told.now result }
+{
     match told {
         NoOrder::Help(text) => match write_output(output, text.as_bytes()) {
             Ok(()) => 0,
@@ -25,6 +30,22 @@ pub fn tell<W: Write, E: Write>(told: &NoOrder, output: &mut W, errors: &mut E) 
     }
 }
 
+/// Carries out an order, and gives the status with which the program ends.
+pub fn run_order<R: Read, W: Write, E: Write>(
+    alloc: Global,
+    order: Order<'_>,
+    input: &mut R,
+    output: &mut W,
+    errors: &mut E,
+) -> u8
+    ensures { let s : Streams = record { input = R.remaining input.old; input_after = R.remaining input.new; output = W.contents output.old; output_after = W.contents output.new } in
+        EndsOrder s (E.contents errors.old) (E.contents errors.new) order.entry result }
+{
+    match order {
+        Order::Answer { now, seed } => answer(alloc, now, seed, input, output, errors),
+    }
+}
+
 /// Does what the words of the command line ask for, of which the first is the program's own name, and
 /// gives the status with which the program ends.
 pub fn run_program<S: AsStr, R: Read, W: Write, E: Write>(
@@ -33,9 +54,12 @@ pub fn run_program<S: AsStr, R: Read, W: Write, E: Write>(
     input: &mut R,
     output: &mut W,
     errors: &mut E,
-) -> u8 {
+) -> u8
+    ensures { let s : Streams = record { input = R.remaining input.old; input_after = R.remaining input.new; output = W.contents output.old; output_after = W.contents output.new } in
+        EndsProgram s (E.contents errors.old) (E.contents errors.new) (map S.text words.now) result }
+{
     match read_words(alloc, words) {
-        Ok(Order::Answer { now, seed }) => answer(alloc, now, seed, input, output, errors),
+        Ok(order) => run_order(alloc, order, input, output, errors),
         Err(told) => tell(&told, output, errors),
     }
 }

@@ -5,6 +5,7 @@ use Rattle.portal_model.specs.Verdict.{ids_stand_twice}
 use Rattle.toml.specs.Data.{Data, string, integer, boolean, array, table, Items, no_items, item, Members, no_members, member, get_member}
 use Rattle.toml.specs.Parse.{parse_document}
 
+-- how many keys a table has
 abbrev pub member_count : Members → ℕ
 member_count no_members = 0
 member_count (member k d ms) = member_count ms + 1

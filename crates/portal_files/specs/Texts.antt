@@ -4,6 +4,7 @@ use Rattle.jiff.specs.ZoneView.{plain_zone}
 use Rattle.portal_files.specs.SettingsFile.{SettingsValue}
 use Rattle.portal_files.specs.declared.settings_file.Texts.{Texts}
 
+-- the settings that they make
 abbrev pub value_of : Texts → SettingsValue
 value_of t = record {
   zone = plain_zone t.zone;

@@ -32,6 +32,7 @@ total_line days = number_line (codes "total") (sum_by (λ d. d.sold) days) (sum_
 abbrev pub net_text : (sales refunds : ℕ) → List ℕ
 net_text sales refunds = if nat_lt sales refunds then 45 ∷ amount_text (refunds - sales) else amount_text (sales - refunds)
 
+-- the net sum
 abbrev pub net_line : List DayTakings → List ℕ
 net_line days = codes "net " ++ net_text (sum_by (λ d. d.sales) days) (sum_by (λ d. d.refunds) days) ++ 10 ∷ []
 

@@ -24,6 +24,7 @@ pub record Shared : Type 0 where
   pub price : List ℕ
   pub expires : List ℕ
 
+-- those of the same texts
 abbrev pub shared_of : (plan seconds bytes price expires : List ℕ) → Shared
 shared_of plan seconds bytes price expires = record { plan = plan; seconds = seconds; bytes = bytes; price = price; expires = expires }
 

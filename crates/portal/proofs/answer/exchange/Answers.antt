@@ -1,6 +1,5 @@
-use Rattle.std.proofs.Common.{◌≡◌, ◌<◌, ℕ, List, length, take, ap, ◌∙◌, subst, rules, inr}
+use Rattle.std.proofs.Common.{◌<◌, ℕ, List, length, take, ap, ◌∙◌, subst, rules, inr}
 use Rattle.std.specs.Io.KnownBytes.{Appends}
-use Rattle.portal.specs.Answer.{Responds}
 use Rattle.portal.specs.Status.{exit_status_of}
 use Rattle.portal.proofs.ExchangeLemmas.{responds}
 use Rattle.portal.proofs.answer.exchange.Goals as goal
