@@ -1,12 +1,13 @@
 use crate::{print_batch, takings_text};
 use portal_codes::Code;
 use portal_days::{Day, DayRange, DayTakings, add_takings};
-use portal_files::{BatchSheet, Settings, read_settings, sample_settings};
+use portal_files::{BatchSheet, FileFault, read_settings, sample_settings};
 use portal_model::lists::Codes;
 use portal_model::moment::Moment;
 use portal_model::name::Id;
 use portal_model::plan::Plan;
 use portal_model::record::Batch;
+use std::process::Abort;
 use std::test::Fail;
 
 fn day(number: i32) -> Result<Day, Fail> {
@@ -40,10 +41,10 @@ fn sheet(
     Ok(BatchSheet { batch, plan, codes })
 }
 
-fn printed(rt: &HostRuntime, settings: &Settings, sheet: &BatchSheet, want: &str) -> bool {
-    match print_batch(rt.alloc(), settings, sheet) {
-        Ok(text) => text.as_slice() == want.as_bytes(),
-        Err(_) => false,
+fn assert_prints(rt: &impl Abort, printed: Result<Vec<u8>, FileFault>, want: &str) {
+    match printed {
+        Ok(text) => assert!(rt; text.as_slice() == want.as_bytes(), "{want}"),
+        Err(_) => assert!(rt; false, "the print file is made"),
     }
 }
 
@@ -52,26 +53,20 @@ fn printed(rt: &HostRuntime, settings: &Settings, sheet: &BatchSheet, want: &str
 fn print_sheet(rt: HostRuntime) -> Result<(), Fail> {
     let hour = sheet(&rt, "hour", 300, 3600, 0)?;
     match sample_settings(rt.alloc()) {
-        Ok(settings) => assert!(rt;
-            printed(
-                &rt,
-                &settings,
-                &hour,
-                "code,plan,seconds,bytes,price,expires\n3N55-WA4S-KH53,hour,3600,,3.00,1970-01-31 00:16\n"
-            )
+        Ok(settings) => assert_prints(
+            &rt,
+            print_batch(rt.alloc(), &settings, &hour),
+            "code,plan,seconds,bytes,price,expires\n3N55-WA4S-KH53,hour,3600,,3.00,1970-01-31 00:16\n",
         ),
         Err(_) => assert!(rt; false, "the sample settings read"),
     }
     let file =
         b"zone = \"CET-1CEST,M3.5.0,M10.5.0/3\"\nportal_url = \"https://a\"\ndesk_token = \"12345678\"\ngateway_token = \"12345679\"\n";
     match read_settings(rt.alloc(), file) {
-        Ok(settings) => assert!(rt;
-            printed(
-                &rt,
-                &settings,
-                &hour,
-                "code,plan,seconds,bytes,price,expires\n3N55-WA4S-KH53,hour,3600,,3.00,1970-01-31 01:16\n"
-            )
+        Ok(settings) => assert_prints(
+            &rt,
+            print_batch(rt.alloc(), &settings, &hour),
+            "code,plan,seconds,bytes,price,expires\n3N55-WA4S-KH53,hour,3600,,3.00,1970-01-31 01:16\n",
         ),
         Err(_) => assert!(rt; false, "the settings read"),
     }
@@ -116,7 +111,7 @@ fn print_sheet_amounts(rt: HostRuntime) -> Result<(), Fail> {
                 ),
             ] {
                 let gig = sheet(&rt, "gig", price, seconds, bytes)?;
-                assert!(rt; printed(&rt, &settings, &gig, want), "{want}");
+                assert_prints(&rt, print_batch(rt.alloc(), &settings, &gig), want);
             }
         }
         Err(_) => assert!(rt; false, "the sample settings read"),
@@ -154,7 +149,7 @@ fn takings_refund_day(rt: HostRuntime) -> Result<(), Fail> {
     Ok(())
 }
 
-// Sums of 17 digits before the point take more than their columns, and a report of no day has none.
+// Sums of 17 digits before the point take more than their columns.
 #[test]
 fn wide_sums(rt: HostRuntime) -> Result<(), Fail> {
     let days = [DayTakings {
@@ -171,6 +166,32 @@ fn wide_sums(rt: HostRuntime) -> Result<(), Fail> {
         ),
         Err(_) => assert!(rt; false, "the report is made"),
     }
+    Ok(())
+}
+
+// The greatest counts and sums, and amounts below a whole unit.
+#[test]
+fn greatest_sums(rt: HostRuntime) -> Result<(), Fail> {
+    let days = [DayTakings {
+        day: day(2_932_896)?,
+        sold: u64::MAX,
+        sales: u128::MAX,
+        refunded: 2,
+        refunds: 99,
+    }];
+    match takings_text(rt.alloc(), &days) {
+        Ok(text) => assert_eq!(rt;
+            text.as_str(),
+            "day            sold             sales refunded           refunds\n9999-12-31 18446744073709551615 3402823669209384634633746074317682114.55        2              0.99\ntotal      18446744073709551615 3402823669209384634633746074317682114.55        2              0.99\nnet 3402823669209384634633746074317682113.56\n"
+        ),
+        Err(_) => assert!(rt; false, "the report is made"),
+    }
+    Ok(())
+}
+
+// A report of no day has no day line.
+#[test]
+fn takings_of_no_day(rt: HostRuntime) {
     match takings_text(rt.alloc(), &[]) {
         Ok(text) => assert_eq!(rt;
             text.as_str(),
@@ -178,5 +199,4 @@ fn wide_sums(rt: HostRuntime) -> Result<(), Fail> {
         ),
         Err(_) => assert!(rt; false, "the report is made"),
     }
-    Ok(())
 }

@@ -16,7 +16,7 @@ use std::alloc::{AllocError, Global};
 /// What a body is written in.
 #[derive(Clone, Copy, Debug, PartialEq, Eq)]
 pub enum ContentType {
-    /// A captive state, `application/captive+json` (RFC 8908, section 4).
+    /// A captive state, `application/captive+json` (RFC 8908, section 5).
     CaptiveJson,
     /// Any other JSON text, `application/json`.
     Json,

@@ -1,0 +1,27 @@
+use Rattle.std.proofs.Common.{refl, sym, ap, ◌∙◌, slice_get}
+use Rattle.sqlite.specs.declared.types.Value.TheVariants.{Text}
+use Rattle.portal_model.specs.Device.{text_of_device}
+use Rattle.portal_model.specs.Rows.{SessionRow}
+use Rattle.portal_sql.proofs.Keys.{finds_last, finds_no_last, same_text, text_itself}
+use Rattle.portal_rows.specs.Contents.{session_cells}
+use Rattle.portal_sql.proofs.LooksLemmas.{looks_read}
+use Rattle.portal_rows.specs.Holds.{HasTables}
+use Rattle.portal_rows.specs.Read.{session_read}
+use Rattle.portal_rows.proofs.Cells.{exact_session}
+use Rattle.portal_rows.proofs.finds.find_last_session.Goals as goal
+
+pub returns-in-Some-clause-found : goal.returns-in-Some-clause-found
+returns-in-Some-clause-found g c clean t h =
+    let rows = c.in_ok-rows.ensures.rows clean t h in
+    let got = ap (λ xs. slice_get xs 0) (sym c.deref.ensures.value) ∙ sym c.in-Some.ensures.value in
+    finds_last session_cells 1 (λ (x : SessionRow). x.device) (text_of_device c.args.device.now) Text (λ x. refl) same_text text_itself 6 (λ x. refl) exact_session t.sessions 0 (λ (x : SessionRow). x.number) (λ x. refl) rows.0 _ rows.1 rows.2
+    c.in-Some.row.now (session_read c.in_ok-session_of-in-Some.field-0) got c.in_ok-session_of-in-Some.ensures.cells
+
+pub returns-in_err-session_of-in-Some-clause-looks : goal.returns-in_err-session_of-in-Some-clause-looks
+returns-in_err-session_of-in-Some-clause-looks g c = looks_read HasTables _ _ _ c.in_ok-rows.ensures.looks
+
+pub returns-clause-found : goal.returns-clause-found
+returns-clause-found g c clean t h =
+    let rows = c.in_ok-rows.ensures.rows clean t h in
+    let got = ap (λ xs. slice_get xs 0) (sym c.deref.ensures.value) ∙ sym c.in-None.ensures.value in
+    finds_no_last session_cells 1 (λ (x : SessionRow). x.device) (text_of_device c.args.device.now) Text (λ x. refl) same_text text_itself 6 (λ x. refl) exact_session t.sessions 0 (λ (x : SessionRow). x.number) (λ x. refl) rows.0 _ rows.1 rows.2 got

@@ -1,0 +1,24 @@
+use Rattle.std.proofs.Common.{refl, sym, ap, ◌∙◌, slice_get}
+use Rattle.portal_model.specs.Rows.{SessionRow}
+use Rattle.portal_sql.specs.Stored.{number}
+use Rattle.portal_sql.proofs.Keys.{finds_some, finds_none, same_number, number_itself}
+use Rattle.portal_rows.specs.Contents.{session_cells}
+use Rattle.portal_sql.proofs.LooksLemmas.{looks_read}
+use Rattle.portal_rows.specs.Holds.{HasTables}
+use Rattle.portal_rows.specs.Read.{session_read}
+use Rattle.portal_rows.proofs.Cells.{exact_session}
+use Rattle.portal_rows.proofs.finds.find_session.Goals as goal
+
+pub returns-in-Some-clause-found : goal.returns-in-Some-clause-found
+returns-in-Some-clause-found g c clean t h =
+    let got = ap (λ xs. slice_get xs 0) (sym c.deref.ensures.value) ∙ sym c.in-Some.ensures.value in
+    finds_some session_cells 0 (λ (x : SessionRow). x.number) c.args.number number (λ x. refl) same_number number_itself 6 (λ x. refl) exact_session t.sessions _ (c.in_ok-rows.ensures.rows clean t h)
+    c.in-Some.row.now (session_read c.in_ok-session_of-in-Some.field-0) got c.in_ok-session_of-in-Some.ensures.cells
+
+pub returns-in_err-session_of-in-Some-clause-looks : goal.returns-in_err-session_of-in-Some-clause-looks
+returns-in_err-session_of-in-Some-clause-looks g c = looks_read HasTables _ _ _ c.in_ok-rows.ensures.looks
+
+pub returns-clause-found : goal.returns-clause-found
+returns-clause-found g c clean t h =
+    let got = ap (λ xs. slice_get xs 0) (sym c.deref.ensures.value) ∙ sym c.in-None.ensures.value in
+    finds_none session_cells 0 (λ (x : SessionRow). x.number) c.args.number number (λ x. refl) same_number number_itself 6 (λ x. refl) exact_session t.sessions _ (c.in_ok-rows.ensures.rows clean t h) got

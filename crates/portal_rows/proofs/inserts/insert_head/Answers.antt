@@ -1,0 +1,11 @@
+use Rattle.std.proofs.Common.{w64, refl}
+use Rattle.std.proofs.lemmas.Int.{to_z_pos}
+use Rattle.sqlite.specs.Held.{state}
+use Rattle.portal_rows.specs.Steps.{first_head}
+use Rattle.portal_rows.proofs.InsertSteps.{add_head_inside}
+use Rattle.portal_rows.proofs.inserts.insert_head.Goals as goal
+
+pub returns-clause-steps : goal.returns-clause-steps
+returns-clause-steps g c clean inside =
+    add_head_inside (state g.S.Store c.args.tx.now.conn.now) (state g.S.Store c.execute.new.self.conn.now) (first_head c.args.layout) (refl, refl, refl, refl) c.in_ok-execute.field-0
+    (rw (c.params-to_sql.ensures, to_z_pos w64 c.args.layout c.requires) at (c.in_ok-execute.ensures.runs clean inside))

@@ -1,0 +1,11 @@
+use Rattle.std.proofs.Common.{◌<◌, ◌^◌, w64, arith}
+use Rattle.std.proofs.lemmas.Int.{to_z_pos}
+use Rattle.sqlite.specs.Held.{state}
+use Rattle.portal_rows.proofs.UpdateSteps.{set_moment_inside}
+use Rattle.portal_rows.proofs.updates.set_moment.Goals as goal
+
+pub returns-clause-steps : goal.returns-clause-steps
+returns-clause-steps g c clean inside =
+    let fits : c.get.result < 2 ^ 63 = omega arith in
+    set_moment_inside (state g.S.Store c.args.tx.now.conn.now) (state g.S.Store c.execute.new.self.conn.now) c.args.at c.in_ok-execute.field-0
+    (rw (c.params-to_sql.ensures, to_z_pos w64 c.get.result fits, c.get.ensures.value) at (c.in_ok-execute.ensures.runs clean inside))

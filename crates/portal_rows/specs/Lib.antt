@@ -1,0 +1,15 @@
+pub mod Asks
+pub mod Audit
+pub mod Commands
+pub mod Contents
+pub mod Creates
+pub mod First
+pub mod Holds
+pub mod Layout
+pub mod Layouts
+pub mod Lists
+pub mod Migrates
+pub mod Read
+pub mod Steps
+pub mod Sums
+pub mod Upgrades

@@ -1,0 +1,142 @@
+-- What each statement makes of the rows.
+use Rattle.std.specs.Prelude.{◌≡◌, ℕ, cond, nat_eq, true, false, IsTrue, List, [], ◌∷◌, ◌++◌, map, None}
+use Rattle.sqlite.specs.Tree.{Trees}
+use Rattle.sqlite.specs.State.{State}
+use Rattle.portal_sql.specs.Stored.{put_by}
+use Rattle.portal_model.specs.declared.plan.Plan.{Plan}
+use Rattle.portal_model.specs.declared.record.Batch.{Batch}
+use Rattle.portal_model.specs.declared.record.Session.{Session}
+use Rattle.portal_model.specs.Device.{text_of_device}
+use Rattle.portal_model.specs.Rows.{VoucherRow, SessionRow, GrantRow, CountRow, TotalRow, sold_if, refunded_if, used_if, closed_if, counted_if}
+use Rattle.portal_rows.specs.declared.signs.Total.{Total}
+use Rattle.portal_rows.specs.Contents.{Contents, HeadRow}
+use Rattle.portal_rows.specs.Holds.{Holds, LeftHolds}
+
+-- ---- new rows
+
+-- a voucher that is neither sold nor refunded
+abbrev pub new_voucher : List ℕ → ℕ → List ℕ → VoucherRow
+new_voucher batch place code = record { code = code; batch = batch; place = place; sold = None; refunded = None; amount = None }
+
+-- a session that is opened on the plan
+abbrev pub opened_row : Session → List ℕ → SessionRow
+opened_row s plan = record { number = s.number; device = text_of_device s.device; plan = plan; opened = s.opened; used = 0; closed = None }
+
+-- a redemption on the terms of the plan
+abbrev pub granted_row : ℕ → List ℕ → ℕ → ℕ → Plan → GrantRow
+granted_row number code session at plan = record { number = number; code = code; session = session; moment = at; seconds = plan.seconds; bytes = plan.bytes }
+
+abbrev pub count_row : List ℕ → ℕ → CountRow
+count_row code redeemed = record { code = code; redeemed = redeemed }
+
+abbrev pub ends_row : Total → TotalRow
+ends_row m = record { number = m.number; ends = m.ends; remaining = m.remaining }
+
+-- the head of a store in which nothing was accepted
+abbrev pub first_head : ℕ → HeadRow
+first_head layout = record { id = 1; layout = layout; last = 0; grants = 0; sessions = 0 }
+
+-- ---- a row more
+
+abbrev pub with_plan : Plan → Contents → Contents
+with_plan p t = record t { plans = t.plans ++ p ∷ [] }
+
+abbrev pub with_plans : List Plan → Contents → Contents
+with_plans ps t = record t { plans = t.plans ++ ps }
+
+abbrev pub with_batch : Batch → Contents → Contents
+with_batch b t = record t { batches = t.batches ++ b ∷ [] }
+
+abbrev pub with_voucher : VoucherRow → Contents → Contents
+with_voucher v t = record t { vouchers = t.vouchers ++ v ∷ [] }
+
+abbrev pub with_vouchers : List VoucherRow → Contents → Contents
+with_vouchers vs t = record t { vouchers = t.vouchers ++ vs }
+
+abbrev pub with_count : CountRow → Contents → Contents
+with_count k t = record t { counts = t.counts ++ k ∷ [] }
+
+abbrev pub with_counts : List CountRow → Contents → Contents
+with_counts ks t = record t { counts = t.counts ++ ks }
+
+-- in its place by number
+
+abbrev pub with_head : HeadRow → Contents → Contents
+with_head h t = record t { heads = put_by (λ (x : HeadRow). x.id) h t.heads }
+
+abbrev pub with_session : SessionRow → Contents → Contents
+with_session s t = record t { sessions = put_by (λ (x : SessionRow). x.number) s t.sessions }
+
+abbrev pub with_grant : GrantRow → Contents → Contents
+with_grant g t = record t { grants = put_by (λ (x : GrantRow). x.number) g t.grants }
+
+abbrev pub with_total : TotalRow → Contents → Contents
+with_total m t = record t { totals = put_by (λ (x : TotalRow). x.number) m t.totals }
+
+-- ---- a row changed
+
+-- the sale of the voucher with the code
+abbrev pub with_sale : List ℕ → ℕ → Contents → Contents
+with_sale code at t = record t { vouchers = map (sold_if code at) t.vouchers }
+
+-- its refund
+abbrev pub with_refund : List ℕ → ℕ → ℕ → Contents → Contents
+with_refund code at amount t = record t { vouchers = map (refunded_if code at amount) t.vouchers }
+
+abbrev pub moved_if : ℕ → HeadRow → HeadRow
+moved_if at h = cond (nat_eq 1 h.id) (record h { last = at }) h
+
+-- the last moment
+abbrev pub with_moment : ℕ → Contents → Contents
+with_moment at t = record t { heads = map (moved_if at) t.heads }
+
+abbrev pub numbered_if : ℕ → ℕ → ℕ → HeadRow → HeadRow
+numbered_if at grants sessions h = cond (nat_eq 1 h.id) (record h { last = at; grants = grants; sessions = sessions }) h
+
+-- the last moment and the numbers of rows
+abbrev pub with_numbers : ℕ → ℕ → ℕ → Contents → Contents
+with_numbers at grants sessions t = record t { heads = map (numbered_if at grants sessions) t.heads }
+
+abbrev pub laid_out_if : ℕ → HeadRow → HeadRow
+laid_out_if layout h = cond (nat_eq 1 h.id) (record h { layout = layout }) h
+
+abbrev pub with_layout : ℕ → Contents → Contents
+with_layout layout t = record t { heads = map (laid_out_if layout) t.heads }
+
+-- what the session with the number has used
+abbrev pub with_use : ℕ → ℕ → Contents → Contents
+with_use number used t = record t { sessions = map (used_if number used) t.sessions }
+
+-- its close
+abbrev pub with_close : ℕ → ℕ → Contents → Contents
+with_close number at t = record t { sessions = map (closed_if number at) t.sessions }
+
+-- how often the voucher with the code was redeemed
+abbrev pub with_redeemed : List ℕ → ℕ → Contents → Contents
+with_redeemed code redeemed t = record t { counts = map (counted_if code redeemed) t.counts }
+
+abbrev pub ended_if : TotalRow → TotalRow → TotalRow
+ended_if new m = cond (nat_eq new.number m.number) (record m { ends = new.ends; remaining = new.remaining }) m
+
+-- the end of the session with the number, and what remains of its allowance
+abbrev pub with_ends : TotalRow → Contents → Contents
+with_ends new t = record t { totals = map (ended_if new) t.totals }
+
+-- ---- statements and transactions
+
+-- a statement inside a transaction led to the rows that f gives, and nothing is committed
+pub record Steps (f : Contents → Contents) (old new : State) : Type 0 where
+  pub holds : (t : Contents) → Holds old.now t → Holds new.now (f t)
+  pub committed : new.committed ≡ old.committed
+  pub mode : new.in_transaction ≡ true
+
+-- outside a transaction, a command led to the rows that f gives, and they are committed
+pub record Leads (f : Contents → Contents) (old new : State) : Type 0 where
+  pub holds : (t : Contents) → Holds old.now t → Holds new.now (f t)
+  pub committed : new.committed ≡ new.now
+  pub ended : new.in_transaction ≡ false
+  pub is_open : IsTrue new.is_open
+
+-- what a stop may leave beside what it could leave before
+abbrev pub MayLead : (Contents → Contents) → State → Trees → Type 0
+MayLead f old trees = (t : Contents) → Holds old.now t → LeftHolds trees (f t)

@@ -1,0 +1,140 @@
+//! Whether the counters agree with the other rows.
+
+ghost use Rattle.std.specs.Prelude.{◌≡◌, ◌↔◌, ℕ, List, map, nat_eq, bytes_eq, length, IfOk, IsTrue, unwrap_or};
+ghost use Rattle.std.specs.List.{list_all, list_any};
+ghost use Rattle.std.specs.HashMap.{get};
+ghost use Rattle.std.specs.HashSet.{contains};
+ghost use Rattle.sqlite.specs.Held.{state};
+ghost use Rattle.portal_codes.specs.Code.{text_of};
+ghost use Rattle.portal_sql.specs.Looks.{Looks};
+ghost use Rattle.portal_rows.specs.Contents.{Contents};
+ghost use Rattle.portal_rows.specs.Holds.{HasTables};
+ghost use Rattle.portal_rows.specs.Steps.{ends_row};
+ghost use Rattle.portal_rows.specs.Read.{head_read, voucher_read, count_read};
+ghost use Rattle.portal_rows.specs.Sums.{grant_read};
+ghost use Rattle.portal_rows.specs.Audit.{Agrees, AreRead, IsAudited, OfHeld, is_counted, has_count};
+
+use crate::counted::{CountedRows, read_counted};
+use crate::finds::find_head;
+use crate::grants::KeptGrant;
+use crate::rows::{Fault, KeptCount, KeptHead, KeptVoucher};
+use crate::signs::Total;
+use crate::sums::{sum_totals, uses_by_code};
+use crate::whole::{all_counts, all_totals};
+use portal_codes::TEXT_LEN;
+use sqlite::{Alter, Connection};
+use std::alloc::Global;
+use std::collections::{HashMap, HashSet};
+
+/// Whether the count is what stands under its code.
+fn is_count_in(uses: &HashMap<[u8; TEXT_LEN], u64>, count: &KeptCount) -> bool
+    ensures { result ≡ nat_eq count.now.redeemed (unwrap_or (get bytes_eq uses.now (text_of count.now.code)) 0) }
+{
+    let code = count.code.text();
+    count.redeemed == uses.get(&code).copied().unwrap_or(0)
+}
+
+/// Whether each count is what stands under its code.
+fn are_counts_in(uses: &HashMap<[u8; TEXT_LEN], u64>, counts: &[KeptCount]) -> bool
+    ensures { result ≡ list_all (λ k. nat_eq k.redeemed (unwrap_or (get bytes_eq uses.now (text_of k.code)) 0)) counts.now }
+{
+    counts.iter().all(|count| is_count_in(uses, count))
+}
+
+/// Whether each count is the number of the redemptions with its code.
+fn counts_agree(alloc: Global, grants: &[KeptGrant], counts: &[KeptCount]) -> Result<bool, Fault>
+    ensures { IfOk result (λ agree. agree ≡ list_all (is_counted (map grant_read grants.now)) (map count_read counts.now)) }
+{
+    let uses = uses_by_code(alloc, grants)?;
+    Ok(are_counts_in(&uses, counts))
+}
+
+/// The printed codes that have a count.
+fn counted_codes(alloc: Global, counts: &[KeptCount]) -> Result<HashSet<[u8; TEXT_LEN]>, Fault>
+    ensures { IfOk result (λ codes. (code : List ℕ) → contains bytes_eq codes code ≡ list_any (λ k. bytes_eq k.code code) (map count_read counts.now)) }
+{
+    let mut codes = HashSet::new(alloc);
+    for count in counts {
+        codes.insert(count.code.text())?;
+    }
+    Ok(codes)
+}
+
+/// Whether the voucher's code is among these.
+fn is_among(codes: &HashSet<[u8; TEXT_LEN]>, voucher: &KeptVoucher) -> bool
+    ensures { result ≡ contains bytes_eq codes.now (text_of voucher.now.code) }
+{
+    let code = voucher.code.text();
+    codes.contains(&code)
+}
+
+/// Whether the code of each voucher is among these.
+fn are_among(codes: &HashSet<[u8; TEXT_LEN]>, vouchers: &[KeptVoucher]) -> bool
+    ensures { result ≡ list_all (λ v. contains bytes_eq codes.now (text_of v.code)) vouchers.now }
+{
+    vouchers.iter().all(|voucher| is_among(codes, voucher))
+}
+
+/// Whether each voucher has a count.
+fn vouchers_agree(
+    alloc: Global,
+    vouchers: &[KeptVoucher],
+    counts: &[KeptCount],
+) -> Result<bool, Fault>
+    ensures { IfOk result (λ agree. agree ≡ list_all (has_count (map count_read counts.now)) (map voucher_read vouchers.now)) }
+{
+    let codes = counted_codes(alloc, counts)?;
+    Ok(are_among(&codes, vouchers))
+}
+
+/// Whether the totals are the same, in the same order.
+fn are_same(totals: &[Total], sums: &[Total]) -> bool
+    ensures { IsTrue result ↔ (totals.now ≡ sums.now) }
+{
+    totals == sums
+}
+
+/// Whether the head has the numbers of redemptions and sessions.
+fn numbers_agree(head: &KeptHead, rows: &CountedRows) -> bool
+    ensures { IsTrue result ↔ ((head.now.grants ≡ length rows.now.grants.items) × (head.now.sessions ≡ length rows.now.sessions.items)) }
+{
+    head.grants == rows.grants.len() as u64 && head.sessions == rows.sessions.len() as u64
+}
+
+/// Whether the counters agree with these rows.
+fn agree(
+    head: &KeptHead,
+    rows: &CountedRows,
+    counts: &[KeptCount],
+    totals: &[Total],
+) -> Result<bool, Fault>
+    ensures { IfOk result (λ agree. (t : Contents) → AreRead rows.now t → map count_read counts.now ≡ t.counts → map ends_row totals.now ≡ t.totals → IsTrue agree ↔ Agrees (head_read head.now) t) }
+{
+    let alloc = *rows.grants.allocator();
+    if !numbers_agree(head, rows) {
+        return Ok(false);
+    }
+    if !counts_agree(alloc, &rows.grants, counts)? {
+        return Ok(false);
+    }
+    if !vouchers_agree(alloc, &rows.vouchers, counts)? {
+        return Ok(false);
+    }
+    let sums = sum_totals(alloc, &rows.plans, &rows.sessions, &rows.grants)?;
+    Ok(are_same(totals, &sums))
+}
+
+/// Whether the counters of the store agree with its other rows: each count is the number of the redemptions with its code, each end and remainder is what the sums over the redemptions give of its session, each voucher and each session has its counters, and the head has the numbers of redemptions and sessions.
+/// A row that this product does not write, and a sum that no row keeps, is a foreign row.
+pub fn audit<S: Alter>(conn: &mut Connection<S>) -> Result<bool, Fault>
+    ensures audited { OfHeld (state S.Store conn.old) (state S.Store conn.new) (λ t. IfOk result (λ audited. IsTrue audited ↔ IsAudited t)) }
+    ensures looks { Looks HasTables result (state S.Store conn.old) (state S.Store conn.new) }
+{
+    let Some(head) = find_head(conn)? else {
+        return Ok(false);
+    };
+    let rows = read_counted(conn)?;
+    let counts = all_counts(conn)?;
+    let totals = all_totals(conn)?;
+    Ok(agree(&head, &rows, &counts, &totals)?)
+}

@@ -1,0 +1,258 @@
+ghost use Rattle.std.specs.Prelude.{◌≡◌, ◌<◌, ◌^◌, OnOk, OnErr, IsTrue, length, map, false};
+ghost use Rattle.sqlite.specs.Held.{state};
+ghost use Rattle.sqlite.specs.State.{HasCleanDisk, KeepsCommit, Survives};
+ghost use Rattle.portal_codes.specs.Code.{text_of};
+ghost use Rattle.portal_model.specs.Rows.{new_vouchers, new_counts, total_row};
+ghost use Rattle.portal_sql.specs.States.{IsUndone};
+ghost use Rattle.portal_rows.specs.Steps.{Steps, Leads, MayLead, with_plans, with_vouchers, with_counts, ends_row};
+ghost use Rattle.portal_rows.specs.Commands.{loaded, issued, sold, placed_in, granted, redeemed, used, repaid, closed, kept, FitsSession, FitsIssuance, FitsRedemption, FitsUsage, Fits};
+
+use crate::inserts::{
+    insert_batch, insert_count, insert_grant, insert_plan, insert_session, insert_total,
+    insert_voucher,
+};
+use crate::signs::Total;
+use crate::updates::{
+    mark_refunded, mark_sold, set_closed, set_ends, set_moment, set_numbers, set_redeemed, set_used,
+};
+use portal_codes::Code;
+use portal_model::change::{
+    Changes, Closing, Issuance, Loading, Redemption, Repayment, Sale, Usage,
+};
+use portal_model::name::Id;
+use portal_model::plan::Plan;
+use portal_model::record::Session;
+use sqlite::{Alter, Connection, Error, Transaction};
+
+/// The end of the session, and what remains of its allowance.
+fn total_of(session: &Session) -> Total
+    requires { FitsSession session.now }
+    ensures { ends_row result ≡ total_row session.now }
+{
+    Total {
+        number: session.number,
+        ends: session.ends,
+        remaining: match session.allowance {
+            Some(allowance) => Some(allowance as i64 - session.used as i64),
+            None => None,
+        },
+    }
+}
+
+/// Adds the plans, in order.
+fn insert_plans<S: Alter>(tx: &mut Transaction<'_, S>, plans: &[Plan]) -> Result<(), Error>
+    ensures same_reference { tx.new.conn.ghost_name ≡ tx.old.conn.ghost_name }
+    ensures steps { HasCleanDisk (state S.Store tx.new.conn.now) → IsTrue (state S.Store tx.old.conn.now).in_transaction → OnOk result (Steps (with_plans plans.now) (state S.Store tx.old.conn.now) (state S.Store tx.new.conn.now)) }
+    ensures kept { HasCleanDisk (state S.Store tx.new.conn.now) → KeepsCommit (state S.Store tx.old.conn.now) (state S.Store tx.new.conn.now) }
+    ensures survives { Survives (state S.Store tx.old.conn.now) (state S.Store tx.new.conn.now) (λ _. ⊥) }
+{
+    for plan in plans {
+        insert_plan(tx, plan)?;
+    }
+    Ok(())
+}
+
+/// Adds the vouchers of a batch, in order.
+fn insert_vouchers<S: Alter>(
+    tx: &mut Transaction<'_, S>,
+    batch: &Id,
+    codes: &[Code],
+) -> Result<(), Error>
+    requires { length codes.now < 2 ^ 63 }
+    ensures same_reference { tx.new.conn.ghost_name ≡ tx.old.conn.ghost_name }
+    ensures steps { HasCleanDisk (state S.Store tx.new.conn.now) → IsTrue (state S.Store tx.old.conn.now).in_transaction → OnOk result (Steps (with_vouchers (new_vouchers batch.now 0 (map text_of codes.now))) (state S.Store tx.old.conn.now) (state S.Store tx.new.conn.now)) }
+    ensures kept { HasCleanDisk (state S.Store tx.new.conn.now) → KeepsCommit (state S.Store tx.old.conn.now) (state S.Store tx.new.conn.now) }
+    ensures survives { Survives (state S.Store tx.old.conn.now) (state S.Store tx.new.conn.now) (λ _. ⊥) }
+{
+    for (place, code) in codes.iter().enumerate() {
+        insert_voucher(tx, code, batch, place)?;
+    }
+    Ok(())
+}
+
+/// Adds a count of 0 for each code.
+fn insert_counts<S: Alter>(tx: &mut Transaction<'_, S>, codes: &[Code]) -> Result<(), Error>
+    ensures same_reference { tx.new.conn.ghost_name ≡ tx.old.conn.ghost_name }
+    ensures steps { HasCleanDisk (state S.Store tx.new.conn.now) → IsTrue (state S.Store tx.old.conn.now).in_transaction → OnOk result (Steps (with_counts (new_counts (map text_of codes.now))) (state S.Store tx.old.conn.now) (state S.Store tx.new.conn.now)) }
+    ensures kept { HasCleanDisk (state S.Store tx.new.conn.now) → KeepsCommit (state S.Store tx.old.conn.now) (state S.Store tx.new.conn.now) }
+    ensures survives { Survives (state S.Store tx.old.conn.now) (state S.Store tx.new.conn.now) (λ _. ⊥) }
+{
+    for code in codes {
+        insert_count(tx, code, 0)?;
+    }
+    Ok(())
+}
+
+/// Keeps new plans.
+fn load<S: Alter>(tx: &mut Transaction<'_, S>, c: &Loading) -> Result<(), Error>
+    ensures same_reference { tx.new.conn.ghost_name ≡ tx.old.conn.ghost_name }
+    ensures steps { HasCleanDisk (state S.Store tx.new.conn.now) → IsTrue (state S.Store tx.old.conn.now).in_transaction → OnOk result (Steps (loaded c.now) (state S.Store tx.old.conn.now) (state S.Store tx.new.conn.now)) }
+    ensures kept { HasCleanDisk (state S.Store tx.new.conn.now) → KeepsCommit (state S.Store tx.old.conn.now) (state S.Store tx.new.conn.now) }
+    ensures survives { Survives (state S.Store tx.old.conn.now) (state S.Store tx.new.conn.now) (λ _. ⊥) }
+{
+    insert_plans(tx, c.added.as_slice())?;
+    set_moment(tx, c.at)?;
+    Ok(())
+}
+
+/// Keeps a batch, its vouchers and their counts.
+fn issue<S: Alter>(tx: &mut Transaction<'_, S>, c: &Issuance) -> Result<(), Error>
+    requires { FitsIssuance c.now }
+    ensures same_reference { tx.new.conn.ghost_name ≡ tx.old.conn.ghost_name }
+    ensures steps { HasCleanDisk (state S.Store tx.new.conn.now) → IsTrue (state S.Store tx.old.conn.now).in_transaction → OnOk result (Steps (issued c.now) (state S.Store tx.old.conn.now) (state S.Store tx.new.conn.now)) }
+    ensures kept { HasCleanDisk (state S.Store tx.new.conn.now) → KeepsCommit (state S.Store tx.old.conn.now) (state S.Store tx.new.conn.now) }
+    ensures survives { Survives (state S.Store tx.old.conn.now) (state S.Store tx.new.conn.now) (λ _. ⊥) }
+{
+    insert_batch(tx, &c.batch)?;
+    insert_vouchers(tx, &c.batch.id, c.codes.as_slice())?;
+    insert_counts(tx, c.codes.as_slice())?;
+    set_moment(tx, c.at)?;
+    Ok(())
+}
+
+/// Keeps a sale.
+fn sell<S: Alter>(tx: &mut Transaction<'_, S>, c: &Sale) -> Result<(), Error>
+    ensures same_reference { tx.new.conn.ghost_name ≡ tx.old.conn.ghost_name }
+    ensures steps { HasCleanDisk (state S.Store tx.new.conn.now) → IsTrue (state S.Store tx.old.conn.now).in_transaction → OnOk result (Steps (sold c.now) (state S.Store tx.old.conn.now) (state S.Store tx.new.conn.now)) }
+    ensures kept { HasCleanDisk (state S.Store tx.new.conn.now) → KeepsCommit (state S.Store tx.old.conn.now) (state S.Store tx.new.conn.now) }
+    ensures survives { Survives (state S.Store tx.old.conn.now) (state S.Store tx.new.conn.now) (λ _. ⊥) }
+{
+    mark_sold(tx, &c.voucher.code, c.at)?;
+    set_moment(tx, c.at)?;
+    Ok(())
+}
+
+/// Keeps the session of a redemption: the one that it extends, or a new one.
+fn place<S: Alter>(tx: &mut Transaction<'_, S>, c: &Redemption) -> Result<(), Error>
+    requires { FitsSession c.now.session }
+    ensures same_reference { tx.new.conn.ghost_name ≡ tx.old.conn.ghost_name }
+    ensures steps { HasCleanDisk (state S.Store tx.new.conn.now) → IsTrue (state S.Store tx.old.conn.now).in_transaction → OnOk result (Steps (placed_in c.now.running c.now.session c.now.voucher.plan) (state S.Store tx.old.conn.now) (state S.Store tx.new.conn.now)) }
+    ensures kept { HasCleanDisk (state S.Store tx.new.conn.now) → KeepsCommit (state S.Store tx.old.conn.now) (state S.Store tx.new.conn.now) }
+    ensures survives { Survives (state S.Store tx.old.conn.now) (state S.Store tx.new.conn.now) (λ _. ⊥) }
+{
+    let total = total_of(&c.session);
+    match c.running {
+        Some(_) => {
+            set_ends(tx, &total)?;
+            Ok(())
+        }
+        None => {
+            insert_session(tx, &c.session, &c.voucher.plan.id)?;
+            insert_total(tx, &total)?;
+            Ok(())
+        }
+    }
+}
+
+/// Keeps a redemption and its session.
+fn grant<S: Alter>(tx: &mut Transaction<'_, S>, c: &Redemption) -> Result<(), Error>
+    requires { FitsRedemption c.now }
+    ensures same_reference { tx.new.conn.ghost_name ≡ tx.old.conn.ghost_name }
+    ensures steps { HasCleanDisk (state S.Store tx.new.conn.now) → IsTrue (state S.Store tx.old.conn.now).in_transaction → OnOk result (Steps (granted c.now) (state S.Store tx.old.conn.now) (state S.Store tx.new.conn.now)) }
+    ensures kept { HasCleanDisk (state S.Store tx.new.conn.now) → KeepsCommit (state S.Store tx.old.conn.now) (state S.Store tx.new.conn.now) }
+    ensures survives { Survives (state S.Store tx.old.conn.now) (state S.Store tx.new.conn.now) (λ _. ⊥) }
+{
+    place(tx, c)?;
+    insert_grant(
+        tx,
+        c.head.grants + 1,
+        &c.voucher.code,
+        c.session.number,
+        c.at,
+        &c.voucher.plan,
+    )?;
+    Ok(())
+}
+
+/// Keeps a redemption: its session, its row, the count of its voucher and the numbers of rows.
+fn redeem<S: Alter>(tx: &mut Transaction<'_, S>, c: &Redemption) -> Result<(), Error>
+    requires { FitsRedemption c.now }
+    ensures same_reference { tx.new.conn.ghost_name ≡ tx.old.conn.ghost_name }
+    ensures steps { HasCleanDisk (state S.Store tx.new.conn.now) → IsTrue (state S.Store tx.old.conn.now).in_transaction → OnOk result (Steps (redeemed c.now) (state S.Store tx.old.conn.now) (state S.Store tx.new.conn.now)) }
+    ensures kept { HasCleanDisk (state S.Store tx.new.conn.now) → KeepsCommit (state S.Store tx.old.conn.now) (state S.Store tx.new.conn.now) }
+    ensures survives { Survives (state S.Store tx.old.conn.now) (state S.Store tx.new.conn.now) (λ _. ⊥) }
+{
+    grant(tx, c)?;
+    set_redeemed(tx, &c.voucher.code, c.voucher.redeemed + 1)?;
+    let sessions = match c.running {
+        Some(_) => c.head.sessions,
+        None => c.head.sessions + 1,
+    };
+    set_numbers(tx, c.at, c.head.grants + 1, sessions)?;
+    Ok(())
+}
+
+/// Keeps a report of usage.
+fn report<S: Alter>(tx: &mut Transaction<'_, S>, c: &Usage) -> Result<(), Error>
+    requires { FitsUsage c.now }
+    ensures same_reference { tx.new.conn.ghost_name ≡ tx.old.conn.ghost_name }
+    ensures steps { HasCleanDisk (state S.Store tx.new.conn.now) → IsTrue (state S.Store tx.old.conn.now).in_transaction → OnOk result (Steps (used c.now) (state S.Store tx.old.conn.now) (state S.Store tx.new.conn.now)) }
+    ensures kept { HasCleanDisk (state S.Store tx.new.conn.now) → KeepsCommit (state S.Store tx.old.conn.now) (state S.Store tx.new.conn.now) }
+    ensures survives { Survives (state S.Store tx.old.conn.now) (state S.Store tx.new.conn.now) (λ _. ⊥) }
+{
+    let after = c.after();
+    set_used(tx, after.number, after.used)?;
+    set_ends(tx, &total_of(&after))?;
+    set_moment(tx, c.at)?;
+    Ok(())
+}
+
+/// Keeps a refund.
+fn repay<S: Alter>(tx: &mut Transaction<'_, S>, c: &Repayment) -> Result<(), Error>
+    requires { c.now.amount < 2 ^ 63 }
+    ensures same_reference { tx.new.conn.ghost_name ≡ tx.old.conn.ghost_name }
+    ensures steps { HasCleanDisk (state S.Store tx.new.conn.now) → IsTrue (state S.Store tx.old.conn.now).in_transaction → OnOk result (Steps (repaid c.now) (state S.Store tx.old.conn.now) (state S.Store tx.new.conn.now)) }
+    ensures kept { HasCleanDisk (state S.Store tx.new.conn.now) → KeepsCommit (state S.Store tx.old.conn.now) (state S.Store tx.new.conn.now) }
+    ensures survives { Survives (state S.Store tx.old.conn.now) (state S.Store tx.new.conn.now) (λ _. ⊥) }
+{
+    mark_refunded(tx, &c.voucher.code, c.at, c.amount)?;
+    set_moment(tx, c.at)?;
+    Ok(())
+}
+
+/// Keeps a close.
+fn close<S: Alter>(tx: &mut Transaction<'_, S>, c: &Closing) -> Result<(), Error>
+    requires { c.now.session.number < 2 ^ 63 }
+    ensures same_reference { tx.new.conn.ghost_name ≡ tx.old.conn.ghost_name }
+    ensures steps { HasCleanDisk (state S.Store tx.new.conn.now) → IsTrue (state S.Store tx.old.conn.now).in_transaction → OnOk result (Steps (closed c.now) (state S.Store tx.old.conn.now) (state S.Store tx.new.conn.now)) }
+    ensures kept { HasCleanDisk (state S.Store tx.new.conn.now) → KeepsCommit (state S.Store tx.old.conn.now) (state S.Store tx.new.conn.now) }
+    ensures survives { Survives (state S.Store tx.old.conn.now) (state S.Store tx.new.conn.now) (λ _. ⊥) }
+{
+    set_closed(tx, c.session.number, c.at)?;
+    set_moment(tx, c.at)?;
+    Ok(())
+}
+
+/// Keeps what a command changes, inside a transaction.
+fn apply<S: Alter>(tx: &mut Transaction<'_, S>, changes: &Changes) -> Result<(), Error>
+    requires { Fits changes.now }
+    ensures same_reference { tx.new.conn.ghost_name ≡ tx.old.conn.ghost_name }
+    ensures steps { HasCleanDisk (state S.Store tx.new.conn.now) → IsTrue (state S.Store tx.old.conn.now).in_transaction → OnOk result (Steps (kept changes.now) (state S.Store tx.old.conn.now) (state S.Store tx.new.conn.now)) }
+    ensures kept { HasCleanDisk (state S.Store tx.new.conn.now) → KeepsCommit (state S.Store tx.old.conn.now) (state S.Store tx.new.conn.now) }
+    ensures survives { Survives (state S.Store tx.old.conn.now) (state S.Store tx.new.conn.now) (λ _. ⊥) }
+{
+    match changes {
+        Changes::Loading(c) => load(tx, c)?,
+        Changes::Issuance(c) => issue(tx, c)?,
+        Changes::Sale(c) => sell(tx, c)?,
+        Changes::Redemption(c) => redeem(tx, c)?,
+        Changes::Usage(c) => report(tx, c)?,
+        Changes::Repayment(c) => repay(tx, c)?,
+        Changes::Closing(c) => close(tx, c)?,
+    }
+    Ok(())
+}
+
+/// One transaction: all that the command changes, or nothing.
+pub fn keep<S: Alter>(conn: &mut Connection<S>, changes: &Changes) -> Result<(), Error>
+    requires outside { conn.old.in_transaction ≡ false }
+    requires fits { Fits changes.now }
+    ensures done { HasCleanDisk (state S.Store conn.new) → OnOk result (Leads (kept changes.now) (state S.Store conn.old) (state S.Store conn.new)) }
+    ensures undone { HasCleanDisk (state S.Store conn.new) → OnErr result (IsUndone (state S.Store conn.old) (state S.Store conn.new)) }
+    ensures crash { Survives (state S.Store conn.old) (state S.Store conn.new) (MayLead (kept changes.now) (state S.Store conn.old)) }
+{
+    let mut tx = conn.transaction();
+    apply(&mut tx, changes)?;
+    tx.commit()?;
+    Ok(())
+}

@@ -1,0 +1,190 @@
+ghost use Rattle.std.specs.Prelude.{◌≡◌, ◌<◌, ◌^◌, OnOk, IsTrue};
+ghost use Rattle.sqlite.specs.Held.{state};
+ghost use Rattle.sqlite.specs.State.{HasCleanDisk, KeepsCommit, Survives};
+ghost use Rattle.portal_codes.specs.Code.{text_of};
+ghost use Rattle.portal_rows.specs.Steps.{Steps, count_row, ends_row, first_head, granted_row, new_voucher, opened_row, with_batch, with_count, with_grant, with_head, with_plan, with_session, with_total, with_voucher};
+
+use crate::signs::{Signs, Total, seconds};
+use portal_codes::Code;
+use portal_model::moment::Moment;
+use portal_model::name::Id;
+use portal_model::plan::Plan;
+use portal_model::record::{Batch, Session};
+use sqlite::{Alter, Error, Transaction, params};
+
+/// Adds a plan.
+pub(crate) fn insert_plan<S: Alter>(tx: &mut Transaction<'_, S>, plan: &Plan) -> Result<(), Error>
+    ensures same_reference { tx.new.conn.ghost_name ≡ tx.old.conn.ghost_name }
+    ensures steps { HasCleanDisk (state S.Store tx.new.conn.now) → IsTrue (state S.Store tx.old.conn.now).in_transaction → OnOk result (Steps (with_plan plan.now) (state S.Store tx.old.conn.now) (state S.Store tx.new.conn.now)) }
+    ensures kept { HasCleanDisk (state S.Store tx.new.conn.now) → KeepsCommit (state S.Store tx.old.conn.now) (state S.Store tx.new.conn.now) }
+    ensures survives { Survives (state S.Store tx.old.conn.now) (state S.Store tx.new.conn.now) (λ _. ⊥) }
+{
+    tx.execute(
+        "INSERT INTO portal_plans (id, price, uses, seconds, bytes, shelf_days, extend) VALUES (?1, ?2, ?3, ?4, ?5, ?6, ?7)",
+        params![
+            plan.id.text(),
+            plan.price,
+            plan.uses,
+            plan.seconds,
+            plan.bytes as i64,
+            plan.shelf_days,
+            plan.extend
+        ],
+    )?;
+    Ok(())
+}
+
+/// Adds a batch.
+pub(crate) fn insert_batch<S: Alter>(
+    tx: &mut Transaction<'_, S>,
+    batch: &Batch,
+) -> Result<(), Error>
+    requires { batch.now.size < 2 ^ 63 }
+    ensures same_reference { tx.new.conn.ghost_name ≡ tx.old.conn.ghost_name }
+    ensures steps { HasCleanDisk (state S.Store tx.new.conn.now) → IsTrue (state S.Store tx.old.conn.now).in_transaction → OnOk result (Steps (with_batch batch.now) (state S.Store tx.old.conn.now) (state S.Store tx.new.conn.now)) }
+    ensures kept { HasCleanDisk (state S.Store tx.new.conn.now) → KeepsCommit (state S.Store tx.old.conn.now) (state S.Store tx.new.conn.now) }
+    ensures survives { Survives (state S.Store tx.old.conn.now) (state S.Store tx.new.conn.now) (λ _. ⊥) }
+{
+    tx.execute(
+        "INSERT INTO portal_batches (id, plan_id, issued, expires, size) VALUES (?1, ?2, ?3, ?4, ?5)",
+        params![
+            batch.id.text(),
+            batch.plan.text(),
+            batch.issued.get() as i64,
+            batch.expires.get() as i64,
+            batch.size as i64
+        ],
+    )?;
+    Ok(())
+}
+
+/// Adds a voucher in its place in the batch.
+pub(crate) fn insert_voucher<S: Alter>(
+    tx: &mut Transaction<'_, S>,
+    code: &Code,
+    batch: &Id,
+    place: usize,
+) -> Result<(), Error>
+    requires { place < 2 ^ 63 }
+    ensures same_reference { tx.new.conn.ghost_name ≡ tx.old.conn.ghost_name }
+    ensures steps { HasCleanDisk (state S.Store tx.new.conn.now) → IsTrue (state S.Store tx.old.conn.now).in_transaction → OnOk result (Steps (with_voucher (new_voucher batch.now place (text_of code.now))) (state S.Store tx.old.conn.now) (state S.Store tx.new.conn.now)) }
+    ensures kept { HasCleanDisk (state S.Store tx.new.conn.now) → KeepsCommit (state S.Store tx.old.conn.now) (state S.Store tx.new.conn.now) }
+    ensures survives { Survives (state S.Store tx.old.conn.now) (state S.Store tx.new.conn.now) (λ _. ⊥) }
+{
+    let text = code.text();
+    tx.execute(
+        "INSERT INTO portal_vouchers (code, batch_id, place) VALUES (?1, ?2, ?3)",
+        params![Signs { bytes: &text }, batch.text(), place as i64],
+    )?;
+    Ok(())
+}
+
+/// Adds a session that is opened on the plan.
+pub(crate) fn insert_session<S: Alter>(
+    tx: &mut Transaction<'_, S>,
+    session: &Session,
+    plan: &Id,
+) -> Result<(), Error>
+    requires { session.now.number < 2 ^ 63 }
+    ensures same_reference { tx.new.conn.ghost_name ≡ tx.old.conn.ghost_name }
+    ensures steps { HasCleanDisk (state S.Store tx.new.conn.now) → IsTrue (state S.Store tx.old.conn.now).in_transaction → OnOk result (Steps (with_session (opened_row session.now plan.now)) (state S.Store tx.old.conn.now) (state S.Store tx.new.conn.now)) }
+    ensures kept { HasCleanDisk (state S.Store tx.new.conn.now) → KeepsCommit (state S.Store tx.old.conn.now) (state S.Store tx.new.conn.now) }
+    ensures survives { Survives (state S.Store tx.old.conn.now) (state S.Store tx.new.conn.now) (λ _. ⊥) }
+{
+    let text = session.device.text();
+    tx.execute(
+        "INSERT INTO portal_sessions (number, device, plan_id, opened, used) VALUES (?1, ?2, ?3, ?4, 0)",
+        params![
+            session.number as i64,
+            Signs { bytes: &text },
+            plan.text(),
+            session.opened.get() as i64
+        ],
+    )?;
+    Ok(())
+}
+
+/// Adds a redemption of the code, on the terms of the plan.
+pub(crate) fn insert_grant<S: Alter>(
+    tx: &mut Transaction<'_, S>,
+    number: u64,
+    code: &Code,
+    session: u64,
+    at: Moment,
+    plan: &Plan,
+) -> Result<(), Error>
+    requires number_fits { number < 2 ^ 63 }
+    requires session_fits { session < 2 ^ 63 }
+    ensures same_reference { tx.new.conn.ghost_name ≡ tx.old.conn.ghost_name }
+    ensures steps { HasCleanDisk (state S.Store tx.new.conn.now) → IsTrue (state S.Store tx.old.conn.now).in_transaction → OnOk result (Steps (with_grant (granted_row number (text_of code.now) session at plan.now)) (state S.Store tx.old.conn.now) (state S.Store tx.new.conn.now)) }
+    ensures kept { HasCleanDisk (state S.Store tx.new.conn.now) → KeepsCommit (state S.Store tx.old.conn.now) (state S.Store tx.new.conn.now) }
+    ensures survives { Survives (state S.Store tx.old.conn.now) (state S.Store tx.new.conn.now) (λ _. ⊥) }
+{
+    let text = code.text();
+    tx.execute(
+        "INSERT INTO portal_grants (number, code, session, moment, seconds, bytes) VALUES (?1, ?2, ?3, ?4, ?5, ?6)",
+        params![
+            number as i64,
+            Signs { bytes: &text },
+            session as i64,
+            at.get() as i64,
+            plan.seconds,
+            plan.bytes as i64
+        ],
+    )?;
+    Ok(())
+}
+
+/// Adds the count of a voucher.
+pub(crate) fn insert_count<S: Alter>(
+    tx: &mut Transaction<'_, S>,
+    code: &Code,
+    redeemed: u64,
+) -> Result<(), Error>
+    requires { redeemed < 2 ^ 63 }
+    ensures same_reference { tx.new.conn.ghost_name ≡ tx.old.conn.ghost_name }
+    ensures steps { HasCleanDisk (state S.Store tx.new.conn.now) → IsTrue (state S.Store tx.old.conn.now).in_transaction → OnOk result (Steps (with_count (count_row (text_of code.now) redeemed)) (state S.Store tx.old.conn.now) (state S.Store tx.new.conn.now)) }
+    ensures kept { HasCleanDisk (state S.Store tx.new.conn.now) → KeepsCommit (state S.Store tx.old.conn.now) (state S.Store tx.new.conn.now) }
+    ensures survives { Survives (state S.Store tx.old.conn.now) (state S.Store tx.new.conn.now) (λ _. ⊥) }
+{
+    let text = code.text();
+    tx.execute(
+        "INSERT INTO portal_counts (code, redeemed) VALUES (?1, ?2)",
+        params![Signs { bytes: &text }, redeemed as i64],
+    )?;
+    Ok(())
+}
+
+/// Adds the end of a session, and what remains of its allowance.
+pub(crate) fn insert_total<S: Alter>(
+    tx: &mut Transaction<'_, S>,
+    total: &Total,
+) -> Result<(), Error>
+    requires { total.now.number < 2 ^ 63 }
+    ensures same_reference { tx.new.conn.ghost_name ≡ tx.old.conn.ghost_name }
+    ensures steps { HasCleanDisk (state S.Store tx.new.conn.now) → IsTrue (state S.Store tx.old.conn.now).in_transaction → OnOk result (Steps (with_total (ends_row total.now)) (state S.Store tx.old.conn.now) (state S.Store tx.new.conn.now)) }
+    ensures kept { HasCleanDisk (state S.Store tx.new.conn.now) → KeepsCommit (state S.Store tx.old.conn.now) (state S.Store tx.new.conn.now) }
+    ensures survives { Survives (state S.Store tx.old.conn.now) (state S.Store tx.new.conn.now) (λ _. ⊥) }
+{
+    let ends = seconds(total.ends);
+    tx.execute(
+        "INSERT INTO portal_totals (number, ends, remaining) VALUES (?1, ?2, ?3)",
+        params![total.number as i64, ends, total.remaining],
+    )?;
+    Ok(())
+}
+
+/// Adds the row of the head: no row of the other tables, and nothing accepted.
+pub(crate) fn insert_head<S: Alter>(tx: &mut Transaction<'_, S>, layout: u64) -> Result<(), Error>
+    requires { layout < 2 ^ 63 }
+    ensures same_reference { tx.new.conn.ghost_name ≡ tx.old.conn.ghost_name }
+    ensures steps { HasCleanDisk (state S.Store tx.new.conn.now) → IsTrue (state S.Store tx.old.conn.now).in_transaction → OnOk result (Steps (with_head (first_head layout)) (state S.Store tx.old.conn.now) (state S.Store tx.new.conn.now)) }
+    ensures kept { HasCleanDisk (state S.Store tx.new.conn.now) → KeepsCommit (state S.Store tx.old.conn.now) (state S.Store tx.new.conn.now) }
+    ensures survives { Survives (state S.Store tx.old.conn.now) (state S.Store tx.new.conn.now) (λ _. ⊥) }
+{
+    tx.execute(
+        "INSERT INTO portal_head (id, layout, last_moment, grants, sessions) VALUES (1, ?1, 0, 0, 0)",
+        params![layout as i64],
+    )?;
+    Ok(())
+}

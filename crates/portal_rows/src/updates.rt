@@ -1,0 +1,175 @@
+ghost use Rattle.std.specs.Prelude.{◌≡◌, ◌<◌, ◌^◌, OnOk, IsTrue};
+ghost use Rattle.sqlite.specs.Held.{state};
+ghost use Rattle.sqlite.specs.State.{HasCleanDisk, KeepsCommit, Survives};
+ghost use Rattle.portal_codes.specs.Code.{text_of};
+ghost use Rattle.portal_rows.specs.Steps.{Steps, ends_row, with_close, with_ends, with_layout, with_moment, with_numbers, with_redeemed, with_refund, with_sale, with_use};
+
+use crate::signs::{Signs, Total, seconds};
+use portal_codes::Code;
+use portal_model::moment::Moment;
+use sqlite::{Alter, Error, Transaction, params};
+
+/// Notes that the voucher was sold.
+pub(crate) fn mark_sold<S: Alter>(
+    tx: &mut Transaction<'_, S>,
+    code: &Code,
+    at: Moment,
+) -> Result<(), Error>
+    ensures same_reference { tx.new.conn.ghost_name ≡ tx.old.conn.ghost_name }
+    ensures steps { HasCleanDisk (state S.Store tx.new.conn.now) → IsTrue (state S.Store tx.old.conn.now).in_transaction → OnOk result (Steps (with_sale (text_of code.now) at) (state S.Store tx.old.conn.now) (state S.Store tx.new.conn.now)) }
+    ensures kept { HasCleanDisk (state S.Store tx.new.conn.now) → KeepsCommit (state S.Store tx.old.conn.now) (state S.Store tx.new.conn.now) }
+    ensures survives { Survives (state S.Store tx.old.conn.now) (state S.Store tx.new.conn.now) (λ _. ⊥) }
+{
+    let text = code.text();
+    tx.execute(
+        "UPDATE portal_vouchers SET sold = ?2 WHERE code = ?1",
+        params![Signs { bytes: &text }, at.get() as i64],
+    )?;
+    Ok(())
+}
+
+/// Notes the refund of the voucher.
+pub(crate) fn mark_refunded<S: Alter>(
+    tx: &mut Transaction<'_, S>,
+    code: &Code,
+    at: Moment,
+    amount: u64,
+) -> Result<(), Error>
+    requires { amount < 2 ^ 63 }
+    ensures same_reference { tx.new.conn.ghost_name ≡ tx.old.conn.ghost_name }
+    ensures steps { HasCleanDisk (state S.Store tx.new.conn.now) → IsTrue (state S.Store tx.old.conn.now).in_transaction → OnOk result (Steps (with_refund (text_of code.now) at amount) (state S.Store tx.old.conn.now) (state S.Store tx.new.conn.now)) }
+    ensures kept { HasCleanDisk (state S.Store tx.new.conn.now) → KeepsCommit (state S.Store tx.old.conn.now) (state S.Store tx.new.conn.now) }
+    ensures survives { Survives (state S.Store tx.old.conn.now) (state S.Store tx.new.conn.now) (λ _. ⊥) }
+{
+    let text = code.text();
+    tx.execute(
+        "UPDATE portal_vouchers SET refunded = ?2, amount = ?3 WHERE code = ?1",
+        params![Signs { bytes: &text }, at.get() as i64, amount as i64],
+    )?;
+    Ok(())
+}
+
+/// Sets the last moment.
+pub(crate) fn set_moment<S: Alter>(tx: &mut Transaction<'_, S>, at: Moment) -> Result<(), Error>
+    ensures same_reference { tx.new.conn.ghost_name ≡ tx.old.conn.ghost_name }
+    ensures steps { HasCleanDisk (state S.Store tx.new.conn.now) → IsTrue (state S.Store tx.old.conn.now).in_transaction → OnOk result (Steps (with_moment at) (state S.Store tx.old.conn.now) (state S.Store tx.new.conn.now)) }
+    ensures kept { HasCleanDisk (state S.Store tx.new.conn.now) → KeepsCommit (state S.Store tx.old.conn.now) (state S.Store tx.new.conn.now) }
+    ensures survives { Survives (state S.Store tx.old.conn.now) (state S.Store tx.new.conn.now) (λ _. ⊥) }
+{
+    tx.execute(
+        "UPDATE portal_head SET last_moment = ?1 WHERE id = 1",
+        params![at.get() as i64],
+    )?;
+    Ok(())
+}
+
+/// Sets the last moment and the numbers of redemptions and sessions.
+pub(crate) fn set_numbers<S: Alter>(
+    tx: &mut Transaction<'_, S>,
+    at: Moment,
+    grants: u64,
+    sessions: u64,
+) -> Result<(), Error>
+    requires grants_fit { grants < 2 ^ 63 }
+    requires sessions_fit { sessions < 2 ^ 63 }
+    ensures same_reference { tx.new.conn.ghost_name ≡ tx.old.conn.ghost_name }
+    ensures steps { HasCleanDisk (state S.Store tx.new.conn.now) → IsTrue (state S.Store tx.old.conn.now).in_transaction → OnOk result (Steps (with_numbers at grants sessions) (state S.Store tx.old.conn.now) (state S.Store tx.new.conn.now)) }
+    ensures kept { HasCleanDisk (state S.Store tx.new.conn.now) → KeepsCommit (state S.Store tx.old.conn.now) (state S.Store tx.new.conn.now) }
+    ensures survives { Survives (state S.Store tx.old.conn.now) (state S.Store tx.new.conn.now) (λ _. ⊥) }
+{
+    tx.execute(
+        "UPDATE portal_head SET last_moment = ?1, grants = ?2, sessions = ?3 WHERE id = 1",
+        params![at.get() as i64, grants as i64, sessions as i64],
+    )?;
+    Ok(())
+}
+
+/// Sets the layout.
+pub(crate) fn set_layout<S: Alter>(tx: &mut Transaction<'_, S>, layout: u64) -> Result<(), Error>
+    requires { layout < 2 ^ 63 }
+    ensures same_reference { tx.new.conn.ghost_name ≡ tx.old.conn.ghost_name }
+    ensures steps { HasCleanDisk (state S.Store tx.new.conn.now) → IsTrue (state S.Store tx.old.conn.now).in_transaction → OnOk result (Steps (with_layout layout) (state S.Store tx.old.conn.now) (state S.Store tx.new.conn.now)) }
+    ensures kept { HasCleanDisk (state S.Store tx.new.conn.now) → KeepsCommit (state S.Store tx.old.conn.now) (state S.Store tx.new.conn.now) }
+    ensures survives { Survives (state S.Store tx.old.conn.now) (state S.Store tx.new.conn.now) (λ _. ⊥) }
+{
+    tx.execute(
+        "UPDATE portal_head SET layout = ?1 WHERE id = 1",
+        params![layout as i64],
+    )?;
+    Ok(())
+}
+
+/// Sets what the session has used.
+pub(crate) fn set_used<S: Alter>(
+    tx: &mut Transaction<'_, S>,
+    number: u64,
+    used: u64,
+) -> Result<(), Error>
+    requires number_fits { number < 2 ^ 63 }
+    requires used_fits { used < 2 ^ 63 }
+    ensures same_reference { tx.new.conn.ghost_name ≡ tx.old.conn.ghost_name }
+    ensures steps { HasCleanDisk (state S.Store tx.new.conn.now) → IsTrue (state S.Store tx.old.conn.now).in_transaction → OnOk result (Steps (with_use number used) (state S.Store tx.old.conn.now) (state S.Store tx.new.conn.now)) }
+    ensures kept { HasCleanDisk (state S.Store tx.new.conn.now) → KeepsCommit (state S.Store tx.old.conn.now) (state S.Store tx.new.conn.now) }
+    ensures survives { Survives (state S.Store tx.old.conn.now) (state S.Store tx.new.conn.now) (λ _. ⊥) }
+{
+    tx.execute(
+        "UPDATE portal_sessions SET used = ?2 WHERE number = ?1",
+        params![number as i64, used as i64],
+    )?;
+    Ok(())
+}
+
+/// Notes that the session was closed.
+pub(crate) fn set_closed<S: Alter>(
+    tx: &mut Transaction<'_, S>,
+    number: u64,
+    at: Moment,
+) -> Result<(), Error>
+    requires { number < 2 ^ 63 }
+    ensures same_reference { tx.new.conn.ghost_name ≡ tx.old.conn.ghost_name }
+    ensures steps { HasCleanDisk (state S.Store tx.new.conn.now) → IsTrue (state S.Store tx.old.conn.now).in_transaction → OnOk result (Steps (with_close number at) (state S.Store tx.old.conn.now) (state S.Store tx.new.conn.now)) }
+    ensures kept { HasCleanDisk (state S.Store tx.new.conn.now) → KeepsCommit (state S.Store tx.old.conn.now) (state S.Store tx.new.conn.now) }
+    ensures survives { Survives (state S.Store tx.old.conn.now) (state S.Store tx.new.conn.now) (λ _. ⊥) }
+{
+    tx.execute(
+        "UPDATE portal_sessions SET closed = ?2 WHERE number = ?1",
+        params![number as i64, at.get() as i64],
+    )?;
+    Ok(())
+}
+
+/// Sets how often the voucher was redeemed.
+pub(crate) fn set_redeemed<S: Alter>(
+    tx: &mut Transaction<'_, S>,
+    code: &Code,
+    redeemed: u64,
+) -> Result<(), Error>
+    requires { redeemed < 2 ^ 63 }
+    ensures same_reference { tx.new.conn.ghost_name ≡ tx.old.conn.ghost_name }
+    ensures steps { HasCleanDisk (state S.Store tx.new.conn.now) → IsTrue (state S.Store tx.old.conn.now).in_transaction → OnOk result (Steps (with_redeemed (text_of code.now) redeemed) (state S.Store tx.old.conn.now) (state S.Store tx.new.conn.now)) }
+    ensures kept { HasCleanDisk (state S.Store tx.new.conn.now) → KeepsCommit (state S.Store tx.old.conn.now) (state S.Store tx.new.conn.now) }
+    ensures survives { Survives (state S.Store tx.old.conn.now) (state S.Store tx.new.conn.now) (λ _. ⊥) }
+{
+    let text = code.text();
+    tx.execute(
+        "UPDATE portal_counts SET redeemed = ?2 WHERE code = ?1",
+        params![Signs { bytes: &text }, redeemed as i64],
+    )?;
+    Ok(())
+}
+
+/// Sets the end of the session, and what remains of its allowance.
+pub(crate) fn set_ends<S: Alter>(tx: &mut Transaction<'_, S>, total: &Total) -> Result<(), Error>
+    requires { total.now.number < 2 ^ 63 }
+    ensures same_reference { tx.new.conn.ghost_name ≡ tx.old.conn.ghost_name }
+    ensures steps { HasCleanDisk (state S.Store tx.new.conn.now) → IsTrue (state S.Store tx.old.conn.now).in_transaction → OnOk result (Steps (with_ends (ends_row total.now)) (state S.Store tx.old.conn.now) (state S.Store tx.new.conn.now)) }
+    ensures kept { HasCleanDisk (state S.Store tx.new.conn.now) → KeepsCommit (state S.Store tx.old.conn.now) (state S.Store tx.new.conn.now) }
+    ensures survives { Survives (state S.Store tx.old.conn.now) (state S.Store tx.new.conn.now) (λ _. ⊥) }
+{
+    let ends = seconds(total.ends);
+    tx.execute(
+        "UPDATE portal_totals SET ends = ?2, remaining = ?3 WHERE number = ?1",
+        params![total.number as i64, ends, total.remaining],
+    )?;
+    Ok(())
+}

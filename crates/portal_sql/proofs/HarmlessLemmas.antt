@@ -1,0 +1,57 @@
+-- What the test of a schema tells, and the question that asks nothing of any table.
+use Rattle.std.proofs.Common.{◌≡◌, ◌⊎◌, inl, inr, ℕ, List, codes, Bool, true, false, ◌&&◌, ◌||◌, not, refl, ◌∙◌}
+use Rattle.sqlite.specs.Schema.{Schema}
+use Rattle.sqlite.specs.Listing.{understood}
+use Rattle.sqlite.specs.State.{State, IsUnchanged}
+use Rattle.sqlite.proofs.Callers.{IsPlain}
+use Rattle.sqlite_tied.specs.Compute.{everything}
+use Rattle.sqlite_schema.specs.declared.schema.Action.{Action}
+use Rattle.sqlite_schema.specs.declared.schema.Action.TheVariants.{NoAction, Restrict, Cascade, SetNull, SetDefault}
+use Rattle.sqlite_rules.proofs.ListLemmas.{test_has}
+use Rattle.portal_sql.specs.Stands.{IsUnactedBy}
+use Rattle.portal_sql.specs.Harmless.{is_idle, is_harmless, are_harmless}
+use Rattle.portal_sql.specs.States.{IsUndone, IsAsBefore}
+
+idle_is : (a : Action) → is_idle a ≡ true → a ≡ NoAction
+idle_is NoAction e = refl
+idle_is Restrict e = absurd (cc)
+idle_is Cascade e = absurd (cc)
+idle_is SetNull e = absurd (cc)
+idle_is SetDefault e = absurd (cc)
+
+harmless_by : (i j s : Bool) → ((i && j) || not s) ≡ true → ((i ≡ true) × (j ≡ true)) ⊎ (s ≡ false)
+harmless_by true true s e = inl (refl, refl)
+harmless_by i j false e = inr refl
+harmless_by true false true e = absurd (cc)
+harmless_by false j true e = absurd (cc)
+
+-- a schema that passes the test has no foreign key that acts on a table of the name
+pub unacted_of : (schema : Schema) (name : List ℕ) → are_harmless name schema ≡ true → IsUnactedBy schema name
+unacted_of schema name all child ref listed has =
+    let one = test_has (is_harmless name) child.references ref (test_has _ schema.tables child all listed) has in
+    elim (harmless_by (is_idle ref.on_delete) (is_idle ref.on_update) _ one) [
+      | inl idle ↦ inl (idle_is ref.on_delete idle.0, idle_is ref.on_update idle.1)
+      | inr other ↦ inr other
+    ]
+
+pub both : (a b : Bool) → (a && b) ≡ true → (a ≡ true) × (b ≡ true)
+both true b e = (refl, e)
+both false b e = absurd (cc)
+
+pub counts_of : (c s : Bool) → (not c || s) ≡ true → (c && not s) ≡ false
+counts_of false s e = refl
+counts_of true true e = refl
+counts_of true false e = absurd (cc)
+
+-- the question that asks nothing of any table
+pub one_plain : (schema : Schema) → IsPlain (understood schema (codes "SELECT 1"))
+unfolding understood everything
+one_plain schema = (refl, refl)
+
+pub as_before : (old mid new : State) → IsUndone old mid → IsUnchanged mid new → IsAsBefore old new
+as_before old mid new undone same = record {
+  is_open = same.0.is_open;
+  now = same.0.now_is ∙ undone.now same.0.was_open;
+  committed = same.0.committed_is ∙ undone.committed same.0.was_open;
+  ended = same.0.mode ∙ undone.ended;
+}

@@ -1,0 +1,15 @@
+pub mod AdoptLemmas
+pub mod AdoptedLemmas
+pub mod CountersShown
+pub mod InOrder
+pub mod Joining
+pub mod Leading
+pub mod ListLaws
+pub mod ListSteps
+pub mod Lookups
+pub mod OpeningLemmas
+pub mod PaymentLists
+pub mod ShownLemmas
+pub mod Spelled
+pub mod StandingLemmas
+pub mod Upgrading

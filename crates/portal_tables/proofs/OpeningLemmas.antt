@@ -1,0 +1,51 @@
+-- Files that are opened, and opened again, stand at the history that they show.
+use Rattle.std.proofs.Common.{◌≡◌, [], false, inr, IsTrue, refl, subst, sym}
+use Rattle.sqlite_disk.specs.declared.Disk.{Ghosts}
+use Rattle.sqlite_disk.specs.declared.Files.{Files}
+use Rattle.sqlite_wal.specs.Reads.{AreClean}
+use Rattle.sqlite.specs.Tree.{Trees}
+use Rattle.sqlite.specs.declared.FileStore.{FileStore}
+use Rattle.sqlite.specs.Effect.{Database}
+use Rattle.sqlite.proofs.Callers.{finds_again}
+use Rattle.sqlite.specs.Held.{Held, state}
+use Rattle.sqlite.specs.Schema.{Schema}
+use Rattle.sqlite.specs.Steps.{over_memory, IsEmpty}
+use Rattle.sqlite_trees.specs.declared.memory.MemStore.{MemStore}
+use Rattle.sqlite.specs.Closing.{IsCopied}
+use Rattle.sqlite.specs.Files.{HoldsDatabase, image_of, file_state, over_files, Finds, IsOpened}
+use Rattle.portal_model.specs.History.{History}
+use Rattle.portal_sql.specs.StandsAt.{LeftShows}
+use Rattle.portal_sql.proofs.StandsAtLemmas.{at_open, opened_at, shows_under}
+use Rattle.portal_rows.specs.Layouts.{is_any_named}
+use Rattle.portal_tables.specs.Stores.{StoreShows}
+use Rattle.portal_tables.specs.TablesAt.{ConnAt, FilesShow}
+
+-- the law of the store at a connection over files
+abbrev pub IsSettledOver : {D : Type 0} {g : Ghosts D} → Held (FileStore D g) → Type 0
+IsSettledOver c = (db : Trees) → IsTrue (file_state c).is_open → (file_state c).may_leave db → db ≡ (file_state c).committed.trees
+
+module _ {D : Type 0} {g : Ghosts D} (h : History) where
+  pub opened_stands : (files : Files D) (c : Held (FileStore D g)) (left : Trees) → IsSettledOver c → HoldsDatabase (image_of g files) left → FilesShow left h → IsOpened c → Finds files c → ConnAt over_files c h
+  unfolding FilesShow ConnAt
+  opened_stands files c left law holds shown opened found =
+      at_open (StoreShows h) (file_state c) law opened.0.is_open opened.0.autocommit opened.0.clean (opened.1 opened.0.is_open).0 (opened_at (StoreShows h) files c left holds shown opened found)
+
+  pub reopened_stands : (old again : Held (FileStore D g)) (files : Files D) → IsSettledOver again → ConnAt over_files old h → (AreClean g files.log files.db → IsCopied old files) → IsOpened again → Finds files again → ConnAt over_files again h
+  unfolding ConnAt
+  reopened_stands old again files law at closed opened found =
+      let s = file_state again in
+      let was : LeftShows (StoreShows h) (file_state old).committed.trees = subst (λ (db : Database). LeftShows (StoreShows h) db.trees) at.settled ((file_state old).now.schema, at.sound, at.shown) in
+      let here : LeftShows (StoreShows h) s.committed.trees = subst (LeftShows (StoreShows h)) (sym (finds_again old again files closed found)) was in
+      let live = opened.1 opened.0.is_open in
+      at_open (StoreShows h) s law opened.0.is_open opened.0.autocommit opened.0.clean live.0
+      (subst (StoreShows h) (sym opened.0.clean) (shows_under (StoreShows h) s.committed.trees s.committed.schema live.1 here))
+
+-- an empty schema has no table of ours
+bare : (schema : Schema) → schema ≡ record { tables = []; indexes = []; views = [] } → is_any_named schema ≡ false
+bare schema none = subst (λ (s : Schema). is_any_named s ≡ false) (sym none) refl
+
+-- a new store in memory shows the empty history
+pub empty_stands : (c : Held MemStore) → IsEmpty (state over_memory c) → ConnAt over_memory c []
+unfolding ConnAt
+empty_stands c empty =
+    at_open (StoreShows []) (state over_memory c) (λ db live same. same) empty.0.is_open empty.0.autocommit empty.0.clean (empty.1 empty.0.is_open).0 (inr (inr (refl, bare (state over_memory c).now.schema empty.2)))

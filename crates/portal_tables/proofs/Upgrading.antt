@@ -1,0 +1,96 @@
+-- An upgraded store shows the history that it showed.
+use Rattle.std.proofs.Common.{◌≡◌, inl, inr, ◌+◌, ℕ, IsTrue, Bool, cond, List, [], ◌∷◌, map, filter, count_by, sum_by, refl, sym, ap, ap₂, subst, ◌∙◌, bytes_eq, nat_eq}
+use Rattle.std.specs.Prelude.{option_and_then}
+use Rattle.std.specs.List.{AllByRecursion}
+use Rattle.std.proofs.lemmas.List.Elements.{recursion_from_All}
+use Rattle.std.proofs.lemmas.List.Sums.{sum_by-cons}
+use Rattle.sqlite.specs.Tree.{Trees}
+use Rattle.sqlite.specs.Effect.{Database}
+use Rattle.sqlite.specs.State.{State, HasCleanDisk, Survives}
+use Rattle.portal_codes.specs.Code.{IsCode, text_of}
+use Rattle.portal_model.specs.declared.plan.Plan.{Plan}
+use Rattle.portal_model.specs.History.{History, limited}
+use Rattle.portal_model.specs.Change.{plan_among}
+use Rattle.portal_model.specs.Rows.{Rows, VoucherRow, SessionRow, GrantRow, CountRow, TotalRow, rows_of, count_from, total_from, remaining_of}
+use Rattle.portal_model.specs.Verdict.{IsLegal}
+use Rattle.portal_laws.proofs.Basics.{filter-map}
+use Rattle.portal_laws.proofs.Sessions.{counts_are_sums, totals_are_sums}
+use Rattle.portal_laws.proofs.Typed.{rows_are_typed}
+use Rattle.portal_sql.specs.StandsAt.{StandsAt}
+use Rattle.portal_sql.proofs.StandsAtLemmas.{at_open}
+use Rattle.portal_rows.specs.Holds.{Holds}
+use Rattle.portal_rows.specs.Sums.{summed}
+use Rattle.portal_rows.specs.Upgrades.{upgraded, HasUpgraded, MayUpgrade}
+use Rattle.portal_tables.specs.First.{first_layout, ShowsFirst, LeftInEither}
+use Rattle.portal_tables.specs.Shown.{voucher_kept, session_kept, grant_kept, count_kept, contents_of, this_layout, ShowsHistory}
+use Rattle.portal_tables.proofs.Spelled.{code_test}
+
+-- ---- the counts
+
+abbrev one_if : Bool → ℕ
+one_if b = cond b 1 0
+
+uses_kept : (code : List ℕ) (gs : List GrantRow) → IsCode code → AllByRecursion (λ (g : GrantRow). IsCode g.code) gs
+    → count_by (λ (g : GrantRow). bytes_eq g.code (text_of code)) (map grant_kept gs) ≡ count_by (λ (g : GrantRow). bytes_eq g.code code) gs
+uses_kept code [] is all = refl
+uses_kept code (g ∷ gs) is all =
+    sum_by-cons (λ (x : GrantRow). one_if (bytes_eq x.code (text_of code))) (grant_kept g) (map grant_kept gs) ∙ ap₂ ◌+◌ (ap one_if (code_test g.code code all.0 is)) (uses_kept code gs is all.1)
+    ∙ sym (sum_by-cons (λ (x : GrantRow). one_if (bytes_eq x.code code)) g gs)
+
+counts_kept : (gs : List GrantRow) (vs : List VoucherRow) → AllByRecursion (λ (g : GrantRow). IsCode g.code) gs → AllByRecursion (λ (v : VoucherRow). IsCode v.code) vs
+    → map (count_from (map grant_kept gs)) (map voucher_kept vs) ≡ map count_kept (map (count_from gs) vs)
+counts_kept gs [] grants vouchers = refl
+counts_kept gs (v ∷ vs) grants vouchers =
+    ap₂ ◌∷◌ (ap (λ (n : ℕ). record { code = text_of v.code; redeemed = n }) (uses_kept v.code gs vouchers.0 grants)) (counts_kept gs vs grants vouchers.1)
+
+-- ---- the totals
+
+sum_kept : (f : GrantRow → ℕ) → ((g : GrantRow) → f (grant_kept g) ≡ f g) → (gs : List GrantRow) → sum_by f (map grant_kept gs) ≡ sum_by f gs
+sum_kept f same [] = refl
+sum_kept f same (g ∷ gs) = sum_by-cons f (grant_kept g) (map grant_kept gs) ∙ ap₂ ◌+◌ (same g) (sum_kept f same gs) ∙ sym (sum_by-cons f g gs)
+
+sums_kept : (f : GrantRow → ℕ) → ((g : GrantRow) → f (grant_kept g) ≡ f g) → (number : ℕ) (gs : List GrantRow)
+    → sum_by f (filter (λ (g : GrantRow). nat_eq g.session number) (map grant_kept gs)) ≡ sum_by f (filter (λ (g : GrantRow). nat_eq g.session number) gs)
+sums_kept f same number gs =
+    ap (sum_by f) (filter-map grant_kept (λ (g : GrantRow). nat_eq g.session number) gs) ∙ sum_kept f same (filter (λ (g : GrantRow). nat_eq g.session number) gs)
+
+abbrev total_given : List Plan → SessionRow → ℕ → ℕ → TotalRow
+total_given plans s seconds bytes = record {
+  number = s.number;
+  ends = option_and_then (λ (p : Plan). limited p.seconds (s.opened + seconds)) (plan_among plans s.plan);
+  remaining = remaining_of s.used (option_and_then (λ (p : Plan). limited p.bytes bytes) (plan_among plans s.plan));
+}
+
+totals_kept : (r : Rows) (ss : List SessionRow) → map (total_from (summed r.plans (map grant_kept r.grants))) (map session_kept ss) ≡ map (total_from r) ss
+totals_kept r [] = refl
+totals_kept r (s ∷ ss) =
+    ap₂ ◌∷◌ (ap₂ (total_given r.plans s) (sums_kept (λ (g : GrantRow). g.seconds) (λ g. refl) s.number r.grants) (sums_kept (λ (g : GrantRow). g.bytes) (λ g. refl) s.number r.grants)) (totals_kept r ss)
+
+-- the rows of a history, upgraded, are its rows in this version's layout
+pub upgraded_is : (h : History) → IsLegal h → upgraded (contents_of first_layout (rows_of h)) ≡ contents_of this_layout (rows_of h)
+upgraded_is h legal =
+    let r = rows_of h in
+    let typed = rows_are_typed h legal in
+    let grants = recursion_from_All (λ (g : GrantRow). IsCode g.code) r.grants typed.grants in
+    let vouchers = recursion_from_All (λ (v : VoucherRow). IsCode v.code) r.vouchers typed.vouchers in
+    ap₂ (λ (ks : List CountRow) (ms : List TotalRow). record (contents_of this_layout r) { counts = ks; totals = ms })
+    (counts_kept r.grants r.vouchers grants vouchers ∙ sym (ap (map count_kept) (counts_are_sums h legal))) (totals_kept r r.sessions ∙ sym (totals_are_sums h legal))
+
+-- ---- where a connection stands
+
+pub upgraded_shows : (h : History) (db : Database) → IsLegal h → Holds db (upgraded (contents_of first_layout (rows_of h))) → ShowsHistory h db
+upgraded_shows h db legal holds = (legal, subst (Holds db) (upgraded_is h legal) holds)
+
+module _ (h : History) (old new : State) (at : StandsAt (ShowsFirst h) old) where
+  pub upgraded_at : ((db : Trees) → IsTrue new.is_open → new.may_leave db → db ≡ new.committed.trees) → HasUpgraded old new → StandsAt (ShowsHistory h) new
+  upgraded_at law did =
+      let holds = did.holds (contents_of first_layout (rows_of h)) at.shown.1 in
+      at_open (ShowsHistory h) new law did.is_open did.ended (sym did.committed) holds.sound (upgraded_shows h new.now at.shown.0 holds)
+
+  pub left_in_either : HasCleanDisk new → Survives old new (MayUpgrade old) → (trees : Trees) → new.may_leave trees → LeftInEither h trees
+  left_in_either clean survives trees may = elim (survives.crash clean trees may) [
+    | inl was ↦ inl (at.left trees was)
+    | inr made ↦
+        let it = made at.is_open (contents_of first_layout (rows_of h)) at.shown.1 in
+        inr (it.0, it.1, upgraded_shows h (record { schema = it.0; trees = trees }) at.shown.0 it.2)
+  ]

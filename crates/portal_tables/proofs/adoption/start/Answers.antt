@@ -1,0 +1,35 @@
+use Rattle.std.proofs.Common.{IsTrue, sym, subst, ◌∙◌, arith, rules}
+use Rattle.sqlite.specs.Held.{state}
+use Rattle.sqlite.specs.State.{HasCleanDisk}
+use Rattle.sqlite.proofs.StateLemmas.{survives_weaker, survives_then}
+use Rattle.portal_sql.proofs.HarmlessLemmas.{as_before}
+use Rattle.portal_rows.specs.Creates.{IsFree, new_store}
+use Rattle.portal_rows.specs.Holds.{LeftHolds}
+use Rattle.portal_rows.proofs.FreeLemmas.{free_is}
+use Rattle.portal_tables.proofs.adoption.start.Goals as goal
+
+pub returns-in-Ok-clause-made : goal.returns-in-Ok-clause-made
+returns-in-Ok-clause-made g c clean =
+    let roomy : IsTrue c.is_room.result = search rules in
+    let free = subst IsFree c.schema.ensures.value (free_is c.schema.result.now (sym c.is_room.ensures ∙ roomy)) in
+    (c.in-Ok.ensures.made clean free, c.in-Ok.ensures.committed clean)
+
+pub returns-in-Ok-clause-crash : goal.returns-in-Ok-clause-crash
+returns-in-Ok-clause-crash g c =
+    let roomy : IsTrue c.is_room.result = search rules in
+    let free = subst IsFree c.schema.ensures.value (free_is c.schema.result.now (sym c.is_room.ensures ∙ roomy)) in
+    survives_weaker _ _ _ _ (λ _ db may. may free) c.create.ensures.crash
+
+pub returns-in-Err-clause-memory : goal.returns-in-Err-clause-memory
+returns-in-Err-clause-memory g c clean is =
+    let roomy : IsTrue c.is_room.result = search rules in
+    let free = subst IsFree c.schema.ensures.value (free_is c.schema.result.now (sym c.is_room.ensures ∙ roomy)) in
+    let mid : HasCleanDisk (state g.S.Store c.create.new.conn) = omega (arith, c.told.ensures.survives.clean) in
+    as_before (state g.S.Store c.args.conn.now) (state g.S.Store c.create.new.conn) (state g.S.Store c.told.new.conn) (c.in-Err.ensures.undone mid free) (c.told.ensures.same clean is)
+
+pub returns-in-Err-clause-crash : goal.returns-in-Err-clause-crash
+returns-in-Err-clause-crash g c =
+    let roomy : IsTrue c.is_room.result = search rules in
+    let free = subst IsFree c.schema.ensures.value (free_is c.schema.result.now (sym c.is_room.ensures ∙ roomy)) in
+    survives_then (state g.S.Store c.args.conn.now) (state g.S.Store c.create.new.conn) (state g.S.Store c.told.new.conn) _ _ (λ trees. LeftHolds trees new_store)
+    (λ _ db may. may free) (λ _ db none. absurd none) c.create.ensures.crash c.told.ensures.survives

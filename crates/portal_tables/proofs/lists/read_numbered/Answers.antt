@@ -1,0 +1,56 @@
+use Rattle.std.proofs.Common.{◌≡◌, ◌++◌, ◌∙◌, Vec, Global, Option, None, ap, ap₂, sym, append-nil, arith, rules}
+use Rattle.std.specs.List.{filter_map}
+use Rattle.std.specs.Option.{option_to_list}
+use Rattle.std.proofs.lemmas.List.{take_all}
+use Rattle.sqlite.specs.Held.{state}
+use Rattle.sqlite.specs.State.{HasCleanDisk}
+use Rattle.portal_model.specs.declared.record.Session.{Session}
+use Rattle.portal_sql.specs.Looks.{Looks}
+use Rattle.portal_sql.proofs.LooksLemmas.{reads_none, reads_then, looks_then, looks_read}
+use Rattle.portal_rows.specs.Holds.{HasTables}
+use Rattle.portal_tables.specs.Lists.{open_numbered}
+use Rattle.portal_tables.proofs.ListSteps.{filter_map_more}
+use Rattle.portal_tables.proofs.ShownLemmas.{shown_after, open_after}
+use Rattle.portal_tables.proofs.lists.read_numbered.Goals.{in-Some+in_ok-push, in_default}
+use Rattle.portal_tables.proofs.lists.read_numbered.Goals as goal
+
+pub loop-number-init : goal.loop-number-init
+loop-number-init g c = record { found = λ clean live h shown. c.new-sessions.ensures.items; looks = reads_none HasTables _ }
+
+pub loop-number-preserved : goal.loop-number-preserved
+loop-number-preserved g c =
+    let a = state g.S.Store c.args.conn.now in
+    let b = state g.S.Store c.loop-number.conn in
+    let before = c.loop-number.invariant in
+    let one = c.in_ok-session.ensures in
+    let session : Option Session = c.in_ok-session.field-0 in
+    let done = c.loop-number.sessions.items in
+    let items : c.match-branch-2.sessions.items ≡ done ++ option_to_list session =
+    elim c.match-branch-2.branch [
+      | in-Some+in_ok-push w ↦ ap (λ (v : Vec Session Global). v.items) w.sessions-is ∙ w.in_ok-push.ensures.items ∙ ap (λ (o : Option Session). done ++ option_to_list o) (sym w.in-Some.is)
+      | in_default w ↦
+          let none : session ≡ None = search rules in
+          ap (λ (v : Vec Session Global). v.items) w.sessions-is ∙ sym (append-nil done) ∙ ap (λ (o : Option Session). done ++ option_to_list o) (sym none)
+    ] in
+    record {
+      found = λ clean live h shown.
+          let clean1 : HasCleanDisk b = omega (arith, one.looks.crash.clean) in
+          let shown1 = shown_after h a b before.looks clean1 live shown in
+          let live1 = open_after h a b before.looks clean1 live shown in
+          items
+          ∙ ap₂ (λ xs (o : Option Session). xs ++ option_to_list o) (before.found clean1 live h shown) (one.found clean live1 h shown1)
+          ∙ sym (filter_map_more (open_numbered h c.args.t) c.args.numbers.now c.loop-number.number-index 0 c.loop-number-test.true);
+      looks = reads_then HasTables _ _ _ before.looks one.looks;
+    }
+
+pub returns-clause-found : goal.returns-clause-found
+returns-clause-found g c clean live h shown =
+    c.loop-number.invariant.found clean live h shown ∙ ap (filter_map (open_numbered h c.args.t)) (take_all c.loop-number.number-index c.args.numbers.now c.loop-number-test.false)
+
+pub returns-in_err-session-clause-looks : goal.returns-in_err-session-clause-looks
+returns-in_err-session-clause-looks g c =
+    let failed : Looks HasTables c.from_residual.result (state g.S.Store c.loop-number.conn) (state g.S.Store c.read_open.new.conn) = search rules in
+    looks_then HasTables _ _ _ _ c.loop-number.invariant.looks failed
+
+pub returns-in_err-push-clause-looks : goal.returns-in_err-push-clause-looks
+returns-in_err-push-clause-looks g c = looks_read HasTables _ _ _ (reads_then HasTables _ _ _ c.loop-number.invariant.looks c.in_ok-session.ensures.looks)

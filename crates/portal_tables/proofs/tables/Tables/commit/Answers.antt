@@ -1,0 +1,32 @@
+use Rattle.std.proofs.Common.{arith, refl, true}
+use Rattle.portal_tables.specs.declared.tables.Tables.{Tables}
+use Rattle.portal_tables.proofs.StandingLemmas.{stays_keep, keeps, doubts, halts, honest_by, honest_is}
+use Rattle.portal_tables.proofs.tables.Tables.commit.Goals as goal
+
+pub returns-then-self-clause-commit : goal.returns-then-self-clause-commit
+returns-then-self-clause-commit g c clean old at e may = stays_keep g.S.Store e c.args.self.now old at c.if-self.true
+
+pub returns-then-not-is_autocommit-clause-honest : goal.returns-then-not-is_autocommit-clause-honest
+returns-then-not-is_autocommit-clause-honest g c clean = honest_by g.S.Store c.args.self.now (record { conn = c.args.self.now.conn; is_stopped = true }) (omega arith) clean
+
+pub returns-then-not-is_autocommit-clause-commit : goal.returns-then-not-is_autocommit-clause-commit
+returns-then-not-is_autocommit-clause-commit g c clean old at e may = halts g.S.Store e c.args.self.now c.if-self.false old at
+
+pub returns-in-Ok-clause-honest : goal.returns-in-Ok-clause-honest
+returns-in-Ok-clause-honest g c clean =
+    honest_by g.S.Store c.args.self.now (record { conn = c.keep.new.conn; is_stopped = c.args.self.now.is_stopped }) (omega (arith, c.keep.ensures.crash.clean)) clean
+
+pub returns-in-Ok-clause-commit : goal.returns-in-Ok-clause-commit
+returns-in-Ok-clause-commit g c clean old at e may =
+    let new : Tables g.row.S.Denot = record { conn = c.keep.new.conn; is_stopped = c.args.self.now.is_stopped } in
+    keeps g.S.Store c.args.changes.now e c.args.self.now new c.if-self.false refl (λ db. g.met.S.Store.settled new.conn.store db) (c.in-Ok.ensures.done (honest_is g.S.Store new clean)) old at may
+
+pub returns-in-Err-clause-honest : goal.returns-in-Err-clause-honest
+returns-in-Err-clause-honest g c clean =
+    honest_by g.S.Store c.args.self.now c.fault.new.self (let one = c.keep.ensures.crash.clean in omega (arith, one, c.fault.ensures.survives.clean)) clean
+
+pub returns-in-Err-clause-commit : goal.returns-in-Err-clause-commit
+returns-in-Err-clause-commit g c clean old at e may =
+    let new = c.fault.new.self in
+    doubts g.S.Store c.args.changes.now e c.args.self.now new c.keep.new.conn c.if-self.false clean c.in-Err.ensures.undone c.keep.ensures.crash c.fault.ensures.survives (λ db. g.met.S.Store.settled new.conn.store db)
+    c.fault.result c.fault.ensures.told c.fault.ensures.same old at may

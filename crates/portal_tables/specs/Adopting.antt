@@ -1,0 +1,99 @@
+-- What adopting a store comes to.
+use Rattle.std.specs.Prelude.{◌≡◌, ◌⊎◌, ◌<◌, ℕ, false, IsTrue, Option, Some, None}
+use Rattle.sqlite.specs.Tree.{Trees}
+use Rattle.sqlite.specs.Effect.{Database}
+use Rattle.sqlite.specs.Schema.{Schema}
+use Rattle.sqlite_schema.specs.Names.{view_named}
+use Rattle.sqlite.specs.State.{State}
+use Rattle.sqlite_trees.specs.declared.store.Store.{Ghosts}
+use Rattle.portal_model.specs.History.{History}
+use Rattle.portal_rows.specs.Contents.{Contents}
+use Rattle.portal_rows.specs.Creates.{new_store}
+use Rattle.portal_rows.specs.Holds.{Holds, LeftHolds}
+use Rattle.portal_rows.specs.Layout.{head_name}
+use Rattle.portal_rows.specs.First.{HoldsFirst}
+use Rattle.portal_rows.specs.Layouts.{TellsLayout}
+use Rattle.portal_rows.specs.Upgrades.{upgraded}
+use Rattle.portal_tables.specs.declared.fault.OpenFault.{OpenFault}
+use Rattle.portal_tables.specs.declared.fault.OpenFault.TheVariants.{NotOurs, Newer, Memory, Store}
+use Rattle.portal_tables.specs.declared.adopt.Refused.{Refused}
+use Rattle.portal_tables.specs.First.{first_layout}
+use Rattle.portal_tables.specs.Shown.{this_layout}
+use Rattle.portal_tables.specs.Stores.{IsBare, IsNamed}
+use Rattle.portal_tables.specs.TablesAt.{ConnAt, ConnLeaves}
+
+-- ---- by what stands there
+
+-- the head is one row with this version's layout, or with the first
+abbrev pub TellsKnown : Database → Type 0
+TellsKnown db = TellsLayout db (Some this_layout) ⊎ TellsLayout db (Some first_layout)
+
+-- a store that may be adopted: no table of ours stands there, or the head has a layout that is known
+abbrev pub IsKnown : Database → Type 0
+IsKnown db = IsBare db.schema ⊎ (IsNamed db.schema × TellsKnown db)
+
+-- the head is one row with a layout past this version's
+abbrev pub TellsNewer : Database → Type 0
+TellsNewer db = (layout : ℕ) × (this_layout < layout) × TellsLayout db (Some layout)
+
+-- why a store was not adopted; want of memory and a fault of the store have their cause elsewhere
+abbrev pub IsWhy : OpenFault → Database → Type 0
+IsWhy NotOurs db = IsNamed db.schema × TellsLayout db None
+IsWhy Newer db = IsNamed db.schema × TellsNewer db
+IsWhy Memory db = Unit {0}
+IsWhy Store db = Unit {0}
+
+-- No view has the head's name: the head then tells one thing, whatever table stands under the name.
+abbrev pub HeadIsNoView : Schema → Type 0
+HeadIsNoView schema = view_named schema head_name ≡ None
+
+-- what the head told is the cause
+abbrev pub IsExact : Option ℕ → OpenFault → Type 0
+IsExact told NotOurs = told ≡ None
+IsExact told Newer = (layout : ℕ) × (this_layout < layout) × (told ≡ Some layout)
+IsExact told Memory = Unit {0}
+IsExact told Store = Unit {0}
+
+-- ---- what became of the tables
+
+-- the rows of our tables stay, and those of the first layout are upgraded
+abbrev pub Carries : Database → Database → Type 0
+Carries db after =
+    (TellsLayout db (Some this_layout) × ((t : Contents) → Holds db t → Holds after t)) ⊎ (TellsLayout db (Some first_layout) × ((t : Contents) → HoldsFirst db t → Holds after (upgraded t)))
+
+-- the same of trees that a stop leaves
+abbrev pub LeftCarried : Database → Trees → Type 0
+LeftCarried db trees =
+    (TellsLayout db (Some this_layout) × ((t : Contents) → Holds db t → LeftHolds trees t)) ⊎ (TellsLayout db (Some first_layout) × ((t : Contents) → HoldsFirst db t → LeftHolds trees (upgraded t)))
+
+-- what a stop may leave beside what it could leave before: a new store where there was none, or the rows that were there
+abbrev pub MayAdopt : Database → Trees → Type 0
+MayAdopt db trees = (IsBare db.schema × LeftHolds trees new_store) ⊎ (IsNamed db.schema × LeftCarried db trees)
+
+-- the rows of our tables were carried over, and all is committed
+pub record IsCarried (old new : State) : Type 0 where
+  pub carries : Carries old.now new.now
+  pub is_open : IsTrue new.is_open
+  pub ended : new.in_transaction ≡ false
+  pub same : new.committed ≡ new.now
+
+-- the tables are ready: new ones where there were none, or with the rows that were there, committed
+pub record IsReady (old new : State) : Type 0 where
+  pub holds : (IsBare old.now.schema × Holds new.now new_store) ⊎ (IsNamed old.now.schema × Carries old.now new.now)
+  pub is_open : IsTrue new.is_open
+  pub ended : new.in_transaction ≡ false
+  pub same : new.committed ≡ new.now
+
+-- nothing changed: the connection is open, outside a transaction, with the database of before, and a stop leaves that and nothing else
+pub record IsKept (old new : State) : Type 0 where
+  pub is_open : IsTrue new.is_open
+  pub ended : new.in_transaction ≡ false
+  pub now : new.now ≡ old.now
+  pub committed : new.committed ≡ old.committed
+  pub left : (trees : Trees) → new.may_leave trees → trees ≡ old.now.trees
+
+-- a store that shows the history was not adopted: want of memory changed nothing, and after any other fault its files still show the history
+abbrev pub FailsToAdopt : {S : Type 0} → Ghosts S → History → Refused S → Type 0
+FailsToAdopt g h refused =
+    ((refused.fault ≡ Memory) × ConnAt g refused.connection h)
+    ⊎ ((refused.fault ≡ Store) × ConnLeaves g refused.connection h)

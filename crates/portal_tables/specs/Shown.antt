@@ -1,0 +1,64 @@
+-- When a database shows a history.
+use Rattle.std.specs.Prelude.{◌≡◌, ℕ, IsTrue, [], ◌∷◌, map}
+use Rattle.sqlite.specs.Effect.{Database}
+use Rattle.sqlite_rules.specs.Lists.{Has}
+use Rattle.sqlite.specs.State.{State, HasCleanDisk}
+use Rattle.portal_codes.specs.Code.{text_of}
+use Rattle.portal_model.specs.declared.record.Head.{Head}
+use Rattle.portal_model.specs.Device.{text_of_device}
+use Rattle.portal_model.specs.History.{History}
+use Rattle.portal_model.specs.Rows.{Rows, VoucherRow, SessionRow, GrantRow, CountRow, rows_of, sessions_of}
+use Rattle.portal_model.specs.Verdict.{IsLegal}
+use Rattle.portal_rows.specs.Contents.{Contents, HeadRow}
+use Rattle.portal_rows.specs.Holds.{Holds}
+use Rattle.portal_rows.specs.Read.{session_read}
+use Rattle.portal_rows.specs.declared.rows.KeptSession.{KeptSession}
+
+-- codes and devices as they are printed
+
+abbrev pub voucher_kept : VoucherRow → VoucherRow
+voucher_kept v = record v { code = text_of v.code }
+
+abbrev pub session_kept : SessionRow → SessionRow
+session_kept s = record s { device = text_of_device s.device }
+
+abbrev pub grant_kept : GrantRow → GrantRow
+grant_kept g = record g { code = text_of g.code }
+
+abbrev pub count_kept : CountRow → CountRow
+count_kept k = record k { code = text_of k.code }
+
+-- the one row of portal_head
+abbrev pub head_kept : ℕ → Head → HeadRow
+head_kept layout h = record { id = 1; layout = layout; last = h.last; grants = h.grants; sessions = h.sessions }
+
+-- the rows as the tables keep them
+abbrev pub contents_of : ℕ → Rows → Contents
+contents_of layout r = record {
+  heads = head_kept layout r.head ∷ [];
+  plans = r.plans;
+  batches = r.batches;
+  vouchers = map voucher_kept r.vouchers;
+  sessions = map session_kept r.sessions;
+  grants = map grant_kept r.grants;
+  counts = map count_kept r.counts;
+  totals = r.totals;
+}
+
+-- the layout of this version
+abbrev pub this_layout : ℕ
+this_layout = 2
+
+-- the tables hold just the rows of the history
+abbrev pub ShowsHistory : History → Database → Type 0
+ShowsHistory h db = IsLegal h × Holds db (contents_of this_layout (rows_of h))
+
+-- what is so of each history that the open connection showed
+abbrev pub OfShown : State → State → (History → Type 0) → Type 0
+OfShown old new Is = HasCleanDisk new → IsTrue old.is_open → (h : History) → ShowsHistory h old.now → Is h
+
+-- a row that was read is one of the history's
+pub record IsRowOf (h : History) (row : KeptSession) : Type 0 where
+  pub of_history : SessionRow
+  pub among : Has (sessions_of h) of_history
+  pub is : session_read row ≡ session_kept of_history

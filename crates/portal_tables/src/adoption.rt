@@ -1,0 +1,130 @@
+//! The steps by which the tables of a store are made ready.
+
+ghost use Rattle.std.specs.Prelude.{◌≡◌, ◌≢◌, ◌⊎◌, ◌<◌, ℕ, false, IsTrue, Some, None, IfOk, IfErr, OnOk, MatchResult};
+ghost use Rattle.sqlite.specs.Held.{state};
+ghost use Rattle.sqlite.specs.State.{HasCleanDisk, IsUnchanged, Survives};
+ghost use Rattle.portal_sql.specs.States.{IsAsBefore};
+ghost use Rattle.portal_rows.specs.Creates.{IsCommitted, new_store};
+ghost use Rattle.portal_rows.specs.Holds.{Holds, LeftHolds};
+ghost use Rattle.portal_rows.specs.Layouts.{TellsLayout};
+ghost use Rattle.portal_rows.specs.Steps.{Leads, MayLead};
+ghost use Rattle.portal_tables.specs.Adopting.{IsCarried, IsKnown, IsReady, IsWhy, LeftCarried, MayAdopt, TellsKnown, TellsNewer};
+ghost use Rattle.portal_tables.specs.declared.fault.OpenFault.TheVariants.{NotOurs, Newer, Memory, Store};
+
+use crate::fault::OpenFault;
+use crate::upgrade::upgrade;
+use portal_rows::creates::{create, is_room};
+use portal_rows::indexes::add_index;
+use portal_rows::layouts::{is_any_named, is_indexed, is_whole, layout_in, layout_rows};
+use portal_sql::query::answers;
+use sqlite::{Alter, Connection, Error, ErrorCode};
+
+/// What an error comes to. Want of memory is told only where the connection still answers, and so nothing has changed.
+fn told<S: Alter>(conn: &mut Connection<S>, error: &Error) -> OpenFault
+    ensures told { (result ≡ Memory) ⊎ (result ≡ Store) }
+    ensures same { HasCleanDisk (state S.Store conn.new) → result ≡ Memory → IsUnchanged (state S.Store conn.old) (state S.Store conn.new) }
+    ensures survives { Survives (state S.Store conn.old) (state S.Store conn.new) (λ _. ⊥) }
+{
+    if matches!(error, Error::SqliteFailure(ErrorCode::OutOfMemory)) && answers(conn) {
+        return OpenFault::Memory;
+    }
+    OpenFault::Store
+}
+
+/// The layout, where the head is one row with one from 1 on.
+fn read_layout<S: Alter>(conn: &mut Connection<S>) -> Result<Option<u64>, OpenFault>
+    ensures tells { HasCleanDisk (state S.Store conn.new) → IfOk result (λ layout. TellsLayout (state S.Store conn.old).now layout × IsUnchanged (state S.Store conn.old) (state S.Store conn.new)) }
+    ensures mode { (state S.Store conn.old).in_transaction ≡ false → OnOk result ((state S.Store conn.new).in_transaction ≡ false) }
+    ensures faults { IfErr result (λ fault. (fault ≡ Memory) ⊎ (fault ≡ Store)) }
+    ensures memory { HasCleanDisk (state S.Store conn.new) → (state S.Store conn.old).in_transaction ≡ false → (state S.Store conn.old).now ≡ (state S.Store conn.old).committed
+        → IfErr result (λ fault. fault ≡ Memory → IsAsBefore (state S.Store conn.old) (state S.Store conn.new)) }
+    ensures survives { Survives (state S.Store conn.old) (state S.Store conn.new) (λ _. ⊥) }
+{
+    match layout_rows(conn) {
+        Ok(rows) => Ok(layout_in(rows.as_slice())),
+        Err(Error::SqlInputError(_)) => Ok(None),
+        Err(error) => Err(told(conn, &error)),
+    }
+}
+
+/// Makes the tables in a store that has none of them.
+fn start<S: Alter>(conn: &mut Connection<S>) -> Result<(), OpenFault>
+    requires { conn.old.in_transaction ≡ false }
+    ensures made { HasCleanDisk (state S.Store conn.new) → OnOk result (Holds (state S.Store conn.new).now new_store × IsCommitted (state S.Store conn.new)) }
+    ensures faults { IfErr result (λ fault. (fault ≡ Memory) ⊎ (fault ≡ Store)) }
+    ensures memory { HasCleanDisk (state S.Store conn.new) → IfErr result (λ fault. fault ≡ Memory → IsAsBefore (state S.Store conn.old) (state S.Store conn.new)) }
+    ensures crash { Survives (state S.Store conn.old) (state S.Store conn.new) (λ trees. LeftHolds trees new_store) }
+{
+    if !is_room(conn.schema()) {
+        return Err(OpenFault::Store);
+    }
+    match create(conn) {
+        Ok(()) => Ok(()),
+        Err(error) => Err(told(conn, &error)),
+    }
+}
+
+/// Makes the index of this layout's tables, where it is missing.
+fn complete<S: Alter>(conn: &mut Connection<S>) -> Result<(), OpenFault>
+    requires { conn.old.in_transaction ≡ false }
+    ensures done { HasCleanDisk (state S.Store conn.new) → IsTrue (state S.Store conn.old).is_open → (state S.Store conn.old).now ≡ (state S.Store conn.old).committed
+        → OnOk result (Leads (λ t. t) (state S.Store conn.old) (state S.Store conn.new)) }
+    ensures faults { IfErr result (λ fault. (fault ≡ Memory) ⊎ (fault ≡ Store)) }
+    ensures memory { HasCleanDisk (state S.Store conn.new) → IfErr result (λ fault. fault ≡ Memory → IsAsBefore (state S.Store conn.old) (state S.Store conn.new)) }
+    ensures crash { Survives (state S.Store conn.old) (state S.Store conn.new) (MayLead (λ t. t) (state S.Store conn.old)) }
+{
+    if !is_whole(conn.schema()) {
+        return Err(OpenFault::Store);
+    }
+    if is_indexed(conn.schema()) {
+        return Ok(());
+    }
+    match add_index(conn) {
+        Ok(()) => Ok(()),
+        Err(error) => Err(told(conn, &error)),
+    }
+}
+
+/// Goes on with the tables that stand in a store; those of the first layout are upgraded.
+fn resume<S: Alter>(conn: &mut Connection<S>) -> Result<(), OpenFault>
+    requires { conn.old.in_transaction ≡ false }
+    ensures why { HasCleanDisk (state S.Store conn.new) → MatchResult result (λ _. TellsKnown (state S.Store conn.old).now)
+        (λ fault. (fault ≡ NotOurs → TellsLayout (state S.Store conn.old).now None) × (fault ≡ Newer → TellsNewer (state S.Store conn.old).now)) }
+    ensures done { HasCleanDisk (state S.Store conn.new) → (state S.Store conn.old).now ≡ (state S.Store conn.old).committed
+        → OnOk result (IsCarried (state S.Store conn.old) (state S.Store conn.new)) }
+    ensures kept { HasCleanDisk (state S.Store conn.new) → (state S.Store conn.old).now ≡ (state S.Store conn.old).committed
+        → IfErr result (λ fault. fault ≢ Store → IsAsBefore (state S.Store conn.old) (state S.Store conn.new)) }
+    ensures crash { Survives (state S.Store conn.old) (state S.Store conn.new) (LeftCarried (state S.Store conn.old).now) }
+{
+    match read_layout(conn)? {
+        None => Err(OpenFault::NotOurs),
+        Some(1) => {
+            upgrade(conn)?;
+            Ok(())
+        }
+        Some(2) => {
+            complete(conn)?;
+            Ok(())
+        }
+        Some(_) => Err(OpenFault::Newer),
+    }
+}
+
+/// Makes the tables ready, whatever stands in the store.
+pub(crate) fn make_ready<S: Alter>(conn: &mut Connection<S>) -> Result<(), OpenFault>
+    ensures why { HasCleanDisk (state S.Store conn.new) → MatchResult result (λ _. IsKnown (state S.Store conn.old).now) (λ fault. IsWhy fault (state S.Store conn.old).now) }
+    ensures ready { HasCleanDisk (state S.Store conn.new) → IsTrue (state S.Store conn.old).is_open → OnOk result (IsReady (state S.Store conn.old) (state S.Store conn.new)) }
+    ensures kept { HasCleanDisk (state S.Store conn.new) → IsTrue (state S.Store conn.old).is_open → IfErr result (λ fault. fault ≢ Store
+        → IsAsBefore (state S.Store conn.old) (state S.Store conn.new) × ((state S.Store conn.old).now ≡ (state S.Store conn.old).committed)) }
+    ensures crash { Survives (state S.Store conn.old) (state S.Store conn.new) (MayAdopt (state S.Store conn.old).now) }
+{
+    if !conn.is_autocommit() {
+        return Err(OpenFault::Store);
+    }
+    if is_any_named(conn.schema()) {
+        resume(conn)?;
+    } else {
+        start(conn)?;
+    }
+    Ok(())
+}

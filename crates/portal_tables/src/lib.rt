@@ -1,0 +1,11 @@
+//! The product's tables in a store.
+#![tactic(auto)]
+
+pub mod adopt;
+mod adoption;
+pub mod fault;
+mod lists;
+pub mod opening;
+mod records;
+pub mod tables;
+mod upgrade;

@@ -1,0 +1,63 @@
+//! Files opened, and opened again.
+
+ghost use Rattle.std.specs.Prelude.{[], IfOk, IsTrue};
+ghost use Rattle.sqlite.specs.Tree.{Trees};
+ghost use Rattle.sqlite.specs.Files.{HoldsDatabase, image_of, file_state, over_files};
+ghost use Rattle.sqlite.specs.State.{HasCleanDisk};
+ghost use Rattle.sqlite.specs.Steps.{over_memory};
+ghost use Rattle.portal_model.specs.History.{History};
+ghost use Rattle.portal_tables.specs.TablesAt.{ConnAt, FilesShow};
+
+use sqlite::{Connection, Error, FileStore, Leftover, MemStore, Options};
+use sqlite_disk::{Disk, Files};
+use std::alloc::{AllocError, Global};
+
+/// A new store in memory: nothing was accepted in it. Only want of memory is an error.
+pub fn open_in_memory(alloc: Global) -> Result<Connection<MemStore>, AllocError>
+    ensures { IfOk result (λ conn. ConnAt over_memory conn []) }
+{
+    match Connection::open_in_memory(alloc) {
+        Ok(conn) => Ok(conn),
+        Err(fault) => Err(fault),
+    }
+}
+
+/// Opens files. Where they hold a table set that shows a history, as a stop leaves them, the connection stands at it.
+pub fn open_files<D: Disk + Drop>(
+    alloc: Global,
+    files: Files<D>,
+    options: Options,
+) -> Result<Connection<FileStore<D>>, (Error, Leftover<D>)>
+    requires log { IsTrue (D.Disk.is_usable files.log) }
+    requires db { IsTrue (D.Disk.is_usable files.db) }
+    ensures { (h : History) (left : Trees) → HoldsDatabase (image_of D.Disk files) left → FilesShow left h
+        → IfOk result (λ conn. HasCleanDisk (file_state conn) → ConnAt over_files conn h) }
+{
+    match Connection::open_files(alloc, files, options) {
+        Ok(conn) => Ok(conn),
+        Err(fault) => Err(fault),
+    }
+}
+
+/// What is left of files that were not closed, or not opened again, and why.
+pub enum Unopened<D: Disk> {
+    Unclosed(Error, FileStore<D>),
+    Refused(Error, Leftover<D>),
+}
+
+/// Closes the files of a connection and opens them again. What stood there stands there.
+pub fn reopen<D: Disk + Drop>(
+    alloc: Global,
+    conn: Connection<FileStore<D>>,
+    options: Options,
+) -> Result<Connection<FileStore<D>>, Unopened<D>>
+    ensures { (h : History) → ConnAt over_files conn h → IfOk result (λ again. HasCleanDisk (file_state again) → ConnAt over_files again h) }
+{
+    match conn.close_files() {
+        Ok(files) => match Connection::open_files(alloc, files, options) {
+            Ok(again) => Ok(again),
+            Err((error, left)) => Err(Unopened::Refused(error, left)),
+        },
+        Err((error, store)) => Err(Unopened::Unclosed(error, store)),
+    }
+}
