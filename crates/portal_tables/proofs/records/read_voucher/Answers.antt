@@ -5,7 +5,7 @@ use Rattle.portal_codes.specs.Code.{text_of}
 use Rattle.portal_model.specs.Rows.{VoucherRow, CountRow, vouchers_of, counts_of}
 use Rattle.portal_sql.specs.Finds.{Finds}
 use Rattle.portal_sql.specs.Looks.{Looks}
-use Rattle.portal_sql.proofs.LooksLemmas.{reads_then, looks_then}
+use Rattle.portal_sql.proofs.LooksLemmas.{reads_then, looks_then, reads_fails}
 use Rattle.portal_rows.specs.declared.rows.KeptVoucher.{KeptVoucher}
 use Rattle.portal_rows.specs.declared.rows.KeptCount.{KeptCount}
 use Rattle.portal_rows.specs.Holds.{HasTables}
@@ -26,6 +26,9 @@ pub returns-in_err-count-clause-looks : goal.returns-in_err-count-clause-looks
 returns-in_err-count-clause-looks g c =
     let failed : Looks HasTables c.from_residual-in_err-count.result (state g.S.Store c.find_voucher.new.conn) (state g.S.Store c.find_count.new.conn) = search rules in
     looks_then HasTables _ _ _ _ c.in_ok-row.ensures.looks failed
+
+pub returns-in_default-2-clause-looks : goal.returns-in_default-2-clause-looks
+returns-in_default-2-clause-looks g c = reads_fails HasTables _ _ (reads_then HasTables _ _ _ c.in_ok-row.ensures.looks c.in_ok-count.ensures.looks)
 
 pub returns-in_err-batch-clause-looks : goal.returns-in_err-batch-clause-looks
 returns-in_err-batch-clause-looks g c =
