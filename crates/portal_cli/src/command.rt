@@ -10,10 +10,13 @@ use std::alloc::{AllocError, Global};
 
 const EXAMPLES: &str = "\
 Examples:
+  printf 'GET /captive HTTP/1.1\\r\\nHost: api\\r\\nPortal-Device: 02:00:00:00:00:01\\r\\n\\r\\n' > request
   portal answer --now 1583125693 \\
-    --seed 0000000000000000000000000000000000000000000000000000000000000000 < request > response
+    --seed 0000000000000000000000000000000000000000000000000000000000000000 < request
 
-A request is HTTP/1.0 or HTTP/1.1, with CR LF at the end of each line of its head.";
+A request is HTTP/1.0 or HTTP/1.1, with CR LF at the end of each line of its head. A moment is at most
+253370764799, the end of the year 9998, and a seed has 64 hexadecimal digits: past these limits, and at
+a word that is not UTF-8, the program says `portal: usage` and ends with status 2.";
 
 const ANSWER_EXAMPLES: &str = "\
 Example, of a device that was never seen:
@@ -21,8 +24,9 @@ Example, of a device that was never seen:
     portal answer --now 1583125693 \\
     --seed 0000000000000000000000000000000000000000000000000000000000000000
 
-The status is 0 where that of the response is 200, 1 where the request was refused, 2 where a value
-is out of its range, and 3 where reading, writing or memory failed or the desk has stopped.";
+The status is 0 where that of the response is 200, 1 where the request was refused, 2 where the words
+are wrong or a value is out of its limits (`portal: usage`), and 3 where reading, writing or memory
+failed or the desk has stopped.";
 
 /// `--now N`.
 fn now_option<'a>(alloc: Global) -> Arg<'a>

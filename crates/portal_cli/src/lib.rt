@@ -7,6 +7,3 @@ mod order;
 
 pub use crate::line::read_words;
 pub use crate::order::{NoOrder, Order};
-
-#[cfg(test)]
-mod tests;

@@ -1,9 +1,9 @@
 //! Voucher codes: read from what a guest types, made from random words, and printed.
 //!
-//! A code has twelve signs of an alphabet of 31: the digits and the capital letters without
-//! `0`, `1`, `I`, `L` and `O`, which are easily taken for one another. In the order
-//! `23456789ABCDEFGHJKMNPQRSTUVWXYZ` they have the values 0 to 30. The first eleven signs are
-//! the body and have the weights 2 to 12; the last is the check sign and has the weight 1. The
+//! A code has twelve signs, or sixteen, of an alphabet of 31: the digits and the capital letters
+//! without `0`, `1`, `I`, `L` and `O`, which are easily taken for one another. In the order
+//! `23456789ABCDEFGHJKMNPQRSTUVWXYZ` they have the values 0 to 30. All signs but the last are the
+//! body and have the weights from 2 on; the last is the check sign and has the weight 1. The
 //! sum of each value times its weight is divisible by 31.
 //!
 //! As 31 is prime, and the weights are unequal and none of them is a multiple of 31, a code with
@@ -15,54 +15,97 @@
 //! on the words that its code is made from.
 #![tactic(auto)]
 
-ghost use Rattle.std.specs.Prelude.{◌≡◌, ◌<◌, ◌≤◌, ℕ, List, All, IfOk, IfErr, IfSome, length, map, nat_eq, position};
+ghost use Rattle.std.specs.Prelude.{bytes_eq, ◌≡◌, ◌+◌, ◌<◌, ◌≤◌, ℕ, List, All, IfOk, IfErr, IfSome, length, map, nat_eq, position, take, ◌⊎◌, ◌↔◌, IsTrue};
 ghost use Rattle.std.specs.Char.{to_ascii_uppercase};
 ghost use Rattle.std.specs.Str.{IsAscii};
-ghost use Rattle.portal_codes.specs.Code.{alphabet, code_of_words, sign_of, signs_in, text_of, weighted, weights, Spells, SpellingIsUnique, PrintedTextSpells, OneChangeIsDetected, ExchangeIsDetected};
+ghost use Rattle.portal_codes.specs.Code.{alphabet, code_of_words, sign_of, signs_in, text_of, weighted, weights_of, padded, Spells, SpellingIsUnique, PrintedTextSpells, OneChangeIsDetected, ExchangeIsDetected};
 
 use std::marker::Model;
 
-#[cfg(test)]
-mod tests;
+mod keys;
 
-/// How many signs a code has. The last is the check sign.
+/// How many signs a short code has. The last is the check sign.
 pub const SIGNS: usize = 12;
 
-/// How many words make a code: one for each sign of its body.
+/// How many signs a long code has.
+pub const LONG_SIGNS: usize = 16;
+
+/// How many words make a short code: one for each sign of its body.
 pub const WORDS: usize = SIGNS - 1;
 
-/// How many bytes a printed code has: its signs, and a hyphen between two groups of four.
-pub const TEXT_LEN: usize = SIGNS + (SIGNS - 1) / 4;
+/// How many words make a long code.
+pub const LONG_WORDS: usize = LONG_SIGNS - 1;
+
+/// How many bytes the printed text of a long code has: its signs, and a hyphen between two groups of four.
+pub const LONG_TEXT: usize = LONG_SIGNS + (LONG_SIGNS - 1) / 4;
 
 /// The signs, in the order of their values.
 const ALPHABET: [u8; 31] = *b"23456789ABCDEFGHJKMNPQRSTUVWXYZ";
 
-/// The weight of each sign of a code.
+/// The weight of each sign of a short code.
 const WEIGHTS: [u32; SIGNS] = [2, 3, 4, 5, 6, 7, 8, 9, 10, 11, 12, 1];
+
+/// The weight of each sign of a long code.
+const LONG_WEIGHTS: [u32; LONG_SIGNS] = [2, 3, 4, 5, 6, 7, 8, 9, 10, 11, 12, 13, 14, 15, 16, 1];
 
 /// The refusal of a text that spells no code.
 #[derive(Clone, Copy, Debug, PartialEq, Eq)]
 pub struct BadCode;
 
-/// A voucher code: twelve values from 0 to 30 whose weighted sum is divisible by 31.
+/// A voucher code: twelve or sixteen values from 0 to 30 whose weighted sum is divisible by 31.
 ///
-/// Codes are equal where all their values are, and are ordered by their first unequal value.
-#[derive(Clone, Copy, Debug, PartialEq, Eq, PartialOrd, Ord)]
+/// Codes are equal where all their values are, and are ordered by their first unequal value; where a long code begins with all
+/// values of a short one, the short one comes first.
+#[derive(Clone, Copy, Debug)]
 pub struct Code {
-    values: [u8; SIGNS],
+    values: [u8; LONG_SIGNS],
+    len: usize,
 }
 
 impl Model for Code {
-    ghost use Rattle.std.specs.Prelude.{List, ℕ};
-    ghost use Rattle.portal_codes.specs.Code.{IsCode};
+    ghost use Rattle.std.specs.Prelude.{List, ℕ, take, length};
+    ghost use Rattle.portal_codes.specs.Code.{IsPadded, padded};
 
     ghost Value = { List ℕ };
 
-    ghost view = { λ c. c.values };
+    ghost view = { λ c. take c.len c.values };
 
-    ghost invariant = { λ c. IsCode c.values };
+    ghost invariant = { λ c. IsPadded c.len c.values };
 
-    ghost inverse = { λ v. record { values = v } };
+    ghost inverse = { λ v. record { values = padded v; len = length v } };
+
+    ghost inverse_ok = { λ a h. Prim.rw (h.zeros, h.shown) };
+}
+
+/// The printed text of a code: 14 bytes of a short one, 19 of a long one.
+#[derive(Clone, Copy, Debug, PartialEq, Eq)]
+pub struct CodeText {
+    bytes: [u8; LONG_TEXT],
+    len: usize,
+}
+
+impl Model for CodeText {
+    ghost use Rattle.std.specs.Prelude.{List, ℕ, take, length};
+    ghost use Rattle.portal_codes.specs.Code.{IsHyphened, hyphened};
+
+    ghost Value = { List ℕ };
+
+    ghost view = { λ t. take t.len t.bytes };
+
+    ghost invariant = { λ t. IsHyphened t.len t.bytes };
+
+    ghost inverse = { λ v. record { bytes = hyphened v; len = length v } };
+
+    ghost inverse_ok = { λ a h. Prim.rw (h.hyphens, h.shown) };
+}
+
+impl CodeText {
+    /// The bytes of the text.
+    pub fn as_bytes(&self) -> &[u8]
+        ensures { result.now ≡ self.now }
+    {
+        &self.bytes[..self.len]
+    }
 }
 
 impl Code {
@@ -71,23 +114,23 @@ impl Code {
     /// Reads the code that a text spells.
     ///
     /// Spaces and hyphens are dropped wherever they stand, and the ASCII letters `a` to `z` stand
-    /// for their capitals. What is left has to be exactly twelve signs of the alphabet, with a
-    /// weighted sum divisible by 31. Any other text, of whatever length and with whatever
+    /// for their capitals. What is left has to be exactly twelve or sixteen signs of the alphabet,
+    /// with a weighted sum divisible by 31. Any other text, of whatever length and with whatever
     /// characters, is a [`BadCode`].
     pub fn read(text: &str) -> Result<Code, BadCode>
         ensures ok { IfOk result (λ code. Spells text.now code) }
         ensures found { (code : List ℕ) → Spells text.now code → result ≡ Ok code }
         ensures err { IfErr result (λ _. (code : List ℕ) → ¬ Spells text.now code) }
     {
-        let values = read_values(text.as_bytes())?;
-        let remainder = weighted_sum(&values) % 31;
+        let (values, len) = read_values(text.as_bytes())?;
+        let remainder = weighted_sum(weights_of(len), &values[..len]) % 31;
         if remainder != 0 {
             return Err(BadCode);
         }
-        Ok(Code { values })
+        Ok(Code { values, len })
     }
 
-    /// Makes the code of eleven words.
+    /// Makes the short code of eleven words.
     ///
     /// Each word, in order, gives a sign of the body: its remainder modulo 31. The check sign
     /// follows from these. Words with the same remainders give the same code.
@@ -95,28 +138,80 @@ impl Code {
         ensures value { result ≡ code_of_words words.now }
         ensures code { IsCode result }
     {
-        let mut values = [0; SIGNS];
-        for (i, word) in words.iter().enumerate() {
-            values[i] = (*word % 31) as u8;
-        }
-        let sum = weighted_sum(&values[..WORDS]);
-        values[WORDS] = ((31 - sum % 31) % 31) as u8;
-        Code { values }
+        code_of(words)
     }
 
-    /// Prints the code: its signs in three groups of four, with a hyphen between two groups.
+    /// Makes the long code of fifteen words, in the same way.
+    pub fn from_words_long(words: &[u32; LONG_WORDS]) -> Code
+        ensures value { result ≡ code_of_words words.now }
+        ensures code { IsCode result }
+    {
+        code_of(words)
+    }
+
+    /// How many signs the code has: twelve, or sixteen.
+    pub fn signs(&self) -> usize
+        ensures length { result ≡ length self.now }
+        ensures code { IsCode self.now }
+    {
+        self.len
+    }
+
+    /// The two are the same code.
+    pub fn is(&self, other: &Code) -> bool
+        ensures { result ≡ bytes_eq self.now other.now }
+    {
+        self.values[..self.len] == other.values[..other.len]
+    }
+
+    /// Prints the code: its signs in three or four groups of four, with a hyphen between two groups.
     ///
     /// The text is ASCII, and [`Code::read`] reads it as this code.
-    pub fn text(&self) -> [u8; TEXT_LEN]
+    pub fn text(&self) -> CodeText
         ensures value { result ≡ text_of self.now }
         ensures spells { Spells result self.now }
         ensures ascii { IsAscii result }
     {
-        let mut text = [b'-'; TEXT_LEN];
-        for (i, value) in self.values.iter().enumerate() {
-            text[i + i / 4] = sign_of(*value);
+        let mut bytes = [b'-'; LONG_TEXT];
+        for (i, value) in self.values[..self.len].iter().enumerate() {
+            bytes[i + i / 4] = sign_of(*value);
         }
-        text
+        CodeText {
+            bytes,
+            len: self.len + (self.len - 1) / 4,
+        }
+    }
+}
+
+ghost use Rattle.portal_codes.specs.Code.{IsCode};
+
+/// The code of eleven or fifteen words.
+fn code_of(words: &[u32]) -> Code
+    requires { (length words.now ≡ WORDS) ⊎ (length words.now ≡ LONG_WORDS) }
+    ensures value { result ≡ code_of_words words.now }
+    ensures code { IsCode result }
+{
+    let mut values = [0; LONG_SIGNS];
+    for (i, word) in words.iter().enumerate() {
+        values[i] = (*word % 31) as u8;
+    }
+    let body = words.len();
+    let sum = weighted_sum(weights_of(body + 1), &values[..body]);
+    values[body] = ((31 - sum % 31) % 31) as u8;
+    Code {
+        values,
+        len: body + 1,
+    }
+}
+
+/// The weights of a code of so many signs.
+fn weights_of(signs: usize) -> &'static [u32]
+    ensures { result.now ≡ weights_of signs }
+{
+    if signs == LONG_SIGNS {
+        &LONG_WEIGHTS
+    } else {
+        &WEIGHTS
     }
 }
 
@@ -138,30 +233,34 @@ fn sign_of(value: u8) -> u8
 }
 
 /// The weighted sum of the values of a code, or of the first few of them.
-fn weighted_sum(values: &[u8]) -> u32
-    requires { length values.now ≤ SIGNS }
-    ensures { result ≡ weighted weights values.now }
+fn weighted_sum(weights: &[u32], values: &[u8]) -> u32
+    requires weights { All (λ weight. weight ≤ 16) weights.now }
+    requires few { length values.now ≤ length weights.now }
+    requires sixteen { length values.now ≤ 16 }
+    ensures { result ≡ weighted weights.now values.now }
 {
     let mut sum = 0;
     for (i, value) in values.iter().enumerate() {
-        sum += WEIGHTS[i] * u32::from(*value);
+        sum += weights[i] * u32::from(*value);
     }
     sum
 }
 
-/// The values of the signs in a text, where there are as many as a code has.
-fn read_values(text: &[u8]) -> Result<[u8; SIGNS], BadCode>
-    ensures ok { IfOk result (λ values. signs_in text.now ≡ map sign_of values) }
-    ensures below { IfOk result (λ values. All (λ value. value < 31) values) }
+/// The values of the signs in a text, and their number, where there are as many as a code has. Zeros follow them.
+fn read_values(text: &[u8]) -> Result<([u8; LONG_SIGNS], usize), BadCode>
+    ensures length { IfOk result (λ read. (read.1 ≡ 12) ⊎ (read.1 ≡ 16)) }
+    ensures ok { IfOk result (λ read. signs_in text.now ≡ map sign_of (take read.1 read.0)) }
+    ensures below { IfOk result (λ read. All (λ value. value < 31) read.0) }
+    ensures zeros { IfOk result (λ read. padded (take read.1 read.0) ≡ read.0) }
     ensures err { IfErr result (λ _. (code : List ℕ) → ¬ Spells text.now code) }
 {
-    let mut values = [0; SIGNS];
+    let mut values = [0; LONG_SIGNS];
     let mut count = 0;
     for byte in text {
         if *byte == b' ' || *byte == b'-' {
             continue;
         }
-        if count == SIGNS {
+        if count == LONG_SIGNS {
             return Err(BadCode);
         }
         let Some(value) = value_of(*byte) else {
@@ -170,11 +269,17 @@ fn read_values(text: &[u8]) -> Result<[u8; SIGNS], BadCode>
         values[count] = value as u8;
         count += 1;
     }
-    if count == SIGNS {
-        Ok(values)
-    } else {
-        Err(BadCode)
+    if !is_length(count) {
+        return Err(BadCode);
     }
+    Ok((values, count))
+}
+
+/// Whether a code has so many signs.
+fn is_length(signs: usize) -> bool
+    ensures { IsTrue result ↔ ((signs ≡ 12) ⊎ (signs ≡ 16)) }
+{
+    signs == SIGNS || signs == LONG_SIGNS
 }
 
 /// A law: a text spells at most one code.

@@ -1,4 +1,4 @@
-//! Whether a command is accepted, and what it then changes. Each decision answers the first refusal whose condition holds, in the order of its verdict.
+//! Whether a command is accepted, and what it then changes. Each decision answers the first refusal whose condition holds, in the order of its verdict, want of memory aside.
 ghost use Rattle.std.specs.Prelude.{◌≡◌, ◌≤◌, IfOk, IfErr, Some, None};
 ghost use Rattle.portal_model.specs.History.{amount_left};
 ghost use Rattle.portal_model.specs.Verdict.{sell_verdict, report_verdict, refund_verdict, close_verdict};

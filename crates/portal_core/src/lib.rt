@@ -1,13 +1,15 @@
-//! The decisions of the desk over the records that were read for them, and what is told of sessions.
+//! The decisions of the desk over the records that were read for them, what is told of sessions, and the takings of days.
 #![tactic(auto)]
 
 pub mod decide;
 pub mod state;
+pub mod takings;
 
 pub use decide::{
     decide_close, decide_issue, decide_plans, decide_redeem, decide_refund, decide_report,
     decide_sell,
 };
+pub use portal_days::{Day, DayRange, DayTakings};
 pub use portal_model::captive::{Captive, OpenSession};
 pub use portal_model::change::{
     Answer, Changes, Closing, Issuance, Loading, Redemption, Repayment, Sale, Usage,
@@ -20,6 +22,4 @@ pub use portal_model::plan::Plan;
 pub use portal_model::record::{Batch, Head, Session, Voucher, is_open};
 pub use portal_model::refusal::Refusal;
 pub use state::{captive_of, effective, open_session};
-
-#[cfg(test)]
-mod tests;
+pub use takings::add_takings;

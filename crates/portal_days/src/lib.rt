@@ -6,6 +6,3 @@ mod takings;
 
 pub use calendar::{Day, DayRange};
 pub use takings::{DayTakings, add_takings};
-
-#[cfg(test)]
-mod tests;

@@ -12,20 +12,23 @@ use Rattle.portal_model.specs.declared.plan.Plan.{Plan}
 use Rattle.portal_model.specs.declared.record.Head.{Head}
 use Rattle.portal_model.specs.declared.refusal.Refusal.{Refusal}
 use Rattle.portal_model.specs.declared.refusal.Refusal.TheVariants.{NoMemory, Stopped}
-use Rattle.portal_model.specs.History.{Entry, entry, Grant, History, plan_of, voucher_of, session_of, last_session_of, grants_of, head_of, last_moment, effective_moment}
+use Rattle.portal_model.specs.History.{entry, History, plan_of, voucher_of, session_of, last_session_of, grants_of, last_moment, effective_moment}
 use Rattle.portal_model.specs.Change.{added, plan_among, load_change, changes_of}
-use Rattle.portal_model.specs.Rows.{plans_of}
 use Rattle.portal_model.specs.Verdict.{load_verdict, Follows, IsLegal, IsTyped, IsWellFormed, greatest_moment}
 use Rattle.portal_model.specs.Captive.{captive_of, captive_state}
 use Rattle.portal_model.specs.declared.captive.Captive.{Captive}
 use Rattle.portal_model.specs.declared.record.Session.{Session}
 use Rattle.portal_laws.specs.Laws.{PlanIsRow}
-use Rattle.portal_desk.specs.States.{State, running, stopped}
-use Rattle.portal_desk.specs.Calls.{Answers, CannotAnswer, Prepares, Refuses, Fits, Commits, CannotCommit}
-use Rattle.portal_desk.specs.Memory.{LoadsAlone, Keeps, StandsInMemory}
+use Rattle.portal_ledger.specs.declared.marked.MarkedChanges.{MarkedChanges}
+use Rattle.portal_ledger.specs.Mark.{Mark}
+use Rattle.portal_ledger.specs.Ledger.{Accepted, history_of, MayFollow, taken_at}
+use Rattle.portal_ledger.specs.States.{State, running, stopped}
+use Rattle.portal_ledger.specs.Calls.{Fits, Keeps}
+use Rattle.portal_desk.specs.Calls.{is_over, Answers, CannotAnswer, Prepares, Refuses, CannotKeep}
+use Rattle.portal_desk.specs.Memory.{LoadsAlone, HoldsPlans, StandsInMemory}
 
 -- the plans that are kept are found as those of the history
-found : PlanIsRow → (head : Head) (held : List Plan) (H : History) → Keeps head held H → plan_among held ≡ plan_of H
+found : PlanIsRow → (head : Head) (held : List Plan) (H : History) → HoldsPlans head held H → plan_among held ≡ plan_of H
 found law head held H keeps = ap plan_among keeps.plans_are ∙ sym (fun_ext (law H))
 
 -- the moments of a legal history are in range
@@ -34,7 +37,7 @@ last_in_range [] legal = lit≤ tt
 last_in_range (entry t command ∷ H) legal = legal.0.in_range
 
 -- the later of the moment and the last one
-later : (head : Head) (held : List Plan) (H : History) (moment t : ℕ) → Keeps head held H → t ≡ max moment head.last → t ≡ effective_moment H moment
+later : (head : Head) (held : List Plan) (H : History) (moment t : ℕ) → HoldsPlans head held H → t ≡ max moment head.last → t ≡ effective_moment H moment
 later head held H moment t keeps is = is ∙ ap (λ (h : Head). max moment h.last) keeps.head_is
 
 -- plans that may be loaded
@@ -42,19 +45,21 @@ module _ (law : PlanIsRow) (head : Head) (held : List Plan) (halted : Bool) (com
     (stands : StandsInMemory head held halted old) (works : halted ≡ false)
     (seen plans read : List Plan) (is_held : seen ≡ held) (is_read : read ≡ plans) (is_load : command ≡ Load plans)
     (typed : IsTyped command) (formed : IsWellFormed command) (in_range : moment ≤ greatest_moment) where
-  pub prepares : (t : ℕ) (changes prepared : Changes) → t ≡ max moment head.last
-      → load_verdict (plan_among seen) read ≡ None → changes ≡ load_change (plan_among seen) read t → prepared ≡ changes
-      → (new : State) × StandsInMemory head held halted new × Prepares old command moment prepared new
-  prepares t changes prepared time accepted is same = go old stands
+  pub prepares : (t : ℕ) (changes : Changes) (marked : MarkedChanges) → t ≡ max moment head.last
+      → load_verdict (plan_among seen) read ≡ None → changes ≡ load_change (plan_among seen) read t → marked ≡ record { changes = changes; mark = None }
+      → (new : State) × StandsInMemory head held halted new × Prepares old command moment None marked new
+  prepares t changes marked time accepted is same = go old stands
     where
       passed : load_verdict (plan_among held) plans ≡ None
       passed = subst (λ (xs : List Plan). load_verdict (plan_among xs) plans ≡ None) is_held (subst (λ (ys : List Plan). load_verdict (plan_among seen) ys ≡ None) is_read accepted)
 
-      made : prepared ≡ load_change (plan_among held) plans t
-      made = same ∙ is ∙ ap (λ (ys : List Plan). load_change (plan_among seen) ys t) is_read ∙ ap (λ (xs : List Plan). load_change (plan_among xs) plans t) is_held
+      made : marked.changes ≡ load_change (plan_among held) plans t
+      made =
+          ap (λ (m : MarkedChanges). m.changes) same ∙ is ∙ ap (λ (ys : List Plan). load_change (plan_among seen) ys t) is_read ∙ ap (λ (xs : List Plan). load_change (plan_among xs) plans t) is_held
 
-      go : (s : State) → StandsInMemory head held halted s → (new : State) × StandsInMemory head held halted new × Prepares s command moment prepared new
-      go (running H) at_work =
+      go : (s : State) → StandsInMemory head held halted s → (new : State) × StandsInMemory head held halted new × Prepares s command moment None marked new
+      go (running L) at_work =
+          let H = history_of L in
           let known = found law head held H at_work.1 in
           let follows : Follows H (effective_moment H moment) (Load plans) = record {
             in_order = le-max_right moment (last_moment H);
@@ -63,46 +68,48 @@ module _ (law : PlanIsRow) (head : Head) (held : List Plan) (halted : Bool) (com
             well_formed = subst IsWellFormed is_load formed;
             accepted = subst (λ (f : List ℕ → Option Plan). load_verdict f plans ≡ None) known passed;
           } in
-          let change : Some (load_change (plan_of H) plans (effective_moment H moment)) ≡ Some prepared =
+          let may : MayFollow L (taken_at L moment (Load plans) None) = record { follows = follows; free = tt } in
+          let change : Some (load_change (plan_of H) plans (effective_moment H moment)) ≡ Some marked.changes =
           sym (ap Some (made ∙ ap (λ (f : List ℕ → Option Plan). load_change f plans t) known ∙ ap (λ n. load_change (plan_of H) plans n) (later head held H moment t at_work.1 time))) in
-          (running H, at_work, subst (λ (c : Command). Prepares (running H) c moment prepared (running H)) (sym is_load) ((follows, change), refl))
-      go (stopped H doubt) at_rest = absurd (cc)
+          let fits : Fits (running L) marked (taken_at L moment (Load plans) None) = (may, change, ap (λ (m : MarkedChanges). m.mark) same) in
+          (running L, at_work, subst (λ (c : Command). Prepares (running L) c moment None marked (running L)) (sym is_load) ((refl, fits), refl))
+      go (stopped L doubt) at_rest = absurd (cc)
 
   pub refuses : (r : Refusal) → (r ≡ NoMemory) ⊎ (load_verdict (plan_among seen) read ≡ Some r)
-      → (new : State) × StandsInMemory head held halted new × Refuses old command moment r new
+      → (new : State) × StandsInMemory head held halted new × Refuses old command moment None r new
   refuses r because = go old stands because
     where
       go : (s : State) → StandsInMemory head held halted s → (r ≡ NoMemory) ⊎ (load_verdict (plan_among seen) read ≡ Some r)
-          → (new : State) × StandsInMemory head held halted new × Refuses s command moment r new
-      go (running H) at_work (inl memory) = (running H, at_work, inr (inl (memory, refl)))
-      go (running H) at_work (inr refused) =
+          → (new : State) × StandsInMemory head held halted new × Refuses s command moment None r new
+      go (running L) at_work (inl memory) = (running L, at_work, inr (inl (memory, refl)))
+      go (running L) at_work (inr refused) =
           let first : load_verdict (plan_among held) plans ≡ Some r = subst (λ (xs : List Plan). load_verdict (plan_among xs) plans ≡ Some r) is_held (subst (λ (ys : List Plan). load_verdict (plan_among seen) ys ≡ Some r) is_read refused) in (
-            running H,
+            running L,
             at_work,
-            subst (λ (c : Command). Refuses (running H) c moment r (running H)) (sym is_load)
-                (inl (subst (λ (f : List ℕ → Option Plan). load_verdict f plans ≡ Some r) (found law head held H at_work.1) first, refl)),
+            subst (λ (c : Command). Refuses (running L) c moment None r (running L)) (sym is_load)
+                (inl (inr (refl, subst (λ (f : List ℕ → Option Plan). load_verdict f plans ≡ Some r) (found law head held (history_of L) at_work.1) first), refl)),
           )
-      go (stopped H doubt) at_rest why = absurd (cc)
+      go (stopped L doubt) at_rest why = absurd (cc)
 
 -- a command of another kind stops it
-pub stops : (head : Head) (held : List Plan) (halted : Bool) (command : Command) (moment : ℕ) (old : State)
+pub stops : (head : Head) (held : List Plan) (halted : Bool) (command : Command) (moment : ℕ) (mark : Option Mark) (old : State)
     → StandsInMemory head held halted old → halted ≡ false
-    → (new : State) × StandsInMemory head held true new × Refuses old command moment Stopped new
-stops head held halted command moment (running H) stands works = (stopped H None, (refl, stands.1), inr (inr (refl, refl)))
-stops head held halted command moment (stopped H doubt) stands works = absurd (cc)
+    → (new : State) × StandsInMemory head held true new × Refuses old command moment mark Stopped new
+stops head held halted command moment mark (running L) stands works = (stopped L None, (refl, stands.1), inr (inr (refl, refl)))
+stops head held halted command moment mark (stopped L doubt) stands works = absurd (cc)
 
 -- one that stopped answers so
-pub stays : (head : Head) (held : List Plan) (halted : Bool) (command : Command) (moment : ℕ) (old : State)
+pub stays : (head : Head) (held : List Plan) (halted : Bool) (command : Command) (moment : ℕ) (mark : Option Mark) (old : State)
     → StandsInMemory head held halted old → halted ≡ true
-    → (new : State) × StandsInMemory head held halted new × Refuses old command moment Stopped new
-stays head held halted command moment (running H) stands ended = absurd (cc)
-stays head held halted command moment (stopped H doubt) stands ended = (stopped H doubt, stands, (refl, refl))
+    → (new : State) × StandsInMemory head held halted new × Refuses old command moment mark Stopped new
+stays head held halted command moment mark (running L) stands ended = absurd (cc)
+stays head held halted command moment mark (stopped L doubt) stands ended = (stopped L doubt, stands, inr (refl, refl))
 
 -- Keeping what was prepared
 
 -- the head and the plans after the plans were added
-pub keeps_more : (head : Head) (held : List Plan) (H : History) (plans : List Plan) (t : ℕ) → Keeps head held H → Follows H t (Load plans)
-    → Keeps (record head { last = t }) (held ++ added (plan_of H) plans) (entry t (Load plans) ∷ H)
+pub keeps_more : (head : Head) (held : List Plan) (H : History) (plans : List Plan) (t : ℕ) → HoldsPlans head held H → Follows H t (Load plans)
+    → HoldsPlans (record head { last = t }) (held ++ added (plan_of H) plans) (entry t (Load plans) ∷ H)
 keeps_more head held H plans t keeps follows = record {
   legal = (follows, keeps.legal);
   loads = keeps.loads;
@@ -115,12 +122,12 @@ other : {A : Type 0} (given : A → Changes) (o : Option A) (c : Loaded) → ((x
 other given None c apart is = cc
 other given (Some x) c apart is = apart x (cc)
 
-loaded : (held : List Plan) (head : Head) (H : History) (command : Command) (t : ℕ) (c : Loaded) → Keeps head held H
+loaded : (held : List Plan) (head : Head) (H : History) (command : Command) (t : ℕ) (c : Loaded) → HoldsPlans head held H
     → Follows H t command → changes_of H command t ≡ Some (Loading c)
-    → Keeps (record head { last = c.at }) (held ++ c.added) (entry t command ∷ H)
+    → HoldsPlans (record head { last = c.at }) (held ++ c.added) (entry t command ∷ H)
 loaded held head H (Load plans) t c keeps follows is =
     let same : record { at = t; listed = length plans; added = added (plan_of H) plans } ≡ c = cc in
-    subst (λ (x : Loaded). Keeps (record head { last = x.at }) (held ++ x.added) (entry t (Load plans) ∷ H)) same (keeps_more head held H plans t keeps follows)
+    subst (λ (x : Loaded). HoldsPlans (record head { last = x.at }) (held ++ x.added) (entry t (Load plans) ∷ H)) same (keeps_more head held H plans t keeps follows)
 loaded held head H (Issue b p codes) t c keeps follows is = absurd (other _ (plan_of H p) c (λ x e. cc) is)
 loaded held head H (Sell code) t c keeps follows is = absurd (other _ (voucher_of H code) c (λ x e. cc) is)
 loaded held head H (Redeem d code) t c keeps follows is = absurd (other _ (voucher_of H code) c (λ x e. cc) is)
@@ -128,36 +135,48 @@ loaded held head H (Report n bytes) t c keeps follows is = absurd (other _ (sess
 loaded held head H (Refund code) t c keeps follows is = absurd (other _ (voucher_of H code) c (λ x e. cc) is)
 loaded held head H (Close n) t c keeps follows is = absurd (other _ (session_of H n) c (λ x e. cc) is)
 
-pub commits : (head : Head) (held items added : List Plan) (halted : Bool) (command : Command) (t : ℕ) (prepared changes : Changes) (c : Loaded) (old : State)
-    → StandsInMemory head held halted old → halted ≡ false → Fits old command t prepared
-    → changes ≡ prepared → changes ≡ Loading c → items ≡ held ++ added → added ≡ c.added
-    → (new : State) × StandsInMemory (record head { last = c.at }) items halted new × Commits old (entry t command) new
-commits head held items added halted command t prepared changes c (running H) stands works fits same is grown listed =
-    let made : changes_of H command t ≡ Some (Loading c) = fits.1 ∙ ap Some (sym same ∙ is) in
+pub commits : (head : Head) (held items added : List Plan) (halted : Bool) (a : Accepted) (prepared marked : MarkedChanges) (c : Loaded) (old : State)
+    → StandsInMemory head held halted old → halted ≡ false → Fits old prepared a
+    → marked ≡ prepared → marked.changes ≡ Loading c → items ≡ held ++ added → added ≡ c.added
+    → (new : State) × StandsInMemory (record head { last = c.at }) items halted new × Keeps old a new
+commits head held items added halted a prepared marked c (running L) stands works fits same is grown listed =
+    let H = history_of L in
+    let made : changes_of H a.command a.at ≡ Some (Loading c) = fits.1 ∙ ap Some (sym (ap (λ (m : MarkedChanges). m.changes) same) ∙ is) in
     let all : held ++ c.added ≡ items = sym (grown ∙ ap (λ (xs : List Plan). held ++ xs) listed) in
-    (running (entry t command ∷ H), (stands.0, subst (λ (xs : List Plan). Keeps (record head { last = c.at }) xs (entry t command ∷ H)) all (loaded held head H command t c stands.1 fits.0 made)), refl)
-commits head held items added halted command t prepared changes c (stopped H doubt) stands works fits same is grown listed = absurd (cc)
+    (running (a ∷ L), (stands.0, subst (λ (xs : List Plan). HoldsPlans (record head { last = c.at }) xs (entry a.at a.command ∷ H)) all (loaded held head H a.command a.at c stands.1 fits.0.follows made)), refl)
+commits head held items added halted a prepared marked c (stopped L doubt) stands works fits same is grown listed = absurd (cc)
 
 -- no room for them
-pub lacks_room : (head : Head) (held items : List Plan) (halted : Bool) (e : Entry) (old : State)
+pub lacks_room : (head : Head) (held items : List Plan) (halted : Bool) (a : Accepted) (old : State)
     → StandsInMemory head held halted old → halted ≡ false → items ≡ held
-    → (new : State) × StandsInMemory head items halted new × CannotCommit old e NoMemory new
-lacks_room head held items halted e (running H) stands works same =
-    (running H, subst (λ (xs : List Plan). StandsInMemory head xs halted (running H)) (sym same) stands, inl (refl, refl))
-lacks_room head held items halted e (stopped H doubt) stands works same = absurd (cc)
+    → (new : State) × StandsInMemory head items halted new × CannotKeep old a NoMemory new
+lacks_room head held items halted a (running L) stands works same =
+    (running L, subst (λ (xs : List Plan). StandsInMemory head xs halted (running L)) (sym same) stands, inl (refl, refl))
+lacks_room head held items halted a (stopped L doubt) stands works same = absurd (cc)
 
 -- changes of another kind stop it
-pub halts : (head : Head) (held : List Plan) (halted : Bool) (e : Entry) (old : State)
+pub halts : (head : Head) (held : List Plan) (halted : Bool) (a : Accepted) (old : State)
     → StandsInMemory head held halted old → halted ≡ false
-    → (new : State) × StandsInMemory head held true new × CannotCommit old e Stopped new
-halts head held halted e (running H) stands works = (stopped H (Some e), (refl, stands.1), inr (refl, refl))
-halts head held halted e (stopped H doubt) stands works = absurd (cc)
+    → (new : State) × StandsInMemory head held true new × CannotKeep old a Stopped new
+halts head held halted a (running L) stands works = (stopped L (Some a), (refl, stands.1), inr (refl, refl))
+halts head held halted a (stopped L doubt) stands works = absurd (cc)
 
-pub rests : (head : Head) (held : List Plan) (halted : Bool) (e : Entry) (old : State)
+pub rests : (head : Head) (held : List Plan) (halted : Bool) (a : Accepted) (old : State)
     → StandsInMemory head held halted old → halted ≡ true
-    → (new : State) × StandsInMemory head held halted new × CannotCommit old e Stopped new
-rests head held halted e (running H) stands halts = absurd (cc)
-rests head held halted e (stopped H doubt) stands ended = (stopped H doubt, stands, (refl, refl))
+    → (new : State) × StandsInMemory head held halted new × CannotKeep old a Stopped new
+rests head held halted a (running L) stands halts = absurd (cc)
+rests head held halted a (stopped L doubt) stands ended = (stopped L doubt, stands, (refl, refl))
+
+-- a request that acts once stops it, where it has not stopped before
+pub stops_marked : (head : Head) (held : List Plan) (halted : Bool) (command : Command) (moment : ℕ) (mark : Option Mark) (old : State)
+    → StandsInMemory head held halted old → (new : State) × StandsInMemory head held true new × Refuses old command moment mark Stopped new
+stops_marked head held halted command moment mark (running L) stands = (stopped L None, (refl, stands.1), inr (inr (refl, refl)))
+stops_marked head held halted command moment mark (stopped L doubt) stands = (stopped L doubt, (refl, stands.1), inr (refl, refl))
+
+-- whether it has stopped
+pub tells_over : (head : Head) (held : List Plan) (halted : Bool) (s : State) → StandsInMemory head held halted s → halted ≡ is_over s
+tells_over head held halted (running L) stands = stands.0
+tells_over head held halted (stopped L doubt) stands = stands.0
 
 -- What a device is told
 
@@ -178,15 +197,16 @@ no_session H loads device = rw (no_grants H loads) refl
 pub tells : (head : Head) (held : List Plan) (halted : Bool) (moment t : ℕ) (device : List ℕ) (told : Captive) (old : State)
     → StandsInMemory head held halted old → halted ≡ false → t ≡ max moment head.last → told ≡ captive_state t None
     → (new : State) × StandsInMemory head held halted new × Answers (λ H. captive_of H device moment) old told new
-tells head held halted moment t device told (running H) stands works time is =
+tells head held halted moment t device told (running L) stands works time is =
+    let H = history_of L in
     let same : captive_of H device moment ≡ captive_state t None =
     ap (λ (s : Option Session). captive_state (effective_moment H moment) s) (no_session H stands.1.loads device)
     ∙ ap (λ n. captive_state n None) (sym (later head held H moment t stands.1 time)) in
-    (running H, stands, (is ∙ sym same, refl))
-tells head held halted moment t device told (stopped H doubt) stands works time is = absurd (cc)
+    (running L, stands, (is ∙ sym same, refl))
+tells head held halted moment t device told (stopped L doubt) stands works time is = absurd (cc)
 
 pub tells_none : (head : Head) (held : List Plan) (halted : Bool) (old : State)
     → StandsInMemory head held halted old → halted ≡ true
     → (new : State) × StandsInMemory head held halted new × CannotAnswer old Stopped new
-tells_none head held halted (running H) stands ended = absurd (cc)
-tells_none head held halted (stopped H doubt) stands ended = (stopped H doubt, stands, (refl, refl))
+tells_none head held halted (running L) stands ended = absurd (cc)
+tells_none head held halted (stopped L doubt) stands ended = (stopped L doubt, stands, (refl, refl))

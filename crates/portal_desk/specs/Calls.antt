@@ -1,46 +1,56 @@
 -- What each call of a desk may answer, from the state before it to the state after it.
-use Rattle.std.specs.Prelude.{◌≡◌, ◌⊎◌, ℕ, ◌∷◌, Some, None}
+use Rattle.std.specs.Prelude.{◌≡◌, ◌⊎◌, ℕ, Bool, true, false, Option, Some, None, Ok, Err}
 use Rattle.portal_model.specs.declared.command.Command.{Command}
-use Rattle.portal_model.specs.declared.change.Changes.{Changes}
+use Rattle.portal_model.specs.declared.change.Answer.{Answer}
 use Rattle.portal_model.specs.declared.refusal.Refusal.{Refusal}
 use Rattle.portal_model.specs.declared.refusal.Refusal.TheVariants.{NoMemory, Stopped}
-use Rattle.portal_model.specs.History.{Entry, History, effective_moment}
-use Rattle.portal_model.specs.Change.{changes_of}
-use Rattle.portal_model.specs.Verdict.{verdict, Follows}
-use Rattle.portal_desk.specs.States.{State, running, stopped}
+use Rattle.portal_model.specs.History.{History, effective_moment}
+use Rattle.portal_model.specs.Verdict.{verdict}
+use Rattle.portal_ledger.specs.declared.marked.MarkedChanges.{MarkedChanges}
+use Rattle.portal_ledger.specs.Mark.{Mark}
+use Rattle.portal_ledger.specs.Ledger.{Accepted, Ledger, history_of, repeat_in, taken_at}
+use Rattle.portal_ledger.specs.States.{State, running, stopped}
+use Rattle.portal_ledger.specs.Calls.{ReadsOf, ReadsThat, Fits, FailsToRead, FailsToKeep}
+use Rattle.portal_desk.specs.declared.prepared.Marked.{Marked}
+use Rattle.portal_desk.specs.declared.prepared.Marked.TheVariants.{Fresh, Kept}
 
--- the desk answers what the history gives, and stays as it is
+-- the desk has stopped
+abbrev pub is_over : State → Bool
+is_over (running L) = false
+is_over (stopped L doubt) = true
+
+-- it answers what the history gives, and stays as it is
 abbrev pub Answers : {A : Type 0} → (History → A) → State → A → State → Type 0
-Answers given (running H) answer new = (answer ≡ given H) × (new ≡ running H)
-Answers given (stopped H doubt) answer new = ⊥
+Answers given old answer new = ReadsThat old (λ H. answer ≡ given H) new
 
 -- it cannot answer: want of memory leaves it as it is, a fault of its store stops it, and one that stopped stays so
 abbrev pub CannotAnswer : State → Refusal → State → Type 0
-CannotAnswer (running H) r new = ((r ≡ NoMemory) × (new ≡ running H)) ⊎ ((r ≡ Stopped) × (new ≡ stopped H None))
-CannotAnswer (stopped H doubt) r new = (r ≡ Stopped) × (new ≡ stopped H doubt)
+CannotAnswer old r new = FailsToRead NoMemory Stopped old r new
 
--- these are the changes of this command at this moment, and it may follow the history
-abbrev pub Fits : State → Command → ℕ → Changes → Type 0
-Fits (running H) command t changes = Follows H t command × (changes_of H command t ≡ Some changes)
-Fits (stopped H doubt) command t changes = Unit {0}
+-- a command that is no repetition and that the verdict accepts, with what it changes and its mark; nothing is kept yet
+abbrev pub Prepares : State → Command → ℕ → Option Mark → MarkedChanges → State → Type 0
+Prepares old command moment mark marked new =
+    ReadsOf old (λ L. (repeat_in L mark ≡ Ok None) × Fits (running L) marked (taken_at L moment command mark)) new
 
--- a command that the verdict accepts, with what it changes; nothing is kept yet
-abbrev pub Prepares : State → Command → ℕ → Changes → State → Type 0
-Prepares (running H) command moment changes new = Fits (running H) command (effective_moment H moment) changes × (new ≡ running H)
-Prepares (stopped H doubt) command moment changes new = ⊥
+-- a repetition, with what its caller was told
+abbrev pub Repeats : State → Mark → Answer → State → Type 0
+Repeats old mark answer new = ReadsOf old (λ L. repeat_in L (Some mark) ≡ Ok (Some answer)) new
 
--- a command that the verdict refuses, or one that cannot be judged
-abbrev pub Refuses : State → Command → ℕ → Refusal → State → Type 0
-Refuses (running H) command moment r new =
-    ((verdict H command (effective_moment H moment) ≡ Some r) × (new ≡ running H)) ⊎ CannotAnswer (running H) r new
-Refuses (stopped H doubt) command moment r new = CannotAnswer (stopped H doubt) r new
+-- a request that acts once: a new one, or a repetition
+abbrev pub PreparesMarked : State → Command → ℕ → Mark → Marked → State → Type 0
+PreparesMarked old command moment mark (Fresh prepared) new = Prepares old command moment (Some mark) prepared new
+PreparesMarked old command moment mark (Kept answer) new = Repeats old mark answer new
 
--- the entry is kept
-abbrev pub Commits : State → Entry → State → Type 0
-Commits (running H) e new = new ≡ running (e ∷ H)
-Commits (stopped H doubt) e new = ⊥
+-- what the ledger has against a command: its number was used for another request, or else its verdict
+abbrev pub IsRefused : Ledger → Command → ℕ → Option Mark → Refusal → Type 0
+IsRefused L command moment mark r =
+    (repeat_in L mark ≡ Err r)
+    ⊎ ((repeat_in L mark ≡ Ok None) × (verdict (history_of L) command (effective_moment (history_of L) moment) ≡ Some r))
 
--- it is not kept, or it is in doubt
-abbrev pub CannotCommit : State → Entry → Refusal → State → Type 0
-CannotCommit (running H) e r new = ((r ≡ NoMemory) × (new ≡ running H)) ⊎ ((r ≡ Stopped) × (new ≡ stopped H (Some e)))
-CannotCommit (stopped H doubt) e r new = (r ≡ Stopped) × (new ≡ stopped H doubt)
+-- a command that is refused, or one that cannot be judged
+abbrev pub Refuses : State → Command → ℕ → Option Mark → Refusal → State → Type 0
+Refuses old command moment mark r new = ReadsOf old (λ L. IsRefused L command moment mark r) new ⊎ CannotAnswer old r new
+
+-- a command is not kept, or it is in doubt
+abbrev pub CannotKeep : State → Accepted → Refusal → State → Type 0
+CannotKeep old a r new = FailsToKeep NoMemory Stopped old a r new

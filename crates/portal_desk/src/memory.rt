@@ -1,13 +1,15 @@
 //! A desk that keeps its head and its plans in memory.
 ghost use Rattle.std.specs.Prelude.{◌≡◌, ◌≤◌, [], max};
-ghost use Rattle.portal_desk.specs.States.{running};
+ghost use Rattle.portal_ledger.specs.States.{running};
 ghost use Rattle.portal_desk.specs.Memory.{StandsInMemory};
 
 use crate::Desk;
-use crate::prepared::Prepared;
+use crate::prepared::{Marked, Prepared};
 use portal_core::{captive_of, decide_plans, effective};
 use portal_files::Settings;
 use portal_laws::plan_is_row;
+use portal_ledger::marked::MarkedChanges;
+use portal_ledger::request::RequestMark;
 use portal_model::captive::Captive;
 use portal_model::change::Changes;
 use portal_model::command::{Command, command_is_typed};
@@ -18,7 +20,8 @@ use portal_model::record::Head;
 use portal_model::refusal::Refusal;
 use std::alloc::Global;
 
-/// A desk in memory. It keeps plans alone: a command of another kind stops it, and no route makes one.
+/// A desk in memory. It keeps plans alone, and no marks: a command of another kind and a request that acts once stop
+/// it, and no route makes one. It has no store, so a stop leaves no files.
 #[derive(Drop)]
 pub struct MemoryDesk {
     head: Head,
@@ -50,12 +53,28 @@ impl MemoryDesk {
 }
 
 impl Desk for MemoryDesk {
+    ghost Files = { Unit {0} };
+
+    ghost is_honest = { λ d. Unit {0} };
+
+    ghost may_leave = { λ d files. ⊥ };
+
+    ghost shows = { λ files L. ⊥ };
+
+    ghost leaves = { λ d s stands files may. absurd may };
+
+    ghost sound = { λ files L shown. absurd shown };
+
     ghost stands = { λ d s. StandsInMemory d.head d.plans.items d.is_stopped s };
 
     ghost settings = { λ d. d.settings };
 
     fn settings(&self) -> &Settings {
         &self.settings
+    }
+
+    fn is_stopped(&self) -> bool {
+        self.is_stopped
     }
 
     fn state(&mut self, moment: Moment, device: Device) -> Result<Captive, Refusal> {
@@ -84,16 +103,29 @@ impl Desk for MemoryDesk {
         let t = effective(moment, self.head.last);
         plan_is_row();
         match decide_plans(alloc, &self.plans, plans.as_slice(), t) {
-            Ok(changes) => Ok(Prepared::new(changes)),
+            Ok(changes) => Ok(Prepared::new(MarkedChanges::unmarked(changes))),
             Err(r) => Err(r),
         }
+    }
+
+    fn prepare_marked(
+        &mut self,
+        alloc: Global,
+        moment: Moment,
+        command: Command,
+        mark: &RequestMark,
+    ) -> Result<Marked, Refusal> {
+        let _asked = (alloc, moment, command, mark);
+        self.is_stopped = true;
+        Err(Refusal::Stopped)
     }
 
     fn finish(&mut self, prepared: Prepared) -> Result<(), Refusal> {
         if self.is_stopped {
             return Err(Refusal::Stopped);
         }
-        let Changes::Loading(loading) = prepared.into_changes() else {
+        let MarkedChanges { changes, mark: _ } = prepared.into_changes();
+        let Changes::Loading(loading) = changes else {
             self.is_stopped = true;
             return Err(Refusal::Stopped);
         };

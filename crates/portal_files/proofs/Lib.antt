@@ -6,3 +6,6 @@ pub mod DateTexts
 pub mod SampleText
 pub mod SampleZone
 pub mod ShownDays
+pub mod Rules
+pub mod Added
+pub mod WorkedTakings

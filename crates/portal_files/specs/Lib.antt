@@ -4,4 +4,5 @@ pub mod LocalDay
 pub mod PlansFile
 pub mod Sample
 pub mod SettingsFile
+pub mod Takings
 pub mod Texts

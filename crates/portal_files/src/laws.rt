@@ -1,4 +1,5 @@
 ghost use Rattle.portal_files.specs.Laws.{FixesPlans, FixesSettings, NamesDays};
+ghost use Rattle.portal_files.specs.Takings.{RuleFixesDays, TakingsAreAdded, TakingsLocalDay, TakingsRefundDay};
 
 /// A plans file has one list of plans.
 pub fn file_fixes_plans()
@@ -13,4 +14,20 @@ pub fn file_fixes_settings()
 /// Two days have the same text just where they are the same day.
 pub fn text_names_day()
     ensures { NamesDays }
+{}
+
+/// Two zones of one rule have the same civil days.
+pub fn rule_fixes_days()
+    ensures { RuleFixesDays }
+{}
+
+/// The takings of a day are added up from the sales and the refunds with their days, whatever the order of these.
+pub fn takings_are_added()
+    ensures { TakingsAreAdded }
+{}
+
+/// Worked takings: a sale before midnight in UTC that is one after midnight in the settings' zone, and a refund on the day after its sale.
+pub fn worked_takings()
+    ensures takings_local_day { TakingsLocalDay }
+    ensures takings_refund_day { TakingsRefundDay }
 {}

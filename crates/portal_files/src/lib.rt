@@ -14,11 +14,11 @@ mod sheet;
 
 pub use days::{day_text, local_day, local_time, read_day};
 pub use fault::FileFault;
-pub use laws::{file_fixes_plans, file_fixes_settings, text_names_day};
+pub use laws::{
+    file_fixes_plans, file_fixes_settings, rule_fixes_days, takings_are_added, text_names_day,
+    worked_takings,
+};
 pub use plans::read_plans;
 pub use settings::Settings;
 pub use settings_file::{read_settings, sample_settings};
 pub use sheet::BatchSheet;
-
-#[cfg(test)]
-mod tests;

@@ -5,35 +5,35 @@ use Rattle.std.proofs.lemmas.List.{take_all, take-append-le, take-append-drop, l
 use Rattle.std.proofs.Math.Seq.{take-append-add, take-append_seam}
 use Rattle.httparse.specs.Grammar.{RequestHead, ReadsRequest, NeverHasRequest, MayBecomeRequest, EndsInTarget, print_request}
 use Rattle.httparse.proofs.GrammarLemmas.{request_unique, ReadsRequest-append}
-use Rattle.portal_head.specs.declared.limits.TheConstants.{HEAD_LIMIT, BODY_LIMIT}
+use Rattle.portal_head.specs.Limits.{head_limit, body_limit}
 use Rattle.portal_head.specs.declared.faults.HeadFault.{HeadFault}
 use Rattle.portal_head.specs.Message.{HeadOf, BeginsWith, length_of, bytes_after}
 use Rattle.portal_head.specs.Lines.{HasManyLines}
 use Rattle.portal_head.proofs.LineFeedLemmas.{too_late}
-use Rattle.portal_head.specs.Findings.{HasNoHead}
-use Rattle.portal_head.specs.Decided.{IsSettled, IsDecided, IsDecidedByHead, IsDecidedWithout, IsPastHead, IsOpen, IsDecidedAt}
+use Rattle.portal_head.specs.Steps.{HasNoHead, IsDecidedAt}
+use Rattle.portal_head.specs.Decided.{IsSettled, IsDecided, IsDecidedByHead, IsDecidedWithout, IsPastHead, IsOpen}
 
 -- ---- with no whole head
 
 -- few bytes are their own front
-own_front : (bytes front : List ℕ) → front ≡ take HEAD_LIMIT bytes → length bytes < HEAD_LIMIT → front ≡ bytes
-own_front bytes front e short = e ∙ take_all HEAD_LIMIT bytes (omega arith)
+own_front : (bytes front : List ℕ) → front ≡ take head_limit bytes → length bytes < head_limit → front ≡ bytes
+own_front bytes front e short = e ∙ take_all head_limit bytes (omega arith)
 
-no_head : (bytes front : List ℕ) → front ≡ take HEAD_LIMIT bytes → HasNoHead front → HasNoHead (take HEAD_LIMIT bytes)
+no_head : (bytes front : List ℕ) → front ≡ take head_limit bytes → HasNoHead front → HasNoHead (take head_limit bytes)
 no_head bytes front e none = subst HasNoHead e none
 
-pub not_by_head : (bytes front : List ℕ) → front ≡ take HEAD_LIMIT bytes → HasNoHead front → IsDecidedByHead bytes → ⊥
+pub not_by_head : (bytes front : List ℕ) → front ≡ take head_limit bytes → HasNoHead front → IsDecidedByHead bytes → ⊥
 not_by_head bytes front e none d = no_head bytes front e none d.0 d.1
 
 -- a head that is not whole by now comes too late
-pub past : (bytes front : List ℕ) → front ≡ take HEAD_LIMIT bytes → HasNoHead front → IsPastHead bytes → IsDecided bytes
+pub past : (bytes front : List ℕ) → front ≡ take head_limit bytes → HasNoHead front → IsPastHead bytes → IsDecided bytes
 past bytes front e none late = inr (no_head bytes front e none, inl late)
 
 -- no head can come
-pub hopeless : (bytes front : List ℕ) → front ≡ take HEAD_LIMIT bytes → HasNoHead front
+pub hopeless : (bytes front : List ℕ) → front ≡ take head_limit bytes → HasNoHead front
     → HasManyLines front ⊎ NeverHasRequest front → IsDecided bytes
 hopeless bytes front e none why =
-    elim (leb_tells HEAD_LIMIT (length bytes)) [
+    elim (leb_tells head_limit (length bytes)) [
       | inl p ↦ past bytes front e none (inl p.1)
       | inr q ↦
           let own : front ≡ bytes = own_front bytes front e q.1 in
@@ -44,10 +44,10 @@ hopeless bytes front e none why =
     ]
 
 -- a head may come
-pub still_open : (bytes front : List ℕ) → front ≡ take HEAD_LIMIT bytes → HasNoHead front → MayBecomeRequest front
-    → (IsPastHead bytes → ⊥) → IsOpen bytes × (length bytes < HEAD_LIMIT)
+pub still_open : (bytes front : List ℕ) → front ≡ take head_limit bytes → HasNoHead front → MayBecomeRequest front
+    → (IsPastHead bytes → ⊥) → IsOpen bytes × (length bytes < head_limit)
 still_open bytes front e none may early =
-    let few : length bytes < HEAD_LIMIT = elim (leb_tells HEAD_LIMIT (length bytes)) [ inl p ↦ absurd (early (inl p.1)) | inr q ↦ q.1 ] in
+    let few : length bytes < head_limit = elim (leb_tells head_limit (length bytes)) [ inl p ↦ absurd (early (inl p.1)) | inr q ↦ q.1 ] in
     let own : front ≡ bytes = own_front bytes front e few in
     let open_yet : (IsDecided bytes → ⊥) ⊎ EndsInTarget bytes = elim (subst MayBecomeRequest own may) [
       | inl some ↦ inl (λ d. elim d [
@@ -74,11 +74,11 @@ front_grows n bytes more =
     ]
 
 -- a head stays where more bytes follow
-pub stays : (bytes more : List ℕ) (head : RequestHead) → BeginsWith (take HEAD_LIMIT bytes) head → BeginsWith (take HEAD_LIMIT (bytes ++ more)) head
+pub stays : (bytes more : List ℕ) (head : RequestHead) → BeginsWith (take head_limit bytes) head → BeginsWith (take head_limit (bytes ++ more)) head
 stays bytes more head begins =
-    let grown = front_grows HEAD_LIMIT bytes more in (
+    let grown = front_grows head_limit bytes more in (
       begins.0 ++ grown.0,
-      subst (λ (f : List ℕ). ReadsRequest f head (begins.0 ++ grown.0)) (sym grown.1) (ReadsRequest-append (take HEAD_LIMIT bytes) head begins.0 grown.0 begins.1),
+      subst (λ (f : List ℕ). ReadsRequest f head (begins.0 ++ grown.0)) (sym grown.1) (ReadsRequest-append (take head_limit bytes) head begins.0 grown.0 begins.1),
       begins.2,
     )
 
@@ -95,26 +95,26 @@ declared_settles head bytes start declared at sized =
     ∙ ap (λ (n : ℕ). declared ≤ length (drop n bytes)) (sym at)
 
 -- by a head whose fields are refused
-pub refused : (bytes : List ℕ) (head : RequestHead) (fault : HeadFault) → BeginsWith (take HEAD_LIMIT bytes) head
+pub refused : (bytes : List ℕ) (head : RequestHead) (fault : HeadFault) → BeginsWith (take head_limit bytes) head
     → length_of head ≡ Err fault → IsDecided bytes
 refused bytes head fault begins wrong =
     inl (head, begins, subst (λ (l : Result ℕ HeadFault). IsSettled l (length (bytes_after head bytes))) (sym wrong) tt)
 
 -- by a head whose whole body is there
-pub whole_body : (bytes : List ℕ) (head : RequestHead) (start declared : ℕ) → BeginsWith (take HEAD_LIMIT bytes) head
+pub whole_body : (bytes : List ℕ) (head : RequestHead) (start declared : ℕ) → BeginsWith (take head_limit bytes) head
     → start ≡ length (print_request head) → length_of head ≡ Ok declared → declared ≤ length (drop start bytes) → IsDecided bytes
 whole_body bytes head start declared begins at sized enough =
     inl (head, begins, subst (λ (P : Type 0). P) (sym (declared_settles head bytes start declared at sized)) enough)
 
-pub by_one : (bytes : List ℕ) (head : RequestHead) → BeginsWith (take HEAD_LIMIT bytes) head → IsDecidedByHead bytes
+pub by_one : (bytes : List ℕ) (head : RequestHead) → BeginsWith (take head_limit bytes) head → IsDecidedByHead bytes
     → IsSettled (length_of head) (length (bytes_after head bytes))
 by_one bytes head begins d =
-    subst (λ (h : RequestHead). IsSettled (length_of h) (length (bytes_after h bytes))) (one_head (take HEAD_LIMIT bytes) d.0 head d.1 begins) d.2
+    subst (λ (h : RequestHead). IsSettled (length_of h) (length (bytes_after h bytes))) (one_head (take head_limit bytes) d.0 head d.1 begins) d.2
 
 -- the rest of the body is wanted
-open_at : (bytes : List ℕ) (head : RequestHead) (start declared : ℕ) → BeginsWith (take HEAD_LIMIT bytes) head
-    → start ≡ length (print_request head) → start ≤ HEAD_LIMIT
-    → length_of head ≡ Ok declared → declared ≤ BODY_LIMIT → length (drop start bytes) < declared → IsOpen bytes
+open_at : (bytes : List ℕ) (head : RequestHead) (start declared : ℕ) → BeginsWith (take head_limit bytes) head
+    → start ≡ length (print_request head) → start ≤ head_limit
+    → length_of head ≡ Ok declared → declared ≤ body_limit → length (drop start bytes) < declared → IsOpen bytes
 open_at bytes head start declared begins at within sized small few =
     let unmet : IsDecidedByHead bytes → ⊥ = λ d.
     let met : declared ≤ length (drop start bytes) =
@@ -127,9 +127,9 @@ open_at bytes head start declared begins at within sized small few =
     }
 
 -- and how much of it
-pub waits : (bytes : List ℕ) (head : RequestHead) (start declared : ℕ) → BeginsWith (take HEAD_LIMIT bytes) head
-    → start ≡ length (print_request head) → start ≤ HEAD_LIMIT → start ≤ length bytes
-    → length_of head ≡ Ok declared → declared ≤ BODY_LIMIT → length (drop start bytes) < declared
+pub waits : (bytes : List ℕ) (head : RequestHead) (start declared : ℕ) → BeginsWith (take head_limit bytes) head
+    → start ≡ length (print_request head) → start ≤ head_limit → start ≤ length bytes
+    → length_of head ≡ Ok declared → declared ≤ body_limit → length (drop start bytes) < declared
     → IsOpen bytes × (length bytes < start + declared) × IsDecidedAt bytes (start + declared)
 waits bytes head start declared begins at within there sized small few =
     let total : IsDecidedAt bytes (start + declared) = λ more.
@@ -143,8 +143,8 @@ waits bytes head start declared begins at within there sized small few =
 -- ---- bytes that follow
 
 -- the front of many bytes stays
-same_front : (bytes more : List ℕ) → HEAD_LIMIT ≤ length bytes → take HEAD_LIMIT (bytes ++ more) ≡ take HEAD_LIMIT bytes
-same_front bytes more many = take-append-le HEAD_LIMIT bytes more many
+same_front : (bytes more : List ℕ) → head_limit ≤ length bytes → take head_limit (bytes ++ more) ≡ take head_limit bytes
+same_front bytes more many = take-append-le head_limit bytes more many
 
 -- bytes that begin with others begin with those that are no longer
 prefix_of : (p rest xs more : List ℕ) → xs ++ more ≡ p ++ rest → length p ≤ length xs → xs ≡ p ++ drop (length p) xs
@@ -155,12 +155,12 @@ prefix_of p rest xs more e fits =
 -- where none came, none comes
 pub none_comes : (bytes more : List ℕ) → IsDecidedWithout bytes → HeadOf (bytes ++ more) None
 none_comes bytes more without head begins =
-    elim (leb_tells HEAD_LIMIT (length bytes)) [
+    elim (leb_tells head_limit (length bytes)) [
       | inl p ↦ without.0 head (subst (λ (f : List ℕ). BeginsWith f head) (same_front bytes more p.1) begins)
       | inr q ↦
-          let own : take HEAD_LIMIT bytes ≡ bytes = take_all HEAD_LIMIT bytes (omega arith) in
-          let grown = front_grows HEAD_LIMIT bytes more in
-          let front : take HEAD_LIMIT (bytes ++ more) ≡ bytes ++ grown.0 = grown.1 ∙ ap (λ (l : List ℕ). l ++ grown.0) own in
+          let own : take head_limit bytes ≡ bytes = take_all head_limit bytes (omega arith) in
+          let grown = front_grows head_limit bytes more in
+          let front : take head_limit (bytes ++ more) ≡ bytes ++ grown.0 = grown.1 ∙ ap (λ (l : List ℕ). l ++ grown.0) own in
           let reads : ReadsRequest (bytes ++ grown.0) head begins.0 = subst (λ (f : List ℕ). ReadsRequest f head begins.0) front begins.1 in
           elim without.1 [
             | inl late ↦ elim late [

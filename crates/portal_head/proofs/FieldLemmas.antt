@@ -6,7 +6,8 @@ use Rattle.httparse.specs.declared.spans.HeaderSpan.{HeaderSpan}
 use Rattle.httparse.specs.Spans.{span_bytes, header_bytes}
 use Rattle.portal_head.specs.declared.fields.Occurrence.{Occurrence}
 use Rattle.portal_head.specs.declared.fields.Occurrence.TheVariants.{Absent, Once, Repeated}
-use Rattle.portal_head.specs.Fields.{is_same_name, values_of, IsOccurrence}
+use Rattle.portal_head.specs.Fields.{is_same_name, values_of}
+use Rattle.portal_head.specs.Steps.{IsOccurrence}
 
 -- a span of nothing, where a list has no field
 abbrev pub no_field : HeaderSpan

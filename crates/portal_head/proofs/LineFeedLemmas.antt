@@ -10,7 +10,7 @@ use Rattle.std.proofs.lemmas.List.Sums.{sum_by-append}
 use Rattle.httparse.specs.Grammar.{LineEnd, crlf, lf, print_end, print_blank, print_version, Field, print_field, print_section, IsToken, is_token_byte, is_uri_byte, is_value_byte, IsField, RequestHead, IsRequestHead, ReadsRequest, print_request}
 use Rattle.httparse.specs.Spans.{RequestExceeds}
 use Rattle.httparse.proofs.GrammarLemmas.{print_request-append}
-use Rattle.portal_head.specs.declared.limits.TheConstants.{FIELD_LIMIT}
+use Rattle.portal_head.specs.Limits.{field_limit}
 use Rattle.portal_head.specs.Lines.{from_start, HasManyLines}
 
 -- the number of line feeds
@@ -118,7 +118,7 @@ head_feeds : (h : RequestHead) → IsRequestHead h → length h.fields + 2 ≤ f
 head_feeds h is = omega (arith, ap feeds (starts_at_line h is), line_feeds h, section_feeds h.fields h.last)
 
 -- where the parser finds more fields than a head may have, many lines have ended
-pub exceeds : (buf : List ℕ) → RequestExceeds FIELD_LIMIT buf → HasManyLines buf
+pub exceeds : (buf : List ℕ) → RequestExceeds field_limit buf → HasManyLines buf
 exceeds buf (front, rest, parts, h, reads, many) =
     let whole : front ++ 10 ∷ [] ≡ print_request h = reads.1 ∙ append-nil (print_request h) in
     let here : feeds (from_start buf) ≡ feeds (from_start (front ++ rest)) = ap (λ (l : List ℕ). feeds (from_start l)) parts in
@@ -208,7 +208,7 @@ feed_counts (x ∷ xs) = by (x == 13 || x == 10) (feed_counts xs)
 
 -- where many lines have ended and there is no head, no head with few fields can come
 pub too_late : (bytes more : List ℕ) (head : RequestHead) (rest : List ℕ) → HasManyLines bytes
-    → ReadsRequest (bytes ++ more) head rest → length head.fields ≤ FIELD_LIMIT → length (print_request head) ≤ length bytes
+    → ReadsRequest (bytes ++ more) head rest → length head.fields ≤ field_limit → length (print_request head) ≤ length bytes
 too_late bytes more head rest many reads few =
     let front = (ends_in_feed head).0 in
     let ends : print_request head ≡ front ++ 10 ∷ [] = (ends_in_feed head).1 in

@@ -1,35 +1,121 @@
 -- What pieces read one after the other make.
-use Rattle.std.proofs.Common.{◌≡◌, ℕ, ◌≤◌, List, ◌++◌, length, Option, sym, ◌∙◌, subst, inr, append_assoc}
+use Rattle.std.proofs.Common.{◌≡◌, ◌≢◌, ℕ, ◌+◌, ◌<◌, ◌≤◌, Ok, Err, List, [], ◌∷◌, ◌++◌, length, Option, refl, sym, ap, ◌∙◌, subst, inl, inr, arith, lit≤, append_assoc, append-nil, codes, rules}
+use Rattle.std.proofs.lemmas.List.{length-append}
+use Rattle.std.proofs.lemmas.Str.{IsUtf8-from_ascii}
+use Rattle.std.proofs.KnownBytes.{Consumes-trans, Consumes-kept}
 use Rattle.std.specs.Io.KnownBytes.{Consumes}
-use Rattle.std.proofs.KnownBytes.{Consumes-trans}
-use Rattle.portal_head.specs.declared.limits.TheConstants.{PIECE_LIMIT}
-use Rattle.portal_head.specs.Decided.{IsDecided, IsOpen, IsDecidedAt}
-use Rattle.portal_head.specs.Reading.{IsNotLate, ReadsTo}
+use Rattle.httparse.specs.Grammar.{lf, RequestHead, IsRequestHead, NeverHasRequest, print_request, print_blank, print_version, print_end, print_section, is_token_byte}
+use Rattle.httparse.proofs.GrammarLemmas.{print_request-append}
+use Rattle.portal_head.specs.Lines.{from_start}
+use Rattle.portal_head.specs.Decided.{IsDecided, IsDecidedByHead, IsOpen}
+use Rattle.portal_head.specs.declared.decided.Wanted.{Wanted}
+use Rattle.portal_head.specs.declared.decided.Wanted.TheVariants.{Nothing, Head, Whole}
+use Rattle.portal_head.specs.declared.received.ReadFault.{ReadFault}
+use Rattle.portal_head.specs.declared.received.ReadFault.TheVariants.{Read, NoRoom}
+use Rattle.portal_head.specs.Received.{Incoming}
+use Rattle.portal_head.specs.Reading.{IsOpenBefore, ReadsRequestBytes, BreaksOff}
+use Rattle.portal_head.specs.Steps.{IsWanted, IsDecidedAt, Receives}
 
--- what was read in all, and not too late
-pub record HasRead (old new : Option (List ℕ)) (bytes : List ℕ) : Type 0 where
-  pub read : Consumes old new bytes
-  pub not_late : IsNotLate bytes
-
--- one piece more, where no head decided before
-pub one_more : (old mid new : Option (List ℕ)) (bytes piece whole : List ℕ) → whole ≡ bytes ++ piece
-    → Consumes old mid bytes → Consumes mid new piece → length piece ≤ PIECE_LIMIT → IsOpen bytes → HasRead old new whole
-one_more old mid new bytes piece whole e before read few open_yet = record {
-  read = subst (Consumes old new) (sym e) (Consumes-trans old mid new bytes piece before read);
-  not_late = inr (bytes, piece, e, few, open_yet);
-}
-
--- pieces up to a total, where a head decides just there
-pub up_to : (old mid new : Option (List ℕ)) (bytes middle piece whole : List ℕ) (total : ℕ) → whole ≡ bytes ++ middle ++ piece
-    → Consumes old mid bytes → ReadsTo total mid new bytes middle piece → IsDecidedAt bytes total → HasRead old new whole
-up_to old mid new bytes middle piece whole total e before reads at = record {
-  read = subst (Consumes old new) (sym (e ∙ append_assoc bytes middle piece)) (Consumes-trans old mid new bytes (middle ++ piece) before reads.read);
-  not_late = inr (bytes ++ middle, piece, e, reads.last, (at middle).1 reads.short);
-}
+-- ---- with a whole head
 
 -- with so many bytes the head decides
-pub enough : (bytes middle piece whole : List ℕ) (total : ℕ) → whole ≡ bytes ++ middle ++ piece → IsDecidedAt bytes total
+pub enough : (front more whole : List ℕ) (total : ℕ) → whole ≡ front ++ more → IsDecidedAt front total
     → total ≤ length whole → IsDecided whole
-enough bytes middle piece whole total e at met =
-    let parts : whole ≡ bytes ++ (middle ++ piece) = e ∙ append_assoc bytes middle piece in
-    subst IsDecided (sym parts) ((at (middle ++ piece)).0 (subst (λ (l : List ℕ). total ≤ length l) parts met))
+enough front more whole total e at met =
+    subst IsDecided (sym e) ((at more).0 (subst (λ (l : List ℕ). total ≤ length l) e met))
+
+-- with fewer the rest of the body is still wanted
+pub fewer : (front more whole : List ℕ) (total : ℕ) → whole ≡ front ++ more → IsDecidedAt front total
+    → length whole < total → IsOpen whole × (length whole < total) × IsDecidedAt whole total
+fewer front more whole total e at short = (
+  subst IsOpen (sym e) ((at more).1 (subst (λ (l : List ℕ). length l < total) e short)),
+  short,
+  λ next. subst (λ (l : List ℕ). (total ≤ length l → IsDecided l) × (length l < total → IsOpen l))
+      (sym (ap (λ (l : List ℕ). l ++ next) e ∙ append_assoc front more next)) (at (more ++ next)),
+)
+
+-- ---- before the first read
+
+-- the shortest request
+shortest : RequestHead
+shortest = record { blank = []; method = codes "GET"; target = codes "/"; minor = 0; line_end = lf; fields = []; last = lf }
+
+shortest_is_one : IsRequestHead shortest
+unfolding shortest is_token_byte
+shortest_is_one = record {
+  method = (lit≤ tt, search rules);
+  target = (lit≤ tt, search rules);
+  target_text = IsUtf8-from_ascii (codes "/") (search rules);
+  minor = lit≤ tt;
+  fields = search rules;
+}
+
+-- a head has bytes
+some_bytes : (head : RequestHead) (rest : List ℕ) → IsRequestHead head → [] ≡ print_request head ++ rest → ⊥
+some_bytes head rest is e =
+    let pieces = ap length (e ∙ print_request-append head rest) in
+    omega (
+      arith,
+      is.method.0,
+      pieces,
+      length-append (print_blank head.blank) (head.method ++ 32 ∷ (head.target ++ 32 ∷ (print_version head.minor
+          ++ (print_end head.line_end ++ (print_section head.fields head.last ++ rest))))),
+      length-append head.method (32 ∷ (head.target ++ 32 ∷ (print_version head.minor
+          ++ (print_end head.line_end ++ (print_section head.fields head.last ++ rest))))),
+    )
+
+-- nothing is decided before the first read
+pub open_at_first : IsOpen []
+unfolding from_start
+open_at_first =
+    let by : IsDecidedByHead [] → ⊥ = λ d. some_bytes d.0 d.1.0 d.1.1.0 d.1.1.1 in
+    let can : NeverHasRequest [] → ⊥ = λ never. never (print_request shortest) shortest [] (shortest_is_one, sym (append-nil (print_request shortest))) in
+    record {
+      not_by_head = by;
+      undecided = inl (λ d. elim d [
+        | inl h ↦ by h
+        | inr without ↦ elim without.1 [ inl late ↦ elim late [ inl long ↦ absurd (omega (arith, long)) | inr lines ↦ absurd (omega (arith, lines)) ] | inr never ↦ can never ]
+      ]);
+      short = lit≤ tt;
+    }
+
+-- ---- one read more
+
+-- what is wanted is not there
+pub open_yet : (bytes : List ℕ) (wanted : Wanted) → IsWanted bytes wanted → wanted ≢ Nothing → IsOpen bytes
+open_yet bytes Nothing is more = absurd (more refl)
+open_yet bytes Head is more = is.0
+open_yet bytes (Whole total) is more = is.0
+
+-- what came in, and not too late
+pub record HasRead (old new : Option (List ℕ)) (received : Incoming) : Type 0 where
+  pub read : Consumes old new received.bytes
+  pub not_late : IsOpenBefore received.last received.bytes
+
+pub one_more : (old mid new : Option (List ℕ)) (before after : Incoming) (count : ℕ)
+    → Consumes old mid before.bytes → IsOpen before.bytes → Receives mid new before after (Ok count) → HasRead old new after
+one_more old mid new before after count read open_yet (piece, took, is, sized, few, end) =
+    subst (HasRead old new) (sym is) (record {
+      read = Consumes-trans old mid new before.bytes piece read took;
+      not_late = (before.bytes, piece, refl, sized, few, open_yet);
+    })
+
+-- the end of the input
+pub at_end : (old mid new : Option (List ℕ)) (before after : Incoming) (count : ℕ) → count ≡ 0
+    → Consumes old mid before.bytes → IsOpen before.bytes → Receives mid new before after (Ok count) → ReadsRequestBytes old new after
+at_end old mid new before after count none read open_yet (piece, took, is, sized, few, end) =
+    let more = one_more old mid new before after count read open_yet (piece, took, is, sized, few, end) in
+    record { read = more.read; enough = inr (ap (λ (i : Incoming). i.last) is ∙ none, end none); not_late = more.not_late }
+
+-- no piece more
+pub breaks_off : (old mid new : Option (List ℕ)) (before after : Incoming) (fault : ReadFault)
+    → Consumes old mid before.bytes → IsOpen before.bytes → Receives mid new before after (Err fault) → BreaksOff old new fault
+breaks_off old mid new before after Read read open_yet kept = (before.bytes, Consumes-kept old mid new before.bytes read kept, open_yet)
+breaks_off old mid new before after NoRoom read open_yet (piece, took, some, few) =
+    (before.bytes, piece, Consumes-trans old mid new before.bytes piece read took, some, few, open_yet)
+
+-- so many bytes more came
+pub came : (mid new : Option (List ℕ)) (before after : Incoming) (count : ℕ) → Receives mid new before after (Ok count)
+    → length after.bytes ≡ length before.bytes + count
+came mid new before after count (piece, took, is, sized, few, end) =
+    ap (λ (i : Incoming). length i.bytes) is ∙ length-append before.bytes piece ∙ ap (λ (n : ℕ). length before.bytes + n) sized

@@ -5,11 +5,11 @@ use Rattle.httparse.specs.declared.spans.HeaderSpan.{HeaderSpan}
 use Rattle.httparse.specs.declared.spans.RequestSpans.{RequestSpans}
 use Rattle.httparse.specs.Grammar.{RequestHead, ReadsRequest, print_request}
 use Rattle.httparse.specs.Spans.{header_bytes, span_bytes, IsRequestAt}
-use Rattle.portal_head.specs.declared.limits.TheConstants.{HEAD_LIMIT, FIELD_LIMIT}
+use Rattle.portal_head.specs.Limits.{head_limit, field_limit}
 use Rattle.portal_head.specs.declared.faults.HeadFault.{HeadFault}
 use Rattle.portal_head.specs.declared.head.Finding.{Finding}
 use Rattle.portal_head.specs.declared.head.Finding.TheVariants.{Whole, Unfinished, Hopeless}
-use Rattle.portal_head.specs.Findings.{IsFinding, HasNoHead}
+use Rattle.portal_head.specs.Steps.{IsFinding, HasNoHead}
 use Rattle.portal_head.specs.Fields.{FieldList, values_of, only_of}
 use Rattle.portal_head.specs.Lengths.{declared_length}
 use Rattle.portal_head.specs.Message.{HeadOf, BeginsWith, Message, fields_of, length_of, bytes_after, body_after, message_with, message_in}
@@ -45,15 +45,15 @@ same_length front headers r head fields declared at covered sized =
 
 -- the front begins with the head of the spans
 pub begins : (bytes front : List ℕ) (headers : List HeaderSpan) (r : RequestSpans) (head : RequestHead)
-    → front ≡ take HEAD_LIMIT bytes → IsRequestAt front headers r head → length head.fields ≤ FIELD_LIMIT
-    → BeginsWith (take HEAD_LIMIT bytes) head
+    → front ≡ take head_limit bytes → IsRequestAt front headers r head → length head.fields ≤ field_limit
+    → BeginsWith (take head_limit bytes) head
 begins bytes front headers r head e at few =
     (drop r.len front, subst (λ (f : List ℕ). ReadsRequest f head (drop r.len front)) e at.reads, few)
 
 -- what the spans cover is what the bytes say
 pub told : (bytes front : List ℕ) (headers : List HeaderSpan) (r : RequestSpans) (head : RequestHead) (fields : FieldList)
     (declared : Result ℕ HeadFault) (body : Result (List ℕ) HeadFault) (method target : List ℕ) (token device : Option (List ℕ))
-    → front ≡ take HEAD_LIMIT bytes → IsRequestAt front headers r head → length head.fields ≤ FIELD_LIMIT
+    → front ≡ take head_limit bytes → IsRequestAt front headers r head → length head.fields ≤ field_limit
     → fields ≡ map (header_bytes front) (take r.headers headers)
     → declared ≡ declared_length r.version fields
     → body ≡ body_after declared (drop r.len bytes)
@@ -89,12 +89,12 @@ none_found front headers Hopeless found none = found.0
 
 -- the head at these spans, with what its fields declare and what comes after it
 pub record IsAt (bytes : List ℕ) (r : RequestSpans) (declared : Result ℕ HeadFault) (head : RequestHead) : Type 0 where
-  pub begins : BeginsWith (take HEAD_LIMIT bytes) head
+  pub begins : BeginsWith (take head_limit bytes) head
   pub start : r.len ≡ length (print_request head)
   pub length_is : length_of head ≡ declared
 
 pub is_at : (bytes front : List ℕ) (headers : List HeaderSpan) (r : RequestSpans) (head : RequestHead) (fields : FieldList) (declared : Result ℕ HeadFault)
-    → front ≡ take HEAD_LIMIT bytes → IsRequestAt front headers r head → length head.fields ≤ FIELD_LIMIT
+    → front ≡ take head_limit bytes → IsRequestAt front headers r head → length head.fields ≤ field_limit
     → fields ≡ map (header_bytes front) (take r.headers headers)
     → declared ≡ declared_length r.version fields
     → IsAt bytes r declared head
@@ -105,6 +105,6 @@ is_at bytes front headers r head fields declared e at few covered sized = record
 }
 
 -- what lies within the front lies within the bytes
-pub within_front : (bytes front : List ℕ) (n : ℕ) → front ≡ take HEAD_LIMIT bytes → n ≤ length front → (n ≤ HEAD_LIMIT) × (n ≤ length bytes)
+pub within_front : (bytes front : List ℕ) (n : ℕ) → front ≡ take head_limit bytes → n ≤ length front → (n ≤ head_limit) × (n ≤ length bytes)
 within_front bytes front n e fits =
-    (omega (arith, ap length e, length-take HEAD_LIMIT bytes), omega (arith, ap length e, length-take HEAD_LIMIT bytes))
+    (omega (arith, ap length e, length-take head_limit bytes), omega (arith, ap length e, length-take head_limit bytes))

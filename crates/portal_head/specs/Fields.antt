@@ -1,9 +1,7 @@
 -- The fields of a head, by name.
-use Rattle.std.specs.Prelude.{◌≡◌, ℕ, List, [], ◌∷◌, map, filter, Bool, nat_eq, Option, Some, None}
+use Rattle.std.specs.Prelude.{ℕ, List, [], ◌∷◌, map, filter, Bool, nat_eq, Option, Some, None}
 use Rattle.std.specs.Char.{to_ascii_lowercase}
 use Rattle.std.specs.Cmp.Lexicographic.{pointwise}
-use Rattle.portal_head.specs.declared.fields.Occurrence.{Occurrence}
-use Rattle.portal_head.specs.declared.fields.Occurrence.TheVariants.{Absent, Once, Repeated}
 
 -- the name of each field, and its value without the spaces and tabs around it
 abbrev pub FieldList : Type 0
@@ -22,10 +20,3 @@ abbrev pub only_of : List (List ℕ) → Option (List ℕ)
 only_of [] = None
 only_of (value ∷ []) = Some value
 only_of (value ∷ other ∷ rest) = None
-
--- the values of a name are none, that one, or more than one
-abbrev pub IsOccurrence : List (List ℕ) → Occurrence → Type 0
-IsOccurrence values Absent = values ≡ []
-IsOccurrence values (Once value) = values ≡ value.now ∷ []
-IsOccurrence values Repeated =
-    (value other : List ℕ) × (rest : List (List ℕ)) × (values ≡ value ∷ other ∷ rest)

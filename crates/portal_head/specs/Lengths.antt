@@ -3,7 +3,7 @@ use Rattle.std.specs.Prelude.{ℕ, List, [], ◌∷◌, length, Bool, true, fals
 use Rattle.std.specs.List.{list_all}
 use Rattle.std.specs.Char.{is_ascii_digit}
 use Rattle.std.specs.Str.Parse.{digits_value}
-use Rattle.portal_head.specs.declared.limits.TheConstants.{BODY_LIMIT}
+use Rattle.portal_head.specs.Limits.{body_limit}
 use Rattle.portal_head.specs.declared.faults.HeadFault.{HeadFault}
 use Rattle.portal_head.specs.declared.faults.HeadFault.TheVariants.{BadRequest, TooLarge, NotSupported}
 use Rattle.portal_head.specs.Fields.{FieldList, values_of}
@@ -27,7 +27,7 @@ is_number value = not (length value == 0) && list_all is_ascii_digit value
 unfoldable pub length_in : List ℕ → Result ℕ HeadFault
 length_in value =
     if not (is_number value) then Err BadRequest
-    else (if nat_lt BODY_LIMIT (digits_value 10 value) then Err TooLarge else Ok (digits_value 10 value))
+    else (if nat_lt body_limit (digits_value 10 value) then Err TooLarge else Ok (digits_value 10 value))
 
 -- by the values of Content-Length: no body without it, and no answer to two of them
 abbrev pub content_length : List (List ℕ) → Result ℕ HeadFault

@@ -1,8 +1,10 @@
+pub mod Limits
 pub mod Fields
 pub mod Lengths
 pub mod Message
 pub mod Lines
-pub mod Findings
 pub mod Decided
 pub mod Laws
+pub mod Received
+pub mod Steps
 pub mod Reading

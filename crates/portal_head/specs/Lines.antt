@@ -1,6 +1,6 @@
 -- The lines of a head that has not ended yet.
 use Rattle.std.specs.Prelude.{ℕ, ◌≤◌, ◌||◌, ◌==◌, if◌then◌else◌, List, [], ◌∷◌, count_by}
-use Rattle.portal_head.specs.declared.limits.TheConstants.{LINE_LIMIT}
+use Rattle.portal_head.specs.Limits.{line_limit}
 
 -- the bytes from the first that is neither a carriage return nor a line feed
 unfoldable pub from_start : List ℕ → List ℕ
@@ -9,4 +9,4 @@ from_start (b ∷ rest) = if b == 13 || b == 10 then from_start rest else b ∷ 
 
 -- the request line has ended, and one field more than a head may have
 abbrev pub HasManyLines : List ℕ → Type 0
-HasManyLines bytes = LINE_LIMIT ≤ count_by (λ b. b == 10) (from_start bytes)
+HasManyLines bytes = line_limit ≤ count_by (λ b. b == 10) (from_start bytes)

@@ -3,7 +3,7 @@ use Rattle.std.specs.Prelude.{ℕ, ◌≤◌, List, length, take, drop, map, nat
 use Rattle.std.specs.Borrow.{Bor}
 use Rattle.httparse.specs.Grammar.{RequestHead, ReadsRequest, print_request}
 use Rattle.httparse.specs.Spans.{name_and_value}
-use Rattle.portal_head.specs.declared.limits.TheConstants.{HEAD_LIMIT, FIELD_LIMIT}
+use Rattle.portal_head.specs.Limits.{head_limit, field_limit}
 use Rattle.portal_head.specs.declared.faults.HeadFault.{HeadFault}
 use Rattle.portal_head.specs.declared.faults.HeadFault.TheVariants.{BadRequest}
 use Rattle.portal_head.specs.declared.head.Request.{Request}
@@ -12,12 +12,12 @@ use Rattle.portal_head.specs.Lengths.{declared_length}
 
 -- the bytes begin with that head, and it has few enough fields
 abbrev pub BeginsWith : List ℕ → RequestHead → Type 0
-BeginsWith bytes head = (rest : List ℕ) × ReadsRequest bytes head rest × (length head.fields ≤ FIELD_LIMIT)
+BeginsWith bytes head = (rest : List ℕ) × ReadsRequest bytes head rest × (length head.fields ≤ field_limit)
 
 -- the head that the front of the bytes begins with, or none
 abbrev pub HeadOf : List ℕ → Option RequestHead → Type 0
-HeadOf bytes None = (head : RequestHead) → ¬ (BeginsWith (take HEAD_LIMIT bytes) head)
-HeadOf bytes (Some head) = BeginsWith (take HEAD_LIMIT bytes) head
+HeadOf bytes None = (head : RequestHead) → ¬ (BeginsWith (take head_limit bytes) head)
+HeadOf bytes (Some head) = BeginsWith (take head_limit bytes) head
 
 -- the names and values of a head's fields
 abbrev pub fields_of : RequestHead → FieldList

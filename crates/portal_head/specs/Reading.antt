@@ -1,20 +1,26 @@
 -- Where reading a request stops.
-use Rattle.std.specs.Prelude.{◌≡◌, ℕ, ◌<◌, ◌≤◌, ◌⊎◌, List, [], ◌++◌, length, Option}
+use Rattle.std.specs.Prelude.{◌≡◌, ℕ, ◌<◌, ◌≤◌, ◌⊎◌, List, ◌++◌, length, Option}
 use Rattle.std.specs.Io.KnownBytes.{Consumes, IsAtEnd}
-use Rattle.portal_head.specs.declared.limits.TheConstants.{PIECE_LIMIT}
+use Rattle.portal_head.specs.Limits.{piece_limit}
+use Rattle.portal_head.specs.declared.received.ReadFault.{ReadFault}
+use Rattle.portal_head.specs.declared.received.ReadFault.TheVariants.{Read, NoRoom}
 use Rattle.portal_head.specs.Decided.{IsDecided, IsOpen}
+use Rattle.portal_head.specs.Received.{Incoming}
 
--- the reply was open before the last piece
-abbrev pub IsNotLate : List ℕ → Type 0
-IsNotLate bytes =
-    (bytes ≡ []) ⊎ ((front piece : List ℕ) × (bytes ≡ front ++ piece) × (length piece ≤ PIECE_LIMIT) × IsOpen front)
+-- Not late: before the last read, which gave the last so many bytes, the reply was open.
+abbrev pub IsOpenBefore : ℕ → List ℕ → Type 0
+IsOpenBefore last bytes =
+    (front piece : List ℕ) × (bytes ≡ front ++ piece) × (length piece ≡ last) × (last ≤ piece_limit) × IsOpen front
 
--- from the first bytes known to be left to the second, a request is read: decided or whole, and no further
-abbrev pub ReadsRequestBytes : Option (List ℕ) → Option (List ℕ) → List ℕ → Type 0
-ReadsRequestBytes old new bytes = Consumes old new bytes × (IsDecided bytes ⊎ IsAtEnd new) × IsNotLate bytes
+-- From the first bytes known to be left to the second, a request is read: until it is decided, or the last read found the end of the
+-- input; and not later.
+pub record ReadsRequestBytes (old new : Option (List ℕ)) (received : Incoming) : Type 0 where
+  pub read : Consumes old new received.bytes
+  pub enough : IsDecided received.bytes ⊎ ((received.last ≡ 0) × IsAtEnd new)
+  pub not_late : IsOpenBefore received.last received.bytes
 
--- bytes are read while there are fewer than the total in all: some, and then a last piece
-pub record ReadsTo (total : ℕ) (old new : Option (List ℕ)) (before middle piece : List ℕ) : Type 0 where
-  pub read : Consumes old new (middle ++ piece)
-  pub short : length (before ++ middle) < total
-  pub last : length piece ≤ PIECE_LIMIT
+-- Reading breaks off while the reply is open: at a read that fails, and takes nothing; or at a piece that was read and finds no room.
+abbrev pub BreaksOff : Option (List ℕ) → Option (List ℕ) → ReadFault → Type 0
+BreaksOff old new Read = (bytes : List ℕ) × Consumes old new bytes × IsOpen bytes
+BreaksOff old new NoRoom =
+    (bytes piece : List ℕ) × Consumes old new (bytes ++ piece) × (0 < length piece) × (length piece ≤ piece_limit) × IsOpen bytes

@@ -1,7 +1,8 @@
 //! Whether what was read of a request decides its reply.
 ghost use Rattle.std.specs.Prelude.{◌↔◌, IsTrue};
 ghost use Rattle.std.specs.Bool.{MatchBool};
-ghost use Rattle.portal_head.specs.Decided.{IsDecided, IsOpen, IsPastHead, IsWanted};
+ghost use Rattle.portal_head.specs.Decided.{IsDecided, IsOpen, IsPastHead};
+ghost use Rattle.portal_head.specs.Steps.{IsWanted};
 
 use crate::fields::Fields;
 use crate::head::{Finding, find_head, front};

@@ -1,7 +1,8 @@
 //! The fields of a head, looked up by name.
 ghost use Rattle.std.specs.Prelude.{◌≡◌, length, map, All, option_map};
 ghost use Rattle.httparse.specs.Spans.{header_bytes, IsHeaderWithin};
-ghost use Rattle.portal_head.specs.Fields.{is_same_name, values_of, only_of, IsOccurrence};
+ghost use Rattle.portal_head.specs.Fields.{is_same_name, values_of, only_of};
+ghost use Rattle.portal_head.specs.Steps.{IsOccurrence};
 
 use httparse::spans::HeaderSpan;
 use std::marker::Model;

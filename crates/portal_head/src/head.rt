@@ -2,7 +2,8 @@
 ghost use Rattle.std.specs.Prelude.{◌≡◌, length, take, Option};
 ghost use Rattle.httparse.specs.Grammar.{RequestHead};
 ghost use Rattle.httparse.specs.Spans.{IsRequestWithin};
-ghost use Rattle.portal_head.specs.Findings.{IsFinding, IfWhole};
+ghost use Rattle.portal_head.specs.Limits.{field_limit, head_limit};
+ghost use Rattle.portal_head.specs.Steps.{IsFinding, IfWhole};
 ghost use Rattle.portal_head.specs.Message.{HeadOf, body_after, bytes_of, message_in, message_of};
 
 use crate::faults::HeadFault;
@@ -29,7 +30,7 @@ pub struct Request<'b> {
 
 /// The front of the bytes, in which a head has to stand.
 pub fn front(bytes: &[u8]) -> &[u8]
-    ensures { result.now ≡ take HEAD_LIMIT bytes.now }
+    ensures { result.now ≡ take head_limit bytes.now }
 {
     if bytes.len() <= HEAD_LIMIT {
         bytes
@@ -50,7 +51,7 @@ pub enum Finding {
 
 /// Looks for a head at the front of the bytes, and writes where its fields are into `headers`.
 pub fn find_head(front: &[u8], headers: &mut [HeaderSpan]) -> Finding
-    requires { length headers.old ≡ FIELD_LIMIT }
+    requires { length headers.old ≡ field_limit }
     ensures found { IsFinding front.now headers.new result }
     ensures within { IfWhole result (IsRequestWithin front.now headers.new) }
 {

@@ -3,6 +3,7 @@ ghost use Rattle.std.specs.Prelude.{◌≡◌, ◌+◌, ◌≤◌, codes, true, 
 ghost use Rattle.std.specs.List.{list_all};
 ghost use Rattle.std.specs.Char.{is_ascii_digit};
 ghost use Rattle.std.specs.Str.Parse.{digits_value};
+ghost use Rattle.portal_head.specs.Limits.{body_limit};
 ghost use Rattle.portal_head.specs.Fields.{values_of};
 ghost use Rattle.portal_head.specs.Lengths.{length_in, content_length, has_any, declared_length};
 
@@ -16,7 +17,7 @@ use crate::limits::BODY_LIMIT;
 fn capped_number(digits: &[u8]) -> Option<usize>
     ensures { MatchOption result (list_all is_ascii_digit digits.now ≡ false)
         (λ n. (list_all is_ascii_digit digits.now ≡ true)
-        × (n ≡ min (digits_value 10 digits.now) (BODY_LIMIT + 1))) }
+        × (n ≡ min (digits_value 10 digits.now) (body_limit + 1))) }
 {
     let mut number = 0usize;
     for digit in digits {
@@ -32,7 +33,7 @@ fn capped_number(digits: &[u8]) -> Option<usize>
 /// at most `BODY_LIMIT`.
 fn read_length(value: &[u8]) -> Result<usize, HeadFault>
     ensures value { result ≡ length_in value.now }
-    ensures limit { IfOk result (λ length. length ≤ BODY_LIMIT) }
+    ensures limit { IfOk result (λ length. length ≤ body_limit) }
 {
     if value.is_empty() {
         return Err(HeadFault::BadRequest);
@@ -48,7 +49,7 @@ fn read_length(value: &[u8]) -> Result<usize, HeadFault>
 /// refused, also with equal values (RFC 9112, section 6.3).
 fn content_length(fields: &Fields) -> Result<usize, HeadFault>
     ensures value { result ≡ content_length (values_of (codes "content-length") fields.now) }
-    ensures limit { IfOk result (λ length. length ≤ BODY_LIMIT) }
+    ensures limit { IfOk result (λ length. length ≤ body_limit) }
 {
     match fields.occurrence(b"content-length") {
         Occurrence::Absent => Ok(0),
@@ -71,7 +72,7 @@ fn has_transfer_coding(fields: &Fields) -> bool
 /// Transfer-Encoding, then Content-Length.
 pub fn declared_length(fields: &Fields, minor: u8) -> Result<usize, HeadFault>
     ensures value { result ≡ declared_length minor fields.now }
-    ensures limit { IfOk result (λ length. length ≤ BODY_LIMIT) }
+    ensures limit { IfOk result (λ length. length ≤ body_limit) }
 {
     if !is_host_right(fields, minor) {
         return Err(HeadFault::BadRequest);

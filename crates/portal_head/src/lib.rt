@@ -1,8 +1,8 @@
 //! The shape of a request: what the bytes that came in say, or what is wrong with them.
 //!
 //! `parse_request` reads a whole request, as far as any route needs it. `read_request` reads one from
-//! a connection in pieces, no further than its reply needs, which `is_decided` tells of the first
-//! bytes. `write_response` writes in pieces, and says how far it came.
+//! a connection in pieces, and makes no read once its reply is decided, which `is_decided` tells of
+//! the first bytes. `write_response` writes in pieces, and says how far it came.
 #![tactic(auto)]
 
 mod decided;
@@ -15,6 +15,7 @@ mod lengths;
 mod limits;
 mod lines;
 mod reading;
+mod received;
 mod writing;
 
 pub use crate::decided::is_decided;
@@ -22,8 +23,6 @@ pub use crate::faults::HeadFault;
 pub use crate::head::{Request, parse_request};
 pub use crate::laws::{decided_stays, one_head_at_most};
 pub use crate::limits::{BODY_LIMIT, FIELD_LIMIT, HEAD_LIMIT, LINE_LIMIT, PIECE_LIMIT};
-pub use crate::reading::{ReadFault, read_request};
+pub use crate::reading::read_request;
+pub use crate::received::{ReadFault, Received};
 pub use crate::writing::{WriteFault, write_response};
-
-#[cfg(test)]
-mod tests;

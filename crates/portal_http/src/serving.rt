@@ -1,20 +1,28 @@
 //! One request, from its bytes to its response.
-ghost use Rattle.std.specs.Prelude.{◌≡◌, ◌≢◌, ◌⊎◌, Ok, IfErr, MatchResult};
+ghost use Rattle.std.specs.Prelude.{◌≡◌, ◌≢◌, ◌⊎◌, Ok, Some, None, IfErr, MatchResult};
+ghost use Rattle.portal_model.specs.Change.{answer_of};
 ghost use Rattle.portal_model.specs.Verdict.{IsWellFormed};
-ghost use Rattle.portal_desk.specs.States.{State};
-ghost use Rattle.portal_http.specs.declared.checks.Wanted.TheVariants.{State as Asks, Act};
+ghost use Rattle.portal_ledger.specs.Ledger.{Accepted, Ledger};
+ghost use Rattle.portal_ledger.specs.States.{State, running};
+ghost use Rattle.portal_ledger.specs.Calls.{Fits};
+ghost use Rattle.portal_http.specs.declared.checks.Wanted.TheVariants.{State as Asks};
 ghost use Rattle.portal_http.specs.Checks.{IsInOrder};
-ghost use Rattle.portal_http.specs.Replies.{IsRefusal};
+ghost use Rattle.portal_http.specs.Replies.{IsRefusal, IsDenial};
 ghost use Rattle.portal_http.specs.Runs.{CarriesOut, Step};
+ghost use Rattle.portal_http.specs.Serving.{Finishes, Serves};
 
 use crate::arrivals::Arrival;
 use crate::checks::{Wanted, check_request};
-use crate::responses::{answer_response, captive_response, refusal_response};
+use crate::denials::Denied;
+use crate::responses::{answer_response, captive_response, denial_response, refusal_response};
 use portal_desk::Desk;
+use portal_desk::prepared::{Marked, Prepared};
+use portal_ledger::request::RequestMark;
 use portal_model::command::Command;
 use portal_model::moment::Moment;
 use portal_model::name::Device;
 use portal_model::refusal::Refusal;
+use portal_route::Routes;
 use std::alloc::Global;
 
 /// The two responses that may be wanted when there is no memory for one: they are made before the desk is asked.
@@ -24,7 +32,18 @@ pub struct Spare {
     pub stopped: Vec<u8>,
 }
 
-/// The response of a refusal, or that of `NoMemory` where there is no memory for it.
+/// The response to a request that does not reach the desk, or that of `NoMemory` where there is no memory for it.
+fn denied(alloc: Global, moment: Moment, denied: Denied, spare: Spare) -> Vec<u8>
+    requires no_memory { IsRefusal Refusal.NoMemory moment spare.no_memory.items }
+    ensures { IsDenial denied moment result.items ⊎ IsRefusal Refusal.NoMemory moment result.items }
+{
+    match denial_response(alloc, moment, denied) {
+        Ok(response) => response,
+        Err(_) => spare.no_memory,
+    }
+}
+
+/// The response of a refusal of the desk, or that of `NoMemory` where there is no memory for it.
 fn told(alloc: Global, moment: Moment, refusal: Refusal, spare: Spare) -> Vec<u8>
     requires no_memory { IsRefusal Refusal.NoMemory moment spare.no_memory.items }
     requires stopped { IsRefusal Refusal.Stopped moment spare.stopped.items }
@@ -61,7 +80,8 @@ fn serve_state<D: Desk>(
     requires no_memory { IsRefusal Refusal.NoMemory moment spare.no_memory.items }
     requires stopped { IsRefusal Refusal.Stopped moment spare.stopped.items }
     ensures told { D.settings desk.new ≡ D.settings desk.old }
-    ensures step { (old : State) → D.stands desk.old old → (new : State) × D.stands desk.new new
+    ensures honest { D.is_honest desk.new → D.is_honest desk.old }
+    ensures step { D.is_honest desk.new → (old : State) → D.stands desk.old old → (new : State) × D.stands desk.new new
         × ((IsRefusal Refusal.NoMemory moment result.items × (new ≡ old))
         ⊎ CarriesOut (D.settings desk.old) (Ok (Asks device)) old moment result.items new) }
 {
@@ -74,8 +94,32 @@ fn serve_state<D: Desk>(
     }
 }
 
-/// A command. Its 200 response is made before the desk is asked to keep it.
-fn serve_command<D: Desk>(
+/// A command that was prepared. Its 200 response is made before the desk is asked to keep it.
+fn serve_prepared<D: Desk>(
+    desk: &mut D,
+    alloc: Global,
+    moment: Moment,
+    prepared: Prepared,
+    spare: Spare,
+) -> Vec<u8>
+    requires no_memory { IsRefusal Refusal.NoMemory moment spare.no_memory.items }
+    requires stopped { IsRefusal Refusal.Stopped moment spare.stopped.items }
+    ensures told { D.settings desk.new ≡ D.settings desk.old }
+    ensures honest { D.is_honest desk.new → D.is_honest desk.old }
+    ensures finished { D.is_honest desk.new → (L : Ledger) → D.stands desk.old (running L) → (a : Accepted) → Fits (running L) prepared a
+        → (new : State) × D.stands desk.new new × Finishes L a (answer_of prepared.changes) moment result.items new }
+{
+    match answer_response(alloc, moment, prepared.answer()) {
+        Err(_) => spare.no_memory,
+        Ok(response) => match desk.finish(prepared) {
+            Ok(()) => response,
+            Err(refusal) => unkept(refusal, spare),
+        },
+    }
+}
+
+/// A command of a request without a number.
+fn serve_unmarked<D: Desk>(
     desk: &mut D,
     alloc: Global,
     moment: Moment,
@@ -86,19 +130,40 @@ fn serve_command<D: Desk>(
     requires no_memory { IsRefusal Refusal.NoMemory moment spare.no_memory.items }
     requires stopped { IsRefusal Refusal.Stopped moment spare.stopped.items }
     ensures told { D.settings desk.new ≡ D.settings desk.old }
-    ensures step { (old : State) → D.stands desk.old old → (new : State) × D.stands desk.new new
-        × ((IsRefusal Refusal.NoMemory moment result.items × (new ≡ old))
-        ⊎ CarriesOut (D.settings desk.old) (Ok (Act command)) old moment result.items new) }
+    ensures honest { D.is_honest desk.new → D.is_honest desk.old }
+    ensures step { D.is_honest desk.new → (old : State) → D.stands desk.old old → (new : State) × D.stands desk.new new
+        × Serves (D.settings desk.old) command None old moment result.items new }
 {
     match desk.prepare(alloc, moment, command) {
         Err(refusal) => told(alloc, moment, refusal, spare),
-        Ok(prepared) => match answer_response(alloc, moment, prepared.answer()) {
+        Ok(prepared) => serve_prepared(desk, alloc, moment, prepared, spare),
+    }
+}
+
+/// A command of a request that acts once.
+fn serve_marked<D: Desk>(
+    desk: &mut D,
+    alloc: Global,
+    moment: Moment,
+    command: Command,
+    mark: &RequestMark,
+    spare: Spare,
+) -> Vec<u8>
+    requires well_formed { IsWellFormed command }
+    requires no_memory { IsRefusal Refusal.NoMemory moment spare.no_memory.items }
+    requires stopped { IsRefusal Refusal.Stopped moment spare.stopped.items }
+    ensures told { D.settings desk.new ≡ D.settings desk.old }
+    ensures honest { D.is_honest desk.new → D.is_honest desk.old }
+    ensures step { D.is_honest desk.new → (old : State) → D.stands desk.old old → (new : State) × D.stands desk.new new
+        × Serves (D.settings desk.old) command (Some mark.now) old moment result.items new }
+{
+    match desk.prepare_marked(alloc, moment, command, mark) {
+        Err(refusal) => told(alloc, moment, refusal, spare),
+        Ok(Marked::Kept(answer)) => match answer_response(alloc, moment, answer) {
+            Ok(response) => response,
             Err(_) => spare.no_memory,
-            Ok(response) => match desk.finish(prepared) {
-                Ok(()) => response,
-                Err(refusal) => unkept(refusal, spare),
-            },
         },
+        Ok(Marked::Fresh(prepared)) => serve_prepared(desk, alloc, moment, prepared, spare),
     }
 }
 
@@ -131,41 +196,58 @@ fn serve_wanted<D: Desk>(
     requires no_memory { IsRefusal Refusal.NoMemory moment spare.no_memory.items }
     requires stopped { IsRefusal Refusal.Stopped moment spare.stopped.items }
     ensures told { D.settings desk.new ≡ D.settings desk.old }
-    ensures step { (old : State) → D.stands desk.old old → (new : State) × D.stands desk.new new
+    ensures honest { D.is_honest desk.new → D.is_honest desk.old }
+    ensures step { D.is_honest desk.new → (old : State) → D.stands desk.old old → (new : State) × D.stands desk.new new
         × ((IsRefusal Refusal.NoMemory moment result.items × (new ≡ old))
         ⊎ CarriesOut (D.settings desk.old) (Ok wanted) old moment result.items new) }
 {
     match wanted {
         Wanted::State(device) => serve_state(desk, alloc, moment, device, spare),
-        Wanted::Act(command) => serve_command(desk, alloc, moment, command, spare),
+        Wanted::Act(command, mark) => match mark {
+            None => serve_unmarked(desk, alloc, moment, command, spare),
+            Some(mark) => serve_marked(desk, alloc, moment, command, &mark, spare),
+        },
     }
 }
 
 /// One request, with the two responses that are made before it.
-fn serve_checked<D: Desk>(desk: &mut D, alloc: Global, arrival: &Arrival, spare: Spare) -> Vec<u8>
+fn serve_checked<D: Desk>(
+    desk: &mut D,
+    alloc: Global,
+    routes: &Routes,
+    arrival: &Arrival,
+    spare: Spare,
+) -> Vec<u8>
     requires no_memory { IsRefusal Refusal.NoMemory arrival.now.moment spare.no_memory.items }
     requires stopped { IsRefusal Refusal.Stopped arrival.now.moment spare.stopped.items }
     ensures told { D.settings desk.new ≡ D.settings desk.old }
-    ensures step { (old : State) → D.stands desk.old old → (new : State) × D.stands desk.new new
+    ensures honest { D.is_honest desk.new → D.is_honest desk.old }
+    ensures step { D.is_honest desk.new → (old : State) → D.stands desk.old old → (new : State) × D.stands desk.new new
         × Step (D.settings desk.old) old arrival.now result.items new }
 {
     let moment = arrival.moment();
-    match check_request(alloc, desk.settings(), arrival.bytes()) {
-        Err(refusal) => told(alloc, moment, refusal, spare),
+    match check_request(alloc, desk.settings(), routes, arrival.bytes()) {
+        Err(refused) => denied(alloc, moment, refused, spare),
         Ok(wanted) => serve_wanted(desk, alloc, moment, wanted, spare),
     }
 }
 
 /// One request. An `Err` is `NoMemory`: no response could be made, and nothing has changed.
-pub fn serve<D: Desk>(desk: &mut D, alloc: Global, arrival: &Arrival) -> Result<Vec<u8>, Refusal>
+pub fn serve<D: Desk>(
+    desk: &mut D,
+    alloc: Global,
+    routes: &Routes,
+    arrival: &Arrival,
+) -> Result<Vec<u8>, Refusal>
     ensures told { D.settings desk.new ≡ D.settings desk.old }
     ensures err { IfErr result (λ r. r ≡ Refusal.NoMemory) }
-    ensures step { (old : State) → D.stands desk.old old → (new : State) × D.stands desk.new new
+    ensures honest { D.is_honest desk.new → D.is_honest desk.old }
+    ensures step { D.is_honest desk.new → (old : State) → D.stands desk.old old → (new : State) × D.stands desk.new new
         × MatchResult result (λ response. Step (D.settings desk.old) old arrival.now response.items new) (λ _. new ≡ old) }
 {
     match spare_responses(alloc, arrival.moment()) {
         Err(r) => Err(r),
         Ok(Err(response)) => Ok(response),
-        Ok(Ok(spare)) => Ok(serve_checked(desk, alloc, arrival, spare)),
+        Ok(Ok(spare)) => Ok(serve_checked(desk, alloc, routes, arrival, spare)),
     }
 }

@@ -21,7 +21,7 @@ fn answer_value(alloc: Global, answer: Answer) -> Result<Value, AllocError>
         } => { json!(in alloc; {"batch": batch.text(), "count": count, "expires": expires.get()}) }
         Answer::Sold { code, price } => {
             let code = code.text();
-            json!(in alloc; {"code": as_text(&code), "price": price})
+            json!(in alloc; {"code": as_text(code.as_bytes()), "price": price})
         }
         Answer::Redeemed {
             extended,
@@ -35,7 +35,7 @@ fn answer_value(alloc: Global, answer: Answer) -> Result<Value, AllocError>
         } => { json!(in alloc; {"open": still_open, "session": session, "used": used}) }
         Answer::Refunded { amount, code } => {
             let code = code.text();
-            json!(in alloc; {"amount": amount, "code": as_text(&code)})
+            json!(in alloc; {"amount": amount, "code": as_text(code.as_bytes())})
         }
         Answer::Closed { session } => json!(in alloc; {"session": session}),
     }

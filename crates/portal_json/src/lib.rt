@@ -16,6 +16,3 @@ pub use orders::{
 };
 pub use sessions::sessions_text;
 pub use vouchers::voucher_text;
-
-#[cfg(test)]
-mod tests;

@@ -26,7 +26,7 @@ fn voucher_value(alloc: Global, voucher: &Voucher) -> Result<Value, AllocError>
     let code = voucher.code.text();
     json!(in alloc; {
         "batch": voucher.batch.text(),
-        "code": as_text(&code),
+        "code": as_text(code.as_bytes()),
         "expires": voucher.expires.get(),
         "plan": voucher.plan.id.text(),
         "redeemed": voucher.redeemed,

@@ -6,9 +6,9 @@ use Rattle.portal_codes.specs.Code.{IsCode}
 use Rattle.portal_model.specs.declared.plan.Plan.{Plan}
 use Rattle.portal_model.specs.IdText.{IsIdText}
 use Rattle.portal_model.specs.Device.{IsDevice}
-use Rattle.portal_model.specs.Worked.{hour, gig, device1, device2, code2, code3, hour_redeemed}
+use Rattle.portal_model.specs.Worked.{hour, gig, device1, device2, code1, code3, hour_redeemed, second_sold}
 use Rattle.portal_model.specs.Verdict.{IsLegal}
-use Rattle.portal_laws.specs.Everyday.{EveryCommandIsLegal}
+use Rattle.portal_laws.specs.Everyday.{long_code, EveryCommandIsLegal}
 
 octets : (a b c d e f : ℕ) → a < 256 → b < 256 → c < 256 → d < 256 → e < 256 → f < 256 → IsDevice (a ∷ b ∷ c ∷ d ∷ e ∷ f ∷ [])
 octets a b c d e f p q r s t u = record {
@@ -22,10 +22,17 @@ device1-is = octets 2 0 0 0 0 1 (lit< tt) (lit< tt) (lit< tt) (lit< tt) (lit< tt
 device2-is : IsDevice device2
 device2-is = octets 2 0 0 0 0 2 (lit< tt) (lit< tt) (lit< tt) (lit< tt) (lit< tt) (lit< tt)
 
-code2-is : IsCode code2
-code2-is = record {
+code1-is : IsCode code1
+code1-is = record {
   whole = refl;
-  below = All-from_recursion (λ (x : ℕ). x < 31) code2 (lit< tt, (lit< tt, (lit< tt, (lit< tt, (lit< tt, (lit< tt, (lit< tt, (lit< tt, (lit< tt, (lit< tt, (lit< tt, (lit< tt, tt))))))))))));
+  below = All-from_recursion (λ (x : ℕ). x < 31) code1 (lit< tt, (lit< tt, (lit< tt, (lit< tt, (lit< tt, (lit< tt, (lit< tt, (lit< tt, (lit< tt, (lit< tt, (lit< tt, (lit< tt, tt))))))))))));
+  sum = refl;
+}
+
+long_code-is : IsCode long_code
+long_code-is = record {
+  whole = refl;
+  below = All-from_recursion (λ (x : ℕ). x < 31) long_code (lit< tt, (lit< tt, (lit< tt, (lit< tt, (lit< tt, (lit< tt, (lit< tt, (lit< tt, (lit< tt, (lit< tt, (lit< tt, (lit< tt, (lit< tt, (lit< tt, (lit< tt, (lit< tt, tt))))))))))))))));
   sum = refl;
 }
 
@@ -45,6 +52,9 @@ b1-is = record { least = lit≤ tt; most = lit≤ tt; signs = refl }
 b2-is : IsIdText (codes "b2")
 b2-is = record { least = lit≤ tt; most = lit≤ tt; signs = refl }
 
+b3-is : IsIdText (codes "b3")
+b3-is = record { least = lit≤ tt; most = lit≤ tt; signs = refl }
+
 two_plans : All (λ (p : Plan). IsIdText p.id) (hour ∷ gig ∷ [])
 two_plans = All-cons (λ (p : Plan). IsIdText p.id) hour (gig ∷ []) hour.id_text (All-cons (λ (p : Plan). IsIdText p.id) gig [] gig.id_text (All-nil (λ (p : Plan). IsIdText p.id)))
 
@@ -63,20 +73,32 @@ hour_legal = (
   ),
 )
 
+second_legal : IsLegal second_sold
+second_legal = (
+  record { in_order = lit≤ tt; in_range = lit≤ tt; typed = code1-is; well_formed = tt; accepted = refl },
+  (
+    record { in_order = lit≤ tt; in_range = lit≤ tt; typed = (b2-is, hour.id_text, one_code code1 code1-is); well_formed = (lit≤ tt, lit≤ tt); accepted = refl },
+    hour_legal,
+  ),
+)
+
 pub every_command_legal : EveryCommandIsLegal
 every_command_legal = (
   record { in_order = lit≤ tt; in_range = lit≤ tt; typed = tt; well_formed = tt; accepted = refl },
   (
-    record { in_order = lit≤ tt; in_range = lit≤ tt; typed = code2-is; well_formed = tt; accepted = refl },
+    record { in_order = lit≤ tt; in_range = lit≤ tt; typed = long_code-is; well_formed = tt; accepted = refl },
     (
       record { in_order = lit≤ tt; in_range = lit≤ tt; typed = tt; well_formed = lit≤ tt; accepted = refl },
       (
-        record { in_order = lit≤ tt; in_range = lit≤ tt; typed = (device2-is, code2-is); well_formed = tt; accepted = refl },
+        record { in_order = lit≤ tt; in_range = lit≤ tt; typed = (device2-is, long_code-is); well_formed = tt; accepted = refl },
         (
-          record { in_order = lit≤ tt; in_range = lit≤ tt; typed = code2-is; well_formed = tt; accepted = refl },
+          record { in_order = lit≤ tt; in_range = lit≤ tt; typed = long_code-is; well_formed = tt; accepted = refl },
           (
-            record { in_order = lit≤ tt; in_range = lit≤ tt; typed = (b2-is, gig.id_text, one_code code2 code2-is); well_formed = (lit≤ tt, lit≤ tt); accepted = refl },
-            hour_legal,
+            record { in_order = lit≤ tt; in_range = lit≤ tt; typed = (b3-is, gig.id_text, one_code long_code long_code-is); well_formed = (lit≤ tt, lit≤ tt); accepted = refl },
+            (
+              record { in_order = lit≤ tt; in_range = lit≤ tt; typed = (device1-is, code1-is); well_formed = tt; accepted = refl },
+              second_legal,
+            ),
           ),
         ),
       ),

@@ -19,6 +19,7 @@ pub mod Paid
 pub mod Placed
 pub mod Placing
 pub mod Plans
+pub mod Remaining
 pub mod Sessions
 pub mod Telling
 pub mod Typed

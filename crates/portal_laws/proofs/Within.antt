@@ -173,9 +173,9 @@ voucher_within H legal k low = record {
   amount = amount-within (issued_of H k.code) (refund_of H k.code) (refund_fits H k.code legal);
 }
 
-uses-within : (o : Option Issued) (n : ℕ) → UsesFit o n → n ≤ 1000
+uses-within : (o : Option Issued) (n : ℕ) → UsesFit o n → n ≤ 100000
 uses-within None n h = omega arith
-uses-within (Some i) n h = let low : i.plan.uses ≤ 1000 = i.plan.uses_limit in omega (arith, h)
+uses-within (Some i) n h = let low : i.plan.uses ≤ 100000 = i.plan.uses_limit in omega (arith, h)
 
 count_within : (H : History) → IsLegal H → (k : Place) → CountIsWithin (count_of_place H k)
 count_within H legal k = record { redeemed = uses-within (issued_of H k.code) (uses_of H k.code) (uses_fit H legal k.code) }

@@ -5,7 +5,7 @@ use Rattle.std.specs.List.{range_with_len}
 use Rattle.portal_model.specs.declared.command.Command.{Command}
 use Rattle.portal_model.specs.declared.command.Command.TheVariants.{Load, Sell, Redeem, Refund, Close}
 use Rattle.portal_model.specs.declared.plan.Plan.{Plan}
-use Rattle.portal_model.specs.Captive.{all_sessions}
+use Rattle.portal_model.specs.Captive.{all_sessions, captive_of, open_sessions_of}
 use Rattle.portal_model.specs.declared.record.Batch.{Batch}
 use Rattle.portal_model.specs.declared.record.Voucher.{Voucher}
 use Rattle.portal_model.specs.declared.record.Session.{Session}
@@ -229,6 +229,19 @@ pub record RemainsOf (t : ℕ) (s : Session) : Type 0 where
 -- so much remains of every session that is open at the effective moment
 abbrev pub RemainsIsBounded : Type 0
 RemainsIsBounded = (H : History) → IsLegal H → (n t : ℕ) (s : Session) → session_of H n ≡ Some s → is_open_at (effective_moment H t) s ≡ true → RemainsOf (effective_moment H t) s
+
+-- each of the two that is told is at least 1
+pub record AtLeastOne (seconds bytes : Option ℕ) : Type 0 where
+  pub seconds_left : (n : ℕ) → seconds ≡ Some n → 1 ≤ n
+  pub bytes_left : (n : ℕ) → bytes ≡ Some n → 1 ≤ n
+
+-- what a device is told remains is at least 1
+abbrev pub GuestsAreToldWhatRemains : Type 0
+GuestsAreToldWhatRemains = (H : History) (device : List ℕ) (t : ℕ) → AtLeastOne (captive_of H device t).seconds (captive_of H device t).bytes
+
+-- and what the gateway is told of each open session
+abbrev pub GatewayIsToldWhatRemains : Type 0
+GatewayIsToldWhatRemains = (H : History) (t : ℕ) → All (λ s. AtLeastOne s.seconds s.bytes) (open_sessions_of H t)
 
 -- a session that is open at the effective moment is the last one of its device
 abbrev pub OpenIsLast : Type 0

@@ -48,7 +48,7 @@ pub record GrantIsWithin (g : GrantRow) : Type 0 where
   pub bytes : g.bytes ≤ 1000000000000000
 
 pub record CountIsWithin (k : CountRow) : Type 0 where
-  pub redeemed : k.redeemed ≤ 1000
+  pub redeemed : k.redeemed ≤ 100000
 
 -- what remains may be below 0, since a report may be greater than what was granted
 pub record TotalIsWithin (t : TotalRow) : Type 0 where

@@ -3,9 +3,9 @@
 #![tactic(auto)]
 
 ghost use Rattle.portal_laws.specs.Everyday.{EveryCommandIsLegal};
-ghost use Rattle.portal_laws.specs.Laws.{AnswersAreTold, BatchIsRow, ClosedOnce, CodesAreRows, CountsAreSums, GrantsAreBounded, HeldLoadAlike, HeldServe, KeysAreApart, LastSessionIsRow, OneIsOpen, OpenIsLast, PlanIsRow, RecordsLead, RedeemLeads, RefundedOnce, RefundsAreBounded, RefundsAreRows, RemainsIsBounded, RowsAreNumbered, RowsAreTyped, RowsAreWithin, RowsJudgeAlike, RowsLead, SalesAreRows, SessionIsRow, SessionsAreFewer, SessionsAreRows, SoldOnce, TakenAreRows, TotalsAreSums, UsesAreBounded, UsesAreRows, VoucherIsRow};
+ghost use Rattle.portal_laws.specs.Laws.{AnswersAreTold, BatchIsRow, ClosedOnce, CodesAreRows, CountsAreSums, GatewayIsToldWhatRemains, GrantsAreBounded, GuestsAreToldWhatRemains, HeldLoadAlike, HeldServe, KeysAreApart, LastSessionIsRow, OneIsOpen, OpenIsLast, PlanIsRow, RecordsLead, RedeemLeads, RefundedOnce, RefundsAreBounded, RefundsAreRows, RemainsIsBounded, RowsAreNumbered, RowsAreTyped, RowsAreWithin, RowsJudgeAlike, RowsLead, SalesAreRows, SessionIsRow, SessionsAreFewer, SessionsAreRows, SoldOnce, TakenAreRows, TotalsAreSums, UsesAreBounded, UsesAreRows, VoucherIsRow};
 
-/// A history in which each of the seven commands occurs is legal.
+/// A history in which each of the seven commands occurs is legal; in it a redemption opens a session and another extends it.
 pub fn every_command_is_legal()
     ensures { EveryCommandIsLegal }
 {}
@@ -169,6 +169,12 @@ pub fn sessions_are_fewer()
 /// What remains of an open session is at least 1, and at most what was granted.
 pub fn remains_is_bounded()
     ensures { RemainsIsBounded }
+{}
+
+/// What a device and the gateway are told remains is at least 1.
+pub fn what_is_told_remains()
+    ensures guest { GuestsAreToldWhatRemains }
+    ensures gateway { GatewayIsToldWhatRemains }
 {}
 
 /// A session that is open at the effective moment is the last one of its device.

@@ -10,3 +10,4 @@ pub mod Rows
 pub mod Captive
 pub mod Payments
 pub mod Worked
+pub mod Judged

@@ -1,7 +1,7 @@
 -- The number, the word and the HTTP status of each refusal.
 use Rattle.std.specs.Prelude.{ℕ, List, codes}
 use Rattle.portal_model.specs.declared.refusal.Refusal.{Refusal}
-use Rattle.portal_model.specs.declared.refusal.Refusal.TheVariants.{BadRequest, BadCode, BadDevice, BadPlans, Forbidden, NoRoute, BadMethod, UnknownPlan, UnknownBatch, UnknownCode, UnknownSession, PlanDiffers, BatchExists, CodeTaken, NotSold, SoldAlready, Refunded, Expired, UsedUp, NoExtend, ShapeDiffers, AllowanceFull, ClosedAlready, NothingLeft, MomentRange, NumbersFull, TooLarge, NotSupported, NoMemory, Stopped}
+use Rattle.portal_model.specs.declared.refusal.Refusal.TheVariants.{BadRequest, BadCode, BadDevice, BadPlans, Forbidden, NoRoute, BadMethod, UnknownPlan, UnknownBatch, UnknownCode, UnknownSession, PlanDiffers, BatchExists, CodeTaken, NotSold, SoldAlready, Refunded, Expired, UsedUp, NoExtend, ShapeDiffers, AllowanceFull, ClosedAlready, NothingLeft, MomentRange, NumbersFull, TooLarge, NotSupported, NoMemory, Stopped, IdReused}
 
 -- the refusals in order, from 1
 abbrev pub number_of : Refusal → ℕ
@@ -35,6 +35,7 @@ number_of TooLarge = 27
 number_of NotSupported = 28
 number_of NoMemory = 29
 number_of Stopped = 30
+number_of IdReused = 31
 
 -- what answers and messages call it
 abbrev pub word_of : Refusal → List ℕ
@@ -68,6 +69,7 @@ word_of TooLarge = codes "too_large"
 word_of NotSupported = codes "not_supported"
 word_of NoMemory = codes "no_memory"
 word_of Stopped = codes "stopped"
+word_of IdReused = codes "id_reused"
 
 -- the status of the response (RFC 9110 section 15)
 abbrev pub status_of : Refusal → ℕ
@@ -101,3 +103,4 @@ status_of TooLarge = 413
 status_of NotSupported = 501
 status_of NoMemory = 503
 status_of Stopped = 503
+status_of IdReused = 409

@@ -6,7 +6,7 @@ use Rattle.portal_model.specs.declared.plan.Plan.{Plan}
 pub record AreTerms (price uses seconds bytes shelf_days : ℕ) : Type 0 where
   pub price_limit : price ≤ 100000000
   pub uses_least : 1 ≤ uses
-  pub uses_limit : uses ≤ 1000
+  pub uses_limit : uses ≤ 100000
   pub seconds_limit : seconds ≤ 31622400
   pub bytes_limit : bytes ≤ 1000000000000000
   pub shelf_least : 1 ≤ shelf_days

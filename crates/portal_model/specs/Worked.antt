@@ -76,9 +76,13 @@ has_bytes bytes = record { captive = false; seconds = None; bytes = Some bytes; 
 abbrev pub issue_of : List ℕ → Plan → List ℕ → Command
 issue_of batch plan code = Issue batch plan.id (code ∷ [])
 
--- the history with a voucher more: issued as a batch of its own and sold at 1000
+-- the history with a voucher more: issued as a batch of its own and sold at t
+abbrev pub sold_at : ℕ → List ℕ → Plan → List ℕ → History → History
+sold_at t batch plan code H = entry t (Sell code) ∷ entry t (issue_of batch plan code) ∷ H
+
+-- the same, at 1000
 abbrev pub sold_on : List ℕ → Plan → List ℕ → History → History
-sold_on batch plan code H = entry 1000 (Sell code) ∷ entry 1000 (issue_of batch plan code) ∷ H
+sold_on batch plan code H = sold_at 1000 batch plan code H
 
 -- the two plans, loaded at 0
 abbrev pub loaded : History

@@ -10,6 +10,4 @@ pub mod name;
 pub mod plan;
 pub mod record;
 pub mod refusal;
-#[cfg(test)]
-mod tests;
 pub mod worked;

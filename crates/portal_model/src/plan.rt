@@ -10,7 +10,7 @@ pub struct Plan {
     pub id: Id,
     /// The price of a voucher in hundredths, at most 100,000,000.
     pub price: u32,
-    /// How often a voucher may be redeemed, 1 to 1,000.
+    /// How often a voucher may be redeemed, 1 to 100,000.
     pub uses: u32,
     /// The seconds that a redemption gives, at most 31,622,400; 0 where time is not limited.
     pub seconds: u32,
@@ -23,7 +23,7 @@ pub struct Plan {
     pub ghost id_text: { IsIdText id },
     pub ghost price_limit: { price ≤ 100000000 },
     ghost uses_least: { 1 ≤ uses },
-    ghost uses_limit: { uses ≤ 1000 },
+    ghost uses_limit: { uses ≤ 100000 },
     pub ghost seconds_limit: { seconds ≤ 31622400 },
     pub ghost bytes_limit: { bytes ≤ 1000000000000000 },
     pub ghost shelf_least: { 1 ≤ shelf_days },
@@ -50,7 +50,7 @@ impl Plan {
     {
         // An id's text tells that it is one, which the plan keeps.
         let _ = id.text();
-        if price > 100_000_000 || uses < 1 || uses > 1_000 || seconds > 31_622_400 {
+        if price > 100_000_000 || uses < 1 || uses > 100_000 || seconds > 31_622_400 {
             return Err(Refusal::BadPlans);
         }
         if bytes > 1_000_000_000_000_000 || shelf_days < 1 || shelf_days > 3_660 {

@@ -34,10 +34,11 @@ pub enum Refusal {
     NotSupported,
     NoMemory,
     Stopped,
+    IdReused,
 }
 
 impl Refusal {
-    /// The refusal's number, 1 to 30.
+    /// The refusal's number, 1 to 31.
     pub fn number(self) -> u8
         ensures { result ≡ number_of self }
     {
@@ -79,6 +80,7 @@ impl Refusal {
             Refusal::NotSupported => "not_supported",
             Refusal::NoMemory => "no_memory",
             Refusal::Stopped => "stopped",
+            Refusal::IdReused => "id_reused",
         }
     }
 
@@ -108,7 +110,8 @@ impl Refusal {
             | Refusal::ClosedAlready
             | Refusal::NothingLeft
             | Refusal::MomentRange
-            | Refusal::NumbersFull => 409,
+            | Refusal::NumbersFull
+            | Refusal::IdReused => 409,
             Refusal::Expired => 410,
             Refusal::TooLarge => 413,
             Refusal::NotSupported => 501,

@@ -1,7 +1,8 @@
 //! Worked histories, as statements on the definitions: what some commands are answered, and what a device is told then. The function does nothing: its contract is what is worked out.
 ghost use Rattle.portal_model.specs.Worked.{IssueSellRedeem, ClockSetBack, UsedUpOnce, ExtendedBeforeEnd, NewSessionAtEnd, BytesCounted, ShapeAndExtendRefused, RefundOfUnusedUses, NotSoldThenExpired, CloseSession, AllowanceIsFull};
+ghost use Rattle.portal_model.specs.Judged.{LoadsAreJudged, IssuesAreJudged, SalesAreJudged, VouchersAreJudged, OpeningsAreJudged, ExtensionsAreJudged, NumbersAreFull, RefundsAreJudged, SessionsAreJudged, DeskRefusals, LimitedInBoth, FirstPlanExtends};
 
-/// Eleven worked histories.
+/// Worked histories: eleven from the desk's day, and for each command what is judged of it where two refusals hold at once and at its limits.
 pub fn worked_histories()
     ensures issue_sell_redeem { IssueSellRedeem }
     ensures clock_set_back { ClockSetBack }
@@ -14,4 +15,16 @@ pub fn worked_histories()
     ensures not_sold_then_expired { NotSoldThenExpired }
     ensures close_session { CloseSession }
     ensures allowance_full { AllowanceIsFull }
+    ensures desk_refusals { DeskRefusals }
+    ensures limited_in_both { LimitedInBoth }
+    ensures first_plan_extends { FirstPlanExtends }
+    ensures loads { LoadsAreJudged }
+    ensures issues { IssuesAreJudged }
+    ensures sales { SalesAreJudged }
+    ensures vouchers { VouchersAreJudged }
+    ensures openings { OpeningsAreJudged }
+    ensures extensions { ExtensionsAreJudged }
+    ensures numbers_full { NumbersAreFull }
+    ensures refunds { RefundsAreJudged }
+    ensures sessions { SessionsAreJudged }
 {}

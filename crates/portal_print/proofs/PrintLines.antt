@@ -11,7 +11,7 @@ use Rattle.portal_files.specs.declared.sheet.BatchSheet.{BatchSheet}
 use Rattle.portal_print.specs.Amount.{amount_text}
 use Rattle.portal_print.specs.Minute.{IsMinuteText}
 use Rattle.portal_print.specs.PrintFile.{line_of, limit_text, header, code_fields, IsPrintFile}
-use Rattle.portal_print.specs.Written.{Shared, shared_of, header_row, code_row}
+use Rattle.portal_print.specs.Private.Written.{Shared, shared_of, header_row, code_row}
 use Rattle.portal_print.proofs.PlainFields.{IsPlain, plain-row, plain-code, plain-id, plain-limit, plain-amount, plain-minute}
 
 -- what the lines of a batch share

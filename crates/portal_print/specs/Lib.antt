@@ -1,5 +1,5 @@
 pub mod Amount
 pub mod Minute
 pub mod PrintFile
+pub mod Private
 pub mod Report
-pub mod Written

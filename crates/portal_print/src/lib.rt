@@ -8,6 +8,3 @@ mod report;
 
 pub use print_file::print_batch;
 pub use report::takings_text;
-
-#[cfg(test)]
-mod tests;

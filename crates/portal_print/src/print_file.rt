@@ -1,7 +1,7 @@
 ghost use Rattle.std.specs.Prelude.{◌≡◌, ◌++◌, IfOk, IfErr, OnOk, string_bytes};
 ghost use Rattle.std.specs.List.{flat_map};
 ghost use Rattle.portal_print.specs.PrintFile.{limit_text, IsPrintFile};
-ghost use Rattle.portal_print.specs.Written.{IsReady, written, shared_of, row, header_row, code_row};
+ghost use Rattle.portal_print.specs.Private.Written.{IsReady, written, shared_of, row, header_row, code_row};
 
 use crate::amounts::amount_text;
 use crate::minutes::shown_minute;
@@ -68,7 +68,7 @@ fn write_lines(
         let text = code.text();
         write_line(
             &mut writer,
-            text.as_slice(),
+            text.as_bytes(),
             plan,
             seconds,
             bytes,

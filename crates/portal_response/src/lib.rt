@@ -134,6 +134,3 @@ pub fn response(
 pub fn response_is_fixed()
     ensures { ResponseIsFixed }
 {}
-
-#[cfg(test)]
-mod tests;

@@ -1,5 +1,5 @@
 //! The routes of the desk: which of them a request's target names, by which method it is asked,
-//! and by whom.
+//! and by whom; and what the query of a target says.
 #![tactic(auto)]
 
 ghost use Rattle.std.specs.Prelude.{◌≡◌};
@@ -8,9 +8,11 @@ ghost use Rattle.portal_route.specs.Route.{method_of, caller_of};
 use http::Method;
 
 pub mod laws;
+mod queries;
 mod router;
 mod targets;
 
+pub use queries::only_value;
 pub use router::Routes;
 pub use targets::{cut_at, parameter, split_target};
 
@@ -92,6 +94,3 @@ impl Route {
         }
     }
 }
-
-#[cfg(test)]
-mod tests;

@@ -14,7 +14,7 @@ use Rattle.sqlite_rules.specs.Lists.{Has}
 use Rattle.sqlite_rules.proofs.ListLemmas.{all_has, all_from}
 use Rattle.sqlite_rules.proofs.PlaceLemmas.{tied_same}
 use Rattle.sqlite_trees.proofs.ListLemmas.{map-map}
-use Rattle.portal_codes.specs.Code.{text_of}
+use Rattle.portal_codes.specs.Code.{IsCode, text_of}
 use Rattle.portal_sql.specs.Stored.{Stores, whole, number as number_cell}
 use Rattle.portal_sql.proofs.FindLemmas.{has_image}
 use Rattle.portal_sql.proofs.RowLemmas.{same_rows}
@@ -23,14 +23,15 @@ use Rattle.portal_model.specs.Rows.{SessionRow, CountRow, TotalRow, total_from}
 use Rattle.portal_rows.specs.declared.counted.CountedRows.{CountedRows}
 use Rattle.portal_rows.specs.declared.signs.Total.{Total}
 use Rattle.portal_rows.specs.Steps.{ends_row}
-use Rattle.portal_rows.specs.Sums.{grant_read, summed}
+use Rattle.portal_rows.specs.Sums.{grant_read, summed, uses_in}
 use Rattle.portal_rows.specs.declared.rows.KeptCount.{KeptCount}
 use Rattle.portal_rows.specs.Contents.{Contents, HeadRow, head_stored, session_stored, total_stored}
 use Rattle.portal_rows.specs.Holds.{Holds}
 use Rattle.portal_rows.specs.Read.{voucher_read, session_read, count_read}
-use Rattle.portal_rows.specs.Audit.{IsAudited, Agrees, AreRead, is_counted, has_count, uses_in, total_in}
+use Rattle.portal_rows.specs.Audit.{IsAudited, Agrees, AreRead, is_counted, has_count, total_in}
 use Rattle.portal_rows.proofs.Cells.{exact_head, exact_session, exact_total}
 use Rattle.portal_rows.proofs.Compose.{more_mapped}
+use Rattle.portal_rows.proofs.SameCode.{code_test}
 use Rattle.portal_rows.proofs.SumLemmas.{map_exact}
 
 -- ---- tests of all rows, and of any
@@ -82,13 +83,16 @@ or_cond : (a b : Bool) → cond b true a ≡ (a || b)
 or_cond a true = sym (or_true a)
 or_cond a false = sym (or_false a)
 
-pub counted_step : (counts : List KeptCount) (i : ℕ) (k : KeptCount) → i < length counts → k ≡ get_or counts i k → (old new : List ℕ → Bool) → ((code : List ℕ) → old code ≡ counted_so_far counts i code)
-    → ((code : List ℕ) → new code ≡ cond (bytes_eq (text_of k.code) code) true (old code)) → (code : List ℕ) → new code ≡ counted_so_far counts (i + 1) code
-counted_step counts i k within is old new so_far now code =
-    let test : CountRow → Bool = λ (x : CountRow). bytes_eq x.code code in
-    let more : counted_so_far counts (i + 1) code ≡ (counted_so_far counts i code || (bytes_eq (text_of k.code) code || false)) =
+pub counted_step : (counts : List KeptCount) (i : ℕ) (k : KeptCount) → IsCode k.code → i < length counts → k ≡ get_or counts i k
+    → (old new : List ℕ → Bool) → ((code : List ℕ) → IsCode code → old code ≡ counted_so_far counts i (text_of code))
+    → ((code : List ℕ) → new code ≡ cond (bytes_eq k.code code) true (old code)) → (code : List ℕ) → IsCode code → new code ≡ counted_so_far counts (i + 1) (text_of code)
+counted_step counts i k own within is old new so_far now code is_code =
+    let text = text_of code in
+    let test : CountRow → Bool = λ (x : CountRow). bytes_eq x.code text in
+    let same : bytes_eq k.code code ≡ bytes_eq (text_of k.code) text = sym (code_test k.code code own is_code) in
+    let more : counted_so_far counts (i + 1) text ≡ (counted_so_far counts i text || (bytes_eq (text_of k.code) text || false)) =
     ap (list_any test) (more_mapped count_read counts i k within is) ∙ list_any-append test (map count_read (take i counts)) (count_read k ∷ []) in
-    now code ∙ or_cond (old code) (bytes_eq (text_of k.code) code) ∙ ap₂ ◌||◌ (so_far code) (sym (or_false (bytes_eq (text_of k.code) code))) ∙ sym more
+    now code ∙ or_cond (old code) (bytes_eq k.code code) ∙ ap₂ ◌||◌ (so_far code is_code) (same ∙ sym (or_false (bytes_eq (text_of k.code) text))) ∙ sym more
 
 -- ---- rows of a table with an INTEGER PRIMARY KEY
 

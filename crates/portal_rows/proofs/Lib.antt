@@ -22,6 +22,7 @@ pub mod NeverWrites
 pub mod Reading
 pub mod SamePlan
 pub mod SelectTexts
+pub mod SameCode
 pub mod SumLemmas
 pub mod TellsOnce
 pub mod UpdateSteps

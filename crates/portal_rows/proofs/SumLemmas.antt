@@ -8,12 +8,13 @@ use Rattle.std.proofs.lemmas.List.Elements.{filter-append}
 use Rattle.std.proofs.lemmas.Slice.Eq.{bytes_eq-Decides}
 use Rattle.sqlite.specs.Order.{Row}
 use Rattle.portal_sql.specs.Finds.{columns}
-use Rattle.portal_codes.specs.Code.{text_of}
+use Rattle.portal_codes.specs.Code.{IsCode, text_of}
 use Rattle.portal_model.specs.Rows.{GrantRow}
 use Rattle.portal_rows.specs.declared.grants.KeptGrant.{KeptGrant}
 use Rattle.portal_rows.specs.Sums.{grant_read, given_to, nothing_given}
 use Rattle.portal_rows.specs.declared.sums.Given.{Given}
 use Rattle.portal_rows.proofs.Compose.{more_mapped}
+use Rattle.portal_rows.proofs.SameCode.{code_test}
 
 -- how many of the redemptions so far have the code
 abbrev pub uses_so_far : List KeptGrant → ℕ → List ℕ → ℕ
@@ -28,22 +29,24 @@ pub uses_few : (grants : List KeptGrant) (i : ℕ) (code : List ℕ) → uses_so
 uses_few grants i code = omega (arith, count_by-le-length (λ (g : GrantRow). bytes_eq g.code code) (map grant_read (take i grants)), (simp (length-map, length-take) at (count_by-le-length (λ (g : GrantRow). bytes_eq g.code code) (map grant_read (take i grants)))))
 
 -- one more at its own code, and the same at each other
-pub uses_step : (grants : List KeptGrant) (i : ℕ) (g : KeptGrant) → i < length grants → g ≡ get_or grants i g
-    → (before : ℕ) (old new : List ℕ → Option ℕ) → ((code : List ℕ) → unwrap_or (old code) 0 ≡ uses_so_far grants i code) → before ≡ unwrap_or (old (text_of g.code)) 0
-    → ((code : List ℕ) → new code ≡ cond (bytes_eq (text_of g.code) code) (Some (before + 1)) (old code)) → (code : List ℕ) → unwrap_or (new code) 0 ≡ uses_so_far grants (i + 1) code
-uses_step grants i g within is before old new so_far was now code =
-    elim (cases_Bool (bytes_eq (text_of g.code) code)) [
+pub uses_step : (grants : List KeptGrant) (i : ℕ) (g : KeptGrant) → IsCode g.code → i < length grants → g ≡ get_or grants i g
+    → (before : ℕ) (old new : List ℕ → Option ℕ) → ((code : List ℕ) → IsCode code → unwrap_or (old code) 0 ≡ uses_so_far grants i (text_of code)) → before ≡ unwrap_or (old g.code) 0
+    → ((code : List ℕ) → new code ≡ cond (bytes_eq g.code code) (Some (before + 1)) (old code)) → (code : List ℕ) → IsCode code → unwrap_or (new code) 0 ≡ uses_so_far grants (i + 1) (text_of code)
+uses_step grants i g own within is before old new so_far was now code is_code =
+    let text = text_of code in
+    let test : bytes_eq (text_of g.code) text ≡ bytes_eq g.code code = code_test g.code code own is_code in
+    elim (cases_Bool (bytes_eq g.code code)) [
       | inl on ↦
-          let same : text_of g.code ≡ code = (bytes_eq-Decides (text_of g.code) code).0 on in
+          let same : g.code ≡ code = (bytes_eq-Decides g.code code).0 on in
           let value : new code ≡ Some (before + 1) = now code ∙ ap (λ b. cond b (Some (before + 1)) (old code)) on in
-          let more : uses_so_far grants (i + 1) code ≡ uses_so_far grants i code + 1 = uses_more grants i g code within is ∙ ap (λ b. uses_so_far grants i code + cond b 1 0) on in
-          let count : before ≡ uses_so_far grants i code = was ∙ so_far (text_of g.code) ∙ ap (uses_so_far grants i) same in
+          let more : uses_so_far grants (i + 1) text ≡ uses_so_far grants i text + 1 = uses_more grants i g text within is ∙ ap (λ b. uses_so_far grants i text + cond b 1 0) (test ∙ on) in
+          let count : before ≡ uses_so_far grants i text = was ∙ so_far g.code own ∙ ap (λ c. uses_so_far grants i (text_of c)) same in
           ap (λ o. unwrap_or o 0) value ∙ ap (λ n. n + 1) count ∙ sym more
       | inr off ↦
           let value : new code ≡ old code = now code ∙ ap (λ b. cond b (Some (before + 1)) (old code)) off in
-          let more : uses_so_far grants (i + 1) code ≡ uses_so_far grants i code + 0 = uses_more grants i g code within is ∙ ap (λ b. uses_so_far grants i code + cond b 1 0) off in
-          let less : uses_so_far grants (i + 1) code ≡ uses_so_far grants i code = omega arith in
-          ap (λ o. unwrap_or o 0) value ∙ so_far code ∙ sym less
+          let more : uses_so_far grants (i + 1) text ≡ uses_so_far grants i text + 0 = uses_more grants i g text within is ∙ ap (λ b. uses_so_far grants i text + cond b 1 0) (test ∙ off) in
+          let less : uses_so_far grants (i + 1) text ≡ uses_so_far grants i text = omega arith in
+          ap (λ o. unwrap_or o 0) value ∙ so_far code is_code ∙ sym less
     ]
 
 -- ---- what a session was given

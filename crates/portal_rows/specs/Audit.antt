@@ -1,19 +1,17 @@
 -- When the counters of a store are what its other rows give.
-use Rattle.std.specs.Prelude.{◌≡◌, ℕ, Bool, true, nat_eq, bytes_eq, List, map, length, count_by, IsTrue}
+use Rattle.std.specs.Prelude.{◌≡◌, ℕ, Bool, true, nat_eq, bytes_eq, List, map, length, IsTrue}
 use Rattle.std.specs.List.{list_all, list_any}
+use Rattle.std.specs.HashSet.{HashSet, contains}
 use Rattle.sqlite.specs.State.{State, HasCleanDisk}
 use Rattle.sqlite_rules.specs.Lists.{Has}
+use Rattle.portal_codes.specs.Code.{IsCode, text_of}
 use Rattle.portal_model.specs.Rows.{VoucherRow, SessionRow, GrantRow, CountRow, TotalRow, total_from}
 use Rattle.portal_rows.specs.declared.counted.CountedRows.{CountedRows}
 use Rattle.portal_rows.specs.Contents.{Contents, HeadRow}
 use Rattle.portal_rows.specs.First.{HoldsFirst}
 use Rattle.portal_rows.specs.Holds.{Holds}
 use Rattle.portal_rows.specs.Read.{voucher_read, session_read}
-use Rattle.portal_rows.specs.Sums.{grant_read, summed}
-
--- how many redemptions have the code
-abbrev pub uses_in : List GrantRow → List ℕ → ℕ
-uses_in grants code = count_by (λ g. bytes_eq g.code code) grants
+use Rattle.portal_rows.specs.Sums.{grant_read, summed, uses_in}
 
 -- the end of a session and what remains, by the sums over its redemptions
 abbrev pub total_in : Contents → SessionRow → TotalRow
@@ -41,6 +39,10 @@ is_counted grants k = nat_eq k.redeemed (uses_in grants k.code)
 -- the voucher has a count
 abbrev pub has_count : List CountRow → VoucherRow → Bool
 has_count counts v = list_any (λ k. bytes_eq k.code v.code) counts
+
+-- the set has just the codes that have a count
+abbrev pub AreCounted : {S : Type 0} → HashSet (List ℕ) S → List CountRow → Type 0
+AreCounted codes counts = (code : List ℕ) → IsCode code → contains bytes_eq codes code ≡ list_any (λ k. bytes_eq k.code (text_of code)) counts
 
 -- as numbers rise in both tables, the totals are those of the sessions in their order
 pub record Agrees (h : HeadRow) (t : Contents) : Type 0 where

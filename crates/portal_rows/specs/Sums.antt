@@ -1,6 +1,7 @@
 -- The counters as sums over the rows of the other tables.
-use Rattle.std.specs.Prelude.{ℕ, nat_eq, List, [], filter, sum_by}
-use Rattle.portal_codes.specs.Code.{text_of}
+use Rattle.std.specs.Prelude.{◌≡◌, ℕ, nat_eq, bytes_eq, List, [], filter, sum_by, count_by, unwrap_or}
+use Rattle.std.specs.HashMap.{HashMap, get}
+use Rattle.portal_codes.specs.Code.{IsCode, text_of}
 use Rattle.portal_model.specs.declared.plan.Plan.{Plan}
 use Rattle.portal_model.specs.Rows.{Rows, GrantRow}
 use Rattle.portal_rows.specs.declared.grants.KeptGrant.{KeptGrant}
@@ -31,3 +32,11 @@ given_to grants number =
 
 abbrev pub nothing_given : Given
 nothing_given = record { seconds = 0; bytes = 0 }
+
+-- how many redemptions have the code
+abbrev pub uses_in : List GrantRow → List ℕ → ℕ
+uses_in grants code = count_by (λ g. bytes_eq g.code code) grants
+
+-- the map has the number of the redemptions of each code: none of a code that is not in it
+abbrev pub AreUses : {S : Type 0} → HashMap (List ℕ) ℕ S → List GrantRow → Type 0
+AreUses uses grants = (code : List ℕ) → IsCode code → unwrap_or (get bytes_eq uses code) 0 ≡ uses_in grants (text_of code)

@@ -1,42 +1,39 @@
 //! Whether the counters agree with the other rows.
 
-ghost use Rattle.std.specs.Prelude.{◌≡◌, ◌↔◌, ℕ, List, map, nat_eq, bytes_eq, length, IfOk, IsTrue, unwrap_or};
-ghost use Rattle.std.specs.List.{list_all, list_any};
-ghost use Rattle.std.specs.HashMap.{get};
-ghost use Rattle.std.specs.HashSet.{contains};
+ghost use Rattle.std.specs.Prelude.{◌≡◌, ◌↔◌, List, map, length, IfOk, IsTrue};
+ghost use Rattle.std.specs.List.{list_all};
 ghost use Rattle.sqlite.specs.Held.{state};
-ghost use Rattle.portal_codes.specs.Code.{text_of};
+ghost use Rattle.portal_model.specs.Rows.{CountRow, GrantRow};
 ghost use Rattle.portal_sql.specs.Looks.{Looks};
 ghost use Rattle.portal_rows.specs.Contents.{Contents};
 ghost use Rattle.portal_rows.specs.Holds.{HasTables};
 ghost use Rattle.portal_rows.specs.Steps.{ends_row};
 ghost use Rattle.portal_rows.specs.Read.{head_read, voucher_read, count_read};
-ghost use Rattle.portal_rows.specs.Sums.{grant_read};
-ghost use Rattle.portal_rows.specs.Audit.{Agrees, AreRead, IsAudited, OfHeld, is_counted, has_count};
+ghost use Rattle.portal_rows.specs.Sums.{AreUses, grant_read};
+ghost use Rattle.portal_rows.specs.Audit.{Agrees, AreCounted, AreRead, IsAudited, OfHeld, is_counted, has_count};
 
 use crate::counted::{CountedRows, read_counted};
 use crate::finds::find_head;
 use crate::grants::KeptGrant;
 use crate::rows::{Fault, KeptCount, KeptHead, KeptVoucher};
 use crate::signs::Total;
-use crate::sums::{sum_totals, uses_by_code};
+use crate::sums::{sum_totals, uses_by_code, uses_of};
 use crate::whole::{all_counts, all_totals};
-use portal_codes::TEXT_LEN;
+use portal_codes::Code;
 use sqlite::{Alter, Connection};
 use std::alloc::Global;
 use std::collections::{HashMap, HashSet};
 
 /// Whether the count is what stands under its code.
-fn is_count_in(uses: &HashMap<[u8; TEXT_LEN], u64>, count: &KeptCount) -> bool
-    ensures { result ≡ nat_eq count.now.redeemed (unwrap_or (get bytes_eq uses.now (text_of count.now.code)) 0) }
+fn is_count_in(uses: &HashMap<Code, u64>, count: &KeptCount) -> bool
+    ensures { (grants : List GrantRow) → AreUses uses.now grants → result ≡ is_counted grants (count_read count.now) }
 {
-    let code = count.code.text();
-    count.redeemed == uses.get(&code).copied().unwrap_or(0)
+    count.redeemed == uses_of(uses, &count.code)
 }
 
 /// Whether each count is what stands under its code.
-fn are_counts_in(uses: &HashMap<[u8; TEXT_LEN], u64>, counts: &[KeptCount]) -> bool
-    ensures { result ≡ list_all (λ k. nat_eq k.redeemed (unwrap_or (get bytes_eq uses.now (text_of k.code)) 0)) counts.now }
+fn are_counts_in(uses: &HashMap<Code, u64>, counts: &[KeptCount]) -> bool
+    ensures { (grants : List GrantRow) → AreUses uses.now grants → result ≡ list_all (is_counted grants) (map count_read counts.now) }
 {
     counts.iter().all(|count| is_count_in(uses, count))
 }
@@ -49,28 +46,31 @@ fn counts_agree(alloc: Global, grants: &[KeptGrant], counts: &[KeptCount]) -> Re
     Ok(are_counts_in(&uses, counts))
 }
 
-/// The printed codes that have a count.
-fn counted_codes(alloc: Global, counts: &[KeptCount]) -> Result<HashSet<[u8; TEXT_LEN]>, Fault>
-    ensures { IfOk result (λ codes. (code : List ℕ) → contains bytes_eq codes code ≡ list_any (λ k. bytes_eq k.code code) (map count_read counts.now)) }
+/// The codes that have a count.
+fn counted_codes(alloc: Global, counts: &[KeptCount]) -> Result<HashSet<Code>, Fault>
+    ensures { IfOk result (λ codes. AreCounted codes (map count_read counts.now)) }
 {
     let mut codes = HashSet::new(alloc);
     for count in counts {
-        codes.insert(count.code.text())?;
+        // Its signs tell that it is a code.
+        let _ = count.code.signs();
+        codes.insert(count.code)?;
     }
     Ok(codes)
 }
 
 /// Whether the voucher's code is among these.
-fn is_among(codes: &HashSet<[u8; TEXT_LEN]>, voucher: &KeptVoucher) -> bool
-    ensures { result ≡ contains bytes_eq codes.now (text_of voucher.now.code) }
+fn is_among(codes: &HashSet<Code>, voucher: &KeptVoucher) -> bool
+    ensures { (counts : List CountRow) → AreCounted codes.now counts → result ≡ has_count counts (voucher_read voucher.now) }
 {
-    let code = voucher.code.text();
-    codes.contains(&code)
+    // Its signs tell that it is a code.
+    let _ = voucher.code.signs();
+    codes.contains(&voucher.code)
 }
 
 /// Whether the code of each voucher is among these.
-fn are_among(codes: &HashSet<[u8; TEXT_LEN]>, vouchers: &[KeptVoucher]) -> bool
-    ensures { result ≡ list_all (λ v. contains bytes_eq codes.now (text_of v.code)) vouchers.now }
+fn are_among(codes: &HashSet<Code>, vouchers: &[KeptVoucher]) -> bool
+    ensures { (counts : List CountRow) → AreCounted codes.now counts → result ≡ list_all (has_count counts) (map voucher_read vouchers.now) }
 {
     vouchers.iter().all(|voucher| is_among(codes, voucher))
 }

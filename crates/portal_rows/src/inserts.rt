@@ -74,7 +74,13 @@ pub(crate) fn insert_voucher<S: Alter>(
     let text = code.text();
     tx.execute(
         "INSERT INTO portal_vouchers (code, batch_id, place) VALUES (?1, ?2, ?3)",
-        params![Signs { bytes: &text }, batch.text(), place as i64],
+        params![
+            Signs {
+                bytes: text.as_bytes()
+            },
+            batch.text(),
+            place as i64
+        ],
     )?;
     Ok(())
 }
@@ -125,7 +131,9 @@ pub(crate) fn insert_grant<S: Alter>(
         "INSERT INTO portal_grants (number, code, session, moment, seconds, bytes) VALUES (?1, ?2, ?3, ?4, ?5, ?6)",
         params![
             number as i64,
-            Signs { bytes: &text },
+            Signs {
+                bytes: text.as_bytes()
+            },
             session as i64,
             at.get() as i64,
             plan.seconds,
@@ -150,7 +158,12 @@ pub(crate) fn insert_count<S: Alter>(
     let text = code.text();
     tx.execute(
         "INSERT INTO portal_counts (code, redeemed) VALUES (?1, ?2)",
-        params![Signs { bytes: &text }, redeemed as i64],
+        params![
+            Signs {
+                bytes: text.as_bytes()
+            },
+            redeemed as i64
+        ],
     )?;
     Ok(())
 }

@@ -67,7 +67,9 @@ pub(crate) fn voucher_rows<S: Alter>(
     read_all(
         conn,
         "SELECT code, batch_id, place, sold, refunded, amount FROM portal_vouchers WHERE code = ?1",
-        params![Signs { bytes: &text }],
+        params![Signs {
+            bytes: text.as_bytes()
+        }],
     )
 }
 
@@ -96,7 +98,9 @@ pub(crate) fn count_rows<S: Alter>(conn: &mut Connection<S>, code: &Code) -> Res
     read_all(
         conn,
         "SELECT code, redeemed FROM portal_counts WHERE code = ?1",
-        params![Signs { bytes: &text }],
+        params![Signs {
+            bytes: text.as_bytes()
+        }],
     )
 }
 

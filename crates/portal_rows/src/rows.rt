@@ -99,7 +99,7 @@ pub(crate) fn code_in(row: &Row, at: usize) -> Result<Code, Fault>
         return Err(Fault::ForeignRow);
     };
     let printed = code.text();
-    if printed.as_slice() == text.as_bytes() {
+    if printed.as_bytes() == text.as_bytes() {
         Ok(code)
     } else {
         Err(Fault::ForeignRow)

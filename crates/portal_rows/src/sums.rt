@@ -1,18 +1,19 @@
 //! The counters that a store is to have, summed over its other rows.
 
-ghost use Rattle.std.specs.Prelude.{◌≡◌, ◌+◌, ℕ, List, nat_eq, bytes_eq, count_by, map, IfOk, option_map, unwrap_or};
+ghost use Rattle.std.specs.Prelude.{◌≡◌, ◌+◌, ℕ, List, nat_eq, bytes_eq, map, IfOk, option_map, unwrap_or};
 ghost use Rattle.std.specs.HashMap.{get};
 ghost use Rattle.portal_model.specs.Change.{plan_among};
 ghost use Rattle.portal_model.specs.History.{limited};
 ghost use Rattle.portal_model.specs.Rows.{count_from, remaining_of, total_from};
 ghost use Rattle.portal_rows.specs.Read.{voucher_read, session_read, count_read};
 ghost use Rattle.portal_rows.specs.Steps.{ends_row};
-ghost use Rattle.portal_rows.specs.Sums.{grant_read, summed, given_to, nothing_given};
+ghost use Rattle.portal_codes.specs.Code.{IsCode};
+ghost use Rattle.portal_rows.specs.Sums.{AreUses, grant_read, summed, given_to, nothing_given};
 
 use crate::grants::KeptGrant;
 use crate::rows::{Fault, KeptCount, KeptSession, KeptVoucher};
 use crate::signs::Total;
-use portal_codes::TEXT_LEN;
+use portal_codes::Code;
 use portal_model::moment::Moment;
 use portal_model::name::Id;
 use portal_model::plan::Plan;
@@ -26,20 +27,26 @@ struct Given {
     bytes: u64,
 }
 
-/// How often each printed code was redeemed.
-pub(crate) fn uses_by_code(
-    alloc: Global,
-    grants: &[KeptGrant],
-) -> Result<HashMap<[u8; TEXT_LEN], u64>, Fault>
-    ensures { IfOk result (λ uses. (code : List ℕ) → unwrap_or (get bytes_eq uses code) 0 ≡ count_by (λ g. bytes_eq g.code code) (map grant_read grants.now)) }
+/// How often each code was redeemed.
+pub(crate) fn uses_by_code(alloc: Global, grants: &[KeptGrant]) -> Result<HashMap<Code, u64>, Fault>
+    ensures { IfOk result (λ uses. AreUses uses (map grant_read grants.now)) }
 {
     let mut uses = HashMap::new(alloc);
     for grant in grants {
-        let code = grant.code.text();
-        let before: u64 = uses.get(&code).copied().unwrap_or(0);
-        uses.insert(code, before + 1)?;
+        let before = uses_of(&uses, &grant.code);
+        uses.insert(grant.code, before + 1)?;
     }
     Ok(uses)
+}
+
+/// How often the code was redeemed: never, where it is not among these.
+pub(crate) fn uses_of(uses: &HashMap<Code, u64>, code: &Code) -> u64
+    ensures found { result ≡ unwrap_or (get bytes_eq uses.now code.now) 0 }
+    ensures code { IsCode code.now }
+{
+    // Its signs tell that it is a code.
+    let _ = code.signs();
+    uses.get(code).copied().unwrap_or(0)
 }
 
 /// How often each voucher was redeemed, in the order of the vouchers.
@@ -54,10 +61,9 @@ pub fn sum_counts(
     let uses = uses_by_code(alloc, grants)?;
     let mut counts = Vec::new(alloc);
     for voucher in vouchers {
-        let code = voucher.code.text();
         let count = KeptCount {
             code: voucher.code,
-            redeemed: uses.get(&code).copied().unwrap_or(0),
+            redeemed: uses_of(&uses, &voucher.code),
         };
         counts.push(count)?;
     }

@@ -23,7 +23,12 @@ pub(crate) fn mark_sold<S: Alter>(
     let text = code.text();
     tx.execute(
         "UPDATE portal_vouchers SET sold = ?2 WHERE code = ?1",
-        params![Signs { bytes: &text }, at.get() as i64],
+        params![
+            Signs {
+                bytes: text.as_bytes()
+            },
+            at.get() as i64
+        ],
     )?;
     Ok(())
 }
@@ -44,7 +49,13 @@ pub(crate) fn mark_refunded<S: Alter>(
     let text = code.text();
     tx.execute(
         "UPDATE portal_vouchers SET refunded = ?2, amount = ?3 WHERE code = ?1",
-        params![Signs { bytes: &text }, at.get() as i64, amount as i64],
+        params![
+            Signs {
+                bytes: text.as_bytes()
+            },
+            at.get() as i64,
+            amount as i64
+        ],
     )?;
     Ok(())
 }
@@ -153,7 +164,12 @@ pub(crate) fn set_redeemed<S: Alter>(
     let text = code.text();
     tx.execute(
         "UPDATE portal_counts SET redeemed = ?2 WHERE code = ?1",
-        params![Signs { bytes: &text }, redeemed as i64],
+        params![
+            Signs {
+                bytes: text.as_bytes()
+            },
+            redeemed as i64
+        ],
     )?;
     Ok(())
 }

@@ -19,7 +19,7 @@ use Rattle.portal_laws.proofs.Typed.{rows_are_typed}
 use Rattle.portal_rows.specs.Audit.{IsAudited, total_in}
 use Rattle.portal_rows.specs.Sums.{summed}
 use Rattle.portal_tables.specs.Shown.{voucher_kept, session_kept, grant_kept, count_kept, contents_of, this_layout}
-use Rattle.portal_tables.proofs.Spelled.{code_test}
+use Rattle.portal_rows.proofs.SameCode.{code_test}
 
 has_mapped : {X Y : Type 0} (f : X → Y) (xs : List X) (x : X) → Has xs x → Has (map f xs) (f x)
 has_mapped f [] x has = absurd has

@@ -33,7 +33,8 @@ use Rattle.portal_rows.specs.Contents.{HeadRow}
 use Rattle.portal_rows.specs.Steps.{ends_row}
 use Rattle.portal_rows.specs.Read.{head_read, voucher_read, session_read, count_read}
 use Rattle.portal_tables.specs.Shown.{head_kept, voucher_kept, session_kept, count_kept, this_layout, IsRowOf}
-use Rattle.portal_tables.proofs.Spelled.{same_code, same_device}
+use Rattle.portal_rows.proofs.SameCode.{same_code}
+use Rattle.portal_tables.proofs.Spelled.{same_device}
 use Rattle.portal_tables.proofs.Lookups.{IsApart, finds_it, finds_none_of, apart_by_text, apart_by_number, from_on, has_origin, has_image_of}
 
 same_bytes : (a b : List ℕ) → (bytes_eq a b ≡ true → a ≡ b) × (a ≡ b → bytes_eq a b ≡ true)

@@ -28,7 +28,7 @@ use Rattle.portal_sql.specs.Stored.{number, put_by}
 use Rattle.portal_rows.specs.Steps.{ended_if}
 use Rattle.portal_rows.specs.Commands.{kept}
 use Rattle.portal_tables.specs.Shown.{contents_of, head_kept, voucher_kept, session_kept, grant_kept, count_kept}
-use Rattle.portal_tables.proofs.Spelled.{code_test}
+use Rattle.portal_rows.proofs.SameCode.{code_test}
 
 -- ---- rows that change
 

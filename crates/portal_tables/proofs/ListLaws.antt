@@ -23,7 +23,7 @@ use Rattle.portal_rows.specs.Lists.{Lists, ListsAs, by_place, by_number, is_left
 use Rattle.portal_tables.specs.Lists.{open_numbered}
 use Rattle.portal_tables.specs.Shown.{voucher_kept}
 use Rattle.portal_tables.proofs.InOrder.{in_order, filter_true}
-use Rattle.portal_tables.proofs.Spelled.{same_code}
+use Rattle.portal_rows.proofs.SameCode.{same_code}
 
 -- ---- the codes of a batch
 

@@ -1,19 +1,7 @@
--- Codes and devices are told by their printed texts.
-use Rattle.std.proofs.Common.{◌≡◌, ℕ, List, ap, subst, bytes_eq}
-use Rattle.std.proofs.lemmas.Slice.Eq.{bytes_eq-Decides}
-use Rattle.portal_codes.specs.Code.{IsCode, Spells, text_of}
-use Rattle.portal_codes.proofs.Spelling.{unique, printed_spells}
+-- Devices are told by their printed texts.
+use Rattle.std.proofs.Common.{◌≡◌, ℕ, List, subst}
 use Rattle.portal_model.specs.Device.{IsDevice, SpellsDevice, text_of_device}
 use Rattle.portal_model.proofs.Devices.{reads-back}
-use Rattle.portal_sql.proofs.Keys.{agree}
-
-pub same_code : (a b : List ℕ) → IsCode a → IsCode b → text_of a ≡ text_of b → a ≡ b
-same_code a b code other e = unique (text_of b) b a (printed_spells b other) (subst (λ text. Spells text a) e (printed_spells a code))
 
 pub same_device : (a b : List ℕ) → IsDevice a → IsDevice b → text_of_device a ≡ text_of_device b → a ≡ b
 same_device a b device other e = (reads-back b other).1 a (subst (λ text. SpellsDevice text a) e (reads-back a device).0)
-
-pub code_test : (a b : List ℕ) → IsCode a → IsCode b → bytes_eq (text_of a) (text_of b) ≡ bytes_eq a b
-code_test a b code other =
-    agree _ _ (λ on. (bytes_eq-Decides a b).1 (same_code a b code other ((bytes_eq-Decides (text_of a) (text_of b)).0 on)))
-    (λ on. (bytes_eq-Decides (text_of a) (text_of b)).1 (ap text_of ((bytes_eq-Decides a b).0 on)))

@@ -23,7 +23,7 @@ use Rattle.portal_rows.specs.Sums.{summed}
 use Rattle.portal_rows.specs.Upgrades.{upgraded, HasUpgraded, MayUpgrade}
 use Rattle.portal_tables.specs.First.{first_layout, ShowsFirst, LeftInEither}
 use Rattle.portal_tables.specs.Shown.{voucher_kept, session_kept, grant_kept, count_kept, contents_of, this_layout, ShowsHistory}
-use Rattle.portal_tables.proofs.Spelled.{code_test}
+use Rattle.portal_rows.proofs.SameCode.{code_test}
 
 -- ---- the counts
 

@@ -2,6 +2,7 @@
 use portal_desk::memory::MemoryDesk;
 use portal_files::sample_settings;
 use portal_http::{Arrival, run};
+use portal_route::Routes;
 use std::alloc::Global;
 use std::test::Fail;
 
@@ -34,6 +35,23 @@ pub fn new_desk(alloc: Global) -> Result<MemoryDesk, Fail> {
     Ok(MemoryDesk::new(alloc, settings))
 }
 
+/// What the desk answers to requests that arrive at moments, one after another.
+pub fn answers(
+    alloc: Global,
+    desk: &mut MemoryDesk,
+    requests: &[(u64, &[u8])],
+) -> Result<Vec<Vec<u8>>, Fail> {
+    let routes = Routes::new(alloc)?;
+    let mut arrivals = Vec::new(alloc);
+    for (moment, request) in requests {
+        let bytes = request.to_vec(alloc)?;
+        arrivals.push(Arrival::new(*moment, [0; 32], bytes).ok_or("a moment past the greatest")?)?;
+    }
+    let mut out = Vec::new(alloc);
+    run(desk, alloc, &routes, arrivals.as_slice(), &mut out)?;
+    Ok(out)
+}
+
 /// What the desk answers to a request that arrives at a moment.
 pub fn answer_at(
     alloc: Global,
@@ -41,12 +59,7 @@ pub fn answer_at(
     moment: u64,
     request: &[u8],
 ) -> Result<Vec<u8>, Fail> {
-    let bytes = request.to_vec(alloc)?;
-    let arrival = Arrival::new(moment, [0; 32], bytes).ok_or("a moment past the greatest")?;
-    let mut arrivals = Vec::new(alloc);
-    arrivals.push(arrival)?;
-    let mut out = Vec::new(alloc);
-    run(desk, alloc, arrivals.as_slice(), &mut out)?;
+    let mut out = answers(alloc, desk, [(moment, request)].as_slice())?;
     Ok(out.pop().ok_or("no response")?)
 }
 

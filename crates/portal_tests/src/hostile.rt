@@ -94,8 +94,24 @@ fn hosts(rt: HostRuntime) -> Result<(), Fail> {
     );
     let without = b"GET /captive HTTP/1.1\r\nPortal-Device: 02:00:00:00:00:01\r\n\r\n";
     assert_eq!(rt; answer(alloc, without)?.as_slice(), BAD_REQUEST.as_bytes());
-    let coded = b"GET /captive HTTP/1.1\r\nTransfer-Encoding: chunked\r\n\r\n";
-    assert_eq!(rt; answer(alloc, coded)?.as_slice(), BAD_REQUEST.as_bytes());
+    let coded_without = b"GET /captive HTTP/1.1\r\nTransfer-Encoding: chunked\r\n\r\n";
+    assert_eq!(rt;
+        answer(alloc, coded_without)?.as_slice(),
+        BAD_REQUEST.as_bytes()
+    );
+    let coded =
+        b"GET /captive HTTP/1.1\r\nHost: api\r\nTransfer-Encoding: chunked\r\nContent-Length: 1\r\nContent-Length: 1\r\n\r\n";
+    let coded = answer(alloc, coded)?;
+    assert!(rt;
+        coded
+            .as_slice()
+            .starts_with(b"HTTP/1.1 501 Not Implemented\r\n")
+    );
+    assert!(rt;
+        coded
+            .as_slice()
+            .ends_with(b"\r\n\r\n{\"error\":\"not_supported\"}")
+    );
     Ok(())
 }
 
@@ -118,9 +134,16 @@ fn lengths(rt: HostRuntime) -> Result<(), Fail> {
         BAD_REQUEST.as_bytes()
     );
     let too_large = with_lines(alloc, b"Content-Length: 65537\r\n")?;
-    assert_eq!(rt;
-        answer(alloc, too_large.as_slice())?.as_slice(),
-        BAD_REQUEST.as_bytes()
+    let too_large = answer(alloc, too_large.as_slice())?;
+    assert!(rt;
+        too_large
+            .as_slice()
+            .starts_with(b"HTTP/1.1 413 Payload Too Large\r\n")
+    );
+    assert!(rt;
+        too_large
+            .as_slice()
+            .ends_with(b"\r\n\r\n{\"error\":\"too_large\"}")
     );
     let zeros = with_lines(alloc, b"Content-Length: 0000\r\n")?;
     assert_eq!(rt;

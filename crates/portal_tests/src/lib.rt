@@ -2,10 +2,30 @@
 #![tactic(auto)]
 
 #[cfg(test)]
+mod batches;
+#[cfg(test)]
+mod bodies;
+#[cfg(test)]
 mod callers;
+#[cfg(test)]
+mod command_lines;
 #[cfg(test)]
 mod desk;
 #[cfg(test)]
+mod heads;
+#[cfg(test)]
 mod hostile;
 #[cfg(test)]
+mod largest;
+#[cfg(test)]
+mod numbers;
+#[cfg(test)]
+mod pieces;
+#[cfg(test)]
 mod plans;
+#[cfg(test)]
+mod program;
+#[cfg(test)]
+mod responses;
+#[cfg(test)]
+mod routes;

@@ -16,7 +16,7 @@ use std::alloc::{AllocError, Global};
 
 const SECONDS_PER_DAY: u64 = 86_400;
 
-/// The issue of the codes as the batch `id` of the plan that was found, where `batch` is the batch that is held under that id, and `taken` says that one of the codes is held. Refused: `UnknownPlan` where no plan was found, `BatchExists`, `MomentRange` where the vouchers would expire past the greatest moment, `CodeTaken` where a code is held or listed twice. `NoMemory` comes where the list of codes could not be copied.
+/// The issue of the codes as the batch `id` of the plan that was found, where `batch` is the batch that is held under that id, and `taken` says that one of the codes is held. Refused: `UnknownPlan` where no plan was found, `BatchExists`, `MomentRange` where the vouchers would expire past the greatest moment, `CodeTaken` where a code is held or listed twice. The first of them whose condition holds is the answer with want of memory aside, which is told as `NoMemory` where the list of codes could not be copied.
 pub fn decide_issue(
     alloc: Global,
     plan: Option<Plan>,
@@ -80,7 +80,7 @@ fn check_issue(
 fn holds_code(codes: &[Code], code: &Code) -> bool
     ensures { result ≡ list_any (bytes_eq code.now) codes.now }
 {
-    codes.iter().any(|c| code == c)
+    codes.iter().any(|c| code.is(c))
 }
 
 /// Some code is listed twice.

@@ -12,7 +12,7 @@ use portal_model::plan::Plan;
 use portal_model::refusal::Refusal;
 use std::alloc::{AllocError, Global};
 
-/// The load of a list of plans, where `held` has the plans that are held of the listed ids: those that are not held are added. Refused: `PlanDiffers` where a listed id is held with other terms. `NoMemory` comes where the list of added plans could not grow.
+/// The load of a list of plans, where `held` has the plans that are held of the listed ids: those that are not held are added. Refused: `PlanDiffers` where a listed id is held with other terms; this is so with want of memory aside, which is told as `NoMemory` where the list of added plans could not grow.
 pub fn decide_plans(
     alloc: Global,
     held: &[Plan],

@@ -3,13 +3,13 @@ use Rattle.httparse.specs.declared.Error.{Error}
 use Rattle.httparse.specs.declared.Error.TheVariants.{TooManyHeaders}
 use Rattle.httparse.specs.Grammar.{NeverHasRequest}
 use Rattle.httparse.specs.Spans.{RequestExceeds}
-use Rattle.portal_head.specs.declared.limits.TheConstants.{FIELD_LIMIT}
+use Rattle.portal_head.specs.Limits.{field_limit}
 use Rattle.portal_head.specs.Lines.{HasManyLines}
 use Rattle.portal_head.proofs.LineFeedLemmas.{exceeds}
 use Rattle.portal_head.proofs.head.find_head.Goals as goal
 
 -- no bytes can follow that make a head, or too many fields came
-by_error : (front : List ℕ) (e : Error) → (e ≡ TooManyHeaders → RequestExceeds FIELD_LIMIT front) → (e ≢ TooManyHeaders → NeverHasRequest front)
+by_error : (front : List ℕ) (e : Error) → (e ≡ TooManyHeaders → RequestExceeds field_limit front) → (e ≢ TooManyHeaders → NeverHasRequest front)
     → HasManyLines front ⊎ NeverHasRequest front
 by_error front TooManyHeaders many never = inl (exceeds front (many refl))
 by_error front e many never = inr (never (λ same. cc))

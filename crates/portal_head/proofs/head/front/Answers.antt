@@ -1,10 +1,10 @@
 use Rattle.std.proofs.Common.{sym, arith}
 use Rattle.std.proofs.lemmas.List.{take_all, length-take-le}
-use Rattle.portal_head.specs.declared.limits.TheConstants.{HEAD_LIMIT}
+use Rattle.portal_head.specs.Limits.{head_limit}
 use Rattle.portal_head.proofs.head.front.Goals as goal
 
 pub slice_bounds-result-end : goal.slice_bounds-result-end
-slice_bounds-result-end c = sym (length-take-le HEAD_LIMIT c.args.bytes.now (omega arith))
+slice_bounds-result-end c = sym (length-take-le head_limit c.args.bytes.now (omega arith))
 
 pub returns-then-bytes-le-HEAD_LIMIT : goal.returns-then-bytes-le-HEAD_LIMIT
-returns-then-bytes-le-HEAD_LIMIT c = sym (take_all HEAD_LIMIT c.args.bytes.now (omega arith))
+returns-then-bytes-le-HEAD_LIMIT c = sym (take_all head_limit c.args.bytes.now (omega arith))

@@ -1,6 +1,6 @@
 use Rattle.std.proofs.Common.{None, refl, ap, ◌∙◌, subst, map}
 use Rattle.httparse.specs.Spans.{header_bytes}
-use Rattle.portal_head.specs.Findings.{HasNoHead}
+use Rattle.portal_head.specs.Steps.{HasNoHead}
 use Rattle.portal_head.specs.Message.{body_after}
 use Rattle.portal_head.proofs.RequestLemmas.{told, none_found, within_front}
 use Rattle.portal_head.proofs.head.parse_request.Goals as goal

@@ -2,7 +2,7 @@ use Rattle.std.proofs.Common.{◌≡◌, ℕ, ◌≤◌, List, ◌++◌, length,
 use Rattle.std.proofs.lemmas.Bool.{le-ltb}
 use Rattle.std.proofs.lemmas.List.{drop-append-le, take-append-le, length-append, length-take}
 use Rattle.httparse.specs.Grammar.{RequestHead, print_request}
-use Rattle.portal_head.specs.declared.limits.TheConstants.{HEAD_LIMIT}
+use Rattle.portal_head.specs.Limits.{head_limit}
 use Rattle.portal_head.specs.declared.faults.HeadFault.{HeadFault}
 use Rattle.portal_head.specs.Message.{HeadOf, bytes_after, body_after, length_of, message_in, message_with}
 use Rattle.portal_head.specs.Decided.{IsDecided, IsSettled}
@@ -25,7 +25,7 @@ same bytes more None (inr without) none = (none_comes bytes more without, refl)
 same bytes more (Some head) (inr without) begins = absurd (without.0 head begins)
 same bytes more (Some head) (inl by) begins =
     let start : length (print_request head) ≤ length bytes =
-    omega (arith, ap length begins.1.1, length-append (print_request head) begins.0, length-take HEAD_LIMIT bytes) in
+    omega (arith, ap length begins.1.1, length-append (print_request head) begins.0, length-take head_limit bytes) in
     let after : bytes_after head (bytes ++ more) ≡ bytes_after head bytes ++ more = drop-append-le (length (print_request head)) bytes more start in (
       stays bytes more head begins,
       ap (message_with head) (ap (body_after (length_of head)) after ∙ same_body (length_of head) (bytes_after head bytes) more (by_one bytes head begins (by))),

@@ -1,7 +1,7 @@
 use Rattle.std.proofs.Common.{◌≡◌, ◌∙◌, sym, ◌<◌, nat_lt, true, false, arith}
 use Rattle.std.proofs.lemmas.Bool.Decides.{nat_tests}
 use Rattle.std.specs.Str.Parse.{digits_value}
-use Rattle.portal_head.specs.declared.limits.TheConstants.{BODY_LIMIT}
+use Rattle.portal_head.specs.Limits.{body_limit}
 use Rattle.portal_head.specs.Lengths.{length_in}
 use Rattle.portal_head.proofs.lengths.read_length.Goals as goal
 
@@ -16,13 +16,13 @@ returns-in-None-clause-value c = rw (sym c.is_empty.ensures ∙ c.if-is_empty.fa
 pub returns-in-Some-clause-value : goal.returns-in-Some-clause-value
 unfolding length_in
 returns-in-Some-clause-value c =
-    let n : BODY_LIMIT < digits_value 10 c.args.value.now = omega (arith, c.in-Some.ensures.1) in
-    let t : nat_lt BODY_LIMIT (digits_value 10 c.args.value.now) ≡ true = grind (arith, nat_tests) in
+    let n : body_limit < digits_value 10 c.args.value.now = omega (arith, c.in-Some.ensures.1) in
+    let t : nat_lt body_limit (digits_value 10 c.args.value.now) ≡ true = grind (arith, nat_tests) in
     rw (sym c.is_empty.ensures ∙ c.if-is_empty.false, c.in-Some.ensures.0, t)
 
 pub returns-in-Some-2-clause-value : goal.returns-in-Some-2-clause-value
 unfolding length_in
 returns-in-Some-2-clause-value c =
     let n : digits_value 10 c.args.value.now ≡ c.in-Some.length = omega (arith, c.in-Some.ensures.1) in
-    let t : nat_lt BODY_LIMIT c.in-Some.length ≡ false = grind (arith, nat_tests) in
+    let t : nat_lt body_limit c.in-Some.length ≡ false = grind (arith, nat_tests) in
     rw (sym c.is_empty.ensures ∙ c.if-is_empty.false, c.in-Some.ensures.0, n, t)

@@ -1,15 +1,16 @@
-use Rattle.std.proofs.Common.{◌-◌, vec_len}
+use Rattle.std.proofs.Common.{◌-◌, length}
 use Rattle.std.specs.Io.KnownBytes.{Consumes}
-use Rattle.portal_head.specs.declared.limits.TheConstants.{HEAD_LIMIT}
-use Rattle.portal_head.specs.Reading.{IsNotLate}
+use Rattle.portal_head.specs.Decided.{IsOpen}
 use Rattle.portal_head.proofs.reading.read_request.Given as goal
+use Rattle.portal_head.specs.Steps.{IsWanted}
 
--- nothing was read too late
-abbrev pub invariant-loop-bytes : goal.invariant-loop-bytes
-invariant-loop-bytes g l = record {
-  read : Consumes (g.R.Read.remaining l.fn.reader) (g.R.Read.remaining l.reader) l.bytes.items;
-  not_late : IsNotLate l.bytes.items;
+-- the reply is open yet
+abbrev pub invariant-loop-received : goal.invariant-loop-received
+invariant-loop-received g l = record {
+  read : Consumes (g.R.Read.remaining l.fn.reader) (g.R.Read.remaining l.reader) l.received.bytes;
+  open_yet : IsOpen l.received.bytes;
+  wanted : IsWanted l.received.bytes l.wanted;
 }
 
-abbrev pub decreases-loop-bytes : goal.decreases-loop-bytes
-decreases-loop-bytes g l = HEAD_LIMIT - vec_len l.bytes
+abbrev pub decreases-loop-received : goal.decreases-loop-received
+decreases-loop-received g l = 77824 - length l.received.bytes

@@ -1,27 +1,14 @@
-use Rattle.std.proofs.Common.{◌≡◌, ℕ, ◌+◌, List, [], ◌∷◌, ◌++◌, length, ap, ◌∙◌, append_assoc, subst}
-use Rattle.std.specs.Prelude.{Vec}
-use Rattle.std.specs.declared.alloc.Global.{Global}
-use Rattle.std.proofs.lemmas.List.{length_push}
-use Rattle.portal_files.specs.SettingsFile.{SettingsValue}
-use Rattle.portal_http.specs.Runs.{Step}
-use Rattle.portal_http.proofs.RunLemmas.{Run-more}
+use Rattle.portal_ledger.specs.States.{running}
+use Rattle.portal_http.specs.Runs.{bytes_of}
+use Rattle.portal_http.proofs.HeadlineLemmas.{survives}
 use Rattle.portal_http.proofs.runs.run.Goals as goal
 
-pub loop-arrival-preserved : goal.loop-arrival-preserved
-loop-arrival-preserved g c = record {
-  told = c.in-Ok.ensures.told ∙ c.loop-arrival.invariant.told;
-  served = λ old stands.
-      let before = c.loop-arrival.invariant.served old stands in
-      let response = c.in-Ok.response in
-      let served = c.in-Ok.ensures.step before.0 before.2 in
-      let step = subst (λ (s : SettingsValue). Step s before.0 c.arrival-item.result response.items served.0) c.loop-arrival.invariant.told served.2 in
-      let grown = c.in-Ok-push.ensures.items ∙ ap (λ (xs : List (Vec ℕ Global)). xs ++ response ∷ []) (c.reserve.ensures.items ∙ before.3) in (
-        served.0,
-        before.1 ++ response ∷ [],
-        served.1,
-        grown ∙ append_assoc c.args.out.now.items before.1 (response ∷ []),
-        length_push before.1 response ∙ ap (λ (n : ℕ). n + 1) before.4,
-        Run-more (g.D.Desk.settings c.args.desk.now) old before.0 served.0 c.args.arrivals.now c.loop-arrival.arrival-index c.arrival-item.result before.1 response
-            c.loop-arrival-test.true c.arrival-item.is before.5 step,
-      );
-}
+pub returns-clause-survives : goal.returns-clause-survives
+returns-clause-survives g c = λ honest L stands.
+    let desk = g.D.Desk in
+    let it = c.serve_all.ensures.served honest (running L) stands in (
+      it.1,
+      it.3,
+      survives (desk.settings c.args.desk.now) desk.Files (desk.may_leave c.serve_all.new.desk) desk.shows L c.args.arrivals.now (bytes_of it.1) it.0 it.4
+          (λ files may. g.met.D.Desk.leaves c.serve_all.new.desk it.0 it.2 files may) (λ files found shown. g.met.D.Desk.sound files found shown),
+    )

@@ -33,3 +33,39 @@ returns-clause-close_session c = ((refl, refl), refl, refl, refl, (refl, refl))
 
 pub returns-clause-allowance_full : goal.returns-clause-allowance_full
 returns-clause-allowance_full c = ((refl, refl), refl, refl, refl)
+
+pub returns-clause-desk_refusals : goal.returns-clause-desk_refusals
+returns-clause-desk_refusals c = (refl, refl)
+
+pub returns-clause-limited_in_both : goal.returns-clause-limited_in_both
+returns-clause-limited_in_both c = (refl, refl, refl, refl)
+
+pub returns-clause-first_plan_extends : goal.returns-clause-first_plan_extends
+returns-clause-first_plan_extends c = (refl, refl)
+
+pub returns-clause-loads : goal.returns-clause-loads
+returns-clause-loads c = refl
+
+pub returns-clause-issues : goal.returns-clause-issues
+returns-clause-issues c = refl
+
+pub returns-clause-sales : goal.returns-clause-sales
+returns-clause-sales c = refl
+
+pub returns-clause-vouchers : goal.returns-clause-vouchers
+returns-clause-vouchers c = refl
+
+pub returns-clause-openings : goal.returns-clause-openings
+returns-clause-openings c = refl
+
+pub returns-clause-extensions : goal.returns-clause-extensions
+returns-clause-extensions c = refl
+
+pub returns-clause-numbers_full : goal.returns-clause-numbers_full
+returns-clause-numbers_full c = (refl, refl, refl, refl, refl, refl)
+
+pub returns-clause-refunds : goal.returns-clause-refunds
+returns-clause-refunds c = refl
+
+pub returns-clause-sessions : goal.returns-clause-sessions
+returns-clause-sessions c = refl

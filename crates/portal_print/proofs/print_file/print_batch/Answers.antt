@@ -3,7 +3,7 @@ use Rattle.std.specs.Prelude.{string_bytes}
 use Rattle.std.specs.List.{flat_map}
 use Rattle.portal_print.specs.PrintFile.{limit_text}
 use Rattle.portal_print.specs.Amount.{amount_text}
-use Rattle.portal_print.specs.Written.{Shared, header_row, code_row}
+use Rattle.portal_print.specs.Private.Written.{Shared, header_row, code_row}
 use Rattle.portal_print.proofs.PrintLines.{shared, print-file, shared-same, ok-or}
 use Rattle.portal_files.specs.declared.fault.FileFault.TheVariants.{Memory}
 use Rattle.portal_print.proofs.print_file.print_batch.Goals as goal

@@ -1,6 +1,7 @@
-use Rattle.std.proofs.Common.{map, take, ap, sym, subst, ◌∙◌, ◌∷◌, [], ◌+◌, rules}
+use Rattle.std.proofs.Common.{All, map, take, ap, sym, subst, ◌∙◌, ◌∷◌, [], ◌+◌, rules}
 use Rattle.std.proofs.lemmas.List.{map-append}
-use Rattle.portal_codes.specs.Code.{text_of}
+use Rattle.std.proofs.lemmas.List.Elements.{All-push}
+use Rattle.portal_codes.specs.Code.{IsCode, text_of}
 use Rattle.portal_model.specs.Rows.{VoucherRow}
 use Rattle.portal_rows.specs.Contents.{voucher_cells}
 use Rattle.portal_rows.specs.Lists.{AreReadAs}
@@ -22,5 +23,5 @@ loop-row-preserved c =
       read =
           subst (AreReadAs voucher_cells 6 (λ (v : VoucherRow). v.code) (take (c.loop-row.row-index + 1) c.args.rows.now)) (sym pushed)
           (read_more voucher_cells 6 (λ (v : VoucherRow). v.code) c.args.rows.now c.loop-row.row-index c.row-item.result (map text_of done) (text_of one) c.loop-row-test.true c.row-item.is c.loop-row.invariant.read c.in_ok-code_of.ensures.read);
-      codes = search rules;
+      codes = subst (All IsCode) (sym c.in_ok-push.ensures.items) (All-push IsCode done one c.loop-row.invariant.codes c.in_ok-code_of.ensures.code);
     }

@@ -1,22 +1,18 @@
-use Rattle.std.proofs.Common.{◌≡◌, sym, ap, ◌∙◌, map, unwrap_or, count_by}
-use Rattle.std.specs.Prelude.{bytes_eq}
-use Rattle.std.specs.HashMap.{get}
+use Rattle.std.proofs.Common.{◌≡◌, sym, ap, ◌∙◌, map}
 use Rattle.std.proofs.lemmas.List.{take_all}
 use Rattle.sqlite_trees.proofs.ListLemmas.{map-map}
 use Rattle.portal_codes.specs.Code.{text_of}
-use Rattle.portal_model.specs.Rows.{GrantRow, count_from}
+use Rattle.portal_model.specs.Rows.{count_from}
 use Rattle.portal_rows.specs.declared.rows.KeptVoucher.{KeptVoucher}
 use Rattle.portal_rows.specs.Read.{voucher_read, count_read}
-use Rattle.portal_rows.specs.Sums.{grant_read}
+use Rattle.portal_rows.specs.Sums.{grant_read, uses_in}
 use Rattle.portal_rows.proofs.SumLemmas.{made_more}
 use Rattle.portal_rows.proofs.sums.sum_counts.Goals as goal
 
 pub loop-voucher-preserved : goal.loop-voucher-preserved
 loop-voucher-preserved c =
     let text = text_of c.voucher-item.result.code in
-    let found : c.unwrap_or.result ≡ unwrap_or (get bytes_eq c.in_ok-uses.uses text) 0 =
-    c.unwrap_or.ensures ∙ ap (λ o. unwrap_or o 0) (c.copied.ensures ∙ c.get.ensures.value) ∙ ap (λ code. unwrap_or (get bytes_eq c.in_ok-uses.uses code) 0) c.text-code.ensures.value in
-    let redeemed : c.unwrap_or.result ≡ count_by (λ (g : GrantRow). bytes_eq g.code text) (map grant_read c.args.grants.now) = found ∙ c.in_ok-uses.ensures text in
+    let redeemed : c.uses_of.result ≡ uses_in (map grant_read c.args.grants.now) text = c.uses_of.ensures.found ∙ c.in_ok-uses.ensures c.voucher-item.result.code c.uses_of.ensures.code in
     made_more count_read (λ v. count_from (map grant_read c.args.grants.now) (voucher_read v)) c.loop-voucher.counts.items c.push.new.self.items _ c.args.vouchers.now c.loop-voucher.voucher-index c.voucher-item.result
     c.loop-voucher.invariant c.in_ok-push.ensures.items c.loop-voucher-test.true c.voucher-item.is (λ k. record { code = text; redeemed = redeemed k })
 

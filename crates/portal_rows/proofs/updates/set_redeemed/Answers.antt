@@ -8,4 +8,4 @@ use Rattle.portal_rows.proofs.updates.set_redeemed.Goals as goal
 pub returns-clause-steps : goal.returns-clause-steps
 returns-clause-steps g c clean inside =
     set_redeemed_inside (state g.S.Store c.args.tx.now.conn.now) (state g.S.Store c.execute.new.self.conn.now) (text_of c.args.code.now) c.args.redeemed c.in_ok-execute.field-0
-    (rw (c.params-to_sql.ensures, c.params-to_sql-2.ensures, c.text-text.ensures.value, to_z_pos w64 c.args.redeemed c.requires) at (c.in_ok-execute.ensures.runs clean inside))
+    (rw (c.params-to_sql.ensures, c.params-to_sql-2.ensures, c.as_bytes.ensures, c.text-text.ensures.value, to_z_pos w64 c.args.redeemed c.requires) at (c.in_ok-execute.ensures.runs clean inside))

@@ -1,0 +1,41 @@
+//! The end of a command: what it tells, or its fault, is printed, and the status follows.
+ghost use Rattle.std.specs.Prelude.{◌≡◌};
+ghost use Rattle.portal_ends.specs.Ends.{EndsPrinting, EndsWith};
+
+use crate::fault::Fault;
+use portal_head::write_response;
+use std::io::Write;
+
+/// What a command tells that was carried out.
+#[derive(Debug, Drop)]
+pub enum Told {
+    /// A text, as it is printed.
+    Text(String),
+    /// The counters of the file are what its rows add up to.
+    Agrees,
+    /// They are not.
+    Differs,
+}
+
+/// Prints a text on `output` and gives `good`; where it goes out in part alone, prints `portal: cut` on `errors` and gives 3.
+pub fn print_all<W: Write, E: Write>(text: &[u8], good: u8, output: &mut W, errors: &mut E) -> u8
+    ensures { EndsPrinting text.now good (record { output = W.contents output.old; output_after = W.contents output.new; errors = E.contents errors.old; errors_after = E.contents errors.new }) result }
+{
+    match write_response(output, text) {
+        Ok(()) => good,
+        Err(_) => Fault::Cut.report(errors),
+    }
+}
+
+/// Prints what a command told on `output`, or its fault on `errors`, and gives the status with which the program ends: 0 for
+/// a text and where the counters agree, 1 where they differ, and at a fault the fault's own.
+pub fn end<W: Write, E: Write>(told: &Result<Told, Fault>, output: &mut W, errors: &mut E) -> u8
+    ensures { EndsWith told.now (record { output = W.contents output.old; output_after = W.contents output.new; errors = E.contents errors.old; errors_after = E.contents errors.new }) result }
+{
+    match told {
+        Ok(Told::Text(text)) => print_all(text.as_bytes(), 0, output, errors),
+        Ok(Told::Agrees) => print_all(b"ok\n".as_slice(), 0, output, errors),
+        Ok(Told::Differs) => print_all(b"differs\n".as_slice(), 1, output, errors),
+        Err(fault) => fault.report(errors),
+    }
+}

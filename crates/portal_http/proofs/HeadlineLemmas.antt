@@ -1,0 +1,213 @@
+-- What a run leaves, from the steps of its requests.
+use Rattle.std.proofs.Common.{◌≡◌, ◌⊎◌, inl, inr, ℕ, List, [], ◌∷◌, ◌++◌, length, take, Bool, true, false, cond, Option, Some, None, refl, sym, ap, subst, ◌∙◌}
+use Rattle.std.specs.Prelude.{◌≢◌, Result, Ok, Err, IfErr}
+use Rattle.portal_model.specs.declared.command.Command.{Command}
+use Rattle.portal_model.specs.declared.change.Answer.{Answer}
+use Rattle.portal_model.specs.declared.refusal.Refusal.{Refusal}
+use Rattle.portal_model.specs.declared.refusal.Refusal.TheVariants.{NoMemory, Stopped, IdReused}
+use Rattle.portal_model.specs.Change.{answer_of}
+use Rattle.portal_model.specs.Captive.{captive_of}
+use Rattle.portal_model.specs.Verdict.{verdict}
+use Rattle.portal_laws.proofs.Granted.{grants_bounded}
+use Rattle.portal_ledger.specs.declared.request.KeptRequest.{KeptRequest}
+use Rattle.portal_ledger.specs.Mark.{Mark, same_request}
+use Rattle.portal_ledger.specs.Ledger.{Accepted, Ledger, history_of, held_in, repeat_of, repeat_in, taken_at, new_by, IsSound}
+use Rattle.portal_ledger.specs.States.{State, running, stopped, MayStand}
+use Rattle.portal_ledger.proofs.Ledgers.{the_sound_is_legal}
+use Rattle.portal_files.specs.SettingsFile.{SettingsValue}
+use Rattle.portal_http.specs.declared.checks.Wanted.{Wanted}
+use Rattle.portal_http.specs.declared.checks.Wanted.TheVariants.{State as Asks, Act}
+use Rattle.portal_http.specs.declared.denials.Denied.{Denied}
+use Rattle.portal_http.specs.Denials.{refusal_of, allow_of}
+use Rattle.portal_http.specs.Arrived.{Arrived}
+use Rattle.portal_http.specs.Checks.{IsChecked, IsOfRequest}
+use Rattle.portal_http.specs.Replies.{IsRefusal, IsAnswer, IsVerdict, IsCommand, IsReply}
+use Rattle.portal_http.specs.Runs.{Stops, Step, Run, Served}
+use Rattle.portal_http.specs.Headline.{is_ok, with_command, Acknowledges, Replies, Leads, IsInDoubt, IsFound, Survives}
+use Rattle.portal_http.proofs.Verdicts.{verdict_is_no_stop}
+use Rattle.portal_http.proofs.Lines.{state_ok, answer_ok, refused_off, other_apart, ok_apart}
+
+memory_is_no_stop : NoMemory ≢ Stopped
+memory_is_no_stop e = cc
+
+reused_is_no_stop : IdReused ≢ Stopped
+reused_is_no_stop e = cc
+
+-- what is held under a key refuses with one refusal alone
+held_is_no_stop : (L : Ledger) (mark : Option Mark) (r : Refusal) → repeat_in L mark ≡ Err r → r ≢ Stopped
+held_is_no_stop L None r e = absurd (cc)
+held_is_no_stop L (Some mark) r e = go (held_in L mark) e
+  where
+    go : (o : Option KeptRequest) → repeat_of o mark ≡ Err r → r ≢ Stopped
+    go None h = absurd (cc)
+    go (Some k) h = by (same_request k.mark mark) h
+      where
+        by : (b : Bool) → ◌≡◌ {A = Result (Option Answer) Refusal} (cond b (Ok (Some k.answer)) (Err IdReused)) (Err r) → r ≢ Stopped
+        by true h = absurd (cc)
+        by false h = let same : IdReused ≡ r = cc in subst (λ (x : Refusal). x ≢ Stopped) same reused_is_no_stop
+
+module _ (settings : SettingsValue) where
+  -- a request that was not answered 200 adds nothing
+  not_ok : (L : Ledger) (a : Arrived) (r : List ℕ) → is_ok r ≡ false → Acknowledges settings L a r L
+  not_ok L a r is = rw is refl
+
+  -- one that was adds its command, where that is a new one
+  is_acknowledged : (L : Ledger) (a : Arrived) (r : List ℕ) (wanted : Result Wanted Denied) (after : Ledger) → is_ok r ≡ true
+      → IsChecked settings a.bytes wanted → after ≡ with_command L wanted a.moment → Acknowledges settings L a r after
+  is_acknowledged L a r wanted after is checked same = rw is (wanted, checked, same)
+
+  -- what a reply comes to: what it acknowledges, and that it does not say `stopped`
+  abbrev Comes : Ledger → Arrived → List ℕ → Ledger → Type 0
+  Comes L a r after = Acknowledges settings L a r after × (¬ IsRefusal Stopped a.moment r)
+
+  -- a refusal of the ledger
+  by_refusal : (L : Ledger) (a : Arrived) (r : List ℕ) (after : Ledger) (x : Refusal) → x ≢ Stopped → IsRefusal x a.moment r → after ≡ L → Comes L a r after
+  by_refusal L a r after x other told same =
+      (subst (Acknowledges settings L a r) (sym same) (not_ok L a r (refused_off x None a.moment r told)), other_apart x None a.moment r other told)
+
+  -- a 200 to a command
+  by_answer : (L : Ledger) (a : Arrived) (r : List ℕ) (after : Ledger) (command : Command) (mark : Option Mark) (answer : Answer)
+      → IsChecked settings a.bytes (Ok (Act command mark)) → IsAnswer answer a.moment r
+      → after ≡ new_by (repeat_in L mark) (taken_at L a.moment command mark) ++ L → Comes L a r after
+  by_answer L a r after command mark answer checked told same =
+      let ok = answer_ok answer a.moment r told in (is_acknowledged L a r (Ok (Act command mark)) after ok checked same, ok_apart a.moment r ok)
+
+  replied : (L : Ledger) (a : Arrived) (r : List ℕ) (wanted : Result Wanted Denied) (after : Ledger)
+      → IsChecked settings a.bytes wanted → IfErr wanted IsOfRequest → IsReply settings wanted L a.moment r after → Comes L a r after
+  replied L a r (Err denied) after checked other reply = (
+    subst (Acknowledges settings L a r) (sym reply.1) (not_ok L a r (refused_off (refusal_of denied) (allow_of denied) a.moment r reply.0)),
+    other_apart (refusal_of denied) (allow_of denied) a.moment r other reply.0,
+  )
+  replied L a r (Ok (Asks device)) after checked other reply =
+      let ok = state_ok settings (captive_of (history_of L) device a.moment) a.moment r reply.0 in
+      (is_acknowledged L a r (Ok (Asks device)) after ok checked reply.1, ok_apart a.moment r ok)
+  replied L a r (Ok (Act command mark)) after checked other reply = go (repeat_in L mark) refl reply
+    where
+      own : Accepted
+      own = taken_at L a.moment command mark
+
+      -- what a new command adds, and a repetition does not
+      adds : (held : Result (Option Answer) Refusal) → repeat_in L mark ≡ held → after ≡ new_by held own ++ L → after ≡ new_by (repeat_in L mark) own ++ L
+      adds held is same = same ∙ ap (λ (x : Result (Option Answer) Refusal). new_by x own ++ L) (sym is)
+
+      judged : repeat_in L mark ≡ Ok None → (v : Option Refusal) → verdict (history_of L) command own.at ≡ v → IsVerdict v L own a.moment r after → Comes L a r after
+      judged none (Some x) is said = by_refusal L a r after x (verdict_is_no_stop (history_of L) command own.at x is) said.0 said.1
+      judged none None is said = by_answer L a r after command mark (answer_of said.0) checked said.2 (adds (Ok None) none said.3)
+
+      go : (held : Result (Option Answer) Refusal) → repeat_in L mark ≡ held → IsCommand held L own a.moment r after → Comes L a r after
+      go (Err x) is said = by_refusal L a r after x (held_is_no_stop L mark x is) said.0 said.1
+      go (Ok (Some answer)) is said = by_answer L a r after command mark answer checked said.0 (adds (Ok (Some answer)) is said.1)
+      go (Ok None) is said = judged is (verdict (history_of L) command own.at) refl said
+
+  -- ---- a desk that stopped
+
+  -- its answer, which adds nothing to any ledger
+  rested : (L K : Ledger) (doubt : Option Accepted) (a : Arrived) (r : List ℕ) (new : State) → Step settings (stopped L doubt) a r new
+      → (new ≡ stopped L doubt) × Acknowledges settings K a r K × Replies settings K a r K
+  rested L K doubt a r new (inl memory) = (memory.1, not_ok K a r (refused_off NoMemory None a.moment r memory.0), inr (inl memory.0))
+  rested L K doubt a r new (inr (wanted, checked, other, out)) = elim (out.1) [
+    | inl refused ↦
+        let denied = refused.0 in
+        let reply : IsReply settings (Err denied) K a.moment r K = (refused.2, refl) in
+        let checks = subst (IsChecked settings a.bytes) refused.1 checked in
+        (out.0, not_ok K a r (refused_off (refusal_of denied) (allow_of denied) a.moment r refused.2), inl (Err denied, checks, reply))
+    | inr over ↦ (out.0, not_ok K a r (refused_off Stopped None a.moment r over.1), inr (inr over.1))
+  ]
+
+  rests : (L K : Ledger) (doubt : Option Accepted) (xs : List Arrived) (rs : List (List ℕ)) (new : State) → Run settings (stopped L doubt) xs rs new
+      → (new ≡ stopped L doubt) × Leads settings K xs rs K
+  rests L K doubt [] [] new run = (run, refl)
+  rests L K doubt [] (r ∷ rs) new run = absurd run
+  rests L K doubt (a ∷ xs) [] new run = absurd run
+  rests L K doubt (a ∷ xs) (r ∷ rs) new run =
+      let one = rested L K doubt a r run.0 run.1 in
+      let rest = rests L K doubt xs rs new (subst (λ (s : State). Run settings s xs rs new) one.0 run.2) in
+      (rest.0, (K, one.1, one.2, rest.1))
+
+  -- ---- a run
+
+  -- the end of a run, read off its requests and responses
+  pub data Ends (L : Ledger) (xs : List Arrived) (rs : List (List ℕ)) (new : State) : Type 0 where
+    works : (last : Ledger) → Leads settings L xs rs last → new ≡ running last → Ends L xs rs new
+    halts : (last : Ledger) → Leads settings L xs rs last → new ≡ stopped last None → Ends L xs rs new
+    doubts : (last : Ledger) → Leads settings L xs rs last → (own : Accepted) → IsInDoubt settings L xs rs own → new ≡ stopped last (Some own) → Ends L xs rs new
+
+  -- a request that did not stop the desk, and the run after it
+  more : (L after : Ledger) (a : Arrived) (r : List ℕ) (xs : List Arrived) (rs : List (List ℕ)) (new : State)
+      → Comes L a r after → Replies settings L a r after → Ends after xs rs new → Ends L (a ∷ xs) (r ∷ rs) new
+  more L after a r xs rs new comes reply (works last leads is) = works last (after, comes.0, reply, leads) is
+  more L after a r xs rs new comes reply (halts last leads is) = halts last (after, comes.0, reply, leads) is
+  more L after a r xs rs new comes reply (doubts last leads own doubted is) = doubts last (after, comes.0, reply, leads) own (inr (comes.1, after, comes.0, doubted)) is
+
+  -- the request that stopped it, and the run after it
+  here : (L : Ledger) (a : Arrived) (r : List ℕ) (xs : List Arrived) (rs : List (List ℕ)) (mid new : State) (wanted : Result Wanted Denied)
+      → IsChecked settings a.bytes wanted → IsRefusal Stopped a.moment r → Stops wanted L a.moment mid → Run settings mid xs rs new → Ends L (a ∷ xs) (r ∷ rs) new
+  here L a r xs rs mid new wanted checked over stops run = go wanted checked stops
+    where
+      lead : (doubt : Option Accepted) → mid ≡ stopped L doubt → (new ≡ stopped L doubt) × Leads settings L (a ∷ xs) (r ∷ rs) L
+      lead doubt is =
+          let rest = rests L L doubt xs rs new (subst (λ (s : State). Run settings s xs rs new) is run) in
+          (rest.0, (L, not_ok L a r (refused_off Stopped None a.moment r over), inr (inr over), rest.1))
+
+      go : (w : Result Wanted Denied) → IsChecked settings a.bytes w → Stops w L a.moment mid → Ends L (a ∷ xs) (r ∷ rs) new
+      go (Err denied) checked stops = absurd stops
+      go (Ok (Asks device)) checked stops = let it = lead None stops in halts L it.1 it.0
+      go (Ok (Act command mark)) checked (inl is) = let it = lead None is in halts L it.1 it.0
+      go (Ok (Act command mark)) checked (inr it) =
+          let own = taken_at L a.moment command mark in
+          let led = lead (Some own) it.2 in doubts L led.1 own (inl (over, (command, mark, checked, refl, it.0, it.1))) led.0
+
+  pub ends : (L : Ledger) (xs : List Arrived) (rs : List (List ℕ)) (new : State) → Run settings (running L) xs rs new → Ends L xs rs new
+  ends L [] [] new run = works L refl run
+  ends L [] (r ∷ rs) new run = absurd run
+  ends L (a ∷ xs) [] new run = absurd run
+  ends L (a ∷ xs) (r ∷ rs) new run = elim (run.1) [
+    | inl memory ↦
+        more L L a r xs rs new (by_refusal L a r L NoMemory memory_is_no_stop memory.0 refl) (inr (inl memory.0))
+        (ends L xs rs new (subst (λ (s : State). Run settings s xs rs new) memory.1 run.2))
+    | inr (wanted, checked, other, inl reply) ↦
+        more L reply.0 a r xs rs new (replied L a r wanted reply.0 checked other reply.1) (inl (wanted, checked, reply.1))
+        (ends reply.0 xs rs new (subst (λ (s : State). Run settings s xs rs new) reply.2 run.2))
+    | inr (wanted, checked, other, inr over) ↦ here L a r xs rs run.0 new wanted checked over.0 over.1 run.2
+  ]
+
+  -- ---- what a stop leaves
+
+  module _ (Files : Type 0) (may_leave : Files → Type 0) (shows : Files → Ledger → Type 0) (L : Ledger) (xs : List Arrived) (rs : List (List ℕ)) (new : State) where
+    abbrev Left : Type 0
+    Left = (files : Files) → may_leave files → (found : Ledger) × MayStand new found × shows files found
+
+    found_at : (last found : Ledger) → ((found ≡ last) ⊎ ((own : Accepted) × IsInDoubt settings L (take (length rs) xs) rs own × (found ≡ own ∷ last)))
+        → IsSound found → IsFound settings L (take (length rs) xs) rs last found
+    found_at last found is sound =
+        let legal = the_sound_is_legal found sound in
+        record { is = is; sound = sound; legal = legal; grants = grants_bounded (history_of found) legal }
+
+    pub survives : Served settings (running L) xs rs new → Left → ((files : Files) (found : Ledger) → shows files found → IsSound found)
+        → Survives Files may_leave shows settings L xs rs
+    survives served left sound = go (ends L (take (length rs) xs) rs new served)
+      where
+        go : Ends L (take (length rs) xs) rs new → Survives Files may_leave shows settings L xs rs
+        go (works last leads is) = (
+          last,
+          leads,
+          λ files may.
+              let it = left files may in
+              (it.0, it.2, found_at last it.0 (inl (subst (λ (s : State). MayStand s it.0) is it.1)) (sound files it.0 it.2)),
+        )
+        go (halts last leads is) = (
+          last,
+          leads,
+          λ files may.
+              let it = left files may in
+              (it.0, it.2, found_at last it.0 (inl (subst (λ (s : State). MayStand s it.0) is it.1)) (sound files it.0 it.2)),
+        )
+        go (doubts last leads own doubted is) = (
+          last,
+          leads,
+          λ files may.
+              let it = left files may in
+              let where_it_is : (it.0 ≡ last) ⊎ ((d : Accepted) × IsInDoubt settings L (take (length rs) xs) rs d × (it.0 ≡ d ∷ last)) =
+              elim (subst (λ (s : State). MayStand s it.0) is it.1) [ inl same ↦ inl same | inr one ↦ inr (own, doubted, one) ] in
+              (it.0, it.2, found_at last it.0 where_it_is (sound files it.0 it.2)),
+        )

@@ -1,0 +1,95 @@
+-- What a run of requests leaves, read off the requests and their responses.
+--
+-- A stop leaves the ledger before the run, then the commands that were answered 200, and at most one command more, which was answered
+-- `stopped`. Each response, but for those of `no_memory` and `stopped`, is the reply that the ledger so far gives at the moment handed
+-- in.
+use Rattle.std.specs.Prelude.{◌≡◌, ◌⊎◌, ℕ, List, [], ◌∷◌, ◌++◌, length, take, Bool, Option, None, Result, Ok, Err, codes, nat_eq}
+use Rattle.std.specs.List.{starts_with}
+use Rattle.std.specs.Bool.{MatchBool}
+use Rattle.portal_model.specs.declared.command.Command.{Command}
+use Rattle.portal_model.specs.declared.refusal.Refusal.TheVariants.{NoMemory, Stopped}
+use Rattle.portal_model.specs.Rows.{rows_of}
+use Rattle.portal_model.specs.Verdict.{verdict, IsLegal}
+use Rattle.portal_laws.specs.Laws.{HasGrantsWithin}
+use Rattle.portal_ledger.specs.Mark.{Mark}
+use Rattle.portal_ledger.specs.Ledger.{Accepted, Ledger, history_of, repeat_in, taken_at, new_by, IsSound}
+use Rattle.portal_files.specs.SettingsFile.{SettingsValue}
+use Rattle.portal_http.specs.declared.checks.Wanted.{Wanted}
+use Rattle.portal_http.specs.declared.checks.Wanted.TheVariants.{State, Act}
+use Rattle.portal_http.specs.declared.denials.Denied.{Denied}
+use Rattle.portal_http.specs.Arrived.{Arrived}
+use Rattle.portal_http.specs.Checks.{IsChecked}
+use Rattle.portal_http.specs.Replies.{IsRefusal, IsReply}
+
+-- ---- what was acknowledged
+
+-- the response has the status 200
+abbrev pub is_ok : List ℕ → Bool
+is_ok response = starts_with nat_eq response (codes "HTTP/1.1 200 ")
+
+-- the ledger with the command of a request, where that is a new one; a repetition and a request of another kind add nothing
+abbrev pub with_command : Ledger → Result Wanted Denied → ℕ → Ledger
+with_command L (Ok (Act command mark)) moment = new_by (repeat_in L mark) (taken_at L moment command mark) ++ L
+with_command L (Ok (State device)) moment = L
+with_command L (Err denied) moment = L
+
+-- the ledger after a request: with its command, where it was answered 200
+abbrev pub Acknowledges : SettingsValue → Ledger → Arrived → List ℕ → Ledger → Type 0
+Acknowledges settings L a response after = MatchBool (is_ok response)
+    ((wanted : Result Wanted Denied) × IsChecked settings a.bytes wanted × (after ≡ with_command L wanted a.moment))
+    (after ≡ L)
+
+-- the response is the reply that the ledger gives at the moment handed in, or that of `no_memory`, or that of `stopped`
+abbrev pub Replies : SettingsValue → Ledger → Arrived → List ℕ → Ledger → Type 0
+Replies settings L a response after =
+    ((wanted : Result Wanted Denied) × IsChecked settings a.bytes wanted × IsReply settings wanted L a.moment response after)
+    ⊎ (IsRefusal NoMemory a.moment response ⊎ IsRefusal Stopped a.moment response)
+
+-- Requests and their responses, one after another: the last ledger is the first with the acknowledged commands.
+abbrev pub Leads : SettingsValue → Ledger → List Arrived → List (List ℕ) → Ledger → Type 0
+Leads settings L [] [] last = last ≡ L
+Leads settings L [] (r ∷ rs) last = ⊥
+Leads settings L (a ∷ rest) [] last = ⊥
+Leads settings L (a ∷ rest) (r ∷ rs) last =
+    (after : Ledger) × Acknowledges settings L a r after × Replies settings L a r after × Leads settings after rest rs last
+
+-- ---- what is in doubt
+
+-- the command of a request as it would be accepted, where it is a new one and the verdict accepts it
+abbrev pub IsAccepted : SettingsValue → Ledger → Arrived → Accepted → Type 0
+IsAccepted settings L a own =
+    (command : Command) × (mark : Option Mark) × IsChecked settings a.bytes (Ok (Act command mark))
+    × (own ≡ taken_at L a.moment command mark) × (repeat_in L mark ≡ Ok None) × (verdict (history_of L) command own.at ≡ None)
+
+-- the command of the first request that was answered `stopped`, where the ledger so far accepts it
+abbrev pub IsInDoubt : SettingsValue → Ledger → List Arrived → List (List ℕ) → Accepted → Type 0
+IsInDoubt settings L [] rs own = ⊥
+IsInDoubt settings L (a ∷ rest) [] own = ⊥
+IsInDoubt settings L (a ∷ rest) (r ∷ rs) own =
+    (IsRefusal Stopped a.moment r × IsAccepted settings L a own)
+    ⊎ ((¬ IsRefusal Stopped a.moment r) × (after : Ledger) × Acknowledges settings L a r after × IsInDoubt settings after rest rs own)
+
+-- ---- what a stop leaves
+
+-- What is found after a stop: the ledger with the acknowledged commands, or with the one in doubt besides. It is sound, its history is
+-- legal, and no code in it has more grants than its plan has uses.
+pub record IsFound (settings : SettingsValue) (L : Ledger) (arrivals : List Arrived) (responses : List (List ℕ)) (last found : Ledger) : Type 0 where
+  pub is : (found ≡ last) ⊎ ((own : Accepted) × IsInDoubt settings L arrivals responses own × (found ≡ own ∷ last))
+  pub sound : IsSound found
+  pub legal : IsLegal (history_of found)
+  pub grants : (code : List ℕ) → HasGrantsWithin (rows_of (history_of found)) code
+
+-- The requests that were answered led from the ledger to another one, and each set of files that a stop may leave shows that one, or
+-- it with the command in doubt.
+abbrev pub Survives : (Files : Type 0) → (Files → Type 0) → (Files → Ledger → Type 0) → SettingsValue → Ledger → List Arrived → List (List ℕ) → Type 0
+Survives Files may_leave shows settings L arrivals responses =
+    let answered = take (length responses) arrivals in
+    (last : Ledger) × Leads settings L answered responses last
+    × ((files : Files) → may_leave files → (found : Ledger) × shows files found × IsFound settings L answered responses last found)
+
+-- The page has one reading: the requests and their responses settle the ledger that they led to, and the command in doubt.
+pub record OneReading : Type 0 where
+  pub leads : (settings : SettingsValue) (L : Ledger) (arrivals : List Arrived) (responses : List (List ℕ)) (last other : Ledger)
+      → Leads settings L arrivals responses last → Leads settings L arrivals responses other → last ≡ other
+  pub in_doubt : (settings : SettingsValue) (L : Ledger) (arrivals : List Arrived) (responses : List (List ℕ)) (own other : Accepted)
+      → IsInDoubt settings L arrivals responses own → IsInDoubt settings L arrivals responses other → own ≡ other

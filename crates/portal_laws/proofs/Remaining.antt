@@ -1,0 +1,49 @@
+-- What is told remains is at least 1.
+use Rattle.std.proofs.Common.{◌≡◌, ℕ, ◌-◌, ◌<◌, ◌≤◌, Bool, true, false, cond, List, [], ◌∷◌, Option, Some, None, refl, arith, sym, subst}
+use Rattle.std.specs.Prelude.{is_none, ◌&&◌, filter, All}
+use Rattle.std.proofs.lemmas.Bool.Decides.{nat_tests}
+use Rattle.std.proofs.lemmas.List.Elements.{All-nil, All-cons, All-map}
+use Rattle.portal_model.specs.declared.record.Session.{Session}
+use Rattle.portal_model.specs.History.{History, kept_if, is_open_at, is_below, last_session_of, effective_moment}
+use Rattle.portal_model.specs.Captive.{left_below, told_of, open_session, all_sessions}
+use Rattle.portal_laws.specs.Laws.{AtLeastOne, GuestsAreToldWhatRemains, GatewayIsToldWhatRemains}
+use Rattle.portal_laws.proofs.Basics.{and-true}
+
+left-least : (done n : ℕ) (limit : Option ℕ) → is_below done limit ≡ true → left_below done limit ≡ Some n → 1 ≤ n
+left-least done n None below e = cc
+left-least done n (Some limit) below e =
+    let left : limit - done ≡ n = cc in
+    let low : done < limit = grind (arith, nat_tests) in
+    omega arith
+
+open-least : (t : ℕ) (s : Session) → is_open_at t s ≡ true → AtLeastOne (left_below t s.ends) (left_below s.used s.allowance)
+open-least t s is_open =
+    let first = and-true (is_none s.closed) (is_below t s.ends && is_below s.used s.allowance) is_open in
+    let both = and-true (is_below t s.ends) (is_below s.used s.allowance) first.1 in
+    record { seconds_left = λ n is. left-least t n s.ends both.0 is; bytes_left = λ n is. left-least s.used n s.allowance both.1 is }
+
+told-least : (t : ℕ) (last : Option Session) → AtLeastOne (told_of t (kept_if (is_open_at t) last)).seconds (told_of t (kept_if (is_open_at t) last)).bytes
+told-least t None = record { seconds_left = λ n is. cc; bytes_left = λ n is. cc }
+told-least t (Some s) = by_test (is_open_at t s) refl
+  where
+    by_test : (is_open : Bool) → is_open_at t s ≡ is_open → AtLeastOne (told_of t (cond is_open (Some s) None)).seconds (told_of t (cond is_open (Some s) None)).bytes
+    by_test true e = open-least t s e
+    by_test false e = record { seconds_left = λ n is. cc; bytes_left = λ n is. cc }
+
+pub guests-told : GuestsAreToldWhatRemains
+guests-told H device t = told-least (effective_moment H t) (last_session_of H device)
+
+-- what passes a test has what the test tells
+passing : (P : Session → Type 0) (test : Session → Bool) → ((s : Session) → test s ≡ true → P s) → (ss : List Session) → All P (filter test ss)
+passing P test tells [] = All-nil P
+passing P test tells (s ∷ ss) = by_test (test s) refl (passing P test tells ss)
+  where
+    by_test : (passes : Bool) → test s ≡ passes → All P (filter test ss) → All P (cond passes (s ∷ filter test ss) (filter test ss))
+    by_test true e rest = All-cons P s (filter test ss) (tells s e) rest
+    by_test false e rest = rest
+
+pub gateway-told : GatewayIsToldWhatRemains
+gateway-told H t =
+    let now : ℕ = effective_moment H t in
+    All-map (λ o. AtLeastOne o.seconds o.bytes) (open_session now) (filter (is_open_at now) (all_sessions H))
+    (passing (λ s. AtLeastOne (left_below now s.ends) (left_below s.used s.allowance)) (is_open_at now) (open-least now) (all_sessions H))

@@ -1,0 +1,7 @@
+pub mod Filling
+pub mod Keys
+pub mod Ledgers
+pub mod Lives
+pub mod Acknowledged
+pub mod Told
+pub mod Typed

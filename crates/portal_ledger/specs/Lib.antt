@@ -1,0 +1,8 @@
+pub mod Mark
+pub mod Ledger
+pub mod States
+pub mod Calls
+pub mod Runs
+pub mod RequestRow
+pub mod Laws
+pub mod Worked

@@ -1,0 +1,235 @@
+#!/usr/bin/python3
+"""The counter's page: sell, refund, look up, issue and print, takings, open sessions.
+
+It holds the desk's token, listens on a socket that nginx alone may open, and is served on the counter's network only.
+Each form carries a request number: a form sent twice acts once, and a form in doubt comes back to be sent again.
+"""
+
+from __future__ import annotations
+
+import html
+import json
+import pathlib
+import sys
+import time
+import tomllib
+import urllib.parse
+from collections.abc import Callable
+from dataclasses import dataclass
+from typing import Any
+
+sys.path.insert(0, str(pathlib.Path(__file__).resolve().parent.parent / "lib"))
+import refusals  # noqa: E402
+from desk_client import (REQUEST_NUMBER, Desk, NoAnswer, Refused, Routes, credential, new_number,  # noqa: E402
+                         settings)
+from pages import BadForm, Form, Page, UnixServer, box  # noqa: E402
+from words import clock, money, span, use_zone, volume  # noqa: E402
+
+OLD_LIST = 15       # seconds after which the gateway's list says that it is old
+
+FRAME = """<!DOCTYPE html>
+<html lang="en"><head><meta charset="utf-8"><meta name="viewport" content="width=device-width, initial-scale=1">
+<title>Counter</title><link rel="stylesheet" href="/style.css"></head>
+<body><main class="wide"><h1 class="screen"><a href="/">Counter</a></h1>{notice}{body}</main></body></html>
+"""
+HOME = """<div class="desk">
+<section><h2>Sell</h2>{sell}{code}<button>Sell</button></form></section>
+<section><h2>Look up</h2><form action="/voucher">{code}<button>Look up</button></form></section>
+<section><h2>Refund</h2>{refund}{code}<button>Refund</button></form></section>
+<section><h2>Issue a batch</h2>{issue}<label>Plan<select name="plan">{plans}</select></label>
+<label>Name<input name="batch" required pattern="[a-z0-9-]{{1,32}}" value="{batch}"></label>
+<label>Codes<input name="count" type="number" min="1" max="500" value="20" required></label>
+<button>Issue</button></form></section>
+<section><h2>Print a sheet</h2><form action="/sheet"><input name="batch" required pattern="[a-z0-9-]{{1,32}}"
+ placeholder="name of the batch" aria-label="name of the batch"><button>Show the sheet</button></form></section>
+<section><h2>Takings</h2><form action="/takings"><label>First day<input name="from" type="date" required value="{day}">
+</label><label>Last day<input name="to" type="date" required value="{day}"></label><button>Add up</button></form>
+</section><section class="whole"><h2>Open sessions</h2>{sessions}</section></div>"""
+CODE = '<input name="code" required maxlength="40" placeholder="code" autocomplete="off" aria-label="code">'
+
+
+def form_of(action: str, number: str, **hidden: str) -> str:
+    """The head of a form that acts, with its request number."""
+    fields = "".join(f'<input type="hidden" name="{html.escape(name)}" value="{html.escape(value)}">'
+                     for name, value in {"request": number, **hidden}.items())
+    return f'<form method="post" action="{action}">{fields}'
+
+
+def table(kind: str, head: tuple[str, ...], rows: list[tuple[str, ...]]) -> str:
+    """Cells are HTML; a cell tells its column's name on narrow screens."""
+    names = "".join(f"<th>{name}</th>" for name in head)
+    cells = ("".join(f'<td data-label="{name}">{cell}</td>' for name, cell in zip(head, row)) for row in rows)
+    return f'<table class="{kind}"><tr>{names}</tr>{"".join(f"<tr>{row}</tr>" for row in cells)}</table>'
+
+
+def facts(pairs: list[tuple[str, str]]) -> str:
+    rows = (f"<tr><th>{name}</th><td>{html.escape(value)}</td></tr>" for name, value in pairs)
+    return f"<table>{''.join(rows)}</table>"
+
+
+def prices(text: bytes) -> dict[str, int]:
+    """Each plan's id and price in a plans file; none where the file does not read, which the desk will say."""
+    try:
+        return {str(plan["id"]): int(plan["price"]) for plan in tomllib.loads(text.decode())["plan"]}
+    except (ValueError, KeyError, TypeError):
+        return {}
+
+
+@dataclass
+class Counter:
+    """What the clerk can do. An action answers what stands above the first page, a question a page."""
+    desk: Desk
+    conf: dict[str, Any]
+    plans: dict[str, int]       # id: price
+    plans_notice: str = ""
+
+    def load_plans(self) -> None:
+        """At each start: a file whose plans the desk holds already changes no plan."""
+        text = pathlib.Path(self.conf["plans"]).read_bytes()
+        self.plans, self.plans_notice = prices(text), ""
+        try:
+            self.desk.tell(Routes.PLANS, body=text)
+        except (Refused, NoAnswer) as fault:
+            told = refusals.of_word(fault.word) if isinstance(fault, Refused) else refusals.SILENT
+            self.plans_notice = box("bad", "The plans file was not loaded.", told.cause, told.advice)
+
+    def sell(self, form: Form, number: str) -> str:
+        told = self.desk.tell(Routes.SELL, body={"code": form.word("code")}, number=number)
+        return box("good", f"Sold: {told['code']}.", f"Take {money(told['price'])}.")
+
+    def refund(self, form: Form, number: str) -> str:
+        told = self.desk.tell(Routes.REFUND, body={"code": form.word("code")}, number=number)
+        return box("good", f"Refunded: {told['code']}.", f"Give back {money(told['amount'])}.")
+
+    def close(self, form: Form, number: str) -> str:
+        told = self.desk.tell(Routes.CLOSE, body={"session": form.whole("session")}, number=number)
+        return box("good", f"Session {told['session']} is closed.", "Within a poll nothing of it passes any more.")
+
+    def issue(self, form: Form, number: str) -> str:
+        order = {"batch": form.word("batch"), "plan": form.word("plan"), "count": form.whole("count")}
+        told = self.desk.tell(Routes.ISSUE, body=order, number=number)
+        batch, until = told["batch"], clock(told["expires"])
+        link = f'<p><a href="/sheet?batch={html.escape(batch)}">Print its sheet</a></p>'
+        return box("good", f"Batch {batch}: {told['count']} codes, good until {until}.") + link
+
+    def voucher(self, form: Form) -> str:
+        told = self.desk.tell(Routes.VOUCHER, form.word("code").replace(" ", ""))
+        return f"<h2>{html.escape(told['code'])}</h2>" + facts([
+            ("Plan", told["plan"]), ("Batch", told["batch"]), ("Good until", clock(told["expires"])),
+            ("Sold", "no" if told["sold"] is None else clock(told["sold"])),
+            ("Used", f"{told['redeemed']} of {told['uses']}"),
+            ("Refunded", "no" if told["refund"] is None else money(told["refund"]))])
+
+    def sheet(self, form: Form) -> str:
+        from sheet import sheet     # needs python3-segno, which the other pages do not
+        text = self.desk.ask(Routes.PRINT, form.word("batch")).decode()
+        return sheet(text, self.conf["portal_url"], self.conf["house"])
+
+    def takings(self, form: Form) -> str:
+        text = self.desk.ask(Routes.TAKINGS, query={"from": form.word("from"), "to": form.word("to")}).decode()
+        head, *rows, net = (tuple(html.escape(word) for word in line.split()) for line in text.splitlines())
+        return f"<h2>Takings</h2>{table('rows', head, rows)}<p><b>{' '.join(net)}</b></p>"
+
+    def first_page(self) -> str:
+        if self.plans_notice:
+            self.load_plans()
+        return self.plans_notice + self.home()
+
+    def home(self) -> str:
+        plans = ((html.escape(name), money(price)) for name, price in self.plans.items())
+        options = "".join(f'<option value="{name}">{name}, {price}</option>' for name, price in plans)
+        forms = {name: form_of("/" + name, new_number()) for name in ("sell", "refund", "issue")}
+        return HOME.format(**forms, code=CODE, plans=options, batch=time.strftime("b-%Y%m%d-%H%M%S"),
+                           day=time.strftime("%Y-%m-%d"), sessions=self.sessions())
+
+    def sessions(self) -> str:
+        """The gateway agent's list; it is said where the list is old."""
+        try:
+            told = json.loads(pathlib.Path(self.conf["snapshot"]).read_text())
+        except (OSError, ValueError):
+            return box("bad", "There is no list from the gateway. Is portal-gateway.service running?")
+        age = int(time.time()) - told["at"]
+        old = box("bad", f"This list is {span(age)} old: the gateway gets no answer, and nobody passes.")
+        rows = [(str(s["session"]), html.escape(s["device"]),
+                 span(s["seconds-remaining"]) if "seconds-remaining" in s else "&ndash;",
+                 volume(s["bytes-remaining"]) if "bytes-remaining" in s else "&ndash;", volume(s["used"]),
+                 form_of("/close", new_number(), session=str(s["session"])) + "<button>Close</button></form>")
+                for s in told["sessions"]]
+        head = ("No.", "Device", "Time left", "Data left", "Used", "")
+        return (old if age > OLD_LIST else "") + (table("rows", head, rows) if rows else "<p>None.</p>")
+
+    def again(self, action: str, form: Form) -> str:
+        """The same form once more, number and all: sent again it acts once."""
+        hidden = {name: value for name, value in form.items() if name != "request"}
+        words = ", ".join(f"{name} {value}" for name, value in hidden.items())
+        title = html.escape(f"{action.strip('/').capitalize()}: {words}")
+        return (f'<div class="desk"><section><h2>{title}</h2>{form_of(action, form["request"], **hidden)}'
+                "<button>Send it again</button></form></section></div>")
+
+
+class CounterPage(Page):
+    server: Any
+    server_version = "counter"
+
+    def show(self, status: int, notice: str = "", body: str | None = None) -> None:
+        self.send(status, FRAME.format(notice=notice, body=self.server.counter.home() if body is None else body))
+
+    def do_GET(self) -> None:
+        counter: Counter = self.server.counter
+        path = self.path.partition("?")[0]
+        pages: dict[str, Callable[[Form], str]] = {
+            "/": lambda _: counter.first_page(), "/voucher": counter.voucher, "/sheet": counter.sheet,
+            "/takings": counter.takings}
+        if path not in pages:
+            return self.show(404, box("bad", "There is no such page."))
+        self.guarded(lambda: self.show(200, body=pages[path](self.query())))
+
+    def do_POST(self) -> None:
+        # Another site's page cannot send forms in the clerk's name: browsers name the origin of every POST.
+        if urllib.parse.urlsplit(self.headers.get("Origin", "")).netloc != self.headers.get("Host", "-"):
+            return self.show(403, box("bad", "This form was not sent from the counter's own page."))
+        counter: Counter = self.server.counter
+        actions = {"/sell": counter.sell, "/refund": counter.refund, "/close": counter.close, "/issue": counter.issue}
+        if self.path not in actions:
+            return self.show(404, box("bad", "There is no such page."))
+        self.guarded(lambda: self.act(actions[self.path]))
+
+    def act(self, action: Callable[[Form, str], str]) -> None:
+        form = self.sent_form()
+        number = form.word("request")
+        if not REQUEST_NUMBER.fullmatch(number):
+            raise BadForm("request")
+        try:
+            return self.show(200, action(form, number))
+        except NoAnswer:
+            told = refusals.NO_ANSWER
+        except Refused as refused:
+            if not refused.in_doubt:
+                raise
+            told = refusals.of_word(refused.word)
+        self.show(told.status, box("bad", told.cause, told.advice), self.server.counter.again(self.path, form))
+
+    def guarded(self, answer: Callable[[], None]) -> None:
+        """What the desk or a form does not give, in the clerk's words."""
+        try:
+            return answer()
+        except Refused as refused:
+            status, told = refused.status, refusals.of_word(refused.word)
+        except NoAnswer:
+            status, told = 504, refusals.SILENT
+        except BadForm:
+            status, told = 400, refusals.of_word("bad_request")
+        self.show(status, box("bad", told.cause, told.advice))
+
+
+def main() -> None:
+    conf = settings("/etc/portal/counter.toml")
+    use_zone(conf["zone"])
+    server = UnixServer.bound(conf["socket"], CounterPage)
+    server.counter = Counter(Desk(conf["desk_port"], credential("desk_token")), conf, {})
+    server.counter.load_plans()
+    server.serve_forever()
+
+
+if __name__ == "__main__":
+    main()

@@ -1,0 +1,177 @@
+#!/usr/bin/python3
+"""The gateway agent: lets through the devices that the desk names, counts their bytes, reports them.
+
+All that lasts is in the kernel's sets (portal.nft), so the agent may be stopped and started at any moment: an
+element's counter and its comment `SESSION+BASE` say which session is counted, and from which number on.
+"""
+
+from __future__ import annotations
+
+import json
+import os
+import pathlib
+import select
+import socket
+import sys
+import time
+from collections.abc import Callable, Iterable
+from typing import Any, Protocol
+
+sys.path.insert(0, str(pathlib.Path(__file__).resolve().parent.parent / "lib"))
+from desk_client import Desk, NoAnswer, Refused, Routes, credential, settings  # noqa: E402
+from passing import Passing, RulesAreGone  # noqa: E402
+
+Row = dict[str, Any]    # an open session as the desk tells it
+NEAR_END = 8            # a report is due when this part of what is left was used
+
+
+class Gate(Protocol):
+    def passing(self) -> dict[str, Passing]: ...
+    def change(self, gone: Iterable[str], come: dict[str, Passing]) -> None: ...
+    def shut(self) -> None: ...
+    def stands(self) -> None: ...
+    def bar(self) -> None: ...
+    def unbar(self) -> None: ...
+
+
+class Agent:
+    def __init__(self, desk: Desk, gate: Gate, snapshot: str | None = None, quiet: float = 30.0,
+                 now: Callable[[], float] = time.monotonic) -> None:
+        self.desk, self.gate, self.snapshot, self.quiet, self.now = desk, gate, snapshot, quiet, now
+        self.reported: dict[int, tuple[int, float]] = {}    # session: bytes, when
+        self.owed: dict[int, int] = {}                      # session: last count that the desk has not heard
+
+    def report(self, session: int, used: int) -> tuple[bool, int]:
+        """Tells a session's bytes; whether the session is still open, and what the desk holds.
+
+        No request number: the desk keeps the greatest report, so a report sent twice does no harm, and numbers are
+        kept for good."""
+        told = self.desk.tell(Routes.REPORT, body={"session": session, "bytes": used})
+        self.reported[session] = (max(used, told["used"]), self.now())
+        return told["open"], told["used"]
+
+    def is_due(self, p: Passing, left: int | None) -> bool:
+        """A report is a commit at the desk: it comes near the end of the bytes, or after a while."""
+        if p.session not in self.reported:
+            return True
+        known, when = self.reported[p.session]
+        fresh = p.used - known
+        if fresh > 0 and self.now() - when >= self.quiet:
+            return True
+        return left is not None and fresh * NEAR_END >= left
+
+    def settle(self, gone: dict[str, Passing], wanted: dict[str, Row]) -> None:
+        """The last counts of devices that were taken out; what the desk does not hear is owed to the next poll."""
+        self.owed.update({p.session: p.used for p in gone.values()})
+        # After a restore of an older book a number may belong to another device: say nothing then.
+        for session in (0, *(row["session"] for row in wanted.values())):
+            self.owed.pop(session, None)
+        for session, used in list(self.owed.items()):
+            try:
+                self.report(session, used)
+            except Refused as refusal:
+                if refusal.status == 503:
+                    raise
+            del self.owed[session]
+            self.reported.pop(session, None)
+
+    def newcomers(self, wanted: dict[str, Row], stay: dict[str, Passing]) -> dict[str, Passing]:
+        """Who is to be let in, each from the bytes that the desk holds.
+
+        A report of 0 bytes changes nothing and tells what is held, also to a gateway that lost its counts."""
+        come = {}
+        for mac, row in wanted.items():
+            if mac not in stay:
+                is_open, used = self.report(row["session"], 0)
+                if is_open:
+                    come[mac] = Passing(row["session"], used, 0)
+        return come
+
+    def poll(self) -> None:
+        self.gate.stands()                  # also where the desk is silent
+        wanted = {row["device"]: row for row in self.desk.tell(Routes.SESSIONS)["sessions"]}
+        now = self.gate.passing()
+        stay = {mac: p for mac, p in now.items() if mac in wanted and wanted[mac]["session"] == p.session}
+        gone = {mac: p for mac, p in now.items() if mac not in stay}
+        self.gate.change(gone, {})          # first of all: who may not pass, passes no more
+        self.settle(gone, wanted)
+        come = self.newcomers(wanted, stay)
+        if come:
+            self.gate.change((), come)
+        due = {mac: p for mac, p in stay.items() if self.is_due(p, wanted[mac].get("bytes-remaining"))}
+        ended = [mac for mac, p in due.items() if not self.report(p.session, p.used)[0]]
+        if ended:
+            self.gate.change(ended, {})
+        self.tell(wanted, {mac: p for mac, p in {**stay, **come}.items() if mac not in ended})
+
+    def tell(self, wanted: dict[str, Row], passing: dict[str, Passing]) -> None:
+        """The list for the counter's page, which has no token of the gateway."""
+        if self.snapshot is None:
+            return
+        rows = [dict(wanted[mac], used=p.used) for mac, p in sorted(passing.items(), key=lambda item: item[1].session)]
+        part = pathlib.Path(self.snapshot + ".part")
+        part.write_text(json.dumps({"at": int(time.time()), "sessions": rows}))
+        part.chmod(0o640)
+        part.replace(self.snapshot)
+
+    def try_poll(self) -> bool:
+        """One poll; whether all went well. The desk's silence shuts the gate by the switch, its stop at once."""
+        try:
+            self.poll()
+            self.gate.unbar()
+            return True
+        except RulesAreGone as fault:
+            complain(f"{fault}; nothing is forwarded until they are loaded")
+            self.gate.bar()
+        except Refused as refusal:
+            complain("the desk refuses: " + refusal.word)
+            if refusal.word != "no_memory":     # a desk short of memory for a moment is as a silent one
+                self.gate.shut()
+        except (NoAnswer, OSError) as fault:
+            complain(str(fault))
+        except (KeyError, TypeError) as fault:
+            complain("an answer that the desk does not give: " + repr(fault))
+            self.gate.shut()
+        return False
+
+
+def complain(text: str) -> None:
+    print("gateway:", text, file=sys.stderr, flush=True)
+
+
+def knock_socket(path: str) -> socket.socket:
+    """Where the front end knocks after a redemption, so that the guest need not wait for the next poll."""
+    pathlib.Path(path).unlink(missing_ok=True)
+    knocks = socket.socket(socket.AF_UNIX, socket.SOCK_DGRAM)
+    knocks.bind(path)
+    os.chmod(path, 0o660)
+    knocks.setblocking(False)
+    return knocks
+
+
+def wait(knocks: socket.socket, seconds: float) -> None:
+    """Until somebody knocks or the time is over; all knocks so far count as one."""
+    if select.select([knocks], [], [], seconds)[0]:
+        try:
+            while knocks.recv(16):
+                pass
+        except BlockingIOError:
+            pass
+
+
+def main() -> None:
+    from kernel_gate import KernelGate      # needs python3-nftables, which the agent's tests do not
+
+    conf = settings("/etc/portal/gateway.toml")
+    desk = Desk(conf["desk_port"], credential("gateway_token"), timeout=conf["poll_seconds"] * 2)
+    agent = Agent(desk, KernelGate(conf["lan"], conf["grace_seconds"]), conf.get("snapshot"), conf["quiet_seconds"])
+    knocks = knock_socket(conf["knock"])
+    while True:
+        start = time.monotonic()
+        agent.try_poll()
+        time.sleep(0.05)        # knocks cannot make it spin
+        wait(knocks, max(0.0, conf["poll_seconds"] - (time.monotonic() - start)))
+
+
+if __name__ == "__main__":
+    main()

@@ -1,0 +1,224 @@
+"""What the commands of the desk mean: an independent small model, for the stand-in of the field kit's tests alone.
+
+The zone is UTC0. Nothing in it is proved.
+"""
+
+from __future__ import annotations
+
+import datetime
+import re
+from dataclasses import dataclass, field
+from typing import Any
+
+Json = dict[str, Any]
+
+SIGNS = "23456789ABCDEFGHJKMNPQRSTUVWXYZ"
+GREATEST, MOST_BYTES, MOST_GRANTS = 253_370_764_799, 9_000_000_000_000_000, 9_007_199_254_740_991
+ID = re.compile(r"[a-z0-9-]{1,32}")
+
+
+class No(Exception):
+    """A refusal, by its word."""
+
+
+def need(holds: bool, word: str) -> None:
+    if not holds:
+        raise No(word)
+
+
+# Codes
+
+def checked(body: list[int]) -> str:
+    """The printed code of 11 or 15 body values: the weighted sum with the check sign is divisible by 31."""
+    values = [*body, -sum(value * weight for weight, value in enumerate(body, 2)) % 31]
+    signs = "".join(SIGNS[value] for value in values)
+    return "-".join(signs[i:i + 4] for i in range(0, len(signs), 4))
+
+
+def read_code(text: str) -> str:
+    signs = "".join(s.upper() if s.isascii() else s for s in text if s not in " -")
+    need(len(signs) in (12, 16) and all(s in SIGNS for s in signs), "bad_code")
+    code = checked([SIGNS.index(s) for s in signs[:-1]])
+    need(code.replace("-", "") == signs, "bad_code")
+    return code
+
+
+# Records
+
+@dataclass(frozen=True)
+class Plan:
+    id: str
+    price: int
+    uses: int
+    seconds: int
+    bytes: int
+    shelf_days: int
+    extend: bool
+
+    LIMITS = {"price": (0, 10**8), "uses": (1, 10**5), "seconds": (0, 31_622_400), "bytes": (0, 10**15),
+              "shelf_days": (1, 3660)}
+
+    @classmethod
+    def read(cls, row: Any) -> Plan:
+        need(isinstance(row, dict) and row.keys() == {*cls.LIMITS, "id", "extend"}, "bad_plans")
+        need(isinstance(row["id"], str) and ID.fullmatch(row["id"]) is not None, "bad_plans")
+        need(isinstance(row["extend"], bool), "bad_plans")
+        need(all(type(row[k]) is int and low <= row[k] <= high for k, (low, high) in cls.LIMITS.items()), "bad_plans")
+        need(row["seconds"] + row["bytes"] > 0, "bad_plans")
+        return cls(**row)
+
+
+@dataclass
+class Voucher:
+    batch: str
+    plan: Plan
+    expires: int
+    sold: int | None = None
+    refund: int | None = None
+    redeemed: int = 0
+
+
+@dataclass
+class Session:
+    number: int
+    device: str
+    plan: Plan      # the first one: it says which quantities are limited
+    ends: int
+    allowance: int
+    used: int = 0
+    closed: bool = False
+
+    def is_open(self, at: int) -> bool:
+        in_time = not self.plan.seconds or at < self.ends
+        return not self.closed and in_time and (not self.plan.bytes or self.used < self.allowance)
+
+    def left(self, at: int) -> Json:
+        left = {"bytes-remaining": self.allowance - self.used} if self.plan.bytes else {}
+        return left | ({"seconds-remaining": self.ends - at} if self.plan.seconds else {})
+
+
+@dataclass
+class Model:
+    """What the accepted commands say. Each command refuses before it changes anything."""
+    last: int = 0
+    plans: dict[str, Plan] = field(default_factory=dict)
+    batches: dict[str, list[str]] = field(default_factory=dict)
+    vouchers: dict[str, Voucher] = field(default_factory=dict)
+    sessions: list[Session] = field(default_factory=list)
+    of_device: dict[str, Session] = field(default_factory=dict)
+    grants: int = 0
+    sales: list[tuple[int, int]] = field(default_factory=list)
+    refunds: list[tuple[int, int]] = field(default_factory=list)
+
+    def act(self, kind: str, words: Json, at: int) -> Json:
+        answer = getattr(self, "do_" + kind)(at, **words)
+        self.last = at
+        return answer
+
+    def do_plans(self, at: int, plans: list[Json]) -> Json:
+        listed = [Plan(**row) for row in plans]
+        need(all(self.plans.get(plan.id, plan) == plan for plan in listed), "plan_differs")
+        self.plans.update({plan.id: plan for plan in listed})
+        return {"plans": len(listed)}
+
+    def do_issue(self, at: int, batch: str, plan: str, codes: list[str]) -> Json:
+        need(plan in self.plans, "unknown_plan")
+        need(batch not in self.batches, "batch_exists")
+        expires = at + self.plans[plan].shelf_days * 86_400
+        need(expires <= GREATEST, "moment_range")
+        need(len(set(codes)) == len(codes) and not self.vouchers.keys() & set(codes), "code_taken")
+        self.batches[batch] = codes
+        self.vouchers.update({code: Voucher(batch, self.plans[plan], expires) for code in codes})
+        return {"batch": batch, "count": len(codes), "expires": expires}
+
+    def voucher(self, code: str) -> Voucher:
+        need(code in self.vouchers, "unknown_code")
+        return self.vouchers[code]
+
+    def do_sell(self, at: int, code: str) -> Json:
+        v = self.voucher(code)
+        need(v.sold is None, "sold_already")
+        need(at < v.expires, "expired")
+        v.sold = at
+        self.sales.append((at, v.plan.price))
+        return {"code": code, "price": v.plan.price}
+
+    def do_redeem(self, at: int, device: str, code: str) -> Json:
+        v, s = self.voucher(code), self.of_device.get(device)
+        need(v.sold is not None, "not_sold")
+        need(v.refund is None, "refunded")
+        need(at < v.expires, "expired")
+        need(v.redeemed < v.plan.uses, "used_up")
+        extended = s is not None and s.is_open(at)
+        if extended:
+            need(s.plan.extend, "no_extend")
+            need((s.plan.seconds > 0, s.plan.bytes > 0) == (v.plan.seconds > 0, v.plan.bytes > 0), "shape_differs")
+            need(s.allowance + v.plan.bytes <= MOST_BYTES, "allowance_full")
+        need((s.ends if extended else at) + v.plan.seconds <= GREATEST, "moment_range")
+        need(self.grants < MOST_GRANTS, "numbers_full")
+        if extended:
+            s.ends, s.allowance = s.ends + v.plan.seconds, s.allowance + v.plan.bytes
+        else:
+            s = Session(len(self.sessions) + 1, device, v.plan, at + v.plan.seconds, v.plan.bytes)
+            self.sessions.append(s)
+            self.of_device[device] = s
+        v.redeemed, self.grants = v.redeemed + 1, self.grants + 1
+        return {"extended": extended, "session": s.number, "uses_left": v.plan.uses - v.redeemed}
+
+    def session(self, number: int) -> Session:
+        need(1 <= number <= len(self.sessions), "unknown_session")
+        return self.sessions[number - 1]
+
+    def do_report(self, at: int, session: int, bytes: int) -> Json:
+        s = self.session(session)
+        s.used = max(s.used, bytes)
+        return {"open": s.is_open(at), "session": session, "used": s.used}
+
+    def do_refund(self, at: int, code: str) -> Json:
+        v = self.voucher(code)
+        need(v.sold is not None, "not_sold")
+        need(v.refund is None, "refunded")
+        need(v.redeemed < v.plan.uses, "nothing_left")
+        v.refund = v.plan.price * (v.plan.uses - v.redeemed) // v.plan.uses
+        self.refunds.append((at, v.refund))
+        return {"amount": v.refund, "code": code}
+
+    def do_close(self, at: int, session: int) -> Json:
+        s = self.session(session)
+        need(not s.closed, "closed_already")
+        s.closed = True
+        return {"session": session}
+
+
+# Texts
+
+def money(hundredths: int) -> str:
+    return f"{hundredths // 100}.{hundredths % 100:02}"
+
+
+def print_file(model: Model, batch: str) -> str:
+    need(batch in model.batches, "unknown_batch")
+    lines = ["code,plan,seconds,bytes,price,expires"]
+    for code in model.batches[batch]:
+        v = model.vouchers[code]
+        until = datetime.datetime.fromtimestamp(v.expires, datetime.UTC)
+        worth = f"{v.plan.seconds or ''},{v.plan.bytes or ''},{money(v.plan.price)}"
+        lines.append(f"{code},{v.plan.id},{worth},{until:%Y-%m-%d %H:%M}")
+    return "\n".join(lines) + "\n"
+
+
+def takings(model: Model, first: datetime.date, last: datetime.date) -> str:
+    def line(name: str, sold: list[int], back: list[int]) -> str:
+        return f"{name:<10} {len(sold):>8} {money(sum(sold)):>17} {len(back):>8} {money(sum(back)):>17}\n"
+
+    def within(pairs: list[tuple[int, int]], low: int, high: int) -> list[int]:
+        return [sum_ for at, sum_ in pairs if low <= at // 86_400 <= high]
+
+    days = range((first - datetime.date(1970, 1, 1)).days, (last - datetime.date(1970, 1, 1)).days + 1)
+    text = f"{'day':<10} {'sold':>8} {'sales':>17} {'refunded':>8} {'refunds':>17}\n"
+    for day in days:
+        name = str(datetime.date(1970, 1, 1) + datetime.timedelta(day))
+        text += line(name, within(model.sales, day, day), within(model.refunds, day, day))
+    sold, back = (within(pairs, days[0], days[-1]) for pairs in (model.sales, model.refunds))
+    net = sum(sold) - sum(back)
+    return text + line("total", sold, back) + f"net {'-' if net < 0 else ''}{money(abs(net))}\n"

@@ -1,0 +1,120 @@
+"""The desk as a process of a test's own, on a free port of loopback, over a file in a folder that goes with it."""
+
+from __future__ import annotations
+
+import os
+import pathlib
+import shlex
+import socket
+import subprocess
+import sys
+import tempfile
+import threading
+import time
+from typing import Any
+
+FIELD = pathlib.Path(__file__).resolve().parent.parent
+for part in ("lib", "gateway", "front", "counter"):
+    sys.path.insert(0, str(FIELD / part))
+from desk_client import Desk, NoAnswer, Refused, Routes  # noqa: E402
+
+# FIELD_PORTAL names the program; else it is the stand-in, and then a test says nothing of the program.
+PORTAL = os.environ.get("FIELD_PORTAL") or f"{sys.executable} {FIELD / 'test/desk_stand_in.py'}"
+SETTINGS = ('zone = "UTC0"\nportal_url = "https://wifi.example/portal"\n'
+            'desk_token = "desk-token"\ngateway_token = "gate-token"\n')
+PLANS = (FIELD / "settings/plans.toml").read_bytes()
+
+
+def free_port() -> int:
+    with socket.create_server(("127.0.0.1", 0)) as door:
+        return door.getsockname()[1]
+
+
+class DeskProcess:
+    def __init__(self, book: pathlib.Path | None = None) -> None:
+        self.place = tempfile.TemporaryDirectory()
+        self.folder = pathlib.Path(self.place.name)
+        self.book = book or self.folder / "book.db"
+        self.settings = self.folder / "settings.toml"
+        self.settings.write_text(SETTINGS)
+        self.port = free_port()
+        self.desk, self.gateway = Desk(self.port, "desk-token"), Desk(self.port, "gate-token")
+
+    def __enter__(self) -> DeskProcess:
+        words = [*shlex.split(PORTAL), "serve", "--port", str(self.port), "--db", str(self.book),
+                 "--settings", str(self.settings)]
+        self.job = subprocess.Popen(words, stdout=subprocess.DEVNULL)
+        for _ in range(600):
+            try:
+                self.gateway.tell(Routes.SESSIONS)
+                return self
+            except NoAnswer:
+                time.sleep(0.05)
+        self.__exit__()
+        raise TimeoutError("the desk does not answer")
+
+    def __exit__(self, *_: object) -> None:
+        self.job.kill()
+        self.job.wait()
+        self.place.cleanup()
+
+    def load(self) -> None:
+        self.desk.tell(Routes.PLANS, body=PLANS)
+
+    def issued(self, plan: str, batch: str, count: int = 1) -> list[str]:
+        self.desk.tell(Routes.ISSUE, body={"batch": batch, "plan": plan, "count": count})
+        lines = self.desk.ask(Routes.PRINT, batch).decode().splitlines()[1:]
+        return [line.partition(",")[0] for line in lines]
+
+    def sold(self, plan: str, batch: str, count: int = 1) -> list[str]:
+        codes = self.issued(plan, batch, count)
+        for code in codes:
+            self.desk.tell(Routes.SELL, body={"code": code})
+        return codes
+
+    def voucher(self, code: str) -> dict[str, Any]:
+        return self.desk.tell(Routes.VOUCHER, code)
+
+
+class Relay:
+    """Hands requests on to the desk, one at a time. `cuts`: the answer is lost on its way; `drops`: the request is."""
+
+    def __init__(self, port: int) -> None:
+        self.goal, self.cuts, self.drops = port, False, False
+        self.door = socket.create_server(("127.0.0.1", 0))
+        self.port = self.door.getsockname()[1]
+        threading.Thread(target=self.work, daemon=True).start()
+
+    def work(self) -> None:
+        while True:
+            try:
+                link, _ = self.door.accept()
+            except OSError:
+                return
+            with link:
+                request = self.whole(link)
+                if self.drops:
+                    continue
+                with socket.create_connection(("127.0.0.1", self.goal)) as far:
+                    far.sendall(request)
+                    answer = b"".join(iter(lambda: far.recv(65536), b""))
+                if not self.cuts:
+                    link.sendall(answer)
+
+    def whole(self, link: socket.socket) -> bytes:
+        data = b""
+        while True:
+            head, end, body = data.partition(b"\r\n\r\n")
+            sizes = [line for line in head.lower().split(b"\r\n") if line.startswith(b"content-length:")]
+            if end and len(body) >= int(sizes[0].split(b":")[1] if sizes else 0):
+                return data
+            piece = link.recv(65536)
+            if not piece:
+                return data
+            data += piece
+
+    def close(self) -> None:
+        self.door.close()
+
+
+__all__ = ["FIELD", "Desk", "DeskProcess", "NoAnswer", "Refused", "Relay", "Routes", "PLANS", "PORTAL"]

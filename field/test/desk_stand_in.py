@@ -1,0 +1,276 @@
+#!/usr/bin/python3
+"""A stand-in for the desk, for the field kit's tests alone: it answers as the program is to answer.
+
+    desk_stand_in.py serve --db FILE --settings FILE [--port N]
+    desk_stand_in.py check --db FILE --settings FILE
+
+It keeps the list of accepted commands in one SQLite table, and everything else in memory, told again at each start.
+It reads heads with CRLF alone, and knows the zone UTC0 alone. Nothing in it is proved.
+"""
+
+from __future__ import annotations
+
+import argparse
+import datetime
+import email.utils
+import json
+import pathlib
+import re
+import secrets
+import socket
+import sqlite3
+import sys
+import time
+import tomllib
+from dataclasses import dataclass
+
+sys.path.insert(0, str(pathlib.Path(__file__).resolve().parent.parent / "lib"))
+from desk_model import ID, Json, Model, No, Plan, checked, need, print_file, read_code, takings  # noqa: E402
+from refusals import BY_WORD  # noqa: E402
+
+NUMBER = re.compile(r"[A-Za-z0-9-]{1,36}")
+DEVICE = re.compile(r"[0-9a-f]{2}([:-])[0-9a-f]{2}(\1[0-9a-f]{2}){4}", re.I)
+PHRASES = {200: "OK", 400: "Bad Request", 403: "Forbidden", 404: "Not Found", 405: "Method Not Allowed",
+           409: "Conflict", 410: "Gone", 413: "Payload Too Large", 501: "Not Implemented", 503: "Service Unavailable"}
+ROUTES = {  # path: method, caller, kind
+    "/captive": ("GET", "guest", ""), "/portal/redeem": ("POST", "guest", "redeem"),
+    "/desk/plans": ("POST", "desk", "plans"), "/desk/batches": ("POST", "desk", "issue"),
+    "/desk/batches/{}/print": ("GET", "desk", ""), "/desk/sales": ("POST", "desk", "sell"),
+    "/desk/refunds": ("POST", "desk", "refund"), "/desk/closes": ("POST", "desk", "close"),
+    "/desk/vouchers/{}": ("GET", "desk", ""), "/desk/takings": ("GET", "desk", ""),
+    "/gateway/reports": ("POST", "gateway", "report"), "/gateway/sessions": ("GET", "gateway", ""),
+}
+PATHS = {re.compile(path.replace("{}", "([^/]+)")): path for path in ROUTES}
+REQUEST_LINE = re.compile(rb"([!#-'*+.^-`|~0-9A-Za-z-]+) ([!-~\x80-\xff]+) HTTP/1\.([01])")
+FIELD_LINE = re.compile(rb"([!#-'*+.^-`|~0-9A-Za-z-]+):[ \t]*([\t -~\x80-\xff]*?)[ \t]*")
+
+
+@dataclass
+class Request:
+    """A request whose shape is good."""
+    method: str
+    target: bytes
+    fields: list[tuple[str, str]]
+    body: bytes
+
+    @classmethod
+    def read(cls, data: bytes) -> Request:
+        head, end, _ = data[:8192].partition(b"\r\n\r\n")
+        first, *lines = head.split(b"\r\n")
+        line, found = REQUEST_LINE.fullmatch(first), [FIELD_LINE.fullmatch(text) for text in lines]
+        need(bool(end and line and all(found) and len(found) <= 32), "bad_request")
+        fields = [(m[1].decode().lower(), m[2].decode("latin-1")) for m in found]
+        request = cls(line[1].decode(), line[2], fields, b"")
+        hosts = len(request.values("host"))
+        need(hosts == 1 or hosts == 0 and line[3] == b"0", "bad_request")
+        need(not request.values("transfer-encoding"), "not_supported")
+        sizes = request.values("content-length") or ["0"]
+        need(len(sizes) == 1 and sizes[0].isascii() and sizes[0].isdecimal(), "bad_request")
+        need(len(sizes[0].lstrip("0")) <= 5 and int(sizes[0]) <= 65_536, "too_large")
+        request.body = data[len(head) + 4:][:int(sizes[0])]
+        need(len(request.body) == int(sizes[0]), "bad_request")
+        return request
+
+    def values(self, name: str) -> list[str]:
+        return [value for key, value in self.fields if key == name]
+
+
+def whole(given: Json, key: str, low: int, high: int) -> int:
+    need(type(given.get(key)) is int and low <= given[key] <= high, "bad_request")
+    return given[key]
+
+
+def text(given: Json, key: str, shape: re.Pattern[str]) -> str:
+    need(isinstance(given.get(key), str) and shape.fullmatch(given[key]) is not None, "bad_request")
+    return given[key]
+
+
+def command(kind: str, body: bytes, device: str) -> Json:
+    """What a body asks for."""
+    if kind == "plans":
+        try:
+            rows = tomllib.loads(body.decode())
+        except ValueError:
+            raise No("bad_plans") from None
+        need(rows.keys() == {"plan"} and isinstance(rows["plan"], list) and 1 <= len(rows["plan"]) <= 500, "bad_plans")
+        plans = [Plan.read(row) for row in rows["plan"]]
+        need(len({plan.id for plan in plans}) == len(plans), "bad_plans")
+        return {"plans": [vars(plan) for plan in plans]}
+    try:
+        given = json.loads(body.decode())
+    except ValueError:
+        raise No("bad_request") from None
+    need(isinstance(given, dict), "bad_request")
+    if kind == "issue":
+        count = whole(given, "count", 1, 500)
+        codes = [checked([secrets.randbits(32) % 31 for _ in range(15)]) for _ in range(count)]
+        return {"batch": text(given, "batch", ID), "plan": text(given, "plan", ID), "codes": codes}
+    if kind in ("report", "close"):
+        more = {"bytes": whole(given, "bytes", 0, 2**63 - 1)} if kind == "report" else {}
+        return {"session": whole(given, "session", 0, 2**63 - 1), **more}
+    code = read_code(text(given, "code", re.compile(".*", re.S)))
+    return {"code": code, **({"device": device} if kind == "redeem" else {})}
+
+
+def response(status: int, kind: str, body: bytes, now: int, allow: str = "") -> bytes:
+    allowed = f"Allow: {allow}\r\n" if allow else ""
+    return (f"HTTP/1.1 {status} {PHRASES[status]}\r\nDate: {email.utils.formatdate(now, usegmt=True)}\r\n"
+            f"Content-Type: {kind}\r\nContent-Length: {len(body)}\r\nCache-Control: no-store\r\n{allowed}"
+            "Connection: close\r\n\r\n").encode() + body
+
+
+def compact(value: Json) -> bytes:
+    return json.dumps(value, sort_keys=True, separators=(",", ":")).encode()
+
+
+class StandIn:
+    def __init__(self, db: str, settings: Json) -> None:
+        self.settings, self.model, self.kept = settings, Model(), {}
+        self.book = sqlite3.connect(db, isolation_level=None)
+        for pragma in ("locking_mode=EXCLUSIVE", "journal_mode=WAL", "synchronous=FULL"):
+            self.book.execute("PRAGMA " + pragma)
+        self.book.execute("CREATE TABLE IF NOT EXISTS accepted (n INTEGER PRIMARY KEY, at INTEGER, kind, words, mark)")
+        for at, kind, words, mark in self.book.execute("SELECT at, kind, words, mark FROM accepted ORDER BY n"):
+            self.keep(json.loads(mark), self.model.act(kind, json.loads(words), at))
+
+    def keep(self, mark: list[str] | None, answer: Json) -> None:
+        if mark:
+            self.kept[mark[0], mark[1]] = mark[2:], answer
+
+    def respond(self, now: int, data: bytes) -> bytes:
+        allow = ""
+        try:
+            request = Request.read(data)
+            path = request.target.partition(b"?")[0].decode("utf-8", "replace")
+            found = [(ROUTES[PATHS[p]], PATHS[p], p.fullmatch(path).groups()) for p in PATHS if p.fullmatch(path)]
+            need(bool(found), "no_route")
+            (method, caller, kind), route, part = found[0]
+            allow = method
+            need(request.method == method, "bad_method")
+            allow = ""
+            who, number = self.caller(request, caller, kind)
+            if kind:
+                words, mark = command(kind, request.body, who), [number, method, path, request.body.hex()]
+                answer = self.act(kind, words, max(now, self.model.last), who, mark)
+                return response(200, "application/json", compact(answer), now)
+            return response(200, *self.ask(route, part, request, who, max(now, self.model.last)), now)
+        except No as no:
+            return response(BY_WORD[str(no)].status, "application/json", compact({"error": str(no)}), now, allow)
+
+    def caller(self, request: Request, caller: str, kind: str) -> tuple[str, str | None]:
+        """Who asks, and with which request number."""
+        if caller == "guest":
+            devices = request.values("portal-device")
+            need(len(devices) == 1 and DEVICE.fullmatch(devices[0]) is not None, "bad_device")
+            who = devices[0].lower().replace("-", ":")
+        else:
+            need(request.values("portal-token") == [self.settings[caller + "_token"]], "forbidden")
+            who = caller
+        numbers = request.values("portal-request") if kind else []
+        need(len(numbers) <= 1 and all(NUMBER.fullmatch(number) for number in numbers), "bad_request")
+        return who, numbers[0] if numbers else None
+
+    def act(self, kind: str, words: Json, at: int, who: str, mark: list[str]) -> Json:
+        number, *what = mark
+        if (who, number) in self.kept:
+            was, answer = self.kept[who, number]
+            need(was == what, "id_reused")
+            return answer
+        answer = self.model.act(kind, words, at)
+        held = [who, number, *what] if number else None
+        self.book.execute("INSERT INTO accepted (at, kind, words, mark) VALUES (?, ?, ?, ?)",
+                          (at, kind, json.dumps(words), json.dumps(held)))
+        self.keep(held, answer)
+        return answer
+
+    def ask(self, route: str, part: tuple[str, ...], request: Request, who: str, at: int) -> tuple[str, bytes]:
+        """The type and bytes of what is asked for."""
+        model = self.model
+        if route == "/captive":
+            s = model.of_device.get(who)
+            told = {"captive": True, "user-portal-url": self.settings["portal_url"]}
+            if "venue_url" in self.settings:
+                told["venue-info-url"] = self.settings["venue_url"]
+            if s and s.is_open(at):
+                told |= {"captive": False, "can-extend-session": s.plan.extend, **s.left(at)}
+            return "application/captive+json", compact(told)
+        if route == "/gateway/sessions":
+            rows = sorted((s for s in model.of_device.values() if s.is_open(at)), key=lambda s: s.number)
+            told = {"sessions": [{"device": s.device, "session": s.number, **s.left(at)} for s in rows]}
+            return "application/json", compact(told)
+        if route == "/desk/vouchers/{}":
+            code = read_code(part[0])
+            v = model.voucher(code)
+            told = {"batch": v.batch, "code": code, "expires": v.expires, "plan": v.plan.id, "redeemed": v.redeemed,
+                    "refund": v.refund, "sold": v.sold, "uses": v.plan.uses}
+            return "application/json", compact(told)
+        if route == "/desk/batches/{}/print":
+            return "text/csv; charset=utf-8", print_file(model, part[0]).encode()
+        pairs = [pair.partition("=")[::2] for pair in request.target.decode("latin-1").partition("?")[2].split("&")]
+        days = [[read_day(value) for key, value in pairs if key == name] for name in ("from", "to")]
+        need(all(len(found) == 1 for found in days), "bad_request")
+        (first,), (last,) = days
+        need(0 <= (last - first).days <= 365, "bad_request")
+        return "text/plain; charset=utf-8", takings(model, first, last).encode()
+
+
+def read_day(text: str) -> datetime.date:
+    need(re.fullmatch(r"\d{4}-\d\d-\d\d", text, re.A) is not None, "bad_request")
+    try:
+        return datetime.date.fromisoformat(text)
+    except ValueError:
+        raise No("bad_request") from None
+
+
+def receive(link: socket.socket) -> bytes:
+    """What comes until the head and as many bytes as it declares are there, or the input ends."""
+    data = b""
+    while len(data) < 73_728:
+        head, end, body = data.partition(b"\r\n\r\n")
+        size = re.search(rb"(?i)\r\ncontent-length:[ \t]*(\d{1,5})[ \t]*(\r|$)", head)
+        if end and len(body) >= (int(size[1]) if size else 0) or not end and len(data) > 8192:
+            break
+        piece = link.recv(4096)
+        if not piece:
+            break
+        data += piece
+    return data
+
+
+def serve(desk: StandIn, port: int) -> None:
+    """One connection at a time, as the desk does it, with no time limit."""
+    with socket.create_server(("127.0.0.1", port), backlog=128) as door:
+        print(f"listening 127.0.0.1:{port}", flush=True)
+        while True:
+            link, _ = door.accept()
+            with link:
+                try:
+                    link.sendall(desk.respond(int(time.time()), receive(link)))
+                except OSError:
+                    print("portal: cut", file=sys.stderr, flush=True)
+
+
+def main() -> int:
+    words = argparse.ArgumentParser()
+    words.add_argument("what", choices=("serve", "check"))
+    words.add_argument("--db", required=True)
+    words.add_argument("--settings", required=True, type=pathlib.Path)
+    words.add_argument("--port", type=int, default=8080)
+    args = words.parse_args()
+    try:
+        desk = StandIn(args.db, tomllib.loads(args.settings.read_text()))
+    except (No, sqlite3.Error):
+        print("portal: file", file=sys.stderr)
+        return 3
+    if args.what == "check":
+        print("ok")
+        return 0
+    try:
+        serve(desk, args.port)
+    except sqlite3.Error:
+        print("portal: stopped", file=sys.stderr)
+    return 3
+
+
+if __name__ == "__main__":
+    sys.exit(main())

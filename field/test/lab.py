@@ -1,0 +1,234 @@
+"""A house of network namespaces: two guests and the gateway on one bridge, a counter, the outside.
+
+All traffic stays on this machine. Namespaces carry the test's process id and are removed at the end.
+"""
+
+from __future__ import annotations
+
+import json
+import os
+import pathlib
+import re
+import shlex
+import shutil
+import signal
+import subprocess
+import sys
+import tempfile
+import time
+from collections.abc import Callable
+from typing import Any
+
+FIELD = pathlib.Path(__file__).resolve().parent.parent
+PYTHON = "/usr/bin/python3"     # Debian's, which has nftables and segno
+STAND_IN = f"{PYTHON} {FIELD / 'test/desk_stand_in.py'}"
+NAME, COUNTER, OUTSIDE = "wifi.example", "counter.example", "203.0.113.2"
+MACS = {"guest1": "02:aa:00:00:00:01", "guest2": "02:aa:00:00:00:02",
+        "outside": "02:aa:00:00:00:10", "clerk": "02:aa:00:00:00:20"}
+PORTS = {"guest1": "lan1", "guest2": "lan2", "outside": "wan0", "clerk": "ctr0"}
+SPACES = ("gw", *PORTS)
+USERS = {"desk": (7000, 7000, ""), "gateway": (7001, 7001, ""), "front": (7002, 33, "7001"),
+         "counter": (7003, 33, "7001")}
+SERVICES = {"gateway": "gateway/portal_gateway.py", "front": "front/portal_front.py",
+            "counter": "counter/portal_counter.py"}
+SMALL_PLAN = """
+[[plan]]
+id = "small"
+price = 50
+uses = 1
+seconds = 0
+bytes = 3000000
+shelf_days = 9
+extend = true
+"""
+UDHCPC = """#!/bin/sh
+[ "$1" = bound ] || exit 0
+ip addr replace $ip/$mask dev $interface; ip route replace default via $router
+env > {0}/lease-$interface-$ip
+"""
+NGINX = """user www-data; worker_processes 1; pid {0}/nginx.pid; error_log {0}/nginx-error.log;
+events {{ worker_connections 512; }}
+http {{ access_log off; include {0}/etc/nginx/conf.d/*.conf; }}
+"""
+
+
+def run(*words: object, check: bool = True, **more: Any) -> subprocess.CompletedProcess[str]:
+    return subprocess.run([str(word) for word in words], check=check, capture_output=True, text=True, **more)
+
+
+class Lab:
+    def __init__(self, portal: str = STAND_IN, changed: dict[str, Any] | None = None, offload: bool = False) -> None:
+        self.portal, self.changed, self.offload = shlex.split(portal), changed or {}, offload
+        self.jobs: dict[str, subprocess.Popen[bytes]] = {}
+        self.root = pathlib.Path(tempfile.mkdtemp(prefix="portal-lab-"))
+        self.root.chmod(0o755)
+        self.tag = f"fk{os.getpid()}"
+
+    def __enter__(self) -> Lab:
+        signal.signal(signal.SIGTERM, lambda *_: sys.exit(143))     # so that all is removed then, too
+        try:
+            self.wires()
+            self.files()
+            self.rules()
+            return self
+        except BaseException:
+            self.__exit__()
+            raise
+
+    def __exit__(self, *_: object) -> None:
+        for name in list(self.jobs):
+            self.stop(name)
+        for space in SPACES:
+            run("ip", "netns", "del", self.ns(space), check=False)
+        if not os.environ.get("KEEP_LAB"):
+            shutil.rmtree(self.root, ignore_errors=True)
+
+    def ns(self, space: str) -> str:
+        return self.tag + space
+
+    def within(self, space: str, *words: object, **more: Any) -> subprocess.CompletedProcess[str]:
+        return run("ip", "netns", "exec", self.ns(space), *words, **more)
+
+    def begin(self, space: str, *words: object) -> subprocess.Popen[str]:
+        """A command whose output is read later."""
+        line = ["ip", "netns", "exec", self.ns(space), *map(str, words)]
+        return subprocess.Popen(line, stdout=subprocess.PIPE, text=True)
+
+    # Wires, addresses, files
+
+    def wires(self) -> None:
+        for space in SPACES:
+            run("ip", "netns", "add", self.ns(space))
+            self.within(space, "ip", "link", "set", "lo", "up")
+        self.within("gw", "ip", "link", "add", "lan0", "type", "bridge")
+        for space, port in PORTS.items():
+            run("ip", "link", "add", "eth0", "netns", self.ns(space), "address", MACS[space],
+                "type", "veth", "peer", "name", port, "netns", self.ns("gw"))
+            if port.startswith("lan"):
+                self.within("gw", "ip", "link", "set", port, "master", "lan0")
+                self.within("gw", "bridge", "link", "set", "dev", port, "isolated", "on")
+            for where, device in (("gw", port), (space, "eth0")):
+                if not self.offload:
+                    self.within(where, "ethtool", "-K", device, "tso", "off", "gso", "off", "gro", "off")
+                self.within(where, "ip", "link", "set", device, "up")
+        for space, device, address in (("gw", "lan0", "10.77.0.1/22"), ("gw", "wan0", "203.0.113.1/24"),
+                                       ("gw", "ctr0", "10.88.0.1/24"), ("outside", "eth0", OUTSIDE + "/24"),
+                                       ("clerk", "eth0", "10.88.0.2/24")):
+            self.within(space, "ip", "addr", "add", address, "dev", device)
+            self.within(space, "ip", "link", "set", device, "up")
+        self.within("clerk", "ip", "route", "add", "default", "via", "10.88.0.1")
+        self.within("gw", "sysctl", "-q", "-w", "net.ipv4.ip_forward=1")
+
+    def rules(self) -> None:
+        """As the unit of the rules loads them; the users are this test's numbers."""
+        path = self.root / "etc/portal/rules.nft"
+        text = re.sub(r"define desk_users = .*", "define desk_users = { 0, 33, 7001, 7002, 7003 }", path.read_text())
+        path.write_text(text)
+        self.within("gw", "nft", "-f", path)
+
+    def files(self) -> None:
+        root, etc = self.root, self.root / "etc/portal"
+        self.authority()
+        given = (FIELD / "settings/field.toml").read_text().replace("/etc/portal/tls", str(root))
+        for key, value in self.changed.items():
+            given = re.sub(rf"(?m)^{key} = .*$", f"{key} = {json.dumps(value)}", given)
+        (root / "field.toml").write_text(given)
+        run(PYTHON, FIELD / "setup", "--root", root, root / "field.toml")
+        with open(etc / "plans.toml", "a") as plans:
+            plans.write(SMALL_PLAN)
+        (etc / "counter.passwords").write_text("clerk:{PLAIN}clerk\n")
+        for conf in (root / "etc/nginx/conf.d").iterdir():
+            conf.write_text(conf.read_text().replace("/var/log/nginx", str(root)))
+        for name, (user, group, _) in USERS.items():
+            for folder in (root / f"creds-{name}", root / f"run/portal-{name}"):
+                folder.mkdir(parents=True)
+                os.chown(folder, user, group)
+                folder.chmod(0o750)
+        for name, secret in (("gateway", "gateway_token"), ("counter", "desk_token")):
+            goal = root / f"creds-{name}" / secret
+            shutil.copy(etc / "credentials" / secret, goal)
+            os.chown(goal, USERS[name][0], 0)
+            goal.chmod(0o400)
+        os.chown(etc / "portal.toml", USERS["desk"][0], 0)
+        (root / "nginx.conf").write_text(NGINX.format(root))
+        (root / "udhcpc.sh").write_text(UDHCPC.format(root))
+        (root / "udhcpc.sh").chmod(0o755)
+
+    def authority(self) -> None:
+        """A certificate that only this test knows."""
+        root = self.root
+        new = ("openssl", "req", "-newkey", "ec", "-pkeyopt", "ec_paramgen_curve:P-256", "-nodes")
+        run(*new, "-x509", "-days", "2", "-subj", "/CN=lab", "-keyout", root / "ca-key.pem", "-out", root / "ca.pem")
+        run(*new, "-subj", "/CN=" + NAME, "-addext", f"subjectAltName=DNS:{NAME},DNS:{COUNTER}",
+            "-keyout", root / "key.pem", "-out", root / "csr.pem")
+        run("openssl", "x509", "-req", "-in", root / "csr.pem", "-CA", root / "ca.pem", "-CAkey", root / "ca-key.pem",
+            "-CAcreateserial", "-copy_extensions", "copy", "-days", "2", "-out", root / "cert.pem")
+
+    # Programs
+
+    def start(self, name: str, *words: object, space: str = "gw", user: str | None = None, caps: bool = False,
+              env: dict[str, str] | None = None) -> None:
+        before = ["ip", "netns", "exec", self.ns(space)]
+        if user:
+            number, group, groups = USERS[user]
+            before += ["setpriv", f"--reuid={number}", f"--regid={group}"]
+            before += [f"--groups={groups}"] if groups else ["--clear-groups"]
+            before += ["--inh-caps=+net_admin", "--ambient-caps=+net_admin"] if caps else []
+        with open(self.root / f"{name}.log", "ab") as log:
+            self.jobs[name] = subprocess.Popen([*before, *map(str, words)], stdout=log, stderr=log, cwd=self.root,
+                                               env={**os.environ, "PYTHONDONTWRITEBYTECODE": "1", **(env or {})})
+
+    def stop(self, name: str, kill: bool = False) -> None:
+        job = self.jobs.pop(name, None)
+        if job is None:
+            return
+        if kill:
+            job.kill()
+        else:
+            job.terminate()
+        try:
+            job.wait(5)
+        except subprocess.TimeoutExpired:
+            job.kill()
+            job.wait()
+
+    def until(self, true: Callable[[], object], seconds: float = 10.0, what: str = "something") -> None:
+        end = time.monotonic() + seconds
+        while not true():
+            if time.monotonic() > end:
+                raise TimeoutError("waited in vain for " + what)
+            time.sleep(0.05)
+
+    def listening(self, port: int) -> bool:
+        return bool(self.within("gw", "ss", "-Hltn", "sport", "=", f":{port}").stdout)
+
+    def desk(self) -> None:
+        folder = self.root / "book"
+        folder.mkdir(exist_ok=True)
+        os.chown(folder, USERS["desk"][0], 0)
+        settings = self.root / "etc/portal/portal.toml"
+        self.start("desk", *self.portal, "serve", "--port", 8080, "--db", folder / "book.db", "--settings", settings,
+                   user="desk")
+        self.until(lambda: self.listening(8080), what="the desk")
+
+    def service(self, name: str) -> None:
+        env = {"FIELD_SETTINGS": f"{self.root}/etc/portal/{name}.toml",
+               "CREDENTIALS_DIRECTORY": f"{self.root}/creds-{name}"}
+        self.start(name, PYTHON, FIELD / SERVICES[name], user=name, caps=name == "gateway", env=env)
+        if name != "gateway":
+            self.until((self.root / f"run/portal-{name}/socket").exists, what=name)
+
+    def web(self) -> None:
+        self.start("nginx", "nginx", "-p", self.root, "-c", self.root / "nginx.conf", "-g", "daemon off;")
+        self.start("dnsmasq", "dnsmasq", "-k", "-C", self.root / "etc/dnsmasq.d/portal.conf", "--user=root",
+                   "--pid-file=", "--no-resolv", "--no-hosts", f"--dhcp-leasefile={self.root}/leases",
+                   f"--address=/outside.example/{OUTSIDE}")
+        self.until(lambda: self.listening(443), what="nginx")
+
+    def open_house(self) -> None:
+        """Everything but the guests' leases."""
+        self.start("peer", PYTHON, FIELD / "test/peer.py", "serve", space="outside")
+        self.desk()
+        for name in SERVICES:
+            self.service(name)
+        self.web()

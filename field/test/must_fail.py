@@ -1,0 +1,197 @@
+#!/usr/bin/python3
+"""Wrong kits, each one edit on a copy, refused by the check that is meant.
+
+    must_fail.py [--portal "CMD .."] [--rootless] [NAME ..]
+
+Those of UNITS are refused by a unit test without root, those of PACKETS by a step of e2e.py. An edit that another
+check refuses, and not the one that is meant, has survived. The last line: 'N passed, M failed'.
+"""
+
+from __future__ import annotations
+
+import argparse
+import os
+import pathlib
+import shutil
+import subprocess
+import sys
+import tempfile
+from dataclasses import dataclass
+
+FIELD = pathlib.Path(__file__).resolve().parent.parent
+PYTHON = "/usr/bin/python3"
+NFT, AGENT, KERNEL = "gateway/portal.nft", "gateway/portal_gateway.py", "gateway/kernel_gate.py"
+GUESTS, FRONT, COUNTER = "front/nginx-guests.conf", "front/portal_front.py", "counter/portal_counter.py"
+
+
+@dataclass(frozen=True)
+class Edit:
+    name: str
+    file: str
+    old: str
+    new: str
+    where: str      # a step of e2e.py, or a module and class of the unit tests
+    check: str      # the check, or the test
+    also: tuple[str, str] | None = None     # a second change, where one rule stands behind another
+
+
+PACKETS = (
+    Edit("everybody_passes", NFT, "iifname @alive ether saddr @up accept", "iifname @alive accept",
+         "captured", "not one packet came out of the house"),
+    Edit("all_addresses_served", NFT, "        fib daddr . iif type != local reject\n", "",
+         "captured", "a guest does not reach 10.88.0.1:443"),
+    Edit("names_without_limit", NFT, "limit rate over 20/second burst 60 packets } drop",
+         "limit rate over 20000/second burst 60 packets } drop", "captured",
+         "of 500 names asked in a second few are answered"),
+    Edit("frame_heads_counted", KERNEL, "ETHERNET = 14", "ETHERNET = 0",
+         "bytes_are_counted", "bytes of both directions are counted as the guest's device counts them"),
+    Edit("one_direction_counted", KERNEL, '+ back["bytes"] - ETHERNET * back["packets"]', "",
+         "bytes_are_counted", "bytes of both directions are counted as the guest's device counts them"),
+    Edit("established_downloads_go_on", NFT, "        ether daddr @down accept\n        drop\n",
+         "        ether daddr @down accept\n", "closed", "the stream ran, and stops within a poll of the close"),
+    Edit("switch_never_lapses", KERNEL, '"timeout": self.grace', '"timeout": 3600',
+         "agent_dies", "with the agent killed the gate shuts by itself"),
+    Edit("silent_desk_leaves_it_open", AGENT, "        except (NoAnswer, OSError) as fault:\n",
+         "        except (NoAnswer, OSError) as fault:\n            self.gate.change((), {})\n",
+         "desk_dies", "with the desk killed the gate shuts by itself"),
+    Edit("gate_open_when_stopped", AGENT, 'refusal.word != "no_memory":', 'refusal.word == "no_memory":',
+         "desk_dies", "a desk that says stopped shuts the gate within a poll"),
+    Edit("flushed_rules_let_all_through", AGENT, "            self.gate.bar()\n", "",
+         "rules_vanish", "with the rules flushed nothing is forwarded"),
+    Edit("counts_begin_at_nought", AGENT, 'Passing(row["session"], used, 0)', 'Passing(row["session"], 0, 0)',
+         "counts_are_lost", "with all counts lost it counts on from what the desk holds"),
+    Edit("guests_name_their_device", GUESTS, "proxy_set_header Portal-Device $portal_device;",
+         "proxy_set_header Portal-Device $http_portal_device;", "forged",
+         "a guest with a forged device is told of itself"),
+    Edit("a_program_number_is_dropped", GUESTS, "        proxy_set_header Portal-Request $portal_request;\n", "",
+         "numbered", "a program's numbered request acts once too"),
+    Edit("any_number_goes_on", GUESTS, "        if ($portal_request_is_bad) { return 400; }\n", "",
+         "numbered", "a number of other signs is refused"),
+    Edit("codes_in_the_log", "counter/nginx-counter.conf", "$request_method $uri $status", "$request $status",
+         "first_voucher", "the counter's log tells who did what, and no code"),
+    Edit("nginx_gives_up_before_the_page", GUESTS, "proxy_read_timeout 20s;", "proxy_read_timeout 4s;",
+         "in_doubt", "without an answer the form comes back with its number"),
+    Edit("forms_without_limit", GUESTS, "        limit_req zone=portal_codes burst=6 nodelay;\n        limit_req",
+         "        limit_req", "guessed", "of 20 guesses at once most are told to wait"),
+    Edit("guests_in_the_log", GUESTS, "    error_log /var/log/nginx/portal-guests.log crit;\n", "",
+         "guessed", "no guest's address stands in nginx's logs"),
+    Edit("bodies_handed_on_as_they_come", GUESTS, "proxy_request_buffering on;", "proxy_request_buffering off;",
+         "slow", "slow guests delay nobody"),
+    Edit("any_user_asks_the_desk", NFT, " meta skuid != $desk_users reject", " meta skuid 4242 reject",
+         "slow", "another user of the machine cannot connect to the desk"),
+    Edit("ipv6_goes_out", NFT, "        iifname $lan meta nfproto ipv6 reject with icmpv6 type admin-prohibited\n", "",
+         "ipv6", "not one IPv6 packet came out of the house"),
+    Edit("ipv6_comes_in", NFT, "        oifname $lan meta nfproto ipv6 drop\n",
+         "        oifname $lan meta nfproto ipv6 accept\n", "ipv6", "nor one into it",
+         ("        meta protocol ip6 drop\n", "")),
+    Edit("ipv6_to_the_gateway", NFT, "        meta nfproto ipv6 drop          #", "        #",
+         "ipv6", "the gateway's own ports are shut to guests by IPv6", ("        meta protocol ip6 drop\n", "")),
+    Edit("devices_by_address_alone", FRONT, "    return device_in(done.stdout, address)\n",
+         '    return "02:aa:00:00:00:01" if done.stdout else None\n', "forged",
+         "a guest with a forged device is told of itself"),
+)
+UNITS = (
+    Edit("a_number_for_each_sending", FRONT, "device=device, number=number)", "device=device, number=new_number())",
+         "test_front.Pages", "test_a_form_sent_twice_acts_once"),
+    Edit("doubt_gets_a_new_number", FRONT, "front.page(device, notice, code=code, number=number))",
+         "front.page(device, notice, code=code))", "test_front.Pages",
+         "test_a_form_in_doubt_keeps_its_number_and_acts_once"),
+    Edit("acts_without_a_number", FRONT, "        if not REQUEST_NUMBER.fullmatch(number):",
+         "        if number and not REQUEST_NUMBER.fullmatch(number):", "test_front.Pages",
+         "test_nothing_acts_without_a_good_number"),
+    Edit("codes_go_as_typed", FRONT, "sign.upper() if sign.isascii() else sign", "sign",
+         "test_front.Pages", "test_a_form_sent_twice_acts_once"),
+    Edit("words_shown_as_markup", FRONT, "code=html.escape(in_fours(plain_code(code)))", "code=in_fours(code)",
+         "test_front.Pages", "test_what_a_guest_writes_is_shown_as_words"),
+    Edit("a_failed_neighbour_is_a_device", FRONT, '{"FAILED", "INCOMPLETE"}', "set()",
+         "test_front.Parts", "test_devices_of_the_neighbour_table"),
+    Edit("forms_of_other_sites", COUNTER, '!= self.headers.get("Host", "-")', '== "never"',
+         "test_counter.Pages", "test_no_other_site_sends_forms"),
+    Edit("a_sale_without_its_number", COUNTER, 'tell(Routes.SELL, body={"code": form.word("code")}, number=number)',
+         'tell(Routes.SELL, body={"code": form.word("code")})', "test_counter.Pages",
+         "test_a_form_sent_twice_acts_once"),
+    Edit("doubt_is_not_offered_again", COUNTER, ", self.server.counter.again(self.path, form))", ")",
+         "test_counter.Pages", "test_a_form_in_doubt_comes_back_to_be_sent_again"),
+    Edit("last_counts_are_lost", AGENT, "        self.settle(gone, wanted)\n", "",
+         "test_gateway.Polls", "test_the_last_count_of_an_ended_session_is_reported"),
+    Edit("another_devices_number", AGENT, 'for session in (0, *(row["session"] for row in wanted.values())):',
+         "for session in (0,):", "test_gateway.Polls",
+         "test_a_number_given_anew_to_another_device_is_not_reported_to"),
+    Edit("a_report_each_poll", AGENT, "self.now() - when >= self.quiet", "self.now() - when >= 0",
+         "test_gateway.Polls", "test_reports_are_few_while_much_is_left"),
+    Edit("end_of_bytes_seen_late", AGENT, "        if ended:\n            self.gate.change(ended, {})\n", "",
+         "test_gateway.Polls", "test_bytes_that_end_a_session_shut_it_in_the_same_poll"),
+    Edit("copied_while_it_writes", "backup/portal-backup", "        while set(state_of(pid)) != {\"T\"}:",
+         "        os.kill(pid, signal.SIGCONT)\n        while False:", "backup_test.Copies",
+         "test_a_copy_is_made_while_the_desk_is_held_still"),
+    Edit("a_desk_left_frozen", "backup/portal-backup", 'subprocess.run(["systemctl", "thaw", UNIT], check=True)',
+         "pass", "backup_test.Copies", "test_the_service_is_frozen_and_goes_on_whatever_happens"),
+    Edit("times_of_the_machine", "lib/words.py", "    time.tzset()\n", "", "test_client.Words",
+         "test_local_times_are_those_of_the_desks_zone"),
+    Edit("counts_outlive_a_restore", "backup/portal-restore", "flush set inet portal up; ", "", "backup_test.Copies",
+         "test_a_copy_is_restored_and_the_gateways_counts_dropped"),
+    Edit("log_left_behind", "backup/portal-backup", 'ENDS = ("", "-wal")', 'ENDS = ("",)',
+         "backup_test.Copies", "test_copies_under_load"),
+    Edit("a_refusal_without_advice", "lib/refusals.py", '"Sell it first."', '""',
+         "test_counter.Words", "test_every_refusal_has_its_cause_and_what_to_do"),
+    Edit("a_refusal_of_another_status", "lib/refusals.py", 'Refusal(18, "expired", 410', 'Refusal(18, "expired", 409',
+         "openapi_test.Described", "test_the_table_of_refusals"),
+    Edit("a_route_told_wrongly", "openapi.yaml", "  /desk/closes:", "  /desk/close:",
+         "openapi_test.Described", "test_the_table_of_routes"),
+    Edit("secrets_for_all", "setup", 'self.write(path, secrets.token_urlsafe(32) + "\\n", 0o600)',
+         'self.write(path, secrets.token_urlsafe(32) + "\\n")', "test_setup.Made", "test_secrets_are_apart_and_shut"),
+    Edit("the_gateways_secret_at_the_counter", "units/portal-counter.service",
+         "desk_token:/etc/portal/credentials/desk_token", "desk_token:/etc/portal/credentials/gateway_token",
+         "test_setup.Made",
+         "test_each_service_has_a_user_and_at_most_one_secret"),
+)
+
+
+def refused(edit: Edit, kit: pathlib.Path, portal: str) -> str:
+    """What the tests over the wrong kit say of the check that is meant: `refused`, or how it survived."""
+    if edit in UNITS:
+        words = [PYTHON, "-m", "unittest", f"{edit.where}.{edit.check}"]
+        env = {**os.environ, "FIELD_PORTAL": portal}
+        done = subprocess.run(words, capture_output=True, text=True, cwd=kit / "test", timeout=120, env=env)
+        good = done.returncode != 0 and "FAIL: " in done.stderr and "ERROR: " not in done.stderr
+        return "refused" if good else "SURVIVED " + done.stderr[-300:]
+    words = [PYTHON, kit / "test/e2e.py", *(["--portal", portal] if portal else []), "--only", edit.where]
+    done = subprocess.run(words, capture_output=True, text=True, timeout=300)
+    fails = [line.removeprefix("FAIL ") for line in done.stdout.splitlines() if line.startswith("FAIL")]
+    if any(line.partition("  [")[0] == edit.check for line in fails):
+        return "refused"
+    return "SURVIVED " + "; ".join(fails) + done.stderr[-300:]
+
+
+def tried(edit: Edit, portal: str) -> str:
+    with tempfile.TemporaryDirectory() as folder:
+        kit = pathlib.Path(folder) / "field"
+        pathlib.Path(folder).chmod(0o755)
+        shutil.copytree(FIELD, kit, ignore=shutil.ignore_patterns("__pycache__", "shots"))
+        text = (kit / edit.file).read_text()
+        for old, new in ((edit.old, edit.new), *((edit.also,) if edit.also else ())):
+            if old not in text:
+                return "SURVIVED the edit does not fit: " + old
+            text = text.replace(old, new)
+        (kit / edit.file).write_text(text)
+        return refused(edit, kit, portal)
+
+
+def main() -> int:
+    words = argparse.ArgumentParser(description="Wrong kits, each refused by the check that is meant.")
+    words.add_argument("--portal", default="", help="the program, as a command line; else the stand-in")
+    words.add_argument("--rootless", action="store_true", help="only those that a unit test refuses")
+    words.add_argument("names", nargs="*")
+    args = words.parse_args()
+    edits = [e for e in (*UNITS, *(() if args.rootless else PACKETS)) if not args.names or e.name in args.names]
+    bad = 0
+    for edit in edits:
+        told = tried(edit, args.portal)
+        bad += told != "refused"
+        print(f"{'ok  ' if told == 'refused' else 'FAIL'} {edit.name}: {told} by `{edit.check}`", flush=True)
+    print(f"{len(edits) - bad} passed, {bad} failed")
+    return int(bad > 0)
+
+
+if __name__ == "__main__":
+    sys.exit(main())

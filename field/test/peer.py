@@ -1,0 +1,176 @@
+"""The far end and the guest's end of the test's traffic.
+
+    peer.py serve                   TCP 7000: `send N` or `take N`; UDP 7001: echo; UDP 7002: a stream of as many
+                                    packets of 1,000 bytes as asked for, about 1,000 a second
+    peer.py stopped                 answers 503 stopped at 127.0.0.1:8080
+    peer.py door ADDRESS            takes TCP connections at [ADDRESS]:443 by IPv6 alone
+    peer.py knock ADDRESS           connects there; status 1 where it cannot within a second
+    peer.py names HOST N            asks N questions of a name server within a second; prints the number of answers
+    peer.py tcp HOST send|take N    moves N bytes of payload; prints seconds
+    peer.py first HOST SECONDS      tries UDP echo every 5 ms; prints the time of the first answer
+    peer.py stream HOST SECONDS     asks for the stream, sends nothing more; prints the time of each packet's arrival
+    peer.py slow HOST N SECONDS     N guests that send part of a head or body over TLS and wait; prints how many may
+"""
+
+from __future__ import annotations
+
+import socket
+import ssl
+import sys
+import threading
+import time
+
+STOPPED = (b"HTTP/1.1 503 Service Unavailable\r\nContent-Type: application/json\r\nContent-Length: 19\r\n"
+           b"Connection: close\r\n\r\n" + b'{"error":"stopped"}')
+
+
+def talk(link: socket.socket) -> None:
+    with link:
+        link.settimeout(20)
+        verb, count = link.makefile("rb").readline().split()
+        left = int(count)
+        try:
+            while left:
+                left -= link.send(b"x" * min(left, 65536)) if verb == b"send" else len(link.recv(min(left, 65536)))
+            if verb == b"take":
+                link.sendall(b"k")
+        except OSError:
+            pass
+
+
+def echo(udp: socket.socket) -> None:
+    while True:
+        data, who = udp.recvfrom(2000)
+        udp.sendto(data, who)
+
+
+def pour(udp: socket.socket, who: tuple[str, int], count: int) -> None:
+    for _ in range(count):
+        udp.sendto(b"s" * 972, who)
+        time.sleep(0.001)
+
+
+def streams(udp: socket.socket) -> None:
+    while True:
+        count, who = udp.recvfrom(2000)
+        threading.Thread(target=pour, args=(udp, who, int(count)), daemon=True).start()
+
+
+def serve() -> None:
+    for port, work in ((7001, echo), (7002, streams)):
+        udp = socket.socket(socket.AF_INET, socket.SOCK_DGRAM)
+        udp.bind(("", port))
+        threading.Thread(target=work, args=(udp,), daemon=True).start()
+    with socket.create_server(("", 7000), backlog=64) as door:
+        while True:
+            threading.Thread(target=talk, args=door.accept()[:1], daemon=True).start()
+
+
+def tcp(host: str, verb: str, count: str) -> None:
+    start, left = time.monotonic(), int(count)
+    with socket.create_connection((host, 7000), timeout=3) as link:
+        link.settimeout(20)
+        link.sendall(f"{verb} {count}\n".encode())
+        while left and verb == "send":
+            got = len(link.recv(min(left, 65536)))
+            if not got:
+                sys.exit(f"cut with {left} left")
+            left -= got
+        if verb == "take":
+            link.sendall(b"x" * left)
+            link.recv(1)
+    print(time.monotonic() - start)
+
+
+def first(host: str, seconds: str) -> None:
+    with socket.socket(socket.AF_INET, socket.SOCK_DGRAM) as s:
+        s.settimeout(0.005)
+        end = time.time() + float(seconds)
+        while time.time() < end:
+            try:
+                s.sendto(b"?", (host, 7001))
+                s.recv(10)
+                return print(time.time())
+            except TimeoutError:
+                pass
+            except OSError:
+                time.sleep(0.005)
+    sys.exit("no answer")
+
+
+def stream(host: str, seconds: str) -> None:
+    with socket.socket(socket.AF_INET, socket.SOCK_DGRAM) as s:
+        s.settimeout(0.5)
+        s.sendto(b"%d" % (float(seconds) * 900), (host, 7002))
+        end = time.time() + float(seconds)
+        while time.time() < end:
+            try:
+                s.recv(2000)
+                print(time.time(), flush=True)
+            except OSError:
+                pass
+
+
+def names(host: str, count: str) -> None:
+    question = b"\0\7\1\0\0\1\0\0\0\0\0\0\4wifi\7example\0\0\1\0\1"
+    with socket.socket(socket.AF_INET, socket.SOCK_DGRAM) as s:
+        s.connect((host, 53))
+        s.settimeout(0.5)
+        got = 0
+        for _ in range(int(count)):
+            s.send(question)
+            time.sleep(1 / int(count))
+        try:
+            while s.recv(512):
+                got += 1
+        except OSError:
+            print(got)
+
+
+def stopped() -> None:
+    with socket.create_server(("127.0.0.1", 8080)) as door:
+        while True:
+            with door.accept()[0] as link:
+                link.recv(4096)
+                link.sendall(STOPPED)
+
+
+def door(address: str) -> None:
+    with socket.create_server((address, 443), family=socket.AF_INET6) as place:
+        while True:
+            place.accept()[0].close()
+
+
+def knock(address: str) -> None:
+    try:
+        socket.create_connection((address, 443), timeout=1).close()
+    except OSError:
+        sys.exit(1)
+
+
+def waits(link: ssl.SSLSocket) -> bool:
+    """Whether no answer came and the connection stands."""
+    link.settimeout(0.1)
+    try:
+        link.recv(1)
+    except TimeoutError:
+        return True
+    return False
+
+
+def slow(host: str, count: str, seconds: str) -> None:
+    context = ssl._create_unverified_context()
+    links = []
+    for i in range(int(count)):
+        link = context.wrap_socket(socket.create_connection((host, 443)))
+        link.sendall(b"GET /captive HTTP/1.1\r\nHo" if i % 3 else
+                     b"POST /portal/redeem HTTP/1.1\r\nHost: w\r\nContent-Length: 20\r\n\r\n{")
+        links.append(link)
+    print(sum(waits(link) for link in links), flush=True)
+    time.sleep(float(seconds))
+
+
+WORK = {work.__name__: work for work in (serve, stopped, door, knock, names, tcp, first, stream, slow)}
+
+if __name__ == "__main__":
+    WORK[sys.argv[1]](*sys.argv[2:])

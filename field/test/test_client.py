@@ -1,0 +1,100 @@
+"""The client of the desk, and numbers in words."""
+
+from __future__ import annotations
+
+import os
+import socket
+import threading
+import unittest
+
+from desk_process import Desk, DeskProcess, NoAnswer, Refused, Routes
+from desk_client import REQUEST_NUMBER, new_number
+from pages import BadForm, Form
+from words import clock, counted, money, span, use_zone, volume
+
+HEAD = b"HTTP/1.1 %d X\r\nContent-Length: %d\r\nConnection: close\r\n\r\n%s"
+
+
+class Answers(unittest.TestCase):
+    def told(self, answer: bytes, wait: float = 0.0) -> Exception | dict[str, object]:
+        """What the client makes of one answer."""
+        door = socket.create_server(("127.0.0.1", 0))
+        held = threading.Event()
+
+        def work() -> None:
+            with door, door.accept()[0] as link:
+                link.recv(4096)
+                link.sendall(answer)
+                held.wait(wait)
+
+        worker = threading.Thread(target=work)
+        worker.start()
+        try:
+            return Desk(door.getsockname()[1], timeout=0.3 if wait else 10).tell(Routes.SESSIONS)
+        except (Refused, NoAnswer) as fault:
+            return fault
+        finally:
+            held.set()
+            worker.join()
+
+    def test_answers_and_what_is_none(self) -> None:
+        self.assertEqual(self.told(HEAD % (200, 13, b'{"open":true}')), {"open": True})
+        refused = self.told(HEAD % (409, 21, b'{"error":"used_up"}  '))
+        self.assertEqual((refused.status, refused.word, refused.in_doubt), (409, "used_up", False))
+        self.assertTrue(self.told(HEAD % (503, 19, b'{"error":"stopped"}')).in_doubt)
+        for answer in (b"", b"HTTP/1.1 200 OK\r\n", HEAD % (200, 99, b"{}"), HEAD % (200, 12, b'{"open":true'),
+                       HEAD % (200, 2, b"[]"), HEAD % (502, 2, b"{}"), HEAD % (502, 1, b"x"), b"\0\0\0"):
+            self.assertIsInstance(self.told(answer), NoAnswer, answer)
+
+    def test_silence_has_an_end(self) -> None:
+        self.assertIsInstance(self.told(b"", wait=2), NoAnswer)
+        self.assertIsInstance(self.told(b"HTTP/1.1 200 OK\r\n", wait=2), NoAnswer)
+
+    def test_a_parameter_is_one_segment(self) -> None:
+        with DeskProcess() as desk:
+            for part in ("a/b", "..", "2222 2222 2222", "?x"):
+                with self.assertRaises(Refused) as caught:
+                    desk.desk.tell(Routes.VOUCHER, part)
+                self.assertEqual(caught.exception.word, "bad_code", part)
+
+    def test_line_ends_never_make_a_field(self) -> None:
+        with self.assertRaises(ValueError):
+            Desk(1, timeout=0.1).tell(Routes.SELL, body={}, number="a\r\nPortal-Token: x")
+
+    def test_numbers_are_new_and_well_formed(self) -> None:
+        numbers = {new_number() for _ in range(100)}
+        self.assertEqual(len(numbers), 100)
+        self.assertTrue(all(REQUEST_NUMBER.fullmatch(number) for number in numbers))
+
+
+class Words(unittest.TestCase):
+    def test_words(self) -> None:
+        for told, words in ((span(0), "0 seconds"), (span(1), "1 second"), (span(59), "59 seconds"),
+                            (span(60), "1 minute"), (span(3599), "59 minutes"), (span(3600), "1 hour"),
+                            (span(7500), "2 hours 5 min"),
+                            (span(86400), "1 day"), (span(100000), "1 day 3 h"), (volume(0), "0 bytes"),
+                            (volume(1), "1 byte"), (volume(999), "999 bytes"), (volume(1000), "1.0 kB"),
+                            (volume(999_999), "999.9 kB"), (volume(10**9), "1.0 GB"), (volume(10**15), "1000000.0 GB"),
+                            (money(5), "0.05"), (money(300), "3.00"), (counted(2, "use"), "2 uses")):
+            self.assertEqual(told, words)
+
+    def test_local_times_are_those_of_the_desks_zone(self) -> None:
+        self.addCleanup(use_zone, os.environ.get("TZ", "UTC0"))
+        berlin = "CET-1CEST,M3.5.0,M10.5.0/3"
+        for zone, moment, words in (("UTC0", 0, "1970-01-01 00:00"), (berlin, 0, "1970-01-01 01:00"),
+                                    (berlin, 1593561599, "2020-07-01 01:59")):
+            use_zone(zone)
+            self.assertEqual(clock(moment), words)
+
+    def test_forms(self) -> None:
+        form = Form.read("code=+a+&n=12&n=13&empty=&bad=1.0&long=1234567890123456789")
+        self.assertEqual((form.word("code"), form.whole("n")), ("a", 13))
+        for name in ("empty", "missing", "bad", "code", "long"):
+            with self.assertRaises(BadForm):
+                form.whole(name)
+        with self.assertRaises(BadForm):
+            Form.read("&".join(f"a{i}=1" for i in range(21)))
+
+
+if __name__ == "__main__":
+    unittest.main()

@@ -1,0 +1,163 @@
+"""The counter's page over a desk that runs beside it."""
+
+from __future__ import annotations
+
+import importlib.util
+import json
+import pathlib
+import re
+import tempfile
+import threading
+import time
+import unittest
+import urllib.parse
+
+from desk_process import FIELD, Desk, DeskProcess, Relay, Routes     # which says where the parts stand
+
+import refusals
+from pages import UnixServer
+from portal_counter import Counter, CounterPage
+from test_front import UnixLink
+
+HAS_SEGNO = importlib.util.find_spec("segno") is not None
+
+
+class Pages(unittest.TestCase):
+    def setUp(self) -> None:
+        self.desk = self.enterContext(DeskProcess())
+        self.relay = Relay(self.desk.port)
+        self.addCleanup(self.relay.close)
+        self.folder = pathlib.Path(self.enterContext(tempfile.TemporaryDirectory()))
+        self.path = self.folder / "socket"
+        conf = {"house": "House", "plans": str(FIELD / "settings/plans.toml"),
+                "portal_url": "https://wifi.example/portal", "snapshot": str(self.folder / "sessions.json")}
+        self.counter = Counter(Desk(self.relay.port, "desk-token"), conf, {})
+        self.counter.load_plans()
+        server = UnixServer.bound(str(self.path), CounterPage)
+        server.counter = self.counter
+        threading.Thread(target=server.serve_forever, kwargs={"poll_interval": 0.02}, daemon=True).start()
+        self.addCleanup(server.server_close)
+        self.addCleanup(server.shutdown)
+
+    def ask(self, path: str, origin: str | None = "https://counter.example", **form: object) -> tuple[int, str]:
+        link = UnixLink(self.path)
+        fields = {"Host": "counter.example", **({"Origin": origin} if origin else {})}
+        link.request("POST" if form else "GET", path, urllib.parse.urlencode(form) if form else None, fields)
+        answer = link.getresponse()
+        text = answer.read().decode()
+        link.close()
+        return answer.status, text
+
+    def test_the_first_page_offers_the_plans_and_numbered_forms(self) -> None:
+        status, text = self.ask("/")
+        self.assertEqual(status, 200)
+        self.assertIn('<option value="hour">hour, 3.00</option>', text)
+        numbers = re.findall(r'name="request" value="([A-Za-z0-9-]{1,36})"', text)
+        self.assertEqual((len(numbers), len(set(numbers))), (3, 3))
+        self.assertEqual(text.count('method="post"'), 3)
+
+    def test_a_day_at_the_counter(self) -> None:
+        for path, form, words in (
+                ("/issue", {"batch": "b1", "plan": "gigabyte", "count": 2}, "Batch b1: 2 codes, good until "),
+                ("/issue", {"batch": "b1", "plan": "hour", "count": 2}, "A batch of this name was issued already.")):
+            self.assertIn(words, self.ask(path, **form, request=str(time.monotonic_ns()))[1])
+        code = self.desk.desk.ask(Routes.PRINT, "b1").decode().splitlines()[1].partition(",")[0]
+        day = time.strftime("%Y-%m-%d", time.gmtime())
+        for path, form, words in (
+                ("/sell", {"code": code}, ("Sold: " + code, "Take 5.00")),
+                ("/sell", {"code": code}, ("Do not take money twice",)),
+                ("/refund", {"code": code}, ("Give back 5.00",)),
+                ("/close", {"session": 1}, ("There never was a session of this number.",)),
+                ("/close", {"session": "x"}, ("The request was not understood.",))):
+            text = self.ask(path, **form, request=str(time.monotonic_ns()))[1]
+            for word in words:
+                self.assertIn(word, text)
+        for page, words in ((f"/voucher?code={code.replace('-', '+')}", ("gigabyte", "0 of 3", "5.00")),
+                            ("/voucher?code=2222", ("No such code can exist",)), ("/voucher", ("not understood",)),
+                            (f"/takings?from={day}&to={day}", ("<b>net 0.00</b>", '<td data-label="sales">5.00</td>')),
+                            (f"/takings?from={day}&to=x", ("not understood",))):
+            text = self.ask(page)[1]
+            for word in words:
+                self.assertIn(word, text, page)
+
+    def test_a_form_sent_twice_acts_once(self) -> None:
+        code, = self.desk.issued("hour", "b1")
+        texts = [self.ask("/sell", code=code, request="s1") for _ in range(2)]
+        self.assertEqual([(status, "Take 3.00" in text) for status, text in texts], [(200, True)] * 2)
+        text = self.ask("/sell", code="2222-2222-2222", request="s1")[1]
+        self.assertIn("This form was sent before with other words", text)
+
+    def test_a_form_in_doubt_comes_back_to_be_sent_again(self) -> None:
+        code, = self.desk.issued("hour", "b1")
+        self.relay.cuts = True
+        status, text = self.ask("/sell", code=code, request="s1")
+        self.assertEqual(status, 504)
+        self.assertIn('<input type="hidden" name="request" value="s1">', text)
+        self.assertIn(f'<input type="hidden" name="code" value="{code}">', text)
+        self.assertIn("Send it again", text)
+        self.relay.cuts = False
+        self.assertIn("Take 3.00", self.ask("/sell", code=code, request="s1")[1])
+        self.assertIn("sold before", self.ask("/sell", code=code, request="s2")[1])
+
+    def test_no_other_site_sends_forms(self) -> None:
+        code, = self.desk.issued("hour", "b1")
+        for origin in ("https://evil.example", "null", None, "https://counter.example.evil"):
+            self.assertEqual(self.ask("/sell", origin, code=code, request="s1")[0], 403, origin)
+        for number in ("", "a_1", "a" * 37):
+            self.assertEqual(self.ask("/sell", code=code, request=number)[0], 400, number)
+        self.assertIsNone(self.desk.voucher(code)["sold"])
+
+    def test_what_was_typed_is_shown_as_words(self) -> None:
+        self.relay.drops = True
+        self.assertNotIn("<script>", self.ask("/sell", code='"><script>', request="s1")[1])
+
+    def test_open_sessions_come_from_the_gateways_list(self) -> None:
+        self.assertIn("There is no list from the gateway", self.ask("/")[1])
+        row = {"device": "02:00:00:00:00:01", "session": 7, "seconds-remaining": 3599, "used": 12345}
+        for age, words in ((0, ("59 minutes", "12.3 kB", 'value="7"')), (60, ("1 minute old", "nobody passes"))):
+            told = {"at": int(time.time()) - age, "sessions": [row]}
+            (self.folder / "sessions.json").write_text(json.dumps(told))
+            for word in words:
+                self.assertIn(word, self.ask("/")[1])
+
+    def test_plans_are_loaded_when_the_desk_comes(self) -> None:
+        self.relay.drops = True
+        self.counter.load_plans()
+        self.assertIn("The plans file was not loaded", self.ask("/")[1])
+        self.relay.drops = False
+        self.assertNotIn("not loaded", self.ask("/")[1])
+
+    def test_a_plans_file_that_does_not_read_is_told(self) -> None:
+        for text in (b"[[plan]", b"\xff", b"plan = 1", b'[[plan]]\nid = "x"\nprice = "y"\n', b""):
+            (self.folder / "plans.toml").write_bytes(text)
+            self.counter.conf["plans"] = str(self.folder / "plans.toml")
+            self.counter.load_plans()
+            self.assertIn("The plans file is refused as a whole.", self.ask("/")[1], text)
+
+    def test_a_question_without_an_answer_is_no_command_in_doubt(self) -> None:
+        self.relay.drops = True
+        status, text = self.ask("/voucher?code=2222-2222-2222")
+        self.assertEqual((status, "in doubt" in text), (504, False))
+
+    @unittest.skipUnless(HAS_SEGNO, "python3-segno is not installed")
+    def test_a_sheet_has_a_qr_code_for_each_code(self) -> None:
+        codes = self.desk.issued("day", "b1", 3)
+        status, text = self.ask("/sheet?batch=b1")
+        self.assertEqual(status, 200)
+        self.assertEqual(re.findall("<b>([0-9A-Z-]+)</b>", text), codes)
+        self.assertEqual(text.count("<svg"), 3)
+        self.assertIn("1 day, 9.00", text)
+
+
+class Words(unittest.TestCase):
+    def test_every_refusal_has_its_cause_and_what_to_do(self) -> None:
+        self.assertEqual([r.number for r in refusals.TABLE], list(range(1, 32)))
+        self.assertEqual(len(refusals.BY_WORD), 31)
+        for refusal in refusals.TABLE:
+            self.assertTrue(refusal.cause.endswith(".") and refusal.advice.endswith("."), refusal.word)
+            self.assertTrue(refusal.for_guest)
+        self.assertIn("'new_word'", refusals.of_word("new_word").cause)
+
+
+if __name__ == "__main__":
+    unittest.main()

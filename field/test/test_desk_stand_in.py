@@ -1,0 +1,177 @@
+"""The stand-in's answers to the desk's worked cases, moment by moment."""
+
+import json
+import unittest
+
+from desk_model import checked
+from desk_stand_in import StandIn
+
+SETTINGS = {"zone": "UTC0", "portal_url": "https://wifi.example/portal", "desk_token": "desk-token",
+            "gateway_token": "gate-token"}
+PLAN = '[[plan]]\nid = "{}"\nprice = {}\nuses = {}\nseconds = {}\nbytes = {}\nshelf_days = 30\nextend = {}\n'
+PLANS = PLAN.format("hour", 300, 1, 3600, 0, "true") + PLAN.format("gig", 500, 3, 0, 2**30, "false")
+GUEST, OTHER = "02:00:00:00:00:01", "02:00:00:00:00:02"
+TOKENS = {"/desk": "desk-token", "/gateway": "gate-token"}
+
+
+class Worked(unittest.TestCase):
+    def setUp(self) -> None:
+        self.desk = StandIn(":memory:", SETTINGS)
+        self.assertEqual(self.ask(0, "POST", "/desk/plans", PLANS), (200, '{"plans":2}'))
+
+    def raw(self, now: int, method: str, target: str, body: str = "", *fields: str) -> tuple[str, str]:
+        lines = [f"{method} {target} HTTP/1.1", "Host: api", f"Content-Length: {len(body)}", *fields]
+        told = self.desk.respond(now, ("\r\n".join(lines) + "\r\n\r\n" + body).encode()).decode()
+        head, _, text = told.partition("\r\n\r\n")
+        return head, text
+
+    def ask(self, now: int, method: str, target: str, body: object = "", device: str = GUEST,
+            number: str = "") -> tuple[int, str]:
+        token = next((value for start, value in TOKENS.items() if target.startswith(start)), None)
+        fields = [f"Portal-Token: {token}" if token else f"Portal-Device: {device}"]
+        fields += [f"Portal-Request: {number}"] if number else []
+        text = body if isinstance(body, str) else json.dumps(body)
+        head, answer = self.raw(now, method, target, text, *fields)
+        return int(head.split()[1]), answer
+
+    def bought(self, now: int, plan: str, batch: str, count: int = 1) -> list[str]:
+        self.ask(now, "POST", "/desk/batches", {"batch": batch, "plan": plan, "count": count})
+        lines = self.ask(now, "GET", f"/desk/batches/{batch}/print")[1].splitlines()[1:]
+        codes = [line.partition(",")[0] for line in lines]
+        for code in codes:
+            self.ask(now, "POST", "/desk/sales", {"code": code})
+        return codes
+
+    def redeem(self, now: int, code: str, device: str = GUEST, number: str = "") -> tuple[int, str]:
+        return self.ask(now, "POST", "/portal/redeem", {"code": code}, device, number)
+
+    def test_unknown_device(self) -> None:
+        fields = (b"GET /captive HTTP/1.1", b"Host: api", b"Portal-Device: " + GUEST.encode(), b"", b"")
+        told = self.desk.respond(1583125693, b"\r\n".join(fields))
+        self.assertEqual(len(told), 224)
+        self.assertTrue(told.startswith(b"HTTP/1.1 200 OK\r\nDate: Mon, 02 Mar 2020 05:08:13 GMT\r\nContent-Type: "))
+        self.assertTrue(told.endswith(b'{"captive":true,"user-portal-url":"https://wifi.example/portal"}'))
+
+    def test_codes(self) -> None:
+        seed = [1, 19, 3, 3, 27, 8, 2, 23, 17, 15, 3]
+        for body, code in (([0] * 11, "2222-2222-2222"), ([0] * 10 + [1], "2222-2222-223N"), (seed, "3N55-WA4S-KH53"),
+                           (seed + [26, 16, 22, 2], "3N55-WA4S-KH5V-JR49"), ([0] * 14 + [1], "2222-2222-2222-223H")):
+            self.assertEqual(checked(body), code)
+        for code, answer in ((" 2222 2222 223n", "unknown_code"), ("2222-2222-22N3", "bad_code"),
+                             ("222222222", "bad_code"), ("3n55wa4skh53", "unknown_code"),
+                             ("2222-2222-2222-22H3", "bad_code")):
+            self.assertEqual(json.loads(self.redeem(1, code)[1]), {"error": answer}, code)
+
+    def test_issue_sell_redeem(self) -> None:
+        code, = self.bought(1000, "hour", "b1")
+        self.assertEqual(len(code), 19)
+        self.assertEqual(self.redeem(1000, code), (200, '{"extended":false,"session":1,"uses_left":0}'))
+        url = '"user-portal-url":"https://wifi.example/portal"}'
+        for now, told in ((4599, '{"can-extend-session":true,"captive":false,"seconds-remaining":1,' + url),
+                          (900, '{"can-extend-session":true,"captive":false,"seconds-remaining":3600,' + url),
+                          (4600, '{"captive":true,' + url)):
+            self.assertEqual(self.ask(now, "GET", "/captive"), (200, told))
+        self.assertEqual(self.redeem(2000, code), (409, '{"error":"used_up"}'))
+        self.assertEqual(self.ask(2000, "GET", "/gateway/sessions")[1],
+                         '{"sessions":[{"device":"%s","seconds-remaining":2600,"session":1}]}' % GUEST)
+        self.assertEqual(self.ask(4600, "GET", "/gateway/sessions")[1], '{"sessions":[]}')
+        self.assertEqual(self.ask(9, "GET", "/desk/vouchers/" + code)[1],
+                         '{"batch":"b1","code":"%s","expires":2593000,"plan":"hour","redeemed":1,"refund":null,'
+                         '"sold":1000,"uses":1}' % code)
+
+    def test_extended_before_end_and_new_at_end(self) -> None:
+        for last, told in ((4599, '{"extended":true,"session":1,"uses_left":0}'),
+                           (4600, '{"extended":false,"session":2,"uses_left":0}')):
+            self.setUp()
+            first, second = self.bought(1000, "hour", "b1", 2)
+            self.redeem(1000, first)
+            self.assertEqual(self.redeem(last, second), (200, told))
+            self.assertIn('"seconds-remaining":3600,', self.ask(4600, "GET", "/captive")[1])
+
+    def test_bytes_counted_and_a_report_of_nothing(self) -> None:
+        code, = self.bought(1000, "gig", "b1")
+        self.redeem(1000, code, OTHER)
+        for count, is_open, used in ((0, True, 0), (2**30 - 1, True, 2**30 - 1), (0, True, 2**30 - 1),
+                                     (2**30, False, 2**30), (5, False, 2**30)):
+            told = self.ask(1000, "POST", "/gateway/reports", {"session": 1, "bytes": count})[1]
+            self.assertEqual(json.loads(told), {"open": is_open, "session": 1, "used": used})
+
+    def test_refusals_of_an_open_session(self) -> None:
+        hour, gig, gig2 = *self.bought(9, "hour", "h"), *self.bought(9, "gig", "g", 2)
+        self.redeem(9, hour)
+        self.assertEqual(self.redeem(9, gig)[1], '{"error":"shape_differs"}')
+        self.redeem(9, gig, OTHER)
+        self.assertEqual(self.redeem(9, gig2, OTHER)[1], '{"error":"no_extend"}')
+
+    def test_refund_and_takings(self) -> None:
+        code, = self.bought(1000, "gig", "b1")
+        self.redeem(1000, code)
+        for told in (f'{{"amount":333,"code":"{code}"}}', '{"error":"refunded"}'):
+            self.assertEqual(self.ask(86400, "POST", "/desk/refunds", {"code": code})[1], told)
+        self.assertEqual(self.redeem(86400, code)[1], '{"error":"refunded"}')
+        self.assertEqual(self.ask(9, "GET", "/desk/takings?from=1970-01-02&to=1970-01-02")[1], """\
+day            sold             sales refunded           refunds
+1970-01-02        0              0.00        1              3.33
+total             0              0.00        1              3.33
+net -3.33
+""")
+        for query in ("from=1970-01-01", "from=1970-1-1&to=1970-01-02", "from=1970-01-02&to=1970-01-01"):
+            self.assertEqual(self.ask(9, "GET", "/desk/takings?" + query)[0], 400, query)
+
+    def test_not_sold_then_expired(self) -> None:
+        self.ask(1000, "POST", "/desk/batches", {"batch": "b1", "plan": "hour", "count": 1})
+        code = self.ask(1000, "GET", "/desk/batches/b1/print")[1].splitlines()[1].partition(",")[0]
+        self.assertEqual(self.redeem(1000, code), (409, '{"error":"not_sold"}'))
+        self.ask(1000, "POST", "/desk/sales", {"code": code})
+        self.assertEqual(self.redeem(2593000, code), (410, '{"error":"expired"}'))
+
+    def test_close_session(self) -> None:
+        code, = self.bought(1000, "hour", "b1")
+        self.redeem(1000, code)
+        for session, told in ((1, '{"session":1}'), (1, '{"error":"closed_already"}'),
+                              (9, '{"error":"unknown_session"}')):
+            self.assertEqual(self.ask(2000, "POST", "/desk/closes", {"session": session})[1], told)
+        self.assertEqual(self.ask(2000, "POST", "/gateway/reports", {"session": 1, "bytes": 7})[1],
+                         '{"open":false,"session":1,"used":7}')
+
+    def test_a_numbered_request_acts_once(self) -> None:
+        one, two, three = self.bought(1000, "hour", "b1", 3)
+        for now in (1000, 5000):
+            self.assertEqual(self.redeem(now, one, number="a1"), (200, '{"extended":false,"session":1,"uses_left":0}'))
+        self.assertIn('"seconds-remaining":3600,', self.ask(900, "GET", "/captive")[1])
+        self.assertEqual(self.redeem(1000, one, OTHER, number="a1"), (409, '{"error":"used_up"}'))
+        self.assertEqual(self.redeem(1000, two, number="a1"), (409, '{"error":"id_reused"}'))
+        self.ask(1000, "POST", "/desk/refunds", {"code": three})
+        self.assertEqual(self.redeem(1000, three, number="b1"), (409, '{"error":"refunded"}'))
+        self.assertEqual(self.redeem(1000, two, number="b1")[0], 200)   # a refused command leaves its number free
+        for bad in ("a_1", "a" * 37):
+            self.assertEqual(self.redeem(1000, two, number=bad), (400, '{"error":"bad_request"}'))
+
+    def test_order_of_checks(self) -> None:
+        token, device = "Portal-Token: desk-token", "Portal-Device: " + GUEST
+        for method, target, fields, status, word in (
+                ("POST", "/desk/sales", (), 403, "forbidden"),
+                ("POST", "/desk/sales", (token, token), 403, "forbidden"),
+                ("GET", "/desk//x", (), 404, "no_route"), ("GET", "/captive/", (device,), 404, "no_route"),
+                ("DELETE", "/captive", (), 405, "bad_method"),
+                ("GET", "/captive", (device, device), 400, "bad_device"),
+                ("GET", "/captive", ("Portal-Device: 02:00-00:00:00:01",), 400, "bad_device"),
+                ("GET", "/captive", ("Host: api", device), 400, "bad_request"),
+                ("POST", "/desk/sales", ("Transfer-Encoding: chunked", token), 501, "not_supported"),
+                ("POST", "/desk/sales", (token,), 400, "bad_request")):
+            head, body = self.raw(1, method, target, "", *fields)
+            self.assertEqual((int(head.split()[1]), body), (status, f'{{"error":"{word}"}}'), target)
+        self.assertIn("\r\nAllow: GET\r\n", self.raw(1, "DELETE", "/captive")[0] + "\r\n")
+        far = b"POST /desk/sales HTTP/1.0\r\nContent-Length: 65537\r\n\r\n"
+        self.assertIn(b"413 Payload Too Large", self.desk.respond(1, far))
+
+    def test_plans_repeated(self) -> None:
+        other = PLANS.replace("price = 300", "price = 301")
+        self.assertEqual(self.ask(1, "POST", "/desk/plans", PLANS), (200, '{"plans":2}'))
+        many = PLANS.replace("uses = 1\n", "uses = 100001\n")
+        for text, word in ((other, "plan_differs"), ("", "bad_plans"), (many, "bad_plans")):
+            self.assertEqual(json.loads(self.ask(1, "POST", "/desk/plans", text)[1]), {"error": word})
+
+
+if __name__ == "__main__":
+    unittest.main()

@@ -1,0 +1,169 @@
+"""The guests' helper: which device, which words, and that a form acts once. The desk runs beside it."""
+
+from __future__ import annotations
+
+import http.client
+import pathlib
+import re
+import socket
+import tempfile
+import threading
+import unittest
+import urllib.parse
+from unittest import mock
+
+from desk_process import Desk, DeskProcess, Relay, Routes    # which says where the parts stand
+
+import portal_front
+from pages import UnixServer
+from portal_front import Front, PortalPage, device_at, device_in, plain_code
+
+MAC = "02:00:00:00:00:01"
+TABLE = '[{"dst":"10.77.0.50","dev":"lan0","lladdr":"02:00:00:00:00:01","state":["%s"]}]'
+
+
+class Parts(unittest.TestCase):
+    def test_devices_of_the_neighbour_table(self) -> None:
+        for table, device in ((TABLE % "REACHABLE", MAC), (TABLE % "STALE", MAC), (TABLE % "FAILED", None),
+                              (TABLE % "INCOMPLETE", None), ("", None), ("[]", None), ("x", None),
+                              (TABLE.replace('"02:00:00:00:00:01"', '"02:00:00:00:00:01;x"') % "REACHABLE", None)):
+            self.assertEqual(device_in(table, "10.77.0.50"), device, table)
+        self.assertIsNone(device_in(TABLE % "REACHABLE", "10.77.0.51"))
+
+    def test_an_address_that_is_none_asks_nobody(self) -> None:
+        with mock.patch.object(portal_front.subprocess, "run") as run:
+            for address in ("", "x", "10.77.0.50; id", "::1", "-all"):
+                self.assertIsNone(device_at(address, "lan0"), address)
+            run.assert_not_called()
+
+    def test_a_code_typed_in_many_ways_is_one_request(self) -> None:
+        for text in ("3n55-wa4s-kh5v-jr49", " 3N55 WA4S KH5V JR49 ", "3N55\u2013WA4S\u2014KH5V\u2011JR49",
+                     "3n55wa4skh5vjr49"):
+            self.assertEqual(plain_code(text), "3N55WA4SKH5VJR49")
+        self.assertEqual(plain_code("\u00df"), "\u00df")
+
+
+class UnixLink(http.client.HTTPConnection):
+    def __init__(self, path: pathlib.Path) -> None:
+        super().__init__("front")
+        self.path = path
+
+    def connect(self) -> None:
+        self.sock = socket.socket(socket.AF_UNIX)
+        self.sock.settimeout(10)
+        self.sock.connect(str(self.path))
+
+
+class Pages(unittest.TestCase):
+    def setUp(self) -> None:
+        self.desk = self.enterContext(DeskProcess())
+        self.desk.load()
+        self.relay = Relay(self.desk.port)
+        self.addCleanup(self.relay.close)
+        folder = pathlib.Path(self.enterContext(tempfile.TemporaryDirectory()))
+        self.path, knock = folder / "socket", folder / "knock"
+        self.knocks = self.enterContext(socket.socket(socket.AF_UNIX, socket.SOCK_DGRAM))
+        self.knocks.bind(str(knock))
+        self.knocks.setblocking(False)
+        self.server = UnixServer.bound(str(self.path), PortalPage)
+        conf = {"house": "A <b> House", "help": "Ask.", "lan": "lan0", "knock": str(knock)}
+        self.server.front = Front(Desk(self.relay.port, timeout=5), conf)
+        threading.Thread(target=self.server.serve_forever, kwargs={"poll_interval": 0.02}, daemon=True).start()
+        self.addCleanup(self.server.server_close)
+        self.addCleanup(self.server.shutdown)
+        self.device: str | None = MAC
+        self.enterContext(mock.patch.object(portal_front, "device_at", lambda address, lan: self.device))
+
+    def ask(self, method: str, path: str, **form: str) -> tuple[int, str, str]:
+        link = UnixLink(self.path)
+        link.request(method, path, urllib.parse.urlencode(form) if form else None)
+        answer = link.getresponse()
+        text = answer.read().decode()
+        where = answer.getheader("Location", "")
+        link.close()
+        return answer.status, text, where
+
+    def number(self, text: str) -> str:
+        found = re.search(r'name="request" value="([A-Za-z0-9-]{1,36})"', text)
+        self.assertIsNotNone(found)
+        return found[1]
+
+    def test_the_device_is_named_to_nginx(self) -> None:
+        self.assertEqual(self.ask("GET", "/device")[0], 204)
+        self.device = None
+        self.assertEqual(self.ask("GET", "/device")[0], 403)
+        self.assertIn("could not tell your device", self.ask("GET", "/portal")[1])
+
+    def test_a_form_sent_twice_acts_once(self) -> None:
+        code, = self.desk.sold("gigabyte", "b1")
+        number = self.number(self.ask("GET", "/portal")[1])
+        answers = [self.ask("POST", "/portal", code=typed, request=number) for typed in (code, code.lower())]
+        self.assertEqual([answer[::2] for answer in answers], [(303, "/portal?done=1&left=2")] * 2)
+        self.assertEqual(self.desk.voucher(code)["redeemed"], 1)
+        self.assertEqual(self.knocks.recv(9), b"r")
+        self.assertIn("It can be used 2 more times.", self.ask("GET", "/portal?done=1&left=2")[1])
+
+    def test_a_form_in_doubt_keeps_its_number_and_acts_once(self) -> None:
+        code, = self.desk.sold("gigabyte", "b1")
+        number = self.number(self.ask("GET", "/portal")[1])
+        self.relay.cuts = True      # the desk acts, and its answer is lost
+        status, text, _ = self.ask("POST", "/portal", code=code, request=number)
+        self.assertEqual((status, self.number(text)), (504, number))
+        self.assertIn("press the button again", text)
+        self.assertIn(f'value="{code}"', text)
+        self.relay.cuts = False
+        self.assertEqual(self.ask("POST", "/portal", code=code, request=number)[0], 303)
+        self.assertEqual(self.desk.voucher(code)["redeemed"], 1)
+
+    def test_a_request_that_never_came_to_the_desk_is_carried_out_at_the_second_time(self) -> None:
+        code, = self.desk.sold("gigabyte", "b1")
+        number = self.number(self.ask("GET", "/portal")[1])
+        self.relay.drops = True
+        self.assertEqual(self.ask("POST", "/portal", code=code, request=number)[0], 504)
+        self.relay.drops = False
+        self.assertEqual(self.ask("POST", "/portal", code=code, request=number)[0], 303)
+        self.assertEqual(self.desk.voucher(code)["redeemed"], 1)
+
+    def test_a_refused_form_comes_back_with_another_number(self) -> None:
+        number = self.number(self.ask("GET", "/portal")[1])
+        for code, status, words in (("2222-2222-2222", 404, "We do not know this code"),
+                                    ("x", 400, "no code of ours")):
+            answer = self.ask("POST", "/portal", code=code, request=number)
+            self.assertEqual(answer[0], status)
+            self.assertIn(words, answer[1])
+            self.assertNotEqual(self.number(answer[1]), number)
+
+    def test_nothing_acts_without_a_good_number(self) -> None:
+        code, = self.desk.sold("hour", "b1")
+        for number in ("", "a_1", "a" * 37):
+            status, text, _ = self.ask("POST", "/portal", code=code, request=number)
+            self.assertEqual(status, 400)
+            self.assertIn("press the button once more", text)
+        self.assertEqual(self.desk.voucher(code)["redeemed"], 0)
+
+    def test_what_a_guest_writes_is_shown_as_words(self) -> None:
+        for status, text, _ in (self.ask("GET", "/portal?code=%22%3E%3Cscript%3E"),
+                                self.ask("POST", "/portal", code='"><script>', request="r1")):
+            self.assertNotIn("<script>", text)
+            self.assertIn("&quot;&gt;&lt;S-CRIP", text)
+            self.assertIn("A &lt;b&gt; House", text)
+        self.assertNotIn("Your code is good", self.ask("GET", "/portal?done=1&left=9")[1])     # it is not online
+
+    def test_more_fields_than_a_form_has(self) -> None:
+        many = "&".join(f"a{i}=1" for i in range(99))
+        self.assertEqual(self.ask("GET", "/portal?" + many)[0], 200)
+        self.assertEqual(self.ask("POST", "/portal", **{f"a{i}": "1" for i in range(99)})[0], 400)
+
+    def test_the_state_in_words(self) -> None:
+        time, data = self.desk.sold("hour", "b1") + self.desk.sold("gigabyte", "b2")
+        for code, device, words in ((time, MAC, "59 minutes|1 hour"), (data, "02:00:00:00:00:02", "1.0 GB")):
+            self.device = device
+            self.assertIn("You are not online yet.", self.ask("GET", "/portal")[1])
+            self.desk.desk.tell(Routes.REDEEM, body={"code": code}, device=device)
+            self.assertRegex(self.ask("GET", "/portal")[1], f"You are online.*({words})")
+        self.relay.drops = True
+        self.assertIn("We cannot ask our desk just now", self.ask("GET", "/portal")[1])
+
+
+if __name__ == "__main__":
+    unittest.main()

@@ -1,0 +1,211 @@
+"""The agent's decisions, with a desk and a gate in memory."""
+
+from __future__ import annotations
+
+import json
+import pathlib
+import tempfile
+import unittest
+from collections.abc import Iterable
+from typing import Any
+
+from desk_process import NoAnswer, Refused, Routes
+from passing import Passing, RulesAreGone
+from portal_gateway import Agent
+
+A, B = "02:00:00:00:00:0a", "02:00:00:00:00:0b"
+
+
+class MemoryDesk:
+    def __init__(self) -> None:
+        self.open: dict[int, str] = {}
+        self.used: dict[int, int] = {}
+        self.allowance: dict[int, int] = {}
+        self.asked: list[tuple[int, int]] = []
+        self.fault: Exception | None = None
+        self.deaf = False
+
+    def tell(self, route: Routes, body: dict[str, int] | None = None) -> dict[str, Any]:
+        if route is Routes.SESSIONS:
+            return self.sessions()
+        assert body
+        if self.deaf:
+            raise NoAnswer("deaf")
+        number = body["session"]
+        self.asked.append((number, body["bytes"]))
+        self.used[number] = max(self.used.get(number, 0), body["bytes"])
+        if self.used[number] >= self.allowance.get(number, 10**18):
+            self.open.pop(number, None)
+        return {"open": number in self.open, "session": number, "used": self.used[number]}
+
+    def sessions(self) -> dict[str, Any]:
+        if self.fault:
+            raise self.fault
+        rows = []
+        for number, device in sorted(self.open.items()):
+            left = self.allowance.get(number, 0) - self.used.get(number, 0)
+            rows.append({"device": device, "session": number, **({"bytes-remaining": left} if left > 0 else {})})
+        return {"sessions": rows}
+
+
+class MemoryGate:
+    def __init__(self) -> None:
+        self.now: dict[str, Passing] = {}
+        self.is_open = self.is_gone = self.is_barred = False
+
+    def stands(self) -> None:
+        if self.is_gone:
+            raise RulesAreGone("gone")
+
+    def bar(self) -> None:
+        self.is_barred = True
+
+    def unbar(self) -> None:
+        self.is_barred = False
+
+    def passing(self) -> dict[str, Passing]:
+        return {mac: Passing(p.session, p.base, p.counted) for mac, p in self.now.items()}
+
+    def change(self, gone: Iterable[str], come: dict[str, Passing]) -> None:
+        for mac in gone:
+            del self.now[mac]
+        self.now.update({mac: Passing(p.session, p.base, p.counted) for mac, p in come.items()})
+        self.is_open = True
+
+    def shut(self) -> None:
+        self.is_open = False
+
+
+class Polls(unittest.TestCase):
+    def setUp(self) -> None:
+        self.desk, self.gate, self.time = MemoryDesk(), MemoryGate(), 0.0
+        self.agent = self.fresh()
+
+    def fresh(self, snapshot: str | None = None) -> Agent:
+        return Agent(self.desk, self.gate, snapshot, quiet=30.0, now=lambda: self.time)
+
+    def poll(self, seconds: float = 1.0) -> bool:
+        self.time += seconds
+        return self.agent.try_poll()
+
+    def opened(self, session: int = 1, mac: str = A, counted: int = 0) -> None:
+        self.desk.open[session] = mac
+        self.poll()
+        self.gate.now[mac].counted = counted
+
+    def test_who_has_a_session_passes_and_nobody_else(self) -> None:
+        self.opened()
+        self.assertEqual(set(self.gate.now), {A})
+        self.desk.open = {2: B}
+        self.poll()
+        self.assertEqual(set(self.gate.now), {B})
+
+    def test_the_last_count_of_an_ended_session_is_reported(self) -> None:
+        self.opened(counted=777)
+        self.desk.open = {}
+        self.poll()
+        self.assertEqual(self.desk.used[1], 777)
+
+    def test_a_last_count_that_the_desk_did_not_hear_is_told_later(self) -> None:
+        self.opened(1, A, 777)
+        self.opened(2, B, 888)
+        self.gate.now[A].counted = 777
+        self.desk.open, self.desk.deaf = {}, True
+        self.assertFalse(self.poll())
+        self.assertEqual(self.gate.now, {})
+        self.desk.deaf = False
+        self.poll()
+        self.assertEqual(self.desk.used, {1: 777, 2: 888})
+
+    def test_want_of_memory_at_the_desk_does_not_shut_at_once(self) -> None:
+        self.opened()
+        self.desk.fault = Refused(503, "no_memory")
+        self.assertFalse(self.poll())
+        self.assertTrue(self.gate.is_open)
+
+    def test_a_new_session_of_a_device_begins_at_nought(self) -> None:
+        self.opened(counted=777)
+        self.desk.open = {2: A}
+        self.poll()
+        self.assertEqual((self.desk.used[1], self.desk.used[2], self.gate.now[A]), (777, 0, Passing(2, 0, 0)))
+
+    def test_bytes_that_end_a_session_shut_it_in_the_same_poll(self) -> None:
+        self.desk.allowance = {1: 1000}
+        self.opened(counted=1000)
+        self.poll()
+        self.assertEqual(self.gate.now, {})
+
+    def test_a_gateway_that_lost_its_counts_goes_on_from_what_the_desk_holds(self) -> None:
+        self.desk.used = {1: 5000}
+        self.opened()
+        self.assertEqual(self.gate.now[A], Passing(1, 5000, 0))
+        self.gate.now[A].counted = 10
+        self.poll(31)
+        self.assertEqual(self.desk.used[1], 5010)
+
+    def test_an_agent_started_again_counts_nothing_twice(self) -> None:
+        self.opened(counted=300)
+        self.agent = self.fresh()
+        self.poll()
+        self.gate.now[A].counted = 400
+        self.poll(31)
+        self.assertEqual(self.desk.used[1], 400)
+
+    def test_reports_are_few_while_much_is_left(self) -> None:
+        self.desk.allowance = {1: 10**9}
+        self.opened()
+        for i in range(1, 21):
+            self.gate.now[A].counted = i * 1000
+            self.poll()
+        self.assertEqual(len(self.desk.asked), 1)
+        self.poll(11)
+        self.assertEqual(self.desk.asked[-1], (1, 20000))
+
+    def test_a_report_comes_at_an_eighth_of_what_is_left(self) -> None:
+        self.desk.allowance = {1: 8000}
+        for counted, reports in ((999, 1), (1000, 2), (1800, 2), (1875, 3)):
+            if not self.gate.now:
+                self.opened()
+            self.gate.now[A].counted = counted
+            self.poll()
+            self.assertEqual(len(self.desk.asked), reports, counted)
+
+    def test_a_number_given_anew_to_another_device_is_not_reported_to(self) -> None:
+        self.opened(counted=900)
+        self.desk.open, self.desk.used = {1: B}, {}
+        self.poll()
+        self.assertEqual(self.desk.used.get(1, 0), 0)
+
+    def test_a_desk_that_stopped_shuts_the_gate_and_silence_leaves_it_to_the_switch(self) -> None:
+        self.opened()
+        for fault, is_open in ((NoAnswer("x"), True), (Refused(503, "stopped"), False)):
+            self.desk.fault = fault
+            self.assertFalse(self.poll())
+            self.assertEqual(self.gate.is_open, is_open)
+        self.desk.fault = None
+        self.assertTrue(self.poll() and self.gate.is_open)
+
+    def test_without_its_rules_nothing_is_forwarded_until_they_are_back(self) -> None:
+        self.opened()
+        self.desk.fault, self.gate.is_gone = NoAnswer("x"), True
+        self.assertFalse(self.poll())
+        self.assertTrue(self.gate.is_barred)
+        self.gate.is_gone = False
+        self.assertFalse(self.poll())
+        self.assertTrue(self.gate.is_barred, "not before a good poll")
+        self.desk.fault = None
+        self.assertTrue(self.poll())
+        self.assertFalse(self.gate.is_barred)
+
+    def test_the_list_for_the_counter_tells_fresh_counts(self) -> None:
+        with tempfile.TemporaryDirectory() as folder:
+            path = pathlib.Path(folder) / "sessions.json"
+            self.agent = self.fresh(str(path))
+            self.opened(counted=55)
+            self.poll()
+            self.assertEqual(json.loads(path.read_text())["sessions"], [{"device": A, "session": 1, "used": 55}])
+            self.assertEqual(path.stat().st_mode & 0o777, 0o640)
+
+
+if __name__ == "__main__":
+    unittest.main()

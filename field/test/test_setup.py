@@ -1,0 +1,134 @@
+"""The set-up: what it refuses, what it makes, and the units as far as they can be looked at without systemd."""
+
+from __future__ import annotations
+
+import configparser
+import importlib.machinery
+import importlib.util
+import pathlib
+import re
+import shutil
+import subprocess
+import sys
+import tempfile
+import tomllib
+import unittest
+
+from desk_process import FIELD
+
+loader = importlib.machinery.SourceFileLoader("field_setup", str(FIELD / "setup"))
+spec = importlib.util.spec_from_loader("field_setup", loader)
+setup = importlib.util.module_from_spec(spec)
+sys.modules["field_setup"] = setup
+sys.dont_write_bytecode = True
+loader.exec_module(setup)
+
+SAMPLE = (FIELD / "settings/field.toml").read_text()
+SERVICES = ("portal", "portal-gateway", "portal-front", "portal-counter")
+
+
+class Lines(unittest.TestCase):
+    def test_the_sample_reads(self) -> None:
+        self.assertEqual(setup.Field.read(SAMPLE).guests, "10.77.0.1/22")
+
+    def test_what_is_refused(self) -> None:
+        for old, new in (('name = "wifi.example"', 'name = "wifi.example;"'),
+                         ('name = "wifi.example"', 'name = "wifi"'), ('lan = "lan0"', 'lan = "lan0 { }"'),
+                         ('lan = "lan0"', 'lan = 1'), ('zone = "UTC0"', 'zone = ""'),
+                         ('cert = "/etc', 'cert = "etc'), ("desk_port = 8080", "desk_port = 0"),
+                         ("desk_port = 8080", 'desk_port = "8080"'), ("desk_port = 8080", "desk_port = true"),
+                         ("grace_seconds = 5", "grace_seconds = 5.5"), ("poll_seconds = 1.0", "poll_seconds = 4.0"),
+                         ('guests = "10.77.0.1/22"', 'guests = "10.77.0.1"'), ('"10.77.0.50"', '"10.99.0.50"'),
+                         ('"10.77.0.50"', '"10.77.3.251"'), ('"1h"', '"1 h"'), ('"1h"]', '"1h", "x"]'),
+                         ('counter = "10.88.0.1/24"', 'counter = "10.77.1.1/24"'), ("quiet_seconds", "quit_seconds"),
+                         ("wan = ", "more = 1\nwan = "), ("house = ", "house ")):
+            self.assertIn(old, SAMPLE)
+            with self.assertRaises(setup.BadSettings, msg=new):
+                setup.Field.read(SAMPLE.replace(old, new))
+
+
+class Made(unittest.TestCase):
+    def setUp(self) -> None:
+        self.root = pathlib.Path(self.enterContext(tempfile.TemporaryDirectory()))
+        self.make()
+
+    def make(self) -> None:
+        words = [sys.executable, FIELD / "setup", "--root", self.root, "--field", "/usr/share/portal/field",
+                 FIELD / "settings/field.toml"]
+        subprocess.run(words, check=True, capture_output=True)
+
+    def files(self) -> dict[str, bytes]:
+        return {str(p.relative_to(self.root)): p.read_bytes() for p in self.root.rglob("*") if p.is_file()}
+
+    def test_made_again_nothing_changes(self) -> None:
+        before = self.files()
+        self.make()
+        self.assertEqual(self.files(), before)
+
+    def test_secrets_are_apart_and_shut(self) -> None:
+        etc = self.root / "etc/portal"
+        tokens = [(etc / "credentials" / name).read_text().strip() for name in ("desk_token", "gateway_token")]
+        self.assertTrue(tokens[0] != tokens[1] and all(len(token) == 43 for token in tokens))
+        for path in (etc / "credentials/desk_token", etc / "credentials/gateway_token", etc / "portal.toml"):
+            self.assertEqual(path.stat().st_mode & 0o777, 0o600)
+        for name, text in self.files().items():
+            for token in tokens:
+                if token.encode() in text:
+                    self.assertIn(name, ("etc/portal/portal.toml", "etc/portal/credentials/desk_token",
+                                         "etc/portal/credentials/gateway_token"))
+
+    def test_the_desks_settings_are_as_the_desk_reads_them(self) -> None:
+        told = tomllib.loads((self.root / "etc/portal/portal.toml").read_text())
+        self.assertEqual(told.keys(), {"zone", "portal_url", "desk_token", "gateway_token"})
+        self.assertEqual(told["portal_url"], "https://wifi.example/portal")
+
+    def test_no_word_is_left_to_fill_in(self) -> None:
+        for name, text in self.files().items():
+            self.assertIsNone(re.search(rb"@[A-Z_]+@", text), name)
+
+    def test_a_bad_line_makes_nothing(self) -> None:
+        with tempfile.TemporaryDirectory() as folder:
+            path = pathlib.Path(folder) / "field.toml"
+            path.write_text(SAMPLE.replace("desk_port = 8080", "desk_port = 0"))
+            words = [sys.executable, FIELD / "setup", "--root", pathlib.Path(folder) / "root", path]
+            done = subprocess.run(words, capture_output=True, text=True)
+            self.assertEqual((done.returncode, (pathlib.Path(folder) / "root").exists()), (1, False))
+            self.assertIn("desk_port = 0: from 1 to 65535", done.stderr)
+
+    def unit(self, name: str) -> configparser.ConfigParser:
+        unit = configparser.ConfigParser(strict=False, interpolation=None)
+        unit.optionxform = str
+        unit.read(self.root / "etc/systemd/system" / name)
+        return unit
+
+    def test_each_service_has_a_user_and_at_most_one_secret(self) -> None:
+        secrets = {"portal": "settings:/etc/portal/portal.toml", "portal-front": None,
+                   "portal-gateway": "gateway_token:/etc/portal/credentials/gateway_token",
+                   "portal-counter": "desk_token:/etc/portal/credentials/desk_token"}
+        users = (self.root / "etc/sysusers.d/portal.conf").read_text()
+        for name in SERVICES:
+            service = self.unit(name + ".service")["Service"]
+            self.assertEqual((service["User"], service.get("LoadCredential")), (name, secrets[name]))
+            self.assertIn(f"u {name} -", users)
+            self.assertEqual((service["Restart"], service["IPAddressDeny"]), ("always", "any"))
+            self.assertEqual(self.unit(name + ".service")["Unit"]["StartLimitIntervalSec"], "0")
+            capabilities = "CAP_NET_ADMIN" if name == "portal-gateway" else ""
+            self.assertEqual(service["CapabilityBoundingSet"], capabilities)
+            program = service["ExecStart"].split()[-1]
+            if name != "portal":
+                self.assertTrue((FIELD / program.removeprefix("/usr/share/portal/field/")).is_file(), program)
+
+    @unittest.skipUnless(shutil.which("systemd-analyze"), "systemd-analyze is not installed")
+    def test_systemd_reads_the_units(self) -> None:
+        """`verify` without a running systemd; what it says of programs that are not installed here is left out."""
+        folder = self.root / "etc/systemd/system"
+        shutil.copy(folder / "portal-rules@.service", folder / "portal-rules@lan0.service")
+        units = [path for path in sorted(folder.iterdir()) if "@." not in path.name]
+        done = subprocess.run(["systemd-analyze", "verify", "--man=no", *units], capture_output=True, text=True)
+        said = [line for line in done.stderr.splitlines() if str(folder) in line or "portal" in line]
+        said = [line for line in said if "is not executable" not in line and "No such file" not in line]
+        self.assertEqual(said, [])
+
+
+if __name__ == "__main__":
+    unittest.main()
