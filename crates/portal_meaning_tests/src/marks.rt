@@ -2,7 +2,7 @@
 use crate::records::{device, hour, moment, sold};
 use portal_core::{Answer, Refusal, Voucher, decide_sell};
 use portal_ledger::caller::Caller;
-use portal_ledger::marked::with_mark;
+use portal_ledger::marked::MarkedChanges;
 use portal_ledger::repeat::decide_repeat;
 use portal_ledger::request::{KeptRequest, RequestMark, RequestNumber};
 use std::test::Fail;
@@ -63,7 +63,7 @@ fn greatest_mark(rt: HostRuntime) -> Result<(), Fail> {
         code: voucher.code,
         price: 300,
     };
-    let marked = with_mark(rt.alloc(), sale, &mark)?;
+    let marked = MarkedChanges::with_mark(rt.alloc(), sale, &mark)?;
     assert_eq!(rt; marked.changes.answer(), answer);
     assert!(rt;
         marked
