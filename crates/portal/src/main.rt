@@ -1,15 +1,18 @@
 //! The program `portal`: the voucher and session desk behind a captive portal.
 #![tactic(auto)]
 
-use portal_program::program::run_program;
+use portal_host::run_on_host;
 use portal_program::words::words_of;
+use sqlite::Unknown;
 use std::process::ExitCode;
 
 fn main(rt: HostRuntime) -> ExitCode {
     let mut errors = rt.stderr();
     let status = match words_of(&rt) {
-        Ok(words) => run_program(
-            rt.alloc(),
+        // of the disk it is supposed that a torn write leaves each byte old or new
+        Ok(words) => run_on_host(
+            &rt,
+            Unknown,
             words.as_slice(),
             &mut rt.stdin(),
             &mut rt.stdout(),

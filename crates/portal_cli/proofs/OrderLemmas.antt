@@ -1,42 +1,43 @@
 -- The order that was found for a subcommand.
-use Rattle.std.proofs.Common.{◌≡◌, ◌⊎◌, inl, inr, ◌<◌, ◌^◌, ℕ, List, Option, Some, None, option_map, codes, refl, sym, ◌∙◌, ap, subst}
+use Rattle.std.proofs.Common.{◌≡◌, ◌≢◌, ◌⊎◌, inl, inr, ◌<◌, ◌^◌, ℕ, List, Option, Some, None, option_map, get_or, codes, refl, sym, ◌∙◌, ap, subst, arith}
+use Rattle.std.specs.Prelude.{MatchOption}
 use Rattle.std.specs.Borrow.{Bor}
 use Rattle.std.specs.Str.Parse.{IsNumeral, digits_value, without_leading_plus}
-use Rattle.clap.specs.Words.{IsAmong, Row, Text, fault_of, first_of, one_of, subcommand_name_of, subcommand_rows_of}
+use Rattle.clap.specs.Words.{IsAmong, Row, Text, fault_of, first_of, subcommand_name_of, subcommand_of, subcommand_rows_of}
 use Rattle.clap.specs.declared.parser.matches.ArgMatches.{ArgMatches}
 use Rattle.clap.specs.declared.parser.matches.ArgMatches.TheViews.{out-ArgMatches}
 use Rattle.clap.specs.declared.error.kind.ErrorKind.{ErrorKind}
 use Rattle.clap.specs.declared.error.kind.ErrorKind.TheVariants.{DisplayHelp, OutOfMemory}
 use Rattle.portal_cli.specs.declared.order.Order.{Order}
-use Rattle.portal_cli.specs.declared.order.Order.TheVariants.{Answer}
+use Rattle.portal_cli.specs.declared.order.Order.TheVariants.{Serve, Answer, Print, Takings, Check}
 use Rattle.portal_cli.specs.declared.order.NoOrder.{NoOrder}
 use Rattle.portal_cli.specs.declared.order.NoOrder.TheVariants.{Help, Fault, NoMemory}
 use Rattle.portal_cli.specs.CommandLine.{command_line}
-use Rattle.portal_cli.specs.Orders.{IsOrder, Tells, TellsKind, WritesNumber}
+use Rattle.portal_cli.specs.Orders.{GivesFiles, GivesNumber, GivesText, IsAnswer, IsCheck, IsNoHelp, IsNone, IsNoOrder, IsOrder, IsPrint, IsServe, IsTakings, Tells, TellsKind, WritesNumber}
 
 twice : {A B C : Type 0} (f : B → C) (g : A → B) (o : Option A) → option_map f (option_map g o) ≡ option_map (λ x. f (g x)) o
 twice f g None = refl
 twice f g (Some x) = refl
 
 -- the name that stands beside the rows
-pub name_of_rows : (m : ArgMatches) → option_map (λ p. p.0) (subcommand_rows_of m) ≡ subcommand_name_of m
+name_of_rows : (m : ArgMatches) → option_map (λ p. p.0) (subcommand_rows_of m) ≡ subcommand_name_of m
 name_of_rows m = twice _ _ (out-ArgMatches m).subcommand
 
--- no order without a number
-pub no_number : (found : Option (Text × List Row)) (rows : List Row) (order : Order) → option_map (λ p. p.1) found ≡ Some rows
-    → ((text : Text) (n : ℕ) → one_of (codes "now") rows ≡ Some text → WritesNumber text n → ⊥) → IsOrder found order → ⊥
-no_number None rows order here none is = is
-no_number (Some p) rows (Answer now seed) here none is =
-    let same : p.1 ≡ rows = cc in
-    none is.1.0 now (ap (one_of (codes "now")) (sym same) ∙ is.1.1) is.1.2
+both : {A B : Type 0} (found : Option (A × B)) (a : A) (b : B) → option_map (λ p. p.0) found ≡ Some a → option_map (λ p. p.1) found ≡ Some b → found ≡ Some (a, b)
+both None a b first second = absurd (cc)
+both (Some p) a b first second =
+    let left : p.0 ≡ a = cc (first) in
+    let right : p.1 ≡ b = cc (second) in
+    λ i. Some (left i, right i)
 
--- no order without a seed
-pub no_seed : (found : Option (Text × List Row)) (rows : List Row) (order : Order) → option_map (λ p. p.1) found ≡ Some rows
-    → first_of (codes "seed") rows ≡ None → IsOrder found order → ⊥
-no_seed None rows order here none is = is
-no_seed (Some p) rows (Answer now seed) here none is =
-    let same : p.1 ≡ rows = cc in
-    cc (is.2, none, same)
+-- the name and the rows of a subcommand
+pub found_so : (m : ArgMatches) (name : Text) (rows : List Row) → Some name ≡ subcommand_name_of m → Some rows ≡ option_map (λ p. p.1) (subcommand_rows_of m)
+    → subcommand_rows_of m ≡ Some (name, rows)
+found_so m name rows named here = both (subcommand_rows_of m) name rows (name_of_rows m ∙ sym named) (sym here)
+
+-- an option that was not given has no text
+pub no_text : (name : Text) (rows : List Row) → first_of name rows ≡ None → (text : Bor Text) → GivesText name rows text → ⊥
+no_text name rows none text is = cc (none, is)
 
 -- the number that a text writes, where one is read
 pub number_read : (text : Option Text) (now : ℕ) → (text ≡ None → Some now ≡ None)
@@ -45,17 +46,80 @@ pub number_read : (text : Option Text) (now : ℕ) → (text ≡ None → Some n
 number_read None now none value = let some : Some now ≡ None = none refl in absurd (cc (some))
 number_read (Some t) now none value = let read = value t refl in (t, refl, (read.0.0, read.0.1, read.1))
 
--- the order of a number and a seed
-pub is_order : (found : Option (Text × List Row)) (rows : List Row) (now : ℕ) (seed : Bor Text) → option_map (λ p. p.0) found ≡ Some (codes "answer")
-    → option_map (λ p. p.1) found ≡ Some rows → ((text : Text) × (one_of (codes "now") rows ≡ Some text) × WritesNumber text now)
-    → first_of (codes "seed") rows ≡ Some seed.now → IsOrder found (Answer now seed)
-is_order None rows now seed name here number text = absurd (cc)
-is_order (Some p) rows now seed name here number text =
-    let same : rows ≡ p.1 = cc in (
-      cc,
-      subst (λ (r : List Row). (t : Text) × (one_of (codes "now") r ≡ Some t) × WritesNumber t now) same number,
-      subst (λ (r : List Row). first_of (codes "seed") r ≡ Some seed.now) same text,
-    )
+-- ---- no order of a subcommand, for want of an option
+
+module _ (rows : List Row) where
+  abbrev NoFiles : Type 0
+  NoFiles = (db : Bor Text) (settings : Bor Text) → GivesFiles rows db settings → ⊥
+
+  abbrev NoNumber : Text → Type 0
+  NoNumber name = (n : ℕ) → GivesNumber name rows n → ⊥
+
+  abbrev NoText : Text → Type 0
+  NoText name = (text : Bor Text) → GivesText name rows text → ⊥
+
+  pub serve_without : NoFiles ⊎ (NoNumber (codes "port") ⊎ NoNumber (codes "count")) → IsNone IsServe rows
+  serve_without without (Serve db settings port count) is = elim without [
+    | inl files ↦ files db settings is.0
+    | inr numbers ↦ elim numbers [ inl none ↦ none port is.1 | inr none ↦ none count is.2 ]
+  ]
+  serve_without without _ is = is
+
+  pub answer_without : NoNumber (codes "now") ⊎ NoText (codes "seed") → IsNone IsAnswer rows
+  answer_without without (Answer db settings now seed) is = elim without [ inl none ↦ none now is.2 | inr none ↦ none seed is.3 ]
+  answer_without without _ is = is
+
+  pub print_without : NoFiles ⊎ NoText (codes "batch") → IsNone IsPrint rows
+  print_without without (Print db settings batch) is = elim without [ inl files ↦ files db settings is.0 | inr none ↦ none batch is.1 ]
+  print_without without _ is = is
+
+  pub takings_without : NoFiles ⊎ (NoText (codes "from") ⊎ NoText (codes "to")) → IsNone IsTakings rows
+  takings_without without (Takings db settings from to) is = elim without [
+    | inl files ↦ files db settings is.0
+    | inr texts ↦ elim texts [ inl none ↦ none from is.1 | inr none ↦ none to is.2 ]
+  ]
+  takings_without without _ is = is
+
+  pub check_without : NoFiles → IsNone IsCheck rows
+  check_without without (Check db settings) is = without db settings is
+  check_without without _ is = is
+
+-- ---- by the name
+
+abbrev head : Text → ℕ
+head text = get_or text 0 0
+
+-- what comes of a subcommand of a name
+abbrev pub NamedSo : Text → List Row → Option Order → Type 0
+NamedSo name rows result = MatchOption result (IsNoOrder (Some (name, rows))) (IsOrder (Some (name, rows)))
+
+abbrev pub ComesSo : (List Row → Order → Type 0) → List Row → Option Order → Type 0
+ComesSo Is rows result = MatchOption result (IsNone Is rows) (Is rows)
+
+pub named_serve : (name : Text) (rows : List Row) (result : Option Order) → name ≡ codes "serve" → ComesSo IsServe rows result → NamedSo name rows result
+named_serve name rows None same none = λ order is. elim is [ inl it ↦ none order it.1 | inr rest0 ↦ elim rest0 [ inl it ↦ (let bad : ◌≡◌ {A = ℕ} 115 97 = ap head (sym same ∙ it.0) in absurd (omega arith)) | inr rest1 ↦ elim rest1 [ inl it ↦ (let bad : ◌≡◌ {A = ℕ} 115 112 = ap head (sym same ∙ it.0) in absurd (omega arith)) | inr rest2 ↦ elim rest2 [ inl it ↦ (let bad : ◌≡◌ {A = ℕ} 115 116 = ap head (sym same ∙ it.0) in absurd (omega arith)) | inr rest3 ↦ (let it = rest3 in (let bad : ◌≡◌ {A = ℕ} 115 99 = ap head (sym same ∙ it.0) in absurd (omega arith))) ] ] ] ]
+named_serve name rows (Some order) same is = inl (same, is)
+
+pub named_answer : (name : Text) (rows : List Row) (result : Option Order) → name ≡ codes "answer" → ComesSo IsAnswer rows result → NamedSo name rows result
+named_answer name rows None same none = λ order is. elim is [ inl it ↦ (let bad : ◌≡◌ {A = ℕ} 97 115 = ap head (sym same ∙ it.0) in absurd (omega arith)) | inr rest0 ↦ elim rest0 [ inl it ↦ none order it.1 | inr rest1 ↦ elim rest1 [ inl it ↦ (let bad : ◌≡◌ {A = ℕ} 97 112 = ap head (sym same ∙ it.0) in absurd (omega arith)) | inr rest2 ↦ elim rest2 [ inl it ↦ (let bad : ◌≡◌ {A = ℕ} 97 116 = ap head (sym same ∙ it.0) in absurd (omega arith)) | inr rest3 ↦ (let it = rest3 in (let bad : ◌≡◌ {A = ℕ} 97 99 = ap head (sym same ∙ it.0) in absurd (omega arith))) ] ] ] ]
+named_answer name rows (Some order) same is = inr (inl (same, is))
+
+pub named_print : (name : Text) (rows : List Row) (result : Option Order) → name ≡ codes "print" → ComesSo IsPrint rows result → NamedSo name rows result
+named_print name rows None same none = λ order is. elim is [ inl it ↦ (let bad : ◌≡◌ {A = ℕ} 112 115 = ap head (sym same ∙ it.0) in absurd (omega arith)) | inr rest0 ↦ elim rest0 [ inl it ↦ (let bad : ◌≡◌ {A = ℕ} 112 97 = ap head (sym same ∙ it.0) in absurd (omega arith)) | inr rest1 ↦ elim rest1 [ inl it ↦ none order it.1 | inr rest2 ↦ elim rest2 [ inl it ↦ (let bad : ◌≡◌ {A = ℕ} 112 116 = ap head (sym same ∙ it.0) in absurd (omega arith)) | inr rest3 ↦ (let it = rest3 in (let bad : ◌≡◌ {A = ℕ} 112 99 = ap head (sym same ∙ it.0) in absurd (omega arith))) ] ] ] ]
+named_print name rows (Some order) same is = inr (inr (inl (same, is)))
+
+pub named_takings : (name : Text) (rows : List Row) (result : Option Order) → name ≡ codes "takings" → ComesSo IsTakings rows result → NamedSo name rows result
+named_takings name rows None same none = λ order is. elim is [ inl it ↦ (let bad : ◌≡◌ {A = ℕ} 116 115 = ap head (sym same ∙ it.0) in absurd (omega arith)) | inr rest0 ↦ elim rest0 [ inl it ↦ (let bad : ◌≡◌ {A = ℕ} 116 97 = ap head (sym same ∙ it.0) in absurd (omega arith)) | inr rest1 ↦ elim rest1 [ inl it ↦ (let bad : ◌≡◌ {A = ℕ} 116 112 = ap head (sym same ∙ it.0) in absurd (omega arith)) | inr rest2 ↦ elim rest2 [ inl it ↦ none order it.1 | inr rest3 ↦ (let it = rest3 in (let bad : ◌≡◌ {A = ℕ} 116 99 = ap head (sym same ∙ it.0) in absurd (omega arith))) ] ] ] ]
+named_takings name rows (Some order) same is = inr (inr (inr (inl (same, is))))
+
+pub named_check : (name : Text) (rows : List Row) (result : Option Order) → name ≡ codes "check" → ComesSo IsCheck rows result → NamedSo name rows result
+named_check name rows None same none = λ order is. elim is [ inl it ↦ (let bad : ◌≡◌ {A = ℕ} 99 115 = ap head (sym same ∙ it.0) in absurd (omega arith)) | inr rest0 ↦ elim rest0 [ inl it ↦ (let bad : ◌≡◌ {A = ℕ} 99 97 = ap head (sym same ∙ it.0) in absurd (omega arith)) | inr rest1 ↦ elim rest1 [ inl it ↦ (let bad : ◌≡◌ {A = ℕ} 99 112 = ap head (sym same ∙ it.0) in absurd (omega arith)) | inr rest2 ↦ elim rest2 [ inl it ↦ (let bad : ◌≡◌ {A = ℕ} 99 116 = ap head (sym same ∙ it.0) in absurd (omega arith)) | inr rest3 ↦ (let it = rest3 in none order it.1) ] ] ] ]
+named_check name rows (Some order) same is = inr (inr (inr (inr (same, is))))
+
+pub named_otherwise : (name : Text) (rows : List Row) → name ≢ codes "serve" → name ≢ codes "answer" → name ≢ codes "print" → name ≢ codes "takings" → name ≢ codes "check"
+    → IsNoOrder (Some (name, rows))
+named_otherwise name rows a b c d e = λ order is.
+    elim is [ inl it ↦ a it.0 | inr r1 ↦ elim r1 [ inl it ↦ b it.0 | inr r2 ↦ elim r2 [ inl it ↦ c it.0 | inr r3 ↦ elim r3 [ inl it ↦ d it.0 | inr it ↦ e it.0 ] ] ] ]
 
 -- what is told of an error whose kind is among those that the words come to
 pub tells : (words : List Text) (kind : ErrorKind) (told : NoOrder) → TellsKind kind told
@@ -65,3 +129,9 @@ tells words kind (Help text) is (inl full) = let same : DisplayHelp ≡ OutOfMem
 tells words kind (Help text) is (inr here) = subst (λ (k : ErrorKind). IsAmong k (fault_of command_line words)) is here
 tells words kind (Fault text) is (inl full) = absurd (is.1 full)
 tells words kind (Fault text) is (inr here) = inl (kind, here, is.0)
+
+-- what is told where the words name no order
+pub told_none : (words : List Text) (told : NoOrder) → IsNoHelp told → IsNoOrder (subcommand_of command_line words) → Tells words told
+told_none words NoMemory is none = tt
+told_none words (Help text) is none = absurd is
+told_none words (Fault text) is none = inr none

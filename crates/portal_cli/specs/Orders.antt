@@ -1,11 +1,12 @@
 -- What the words of a command line ask for, and what is told where they ask for nothing.
-use Rattle.std.specs.Prelude.{◌≡◌, ◌≢◌, ◌⊎◌, ◌^◌, ◌<◌, ℕ, List, [], Option, Some, None, codes, ⊤}
+use Rattle.std.specs.Prelude.{◌≡◌, ◌≢◌, ◌⊎◌, ◌^◌, ◌<◌, ℕ, List, [], Option, Some, None, option_map, codes, ⊤}
+use Rattle.std.specs.Borrow.{Bor}
 use Rattle.std.specs.Str.Parse.{IsNumeral, digits_value, without_leading_plus}
 use Rattle.clap.specs.Words.{IsAmong, Row, Text, fault_of, first_of, one_of, subcommand_of}
 use Rattle.clap.specs.declared.error.kind.ErrorKind.{ErrorKind}
 use Rattle.clap.specs.declared.error.kind.ErrorKind.TheVariants.{DisplayHelp, OutOfMemory}
 use Rattle.portal_cli.specs.declared.order.Order.{Order}
-use Rattle.portal_cli.specs.declared.order.Order.TheVariants.{Answer}
+use Rattle.portal_cli.specs.declared.order.Order.TheVariants.{Serve, Answer, Print, Takings, Check}
 use Rattle.portal_cli.specs.declared.order.NoOrder.{NoOrder}
 use Rattle.portal_cli.specs.declared.order.NoOrder.TheVariants.{Help, Fault, NoMemory}
 use Rattle.portal_cli.specs.CommandLine.{command_line}
@@ -16,13 +17,60 @@ WritesNumber text n =
     let digits = without_leading_plus text in
     IsNumeral 10 digits × (digits_value 10 digits < 2 ^ 64) × (n ≡ digits_value 10 digits)
 
+-- the option was given that number
+abbrev pub GivesNumber : Text → List Row → ℕ → Type 0
+GivesNumber name rows n = (text : Text) × (one_of name rows ≡ Some text) × WritesNumber text n
+
+-- the option was given that text
+abbrev pub GivesText : Text → List Row → Bor Text → Type 0
+GivesText name rows text = first_of name rows ≡ Some text.now
+
+-- the option was given that text, or left out
+abbrev pub MayGive : Text → List Row → Option (Bor Text) → Type 0
+MayGive name rows given = option_map (λ text. text.now) given ≡ first_of name rows
+
+-- the two files were named
+abbrev pub GivesFiles : List Row → Bor Text → Bor Text → Type 0
+GivesFiles rows db settings = GivesText (codes "db") rows db × GivesText (codes "settings") rows settings
+
+-- ---- the order of each subcommand, by what was found for its options
+
+abbrev pub IsServe : List Row → Order → Type 0
+IsServe rows (Serve db settings port count) =
+    GivesFiles rows db settings × GivesNumber (codes "port") rows port × GivesNumber (codes "count") rows count
+IsServe rows _ = ⊥
+
+abbrev pub IsAnswer : List Row → Order → Type 0
+IsAnswer rows (Answer db settings now seed) =
+    MayGive (codes "db") rows db × MayGive (codes "settings") rows settings × GivesNumber (codes "now") rows now × GivesText (codes "seed") rows seed
+IsAnswer rows _ = ⊥
+
+abbrev pub IsPrint : List Row → Order → Type 0
+IsPrint rows (Print db settings batch) = GivesFiles rows db settings × GivesText (codes "batch") rows batch
+IsPrint rows _ = ⊥
+
+abbrev pub IsTakings : List Row → Order → Type 0
+IsTakings rows (Takings db settings from to) =
+    GivesFiles rows db settings × GivesText (codes "from") rows from × GivesText (codes "to") rows to
+IsTakings rows _ = ⊥
+
+abbrev pub IsCheck : List Row → Order → Type 0
+IsCheck rows (Check db settings) = GivesFiles rows db settings
+IsCheck rows _ = ⊥
+
+-- no order is such a one
+abbrev pub IsNone : (List Row → Order → Type 0) → List Row → Type 0
+IsNone Is rows = (order : Order) → ¬ (Is rows order)
+
 -- the order of a subcommand, by its name and what was found for its options
 abbrev pub IsOrder : Option (Text × List Row) → Order → Type 0
 IsOrder None order = ⊥
-IsOrder (Some found) (Answer now seed) =
-    (found.0 ≡ codes "answer")
-    × ((text : Text) × (one_of (codes "now") found.1 ≡ Some text) × WritesNumber text now)
-    × (first_of (codes "seed") found.1 ≡ Some seed.now)
+IsOrder (Some found) order =
+    ((found.0 ≡ codes "serve") × IsServe found.1 order)
+    ⊎ (((found.0 ≡ codes "answer") × IsAnswer found.1 order)
+    ⊎ (((found.0 ≡ codes "print") × IsPrint found.1 order)
+    ⊎ (((found.0 ≡ codes "takings") × IsTakings found.1 order)
+    ⊎ ((found.0 ≡ codes "check") × IsCheck found.1 order))))
 
 -- the words name no order
 abbrev pub IsNoOrder : Option (Text × List Row) → Type 0

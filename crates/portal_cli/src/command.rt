@@ -1,68 +1,98 @@
-//! The subcommands and their options.
+//! The subcommands.
 ghost use Rattle.std.specs.Prelude.{◌≡◌, false, IfOk};
-ghost use Rattle.clap.specs.Words.{app_of, rule_of};
+ghost use Rattle.clap.specs.Words.{app_of};
 ghost use Rattle.clap.specs.declared.builder.command.Command.TheViews.{out-Command as fields_of};
-ghost use Rattle.portal_cli.specs.CommandLine.{now_option, seed_option, answer_subcommand, bare_command_line, command_line};
+ghost use Rattle.portal_cli.specs.CommandLine.{serve_subcommand, answer_subcommand, print_subcommand, takings_subcommand, check_subcommand, with_files, with_own_files, bare_command_line, answering_line, printing_line, command_line};
 
-use clap::builder::ValueParser;
-use clap::{Arg, Command};
+use crate::options::{
+    batch_word, count_option, db_option, from_word, now_option, own_db_option, own_settings_option,
+    port_option, seed_option, settings_option, to_word,
+};
+use crate::texts::{
+    ANSWER_EXAMPLES, CHECK_EXAMPLES, EXAMPLES, PRINT_EXAMPLES, SERVE_EXAMPLES, TAKINGS_EXAMPLES,
+};
+use clap::Command;
 use std::alloc::{AllocError, Global};
 
-const EXAMPLES: &str = "\
-Examples:
-  printf 'GET /captive HTTP/1.1\\r\\nHost: api\\r\\nPortal-Device: 02:00:00:00:00:01\\r\\n\\r\\n' > request
-  portal answer --now 1583125693 \\
-    --seed 0000000000000000000000000000000000000000000000000000000000000000 < request
-
-A request is HTTP/1.0 or HTTP/1.1, with CR LF at the end of each line of its head. A moment is at most
-253370764799, the end of the year 9998, and a seed has 64 hexadecimal digits: past these limits, and at
-a word that is not UTF-8, the program says `portal: usage` and ends with status 2.";
-
-const ANSWER_EXAMPLES: &str = "\
-Example, of a device that was never seen:
-  printf 'GET /captive HTTP/1.1\\r\\nHost: api\\r\\nPortal-Device: 02:00:00:00:00:01\\r\\n\\r\\n' |
-    portal answer --now 1583125693 \\
-    --seed 0000000000000000000000000000000000000000000000000000000000000000
-
-The status is 0 where that of the response is 200, 1 where the request was refused, 2 where the words
-are wrong or a value is out of its limits (`portal: usage`), and 3 where reading, writing or memory
-failed or the desk has stopped.";
-
-/// `--now N`.
-fn now_option<'a>(alloc: Global) -> Arg<'a>
-    ensures option { rule_of result ≡ now_option }
-    ensures here { result.global ≡ false }
+/// A subcommand with `--db PATH` and `--settings PATH`.
+fn with_files<'a>(alloc: Global, command: Command<'a>) -> Result<Command<'a>, AllocError>
+    requires { (fields_of command).has_globals ≡ false }
+    ensures subcommand { IfOk result (λ c. app_of c ≡ with_files (app_of command.entry)) }
+    ensures here { IfOk result (λ c. (fields_of c).has_globals ≡ false) }
 {
-    Arg::new(alloc, "now")
-        .long("now")
-        .value_name("N")
-        .value_parser(ValueParser::unsigned(0, u64::MAX))
-        .help("The moment at which the request comes: whole UTC seconds, 0 to 253370764799")
-        .required(true)
+    command.arg(db_option(alloc))?.arg(settings_option(alloc))
 }
 
-/// `--seed HEX`.
-fn seed_option<'a>(alloc: Global) -> Arg<'a>
-    ensures option { rule_of result ≡ seed_option }
-    ensures here { result.global ≡ false }
+/// A subcommand with `--db PATH` and `--settings PATH`, which may be left out.
+fn with_own_files<'a>(alloc: Global, command: Command<'a>) -> Result<Command<'a>, AllocError>
+    requires { (fields_of command).has_globals ≡ false }
+    ensures subcommand { IfOk result (λ c. app_of c ≡ with_own_files (app_of command.entry)) }
+    ensures here { IfOk result (λ c. (fields_of c).has_globals ≡ false) }
 {
-    Arg::new(alloc, "seed")
-        .long("seed")
-        .value_name("HEX")
-        .help("The 32 bytes from which codes are made, as 64 hexadecimal digits")
-        .required(true)
+    command
+        .arg(own_db_option(alloc))?
+        .arg(own_settings_option(alloc))
 }
 
-/// `answer --now N --seed HEX`.
+/// `serve --db PATH --settings PATH --port N --count N`.
+fn serve_subcommand<'a>(alloc: Global) -> Result<Command<'a>, AllocError>
+    ensures subcommand { IfOk result (λ c. app_of c ≡ serve_subcommand) }
+    ensures here { IfOk result (λ c. (fields_of c).has_globals ≡ false) }
+{
+    let command = Command::new(alloc, "serve")
+        .about("Serves connections on 127.0.0.1, one after another")
+        .after_help(SERVE_EXAMPLES);
+    with_files(alloc, command)?
+        .arg(port_option(alloc))?
+        .arg(count_option(alloc))
+}
+
+/// `answer --db PATH --settings PATH --now N --seed HEX`.
 fn answer_subcommand<'a>(alloc: Global) -> Result<Command<'a>, AllocError>
     ensures subcommand { IfOk result (λ c. app_of c ≡ answer_subcommand) }
     ensures here { IfOk result (λ c. (fields_of c).has_globals ≡ false) }
 {
-    Command::new(alloc, "answer")
+    let command = Command::new(alloc, "answer")
         .about("Answers the request on standard input with a response on standard output")
-        .after_help(ANSWER_EXAMPLES)
+        .after_help(ANSWER_EXAMPLES);
+    with_own_files(alloc, command)?
         .arg(now_option(alloc))?
         .arg(seed_option(alloc))
+}
+
+/// `print BATCH --db PATH --settings PATH`.
+fn print_subcommand<'a>(alloc: Global) -> Result<Command<'a>, AllocError>
+    ensures subcommand { IfOk result (λ c. app_of c ≡ print_subcommand) }
+    ensures here { IfOk result (λ c. (fields_of c).has_globals ≡ false) }
+{
+    let command = Command::new(alloc, "print")
+        .about("Prints the print file of a batch, as CSV")
+        .after_help(PRINT_EXAMPLES);
+    with_files(alloc, command)?.arg(batch_word(alloc))
+}
+
+/// `takings FROM TO --db PATH --settings PATH`.
+fn takings_subcommand<'a>(alloc: Global) -> Result<Command<'a>, AllocError>
+    ensures subcommand { IfOk result (λ c. app_of c ≡ takings_subcommand) }
+    ensures here { IfOk result (λ c. (fields_of c).has_globals ≡ false) }
+{
+    let command = Command::new(alloc, "takings")
+        .about("Prints the takings of the days from FROM to TO")
+        .after_help(TAKINGS_EXAMPLES);
+    with_files(alloc, command)?
+        .arg(from_word(alloc))?
+        .arg(to_word(alloc))
+}
+
+/// `check --db PATH --settings PATH`.
+fn check_subcommand<'a>(alloc: Global) -> Result<Command<'a>, AllocError>
+    ensures subcommand { IfOk result (λ c. app_of c ≡ check_subcommand) }
+    ensures here { IfOk result (λ c. (fields_of c).has_globals ≡ false) }
+{
+    let command = Command::new(alloc, "check")
+        .about("Checks the counters of the database file against its rows")
+        .after_help(CHECK_EXAMPLES);
+    with_files(alloc, command)
 }
 
 /// The program without its subcommands.
@@ -75,9 +105,27 @@ fn bare_command_line<'a>(alloc: Global) -> Command<'a>
         .subcommand_required(true)
 }
 
+/// The program with the subcommands that answer requests.
+fn answering_line<'a>(alloc: Global) -> Result<Command<'a>, AllocError>
+    ensures { IfOk result (λ c. app_of c ≡ answering_line) }
+{
+    bare_command_line(alloc)
+        .subcommand(serve_subcommand(alloc)?)?
+        .subcommand(answer_subcommand(alloc)?)
+}
+
+/// And with those that print.
+fn printing_line<'a>(alloc: Global) -> Result<Command<'a>, AllocError>
+    ensures { IfOk result (λ c. app_of c ≡ printing_line) }
+{
+    answering_line(alloc)?
+        .subcommand(print_subcommand(alloc)?)?
+        .subcommand(takings_subcommand(alloc)?)
+}
+
 /// The whole command line.
 pub fn command_line<'a>(alloc: Global) -> Result<Command<'a>, AllocError>
     ensures { IfOk result (λ c. app_of c ≡ command_line) }
 {
-    bare_command_line(alloc).subcommand(answer_subcommand(alloc)?)
+    printing_line(alloc)?.subcommand(check_subcommand(alloc)?)
 }

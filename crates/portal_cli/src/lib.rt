@@ -2,8 +2,11 @@
 #![tactic(auto)]
 
 mod command;
+mod found;
 mod line;
+mod options;
 mod order;
+mod texts;
 
 pub use crate::line::read_words;
 pub use crate::order::{NoOrder, Order};

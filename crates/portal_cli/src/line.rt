@@ -1,28 +1,44 @@
 //! From words to an order.
-ghost use Rattle.std.specs.Prelude.{◌≡◌, MatchOption, MatchResult, IfOk, IfErr, map};
-ghost use Rattle.clap.specs.Words.{kind_of, subcommand_rows_of};
+ghost use Rattle.std.specs.Prelude.{◌≡◌, Some, MatchOption, MatchResult, IfOk, IfErr, map};
+ghost use Rattle.clap.specs.Words.{found_of, kind_of, rows_of, subcommand_rows_of};
 ghost use Rattle.portal_cli.specs.Orders.{IsOrder, IsNoOrder, Orders, Tells, TellsKind, IsNoHelp};
 
 use crate::command::command_line;
+use crate::found::{answer_of, check_of, print_of, serve_of, takings_of};
 use crate::order::{NoOrder, Order};
 use clap::error::ErrorKind;
 use clap::{ArgMatches, Error};
 use std::alloc::Global;
 use std::convert::AsStr;
 
+/// The order of a subcommand, by its name.
+#[tactic(auto, using(crate::proofs::OrderLemmas::named_serve, crate::proofs::OrderLemmas::named_answer, crate::proofs::OrderLemmas::named_print, crate::proofs::OrderLemmas::named_takings, crate::proofs::OrderLemmas::named_check, crate::proofs::OrderLemmas::named_otherwise))]
+fn order_named<'a>(name: &str, found: &ArgMatches<'a>) -> Option<Order<'a>>
+    ensures { MatchOption result (IsNoOrder (Some (name.now, rows_of (found_of found.now)))) (IsOrder (Some (name.now, rows_of (found_of found.now)))) }
+{
+    if name == "serve" {
+        serve_of(found)
+    } else if name == "answer" {
+        answer_of(found)
+    } else if name == "print" {
+        print_of(found)
+    } else if name == "takings" {
+        takings_of(found)
+    } else if name == "check" {
+        check_of(found)
+    } else {
+        None
+    }
+}
+
 /// The order that was found.
+#[tactic(auto, using(crate::proofs::OrderLemmas::found_so))]
 fn order_of<'a>(matches: &ArgMatches<'a>) -> Option<Order<'a>>
     ensures { MatchOption result (IsNoOrder (subcommand_rows_of matches.now)) (IsOrder (subcommand_rows_of matches.now)) }
 {
-    match matches.subcommand_matches("answer") {
+    match matches.subcommand() {
         None => None,
-        Some(answer) => match answer.get_one::<u64>("now") {
-            None => None,
-            Some(now) => match answer.get_str("seed") {
-                None => None,
-                Some(seed) => Some(Order::Answer { now, seed }),
-            },
-        },
+        Some((name, found)) => order_named(name, found),
     }
 }
 

@@ -1,5 +1,5 @@
 -- A desk in memory stands at the next history once plans were loaded.
-use Rattle.std.proofs.Common.{◌≡◌, ◌≤◌, lit≤, ◌⊎◌, inl, inr, ℕ, Bool, true, false, List, [], ◌∷◌, ◌++◌, Option, Some, None, refl, subst, ap, sym, ◌∙◌}
+use Rattle.std.proofs.Common.{◌≡◌, ◌≤◌, lit≤, ◌⊎◌, inl, inr, ℕ, ℤ, map, Bool, true, false, List, [], ◌∷◌, ◌++◌, Option, Some, None, refl, subst, ap, sym, ◌∙◌}
 use Rattle.std.proofs.Math.Path.{fun_ext}
 use Rattle.std.proofs.Math.Nat.{le-max_right, max-le}
 use Rattle.std.specs.Prelude.{max, option_map, length}
@@ -12,10 +12,16 @@ use Rattle.portal_model.specs.declared.plan.Plan.{Plan}
 use Rattle.portal_model.specs.declared.record.Head.{Head}
 use Rattle.portal_model.specs.declared.refusal.Refusal.{Refusal}
 use Rattle.portal_model.specs.declared.refusal.Refusal.TheVariants.{NoMemory, Stopped}
-use Rattle.portal_model.specs.History.{entry, History, plan_of, voucher_of, session_of, last_session_of, grants_of, last_moment, effective_moment}
+use Rattle.portal_model.specs.Payments.{Payment, sales_of, refunds_of}
+use Rattle.jiff_tz.specs.declared.timezone.TimeZone.{TimeZone}
+use Rattle.portal_days.specs.Span.{Span, days_of}
+use Rattle.portal_days.specs.Takings.{takings_on}
+use Rattle.portal_days.specs.declared.takings.DayTakings.{DayTakings}
+use Rattle.portal_files.specs.Takings.{paid_on, sum_of, takings_of}
+use Rattle.portal_model.specs.History.{entry, History, plan_of, issued_of, batch_of, voucher_of, session_of, last_session_of, grants_of, last_moment, effective_moment}
 use Rattle.portal_model.specs.Change.{added, plan_among, load_change, changes_of}
 use Rattle.portal_model.specs.Verdict.{load_verdict, Follows, IsLegal, IsTyped, IsWellFormed, greatest_moment}
-use Rattle.portal_model.specs.Captive.{captive_of, captive_state}
+use Rattle.portal_model.specs.Captive.{captive_of, captive_state, open_sessions_of}
 use Rattle.portal_model.specs.declared.captive.Captive.{Captive}
 use Rattle.portal_model.specs.declared.record.Session.{Session}
 use Rattle.portal_laws.specs.Laws.{PlanIsRow}
@@ -25,6 +31,7 @@ use Rattle.portal_ledger.specs.Ledger.{Accepted, history_of, MayFollow, taken_at
 use Rattle.portal_ledger.specs.States.{State, running, stopped}
 use Rattle.portal_ledger.specs.Calls.{Fits, Keeps}
 use Rattle.portal_desk.specs.Calls.{is_over, Answers, CannotAnswer, Prepares, Refuses, CannotKeep}
+use Rattle.portal_desk.specs.Sheets.{sheet_of, takings_over}
 use Rattle.portal_desk.specs.Memory.{LoadsAlone, HoldsPlans, StandsInMemory}
 
 -- the plans that are kept are found as those of the history
@@ -193,6 +200,85 @@ no_grants (entry t (Close n) ∷ H) loads = absurd loads
 
 no_session : (H : History) → LoadsAlone H → (device : List ℕ) → last_session_of H device ≡ None
 no_session H loads device = rw (no_grants H loads) refl
+
+-- nor a batch, a code, a sale or a refund
+no_issued : (H : History) → LoadsAlone H → (code : List ℕ) → issued_of H code ≡ None
+no_issued [] loads code = refl
+no_issued (entry t (Load plans) ∷ H) loads code = no_issued H loads code
+no_issued (entry t (Issue b p codes) ∷ H) loads code = absurd loads
+no_issued (entry t (Sell c) ∷ H) loads code = absurd loads
+no_issued (entry t (Redeem d c) ∷ H) loads code = absurd loads
+no_issued (entry t (Report n bytes) ∷ H) loads code = absurd loads
+no_issued (entry t (Refund c) ∷ H) loads code = absurd loads
+no_issued (entry t (Close n) ∷ H) loads code = absurd loads
+
+no_batch : (H : History) → LoadsAlone H → (id : List ℕ) → batch_of H id ≡ None
+no_batch [] loads id = refl
+no_batch (entry t (Load plans) ∷ H) loads id = no_batch H loads id
+no_batch (entry t (Issue b p codes) ∷ H) loads id = absurd loads
+no_batch (entry t (Sell c) ∷ H) loads id = absurd loads
+no_batch (entry t (Redeem d c) ∷ H) loads id = absurd loads
+no_batch (entry t (Report n bytes) ∷ H) loads id = absurd loads
+no_batch (entry t (Refund c) ∷ H) loads id = absurd loads
+no_batch (entry t (Close n) ∷ H) loads id = absurd loads
+
+no_sales : (H : History) → LoadsAlone H → sales_of H ≡ []
+no_sales [] loads = refl
+no_sales (entry t (Load plans) ∷ H) loads = no_sales H loads
+no_sales (entry t (Issue b p codes) ∷ H) loads = absurd loads
+no_sales (entry t (Sell c) ∷ H) loads = absurd loads
+no_sales (entry t (Redeem d c) ∷ H) loads = absurd loads
+no_sales (entry t (Report n bytes) ∷ H) loads = absurd loads
+no_sales (entry t (Refund c) ∷ H) loads = absurd loads
+no_sales (entry t (Close n) ∷ H) loads = absurd loads
+
+no_refunds : (H : History) → LoadsAlone H → refunds_of H ≡ []
+no_refunds [] loads = refl
+no_refunds (entry t (Load plans) ∷ H) loads = no_refunds H loads
+no_refunds (entry t (Issue b p codes) ∷ H) loads = absurd loads
+no_refunds (entry t (Sell c) ∷ H) loads = absurd loads
+no_refunds (entry t (Redeem d c) ∷ H) loads = absurd loads
+no_refunds (entry t (Report n bytes) ∷ H) loads = absurd loads
+no_refunds (entry t (Refund c) ∷ H) loads = absurd loads
+no_refunds (entry t (Close n) ∷ H) loads = absurd loads
+
+pub no_voucher : (code : List ℕ) (H : History) → LoadsAlone H → None ≡ voucher_of H code
+no_voucher code H loads = rw (no_issued H loads code) refl
+
+pub no_sheet : (id : List ℕ) (H : History) → LoadsAlone H → None ≡ sheet_of H id
+no_sheet id H loads = rw (no_batch H loads id) refl
+
+pub no_open : (moment : ℕ) (H : History) → LoadsAlone H → [] ≡ open_sessions_of H moment
+no_open moment H loads = rw (no_grants H loads) refl
+
+-- takings from lists of payments
+abbrev counted : TimeZone → ℤ → List Payment → List Payment → DayTakings
+counted zone day sales refunds = record {
+  day = day;
+  sold = length (paid_on zone day sales);
+  sales = sum_of (paid_on zone day sales);
+  refunded = length (paid_on zone day refunds);
+  refunds = sum_of (paid_on zone day refunds);
+}
+
+pub no_takings : (zone : TimeZone) (range : Span) (H : History) → LoadsAlone H → map (takings_on [] []) (days_of range) ≡ takings_over zone H range
+no_takings zone range H loads =
+    let day_by_day : (day : ℤ) → takings_on [] [] day ≡ takings_of zone H day =
+    λ day. sym (ap (λ (sales : List Payment). counted zone day sales (refunds_of H)) (no_sales H loads) ∙ ap (counted zone day []) (no_refunds H loads)) in
+    ap (λ (f : ℤ → DayTakings). map f (days_of range)) (fun_ext day_by_day)
+
+-- a query that the plans alone answer
+pub answers : {A : Type 0} (given : History → A) (answer : A) (head : Head) (held : List Plan) (halted : Bool) (old : State)
+    → StandsInMemory head held halted old → halted ≡ false → ((H : History) → LoadsAlone H → answer ≡ given H)
+    → (new : State) × StandsInMemory head held halted new × Answers given old answer new
+answers given answer head held halted (running L) stands works same = (running L, stands, (same (history_of L) stands.1.loads, refl))
+answers given answer head held halted (stopped L doubt) stands works same = absurd (cc)
+
+-- no room for the answer
+pub lacks_answer : (head : Head) (held : List Plan) (halted : Bool) (old : State) → StandsInMemory head held halted old → halted ≡ false
+    → (new : State) × StandsInMemory head held halted new × CannotAnswer old NoMemory new
+lacks_answer head held halted (running L) stands works = (running L, stands, inl (refl, refl))
+lacks_answer head held halted (stopped L doubt) stands works = absurd (cc)
 
 pub tells : (head : Head) (held : List Plan) (halted : Bool) (moment t : ℕ) (device : List ℕ) (told : Captive) (old : State)
     → StandsInMemory head held halted old → halted ≡ false → t ≡ max moment head.last → told ≡ captive_state t None

@@ -27,6 +27,10 @@ Answers given old answer new = ReadsThat old (λ H. answer ≡ given H) new
 abbrev pub CannotAnswer : State → Refusal → State → Type 0
 CannotAnswer old r new = FailsToRead NoMemory Stopped old r new
 
+-- the history gives nothing there, and that refusal says so; or it cannot answer
+abbrev pub Misses : {A : Type 0} → Refusal → (History → Option A) → State → Refusal → State → Type 0
+Misses unknown given old r new = ((r ≡ unknown) × Answers given old None new) ⊎ CannotAnswer old r new
+
 -- a command that is no repetition and that the verdict accepts, with what it changes and its mark; nothing is kept yet
 abbrev pub Prepares : State → Command → ℕ → Option Mark → MarkedChanges → State → Type 0
 Prepares old command moment mark marked new =

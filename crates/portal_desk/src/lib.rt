@@ -1,25 +1,31 @@
 //! The desk: what every desk answers, whatever keeps its records, and a desk in memory.
 #![tactic(auto)]
 
-ghost use Rattle.std.specs.Prelude.{◌≡◌, ℕ, List, None, Some, MatchResult};
+ghost use Rattle.std.specs.Prelude.{◌≡◌, ℕ, List, true, None, Some, IfOk, MatchResult};
 ghost use Rattle.portal_model.specs.Verdict.{IsWellFormed};
-ghost use Rattle.portal_model.specs.Captive.{captive_of};
+ghost use Rattle.portal_model.specs.Captive.{captive_of, open_sessions_of};
+ghost use Rattle.portal_model.specs.History.{voucher_of};
+ghost use Rattle.portal_days.specs.Takings.{TotalsFit};
 ghost use Rattle.portal_files.specs.SettingsFile.{SettingsValue};
 ghost use Rattle.portal_ledger.specs.Ledger.{Accepted, Ledger, IsSound};
 ghost use Rattle.portal_ledger.specs.States.{State, MayStand};
 ghost use Rattle.portal_ledger.specs.Calls.{Fits, Keeps};
-ghost use Rattle.portal_desk.specs.Calls.{is_over, Answers, CannotAnswer, Prepares, PreparesMarked, Refuses, CannotKeep};
+ghost use Rattle.portal_desk.specs.Calls.{is_over, Answers, CannotAnswer, Misses, Prepares, PreparesMarked, Refuses, CannotKeep};
+ghost use Rattle.portal_desk.specs.Sheets.{sheet_of, takings_over};
 
 pub mod memory;
 pub mod prepared;
 
 use crate::prepared::{Marked, Prepared};
-use portal_files::Settings;
+use portal_codes::Code;
+use portal_days::{DayRange, DayTakings};
+use portal_files::{BatchSheet, Settings};
 use portal_ledger::request::RequestMark;
-use portal_model::captive::Captive;
+use portal_model::captive::{Captive, OpenSession};
 use portal_model::command::Command;
 use portal_model::moment::Moment;
-use portal_model::name::Device;
+use portal_model::name::{Device, Id};
+use portal_model::record::Voucher;
 use portal_model::refusal::Refusal;
 use std::alloc::Global;
 
@@ -62,6 +68,56 @@ pub trait Desk {
         ensures honest { is_honest self.new → is_honest self.old }
         ensures state { is_honest self.new → (old : State) → stands self.old old → (new : State) × stands self.new new
             × MatchResult result (λ captive. Answers (λ H. captive_of H device moment) old captive new) (λ r. CannotAnswer old r new) };
+
+    /// The voucher of a code, as it stands.
+    ///
+    /// Refusals: `UnknownCode` where the code was never issued; `NoMemory` and `Stopped` before any.
+    fn voucher(&mut self, code: &Code) -> Result<Voucher, Refusal>
+        ensures told { settings self.new ≡ settings self.old }
+        ensures honest { is_honest self.new → is_honest self.old }
+        ensures voucher { is_honest self.new → (old : State) → stands self.old old → (new : State) × stands self.new new
+            × MatchResult result (λ v. Answers (λ H. voucher_of H code.now) old (Some v) new)
+            (λ r. Misses Refusal.UnknownCode (λ H. voucher_of H code.now) old r new) };
+
+    /// A batch with its plan, and its codes in order of issue: what its print file shows.
+    ///
+    /// Refusals: `UnknownBatch` where no such batch was issued; `NoMemory` and `Stopped` before any.
+    fn batch(&mut self, alloc: Global, id: &Id) -> Result<BatchSheet, Refusal>
+        ensures told { settings self.new ≡ settings self.old }
+        ensures honest { is_honest self.new → is_honest self.old }
+        ensures batch { is_honest self.new → (old : State) → stands self.old old → (new : State) × stands self.new new
+            × MatchResult result (λ sheet. Answers (λ H. sheet_of H id.now) old (Some sheet) new)
+            (λ r. Misses Refusal.UnknownBatch (λ H. sheet_of H id.now) old r new) };
+
+    /// The sessions that are open at a moment, by their numbers, as the gateway is told of them (RFC 8952 section 2.4).
+    ///
+    /// Refusals: `NoMemory` and `Stopped`.
+    fn open_now(&mut self, alloc: Global, moment: Moment) -> Result<Vec<OpenSession>, Refusal>
+        ensures told { settings self.new ≡ settings self.old }
+        ensures honest { is_honest self.new → is_honest self.old }
+        ensures open_now { is_honest self.new → (old : State) → stands self.old old → (new : State) × stands self.new new
+            × MatchResult result (λ sessions. Answers (λ H. open_sessions_of H moment) old sessions.items new) (λ r. CannotAnswer old r new) };
+
+    /// The takings of each day of a range, in order, by the civil days of the settings' zone. Their totals fit the
+    /// numbers that a day has.
+    ///
+    /// Refusals: `NoMemory` and `Stopped`.
+    fn takings(&mut self, alloc: Global, range: DayRange) -> Result<Vec<DayTakings>, Refusal>
+        ensures told { settings self.new ≡ settings self.old }
+        ensures honest { is_honest self.new → is_honest self.old }
+        ensures totals { IfOk result (λ days. TotalsFit days.items) }
+        ensures takings { is_honest self.new → (old : State) → stands self.old old → (new : State) × stands self.new new
+            × MatchResult result (λ days. Answers (λ H. takings_over (settings self.old).zone H range) old days.items new)
+            (λ r. CannotAnswer old r new) };
+
+    /// Whether the counters that it keeps agree with what they count. They do wherever the desk stands at a ledger.
+    ///
+    /// Refusals: `NoMemory` and `Stopped`.
+    fn audit(&mut self, alloc: Global) -> Result<bool, Refusal>
+        ensures told { settings self.new ≡ settings self.old }
+        ensures honest { is_honest self.new → is_honest self.old }
+        ensures audit { is_honest self.new → (old : State) → stands self.old old → (new : State) × stands self.new new
+            × MatchResult result (λ agrees. Answers (λ H. true) old agrees new) (λ r. CannotAnswer old r new) };
 
     /// Whether the command of a request without a number may be accepted at a moment, and what it then changes.
     /// Nothing is kept yet.

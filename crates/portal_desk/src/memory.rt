@@ -5,23 +5,25 @@ ghost use Rattle.portal_desk.specs.Memory.{StandsInMemory};
 
 use crate::Desk;
 use crate::prepared::{Marked, Prepared};
+use portal_codes::Code;
 use portal_core::{captive_of, decide_plans, effective};
-use portal_files::Settings;
+use portal_days::{DayRange, DayTakings, add_takings};
+use portal_files::{BatchSheet, Settings};
 use portal_laws::plan_is_row;
 use portal_ledger::marked::MarkedChanges;
 use portal_ledger::request::RequestMark;
-use portal_model::captive::Captive;
+use portal_model::captive::{Captive, OpenSession};
 use portal_model::change::Changes;
 use portal_model::command::{Command, command_is_typed};
 use portal_model::moment::Moment;
-use portal_model::name::Device;
+use portal_model::name::{Device, Id};
 use portal_model::plan::Plan;
-use portal_model::record::Head;
+use portal_model::record::{Head, Voucher};
 use portal_model::refusal::Refusal;
 use std::alloc::Global;
 
 /// A desk in memory. It keeps plans alone, and no marks: a command of another kind and a request that acts once stop
-/// it, and no route makes one. It has no store, so a stop leaves no files.
+/// it. It has no store, so a stop leaves no files.
 #[derive(Drop)]
 pub struct MemoryDesk {
     head: Head,
@@ -84,6 +86,52 @@ impl Desk for MemoryDesk {
         }
         // no session was ever opened
         Ok(captive_of(None, effective(moment, self.head.last)))
+    }
+
+    fn voucher(&mut self, code: &Code) -> Result<Voucher, Refusal> {
+        let _asked = code;
+        if self.is_stopped {
+            return Err(Refusal::Stopped);
+        }
+        // no code was ever issued
+        Err(Refusal::UnknownCode)
+    }
+
+    fn batch(&mut self, alloc: Global, id: &Id) -> Result<BatchSheet, Refusal> {
+        let _alloc = alloc;
+        let _asked = id;
+        if self.is_stopped {
+            return Err(Refusal::Stopped);
+        }
+        Err(Refusal::UnknownBatch)
+    }
+
+    fn open_now(&mut self, alloc: Global, moment: Moment) -> Result<Vec<OpenSession>, Refusal> {
+        let _asked = moment;
+        if self.is_stopped {
+            return Err(Refusal::Stopped);
+        }
+        Ok(Vec::new(alloc))
+    }
+
+    fn takings(&mut self, alloc: Global, range: DayRange) -> Result<Vec<DayTakings>, Refusal> {
+        if self.is_stopped {
+            return Err(Refusal::Stopped);
+        }
+        // nothing was ever sold
+        match add_takings(alloc, range, &[], &[]) {
+            Ok(days) => Ok(days),
+            Err(_) => Err(Refusal::NoMemory),
+        }
+    }
+
+    fn audit(&mut self, alloc: Global) -> Result<bool, Refusal> {
+        let _asked = alloc;
+        if self.is_stopped {
+            return Err(Refusal::Stopped);
+        }
+        // it keeps no counters
+        Ok(true)
     }
 
     fn prepare(

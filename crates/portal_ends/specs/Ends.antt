@@ -1,5 +1,5 @@
 -- How a command ends.
-use Rattle.std.specs.Prelude.{◌≡◌, ℕ, ◌<◌, ◌⊎◌, List, length, take, codes, Result, Ok, Err, string_bytes}
+use Rattle.std.specs.Prelude.{◌≡◌, ℕ, ◌<◌, ◌⊎◌, List, length, take, codes, Result, Ok, Err}
 use Rattle.std.specs.Io.KnownBytes.{Appends, Keeps}
 use Rattle.portal_ends.specs.declared.ending.Told.{Told}
 use Rattle.portal_ends.specs.declared.ending.Told.TheVariants.{Text, Agrees, Differs}
@@ -17,7 +17,7 @@ EndsPrinting text good o status =
 
 -- what is told goes to the output, and a fault's line to the errors
 abbrev pub EndsWith : Result Told Fault → Outlets → ℕ → Type 0
-EndsWith (Ok (Text text)) o status = EndsPrinting (string_bytes text) 0 o status
+EndsWith (Ok (Text text)) o status = EndsPrinting text.items 0 o status
 EndsWith (Ok Agrees) o status = EndsPrinting (codes "ok\n") 0 o status
 EndsWith (Ok Differs) o status = EndsPrinting (codes "differs\n") 1 o status
 EndsWith (Err fault) o status = (status ≡ status_of fault) × Keeps o.output o.output_after × Prints o.errors o.errors_after (line_of fault)

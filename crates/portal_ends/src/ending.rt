@@ -10,7 +10,7 @@ use std::io::Write;
 #[derive(Debug, Drop)]
 pub enum Told {
     /// A text, as it is printed.
-    Text(String),
+    Text(Vec<u8>),
     /// The counters of the file are what its rows add up to.
     Agrees,
     /// They are not.
@@ -33,7 +33,7 @@ pub fn end<W: Write, E: Write>(told: &Result<Told, Fault>, output: &mut W, error
     ensures { EndsWith told.now (record { output = W.contents output.old; output_after = W.contents output.new; errors = E.contents errors.old; errors_after = E.contents errors.new }) result }
 {
     match told {
-        Ok(Told::Text(text)) => print_all(text.as_bytes(), 0, output, errors),
+        Ok(Told::Text(text)) => print_all(text.as_slice(), 0, output, errors),
         Ok(Told::Agrees) => print_all(b"ok\n".as_slice(), 0, output, errors),
         Ok(Told::Differs) => print_all(b"differs\n".as_slice(), 1, output, errors),
         Err(fault) => fault.report(errors),

@@ -10,19 +10,19 @@ use Rattle.portal_head.specs.declared.faults.HeadFault.{HeadFault}
 use Rattle.portal_head.specs.declared.head.Finding.{Finding}
 use Rattle.portal_head.specs.declared.head.Finding.TheVariants.{Whole, Unfinished, Hopeless}
 use Rattle.portal_head.specs.Steps.{IsFinding, HasNoHead}
-use Rattle.portal_head.specs.Fields.{FieldList, values_of, only_of}
+use Rattle.portal_head.specs.Fields.{FieldList, values_of, only_of, at_most_one_of}
 use Rattle.portal_head.specs.Lengths.{declared_length}
 use Rattle.portal_head.specs.Message.{HeadOf, BeginsWith, Message, fields_of, length_of, bytes_after, body_after, message_with, message_in}
 
 -- a message of its parts
-abbrev pub assembled : List ℕ → List ℕ → Option (List ℕ) → Option (List ℕ) → Result (List ℕ) HeadFault → Result Message HeadFault
-assembled method target token device (Err fault) = Err fault
-assembled method target token device (Ok body) =
-    Ok (record { method = method; target = target; token = token; device = device; body = body })
+abbrev pub assembled : List ℕ → List ℕ → Option (List ℕ) → Option (List ℕ) → Result (Option (List ℕ)) HeadFault → Result (List ℕ) HeadFault → Result Message HeadFault
+assembled method target token device number (Err fault) = Err fault
+assembled method target token device number (Ok body) =
+    Ok (record { method = method; target = target; token = token; device = device; number = number; body = body })
 
 assembled_is : (head : RequestHead) (body : Result (List ℕ) HeadFault)
     → assembled head.method head.target (only_of (values_of (codes "portal-token") (fields_of head)))
-    (only_of (values_of (codes "portal-device") (fields_of head))) body
+    (only_of (values_of (codes "portal-device") (fields_of head))) (at_most_one_of (values_of (codes "portal-request") (fields_of head))) body
     ≡ message_with head body
 assembled_is head (Err fault) = refl
 assembled_is head (Ok body) = refl
@@ -53,15 +53,17 @@ begins bytes front headers r head e at few =
 -- what the spans cover is what the bytes say
 pub told : (bytes front : List ℕ) (headers : List HeaderSpan) (r : RequestSpans) (head : RequestHead) (fields : FieldList)
     (declared : Result ℕ HeadFault) (body : Result (List ℕ) HeadFault) (method target : List ℕ) (token device : Option (List ℕ))
+    (number : Result (Option (List ℕ)) HeadFault)
     → front ≡ take head_limit bytes → IsRequestAt front headers r head → length head.fields ≤ field_limit
     → fields ≡ map (header_bytes front) (take r.headers headers)
     → declared ≡ declared_length r.version fields
     → body ≡ body_after declared (drop r.len bytes)
     → token ≡ only_of (values_of (codes "portal-token") fields)
     → device ≡ only_of (values_of (codes "portal-device") fields)
+    → number ≡ at_most_one_of (values_of (codes "portal-request") fields)
     → method ≡ span_bytes front r.method → target ≡ span_bytes front r.path
-    → (o : Option RequestHead) × HeadOf bytes o × (assembled method target token device body ≡ message_in o bytes)
-told bytes front headers r head fields declared body method target token device e at few covered sized cut tokens devices methods targets =
+    → (o : Option RequestHead) × HeadOf bytes o × (assembled method target token device number body ≡ message_in o bytes)
+told bytes front headers r head fields declared body method target token device number e at few covered sized cut tokens devices numbers methods targets =
     let same : fields ≡ fields_of head = same_fields front headers r head fields at covered in
     let length_is : declared ≡ length_of head = same_length front headers r head fields declared at covered sized in
     let body_is : body ≡ body_after (length_of head) (bytes_after head bytes) =
@@ -70,13 +72,17 @@ told bytes front headers r head fields declared body method target token device 
     let token_is : token ≡ only_of (values_of (codes "portal-token") (fields_of head)) =
     tokens ∙ ap (λ (f : FieldList). only_of (values_of (codes "portal-token") f)) same in
     let device_is : device ≡ only_of (values_of (codes "portal-device") (fields_of head)) =
-    devices ∙ ap (λ (f : FieldList). only_of (values_of (codes "portal-device") f)) same in (
+    devices ∙ ap (λ (f : FieldList). only_of (values_of (codes "portal-device") f)) same in
+    let number_is : number ≡ at_most_one_of (values_of (codes "portal-request") (fields_of head)) =
+    numbers ∙ ap (λ (f : FieldList). at_most_one_of (values_of (codes "portal-request") f)) same in (
       Some head,
       begins bytes front headers r head e at few,
-      ap (λ (m : List ℕ). assembled m target token device body) (methods ∙ at.method)
-          ∙ ap (λ (t : List ℕ). assembled head.method t token device body) (targets ∙ at.path)
-          ∙ ap (λ (t : Option (List ℕ)). assembled head.method head.target t device body) token_is
-          ∙ ap (λ (d : Option (List ℕ)). assembled head.method head.target (only_of (values_of (codes "portal-token") (fields_of head))) d body) device_is
+      ap (λ (m : List ℕ). assembled m target token device number body) (methods ∙ at.method)
+          ∙ ap (λ (t : List ℕ). assembled head.method t token device number body) (targets ∙ at.path)
+          ∙ ap (λ (t : Option (List ℕ)). assembled head.method head.target t device number body) token_is
+          ∙ ap (λ (d : Option (List ℕ)). assembled head.method head.target (only_of (values_of (codes "portal-token") (fields_of head))) d number body) device_is
+          ∙ ap (λ (n : Result (Option (List ℕ)) HeadFault). assembled head.method head.target (only_of (values_of (codes "portal-token") (fields_of head)))
+          (only_of (values_of (codes "portal-device") (fields_of head))) n body) number_is
           ∙ assembled_is head body ∙ ap (message_with head) body_is,
     )
 

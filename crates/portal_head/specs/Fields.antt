@@ -1,7 +1,9 @@
 -- The fields of a head, by name.
-use Rattle.std.specs.Prelude.{ℕ, List, [], ◌∷◌, map, filter, Bool, nat_eq, Option, Some, None}
+use Rattle.std.specs.Prelude.{ℕ, List, [], ◌∷◌, map, filter, Bool, nat_eq, Option, Some, None, Result, Ok, Err}
 use Rattle.std.specs.Char.{to_ascii_lowercase}
 use Rattle.std.specs.Cmp.Lexicographic.{pointwise}
+use Rattle.portal_head.specs.declared.faults.HeadFault.{HeadFault}
+use Rattle.portal_head.specs.declared.faults.HeadFault.TheVariants.{BadRequest}
 
 -- the name of each field, and its value without the spaces and tabs around it
 abbrev pub FieldList : Type 0
@@ -20,3 +22,9 @@ abbrev pub only_of : List (List ℕ) → Option (List ℕ)
 only_of [] = None
 only_of (value ∷ []) = Some value
 only_of (value ∷ other ∷ rest) = None
+
+-- the value, where there is one; more than one are a fault
+abbrev pub at_most_one_of : List (List ℕ) → Result (Option (List ℕ)) HeadFault
+at_most_one_of [] = Ok None
+at_most_one_of (value ∷ []) = Ok (Some value)
+at_most_one_of (value ∷ other ∷ rest) = Err BadRequest

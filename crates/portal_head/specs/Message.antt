@@ -7,7 +7,7 @@ use Rattle.portal_head.specs.Limits.{head_limit, field_limit}
 use Rattle.portal_head.specs.declared.faults.HeadFault.{HeadFault}
 use Rattle.portal_head.specs.declared.faults.HeadFault.TheVariants.{BadRequest}
 use Rattle.portal_head.specs.declared.head.Request.{Request}
-use Rattle.portal_head.specs.Fields.{FieldList, values_of, only_of}
+use Rattle.portal_head.specs.Fields.{FieldList, values_of, only_of, at_most_one_of}
 use Rattle.portal_head.specs.Lengths.{declared_length}
 
 -- the bytes begin with that head, and it has few enough fields
@@ -43,6 +43,8 @@ pub record Message : Type 0 where
   -- the values of Portal-Token and Portal-Device, each where there is just one
   pub token : Option (List ℕ)
   pub device : Option (List ℕ)
+  -- the value of Portal-Request, where there is one; a fault where there are more
+  pub number : Result (Option (List ℕ)) HeadFault
   pub body : List ℕ
 
 -- what a request of that head says, where its body is as it should be
@@ -53,6 +55,7 @@ message_with head (Ok body) = Ok (record {
   target = head.target;
   token = only_of (values_of (codes "portal-token") (fields_of head));
   device = only_of (values_of (codes "portal-device") (fields_of head));
+  number = at_most_one_of (values_of (codes "portal-request") (fields_of head));
   body = body;
 })
 
@@ -61,16 +64,26 @@ abbrev pub message_in : Option RequestHead → List ℕ → Result Message HeadF
 message_in None bytes = Err BadRequest
 message_in (Some head) bytes = message_with head (body_after (length_of head) (bytes_after head bytes))
 
+-- the bytes of a value in place of the borrow
+abbrev pub value_in : Result (Option (Bor (List ℕ))) HeadFault → Result (Option (List ℕ)) HeadFault
+value_in (Err fault) = Err fault
+value_in (Ok value) = Ok (option_map (λ v. v.now) value)
+
 -- the message in place of the borrowed parts
-abbrev pub message_of : Result Request HeadFault → Result Message HeadFault
-message_of (Err fault) = Err fault
-message_of (Ok request) = Ok (record {
+abbrev pub said_by : Request → Message
+said_by request = record {
   method = request.method.now;
   target = request.target.now;
   token = option_map (λ value. value.now) request.token;
   device = option_map (λ value. value.now) request.device;
+  number = value_in request.number;
   body = request.body.now;
-})
+}
+
+-- the same, or the fault
+abbrev pub message_of : Result Request HeadFault → Result Message HeadFault
+message_of (Err fault) = Err fault
+message_of (Ok request) = Ok (said_by request)
 
 -- the bytes in place of the borrow
 abbrev pub bytes_of : Result (Bor (List ℕ)) HeadFault → Result (List ℕ) HeadFault

@@ -1,9 +1,11 @@
 //! The fields of a head, looked up by name.
 ghost use Rattle.std.specs.Prelude.{◌≡◌, length, map, All, option_map};
 ghost use Rattle.httparse.specs.Spans.{header_bytes, IsHeaderWithin};
-ghost use Rattle.portal_head.specs.Fields.{is_same_name, values_of, only_of};
+ghost use Rattle.portal_head.specs.Fields.{is_same_name, values_of, only_of, at_most_one_of};
+ghost use Rattle.portal_head.specs.Message.{value_in};
 ghost use Rattle.portal_head.specs.Steps.{IsOccurrence};
 
+use crate::faults::HeadFault;
 use httparse::spans::HeaderSpan;
 use std::marker::Model;
 
@@ -72,6 +74,17 @@ impl<'b, 's> Fields<'b, 's> {
         match self.occurrence(name) {
             Occurrence::Once(value) => Some(value),
             _ => None,
+        }
+    }
+
+    /// The value of the field of that name, where there is one. More than one such field are a `BadRequest`.
+    pub fn at_most_one(&self, name: &[u8]) -> Result<Option<&'b [u8]>, HeadFault>
+        ensures { value_in result ≡ at_most_one_of (values_of name.now self.now) }
+    {
+        match self.occurrence(name) {
+            Occurrence::Absent => Ok(None),
+            Occurrence::Once(value) => Ok(Some(value)),
+            Occurrence::Repeated => Err(HeadFault::BadRequest),
         }
     }
 }

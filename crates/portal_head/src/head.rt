@@ -24,6 +24,9 @@ pub struct Request<'b> {
     pub token: Option<&'b [u8]>,
     /// The value of Portal-Device, where there is just one such field.
     pub device: Option<&'b [u8]>,
+    /// The value of Portal-Request, where there is one. More than one such field are a `BadRequest`, which is told only
+    /// where the field is looked at.
+    pub number: Result<Option<&'b [u8]>, HeadFault>,
     /// As many bytes as Content-Length declares.
     pub body: &'b [u8],
 }
@@ -96,6 +99,7 @@ pub fn parse_request(bytes: &[u8]) -> Result<Request<'_>, HeadFault>
     let fields = Fields::new(front, spans);
     let token = fields.only(b"portal-token");
     let device = fields.only(b"portal-device");
+    let number = fields.at_most_one(b"portal-request");
     match take_body(after, declared_length(&fields, head.version)) {
         Err(fault) => Err(fault),
         Ok(body) => Ok(Request {
@@ -103,6 +107,7 @@ pub fn parse_request(bytes: &[u8]) -> Result<Request<'_>, HeadFault>
             target: head.path.of(front),
             token,
             device,
+            number,
             body,
         }),
     }

@@ -1,12 +1,13 @@
 -- What a run leaves, from the steps of its requests.
 use Rattle.std.proofs.Common.{◌≡◌, ◌⊎◌, inl, inr, ℕ, List, [], ◌∷◌, ◌++◌, length, take, Bool, true, false, cond, Option, Some, None, refl, sym, ap, subst, ◌∙◌}
-use Rattle.std.specs.Prelude.{◌≢◌, Result, Ok, Err, IfErr}
+use Rattle.std.specs.Prelude.{◌≢◌, MatchOption, Result, Ok, Err, IfErr}
 use Rattle.portal_model.specs.declared.command.Command.{Command}
 use Rattle.portal_model.specs.declared.change.Answer.{Answer}
 use Rattle.portal_model.specs.declared.refusal.Refusal.{Refusal}
-use Rattle.portal_model.specs.declared.refusal.Refusal.TheVariants.{NoMemory, Stopped, IdReused}
+use Rattle.portal_model.specs.declared.refusal.Refusal.TheVariants.{NoMemory, Stopped, IdReused, UnknownBatch, UnknownCode}
 use Rattle.portal_model.specs.Change.{answer_of}
-use Rattle.portal_model.specs.Captive.{captive_of}
+use Rattle.portal_model.specs.History.{voucher_of}
+use Rattle.portal_model.specs.Captive.{captive_of, open_sessions_of}
 use Rattle.portal_model.specs.Verdict.{verdict}
 use Rattle.portal_laws.proofs.Granted.{grants_bounded}
 use Rattle.portal_ledger.specs.declared.request.KeptRequest.{KeptRequest}
@@ -15,20 +16,27 @@ use Rattle.portal_ledger.specs.Ledger.{Accepted, Ledger, history_of, held_in, re
 use Rattle.portal_ledger.specs.States.{State, running, stopped, MayStand}
 use Rattle.portal_ledger.proofs.Ledgers.{the_sound_is_legal}
 use Rattle.portal_files.specs.SettingsFile.{SettingsValue}
-use Rattle.portal_http.specs.declared.checks.Wanted.{Wanted}
-use Rattle.portal_http.specs.declared.checks.Wanted.TheVariants.{State as Asks, Act}
-use Rattle.portal_http.specs.declared.denials.Denied.{Denied}
-use Rattle.portal_http.specs.Denials.{refusal_of, allow_of}
+use Rattle.portal_checks.specs.declared.wanted.Wanted.{Wanted}
+use Rattle.portal_checks.specs.declared.wanted.Wanted.TheVariants.{State as Asks, Sheet, Voucher, Takings, OpenSessions, Act}
+use Rattle.portal_checks.specs.declared.denials.Denied.{Denied}
+use Rattle.portal_checks.specs.Denials.{refusal_of, allow_of}
 use Rattle.portal_http.specs.Arrived.{Arrived}
-use Rattle.portal_http.specs.Checks.{IsChecked, IsOfRequest}
-use Rattle.portal_http.specs.Replies.{IsRefusal, IsAnswer, IsVerdict, IsCommand, IsReply}
+use Rattle.portal_checks.specs.Checks.{IsChecked, IsOfRequest}
+use Rattle.portal_http.specs.Replies.{IsRefusal, IsSheet, IsVoucher, IsAnswer, IsVerdict, IsCommand, IsReply}
+use Rattle.portal_desk.specs.Sheets.{sheet_of, takings_over}
 use Rattle.portal_http.specs.Runs.{Stops, Step, Run, Served}
 use Rattle.portal_http.specs.Headline.{is_ok, with_command, Acknowledges, Replies, Leads, IsInDoubt, IsFound, Survives}
 use Rattle.portal_http.proofs.Verdicts.{verdict_is_no_stop}
-use Rattle.portal_http.proofs.Lines.{state_ok, answer_ok, refused_off, other_apart, ok_apart}
+use Rattle.portal_http.proofs.Lines.{state_ok, sheet_ok, voucher_ok, takings_ok, sessions_ok, answer_ok, refused_off, other_apart, ok_apart}
 
 memory_is_no_stop : NoMemory ≢ Stopped
 memory_is_no_stop e = cc
+
+batch_is_no_stop : UnknownBatch ≢ Stopped
+batch_is_no_stop e = cc
+
+code_is_no_stop : UnknownCode ≢ Stopped
+code_is_no_stop e = cc
 
 reused_is_no_stop : IdReused ≢ Stopped
 reused_is_no_stop e = cc
@@ -53,7 +61,7 @@ module _ (settings : SettingsValue) where
 
   -- one that was adds its command, where that is a new one
   is_acknowledged : (L : Ledger) (a : Arrived) (r : List ℕ) (wanted : Result Wanted Denied) (after : Ledger) → is_ok r ≡ true
-      → IsChecked settings a.bytes wanted → after ≡ with_command L wanted a.moment → Acknowledges settings L a r after
+      → IsChecked settings a.seed a.bytes wanted → after ≡ with_command L wanted a.moment → Acknowledges settings L a r after
   is_acknowledged L a r wanted after is checked same = rw is (wanted, checked, same)
 
   -- what a reply comes to: what it acknowledges, and that it does not say `stopped`
@@ -67,20 +75,41 @@ module _ (settings : SettingsValue) where
 
   -- a 200 to a command
   by_answer : (L : Ledger) (a : Arrived) (r : List ℕ) (after : Ledger) (command : Command) (mark : Option Mark) (answer : Answer)
-      → IsChecked settings a.bytes (Ok (Act command mark)) → IsAnswer answer a.moment r
+      → IsChecked settings a.seed a.bytes (Ok (Act command mark)) → IsAnswer answer a.moment r
       → after ≡ new_by (repeat_in L mark) (taken_at L a.moment command mark) ++ L → Comes L a r after
   by_answer L a r after command mark answer checked told same =
       let ok = answer_ok answer a.moment r told in (is_acknowledged L a r (Ok (Act command mark)) after ok checked same, ok_apart a.moment r ok)
 
+  -- a 200 to a request that only asks
+  by_told : (L : Ledger) (a : Arrived) (r : List ℕ) (after : Ledger) (w : Wanted) → is_ok r ≡ true → IsChecked settings a.seed a.bytes (Ok w)
+      → with_command L (Ok w) a.moment ≡ L → after ≡ L → Comes L a r after
+  by_told L a r after w ok checked none same = (is_acknowledged L a r (Ok w) after ok checked (same ∙ sym none), ok_apart a.moment r ok)
+
+  -- what it asks for, or the refusal where there is nothing of the kind
+  by_found : {A : Type 0} (L : Ledger) (a : Arrived) (r : List ℕ) (after : Ledger) (w : Wanted) (unknown : Refusal) → unknown ≢ Stopped
+      → (Is : A → Type 0) → ((x : A) → Is x → is_ok r ≡ true) → IsChecked settings a.seed a.bytes (Ok w) → with_command L (Ok w) a.moment ≡ L
+      → (o : Option A) → MatchOption o (IsRefusal unknown a.moment r) Is → after ≡ L → Comes L a r after
+  by_found L a r after w unknown other Is ok checked none None told same = by_refusal L a r after unknown other told same
+  by_found L a r after w unknown other Is ok checked none (Some x) told same = by_told L a r after w (ok x told) checked none same
+
   replied : (L : Ledger) (a : Arrived) (r : List ℕ) (wanted : Result Wanted Denied) (after : Ledger)
-      → IsChecked settings a.bytes wanted → IfErr wanted IsOfRequest → IsReply settings wanted L a.moment r after → Comes L a r after
+      → IsChecked settings a.seed a.bytes wanted → IfErr wanted IsOfRequest → IsReply settings wanted L a.moment r after → Comes L a r after
   replied L a r (Err denied) after checked other reply = (
     subst (Acknowledges settings L a r) (sym reply.1) (not_ok L a r (refused_off (refusal_of denied) (allow_of denied) a.moment r reply.0)),
     other_apart (refusal_of denied) (allow_of denied) a.moment r other reply.0,
   )
   replied L a r (Ok (Asks device)) after checked other reply =
-      let ok = state_ok settings (captive_of (history_of L) device a.moment) a.moment r reply.0 in
-      (is_acknowledged L a r (Ok (Asks device)) after ok checked reply.1, ok_apart a.moment r ok)
+      by_told L a r after (Asks device) (state_ok settings (captive_of (history_of L) device a.moment) a.moment r reply.0) checked refl reply.1
+  replied L a r (Ok (Sheet id)) after checked other reply =
+      by_found L a r after (Sheet id) UnknownBatch batch_is_no_stop (λ sheet. IsSheet settings sheet a.moment r) (λ sheet is. sheet_ok settings sheet a.moment r is)
+      checked refl (sheet_of (history_of L) id) reply.0 reply.1
+  replied L a r (Ok (Voucher code)) after checked other reply =
+      by_found L a r after (Voucher code) UnknownCode code_is_no_stop (λ voucher. IsVoucher voucher a.moment r) (λ voucher is. voucher_ok voucher a.moment r is)
+      checked refl (voucher_of (history_of L) code) reply.0 reply.1
+  replied L a r (Ok (Takings range)) after checked other reply =
+      by_told L a r after (Takings range) (takings_ok (takings_over settings.zone (history_of L) range) a.moment r reply.0) checked refl reply.1
+  replied L a r (Ok OpenSessions) after checked other reply =
+      by_told L a r after OpenSessions (sessions_ok (open_sessions_of (history_of L) a.moment) a.moment r reply.0) checked refl reply.1
   replied L a r (Ok (Act command mark)) after checked other reply = go (repeat_in L mark) refl reply
     where
       own : Accepted
@@ -109,7 +138,7 @@ module _ (settings : SettingsValue) where
     | inl refused ↦
         let denied = refused.0 in
         let reply : IsReply settings (Err denied) K a.moment r K = (refused.2, refl) in
-        let checks = subst (IsChecked settings a.bytes) refused.1 checked in
+        let checks = subst (IsChecked settings a.seed a.bytes) refused.1 checked in
         (out.0, not_ok K a r (refused_off (refusal_of denied) (allow_of denied) a.moment r refused.2), inl (Err denied, checks, reply))
     | inr over ↦ (out.0, not_ok K a r (refused_off Stopped None a.moment r over.1), inr (inr over.1))
   ]
@@ -141,7 +170,7 @@ module _ (settings : SettingsValue) where
 
   -- the request that stopped it, and the run after it
   here : (L : Ledger) (a : Arrived) (r : List ℕ) (xs : List Arrived) (rs : List (List ℕ)) (mid new : State) (wanted : Result Wanted Denied)
-      → IsChecked settings a.bytes wanted → IsRefusal Stopped a.moment r → Stops wanted L a.moment mid → Run settings mid xs rs new → Ends L (a ∷ xs) (r ∷ rs) new
+      → IsChecked settings a.seed a.bytes wanted → IsRefusal Stopped a.moment r → Stops wanted L a.moment mid → Run settings mid xs rs new → Ends L (a ∷ xs) (r ∷ rs) new
   here L a r xs rs mid new wanted checked over stops run = go wanted checked stops
     where
       lead : (doubt : Option Accepted) → mid ≡ stopped L doubt → (new ≡ stopped L doubt) × Leads settings L (a ∷ xs) (r ∷ rs) L
@@ -149,9 +178,13 @@ module _ (settings : SettingsValue) where
           let rest = rests L L doubt xs rs new (subst (λ (s : State). Run settings s xs rs new) is run) in
           (rest.0, (L, not_ok L a r (refused_off Stopped None a.moment r over), inr (inr over), rest.1))
 
-      go : (w : Result Wanted Denied) → IsChecked settings a.bytes w → Stops w L a.moment mid → Ends L (a ∷ xs) (r ∷ rs) new
+      go : (w : Result Wanted Denied) → IsChecked settings a.seed a.bytes w → Stops w L a.moment mid → Ends L (a ∷ xs) (r ∷ rs) new
       go (Err denied) checked stops = absurd stops
       go (Ok (Asks device)) checked stops = let it = lead None stops in halts L it.1 it.0
+      go (Ok (Sheet id)) checked stops = let it = lead None stops in halts L it.1 it.0
+      go (Ok (Voucher code)) checked stops = let it = lead None stops in halts L it.1 it.0
+      go (Ok (Takings range)) checked stops = let it = lead None stops in halts L it.1 it.0
+      go (Ok OpenSessions) checked stops = let it = lead None stops in halts L it.1 it.0
       go (Ok (Act command mark)) checked (inl is) = let it = lead None is in halts L it.1 it.0
       go (Ok (Act command mark)) checked (inr it) =
           let own = taken_at L a.moment command mark in

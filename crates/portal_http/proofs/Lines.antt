@@ -9,7 +9,11 @@ use Rattle.std.proofs.lemmas.List.{length-append}
 use Rattle.std.proofs.Math.Seq.{drop-append-add}
 use Rattle.httpdate.specs.Date.{date_text}
 use Rattle.serde_json.proofs.OnLiterals.{serde_json_on_literals}
+use Rattle.portal_days.specs.declared.takings.DayTakings.{DayTakings}
 use Rattle.portal_model.specs.declared.captive.Captive.{Captive}
+use Rattle.portal_model.specs.declared.captive.OpenSession.{OpenSession}
+use Rattle.portal_model.specs.declared.record.Voucher.{Voucher}
+use Rattle.portal_files.specs.declared.sheet.BatchSheet.{BatchSheet}
 use Rattle.portal_model.specs.declared.change.Answer.{Answer}
 use Rattle.portal_model.specs.declared.refusal.Refusal.{Refusal}
 use Rattle.portal_model.specs.declared.refusal.Refusal.TheVariants.{Stopped}
@@ -18,7 +22,7 @@ use Rattle.portal_files.specs.SettingsFile.{SettingsValue}
 use Rattle.portal_json.specs.Bodies.{error_body}
 use Rattle.portal_response.specs.Bytes.{head_bytes, last_lines, media_type_of, phrase_of}
 use Rattle.portal_response.specs.declared.ContentType.TheVariants.{Json}
-use Rattle.portal_http.specs.Replies.{IsError, IsRefusal, IsState, IsAnswer}
+use Rattle.portal_http.specs.Replies.{IsError, IsRefusal, IsState, IsSheet, IsVoucher, IsTakings, AreSessions, IsAnswer}
 use Rattle.portal_http.specs.Headline.{is_ok}
 
 -- the body of the refusal of a desk that stopped
@@ -37,6 +41,22 @@ ok_line phrase date media_type size last body = refl
 pub state_ok : (settings : SettingsValue) (captive : Captive) (moment : ℕ) (response : List ℕ) → IsState settings captive moment response → is_ok response ≡ true
 unfolding IsState
 state_ok settings captive moment response (date, dated, same) = ap is_ok same ∙ ok_line _ _ _ _ _ _
+
+pub sheet_ok : (settings : SettingsValue) (sheet : BatchSheet) (moment : ℕ) (response : List ℕ) → IsSheet settings sheet moment response → is_ok response ≡ true
+unfolding IsSheet
+sheet_ok settings sheet moment response (text, is_file, (date, dated, same)) = ap is_ok same ∙ ok_line _ _ _ _ _ _
+
+pub voucher_ok : (voucher : Voucher) (moment : ℕ) (response : List ℕ) → IsVoucher voucher moment response → is_ok response ≡ true
+unfolding IsVoucher
+voucher_ok voucher moment response (date, dated, same) = ap is_ok same ∙ ok_line _ _ _ _ _ _
+
+pub takings_ok : (days : List DayTakings) (moment : ℕ) (response : List ℕ) → IsTakings days moment response → is_ok response ≡ true
+unfolding IsTakings
+takings_ok days moment response (text, is_report, (date, dated, same)) = ap is_ok same ∙ ok_line _ _ _ _ _ _
+
+pub sessions_ok : (sessions : List OpenSession) (moment : ℕ) (response : List ℕ) → AreSessions sessions moment response → is_ok response ≡ true
+unfolding AreSessions
+sessions_ok sessions moment response (date, dated, same) = ap is_ok same ∙ ok_line _ _ _ _ _ _
 
 pub answer_ok : (answer : Answer) (moment : ℕ) (response : List ℕ) → IsAnswer answer moment response → is_ok response ≡ true
 unfolding IsAnswer

@@ -6,17 +6,17 @@ use Rattle.portal_model.specs.declared.command.Command.{Command}
 use Rattle.portal_ledger.specs.Mark.{Mark}
 use Rattle.portal_ledger.specs.Ledger.{Accepted, Ledger, taken_at}
 use Rattle.portal_files.specs.SettingsFile.{SettingsValue}
-use Rattle.portal_http.specs.declared.checks.Wanted.{Wanted}
-use Rattle.portal_http.specs.declared.checks.Wanted.TheVariants.{Act}
-use Rattle.portal_http.specs.declared.denials.Denied.{Denied}
+use Rattle.portal_checks.specs.declared.wanted.Wanted.{Wanted}
+use Rattle.portal_checks.specs.declared.wanted.Wanted.TheVariants.{Act}
+use Rattle.portal_checks.specs.declared.denials.Denied.{Denied}
 use Rattle.portal_http.specs.Arrived.{Arrived}
-use Rattle.portal_http.specs.Checks.{IsChecked}
+use Rattle.portal_checks.specs.Checks.{IsChecked}
 use Rattle.portal_http.specs.Headline.{is_ok, with_command, Acknowledges, Leads, IsAccepted, IsInDoubt, OneReading}
-use Rattle.portal_http.proofs.CheckedOnce.{checked_once}
+use Rattle.portal_checks.proofs.CheckedOnce.{checked_once}
 
 -- with its command, where it was answered 200
 abbrev Adds : SettingsValue → Ledger → Arrived → Ledger → Type 0
-Adds settings L a after = (wanted : Result Wanted Denied) × IsChecked settings a.bytes wanted × (after ≡ with_command L wanted a.moment)
+Adds settings L a after = (wanted : Result Wanted Denied) × IsChecked settings a.seed a.bytes wanted × (after ≡ with_command L wanted a.moment)
 
 -- the ledger after one request
 acknowledged_once : (settings : SettingsValue) (L : Ledger) (a : Arrived) (r : List ℕ) (one other : Ledger)
@@ -24,7 +24,7 @@ acknowledged_once : (settings : SettingsValue) (L : Ledger) (a : Arrived) (r : L
 acknowledged_once settings L a r one other = go (is_ok r)
   where
     go : (b : Bool) → MatchBool b (Adds settings L a one) (one ≡ L) → MatchBool b (Adds settings L a other) (other ≡ L) → one ≡ other
-    go true (w, checked, is) (v, checked2, also) = is ∙ ap (λ (x : Result Wanted Denied). with_command L x a.moment) (checked_once settings a.bytes w v checked checked2) ∙ sym also
+    go true (w, checked, is) (v, checked2, also) = is ∙ ap (λ (x : Result Wanted Denied). with_command L x a.moment) (checked_once settings a.seed a.bytes w v checked checked2) ∙ sym also
     go false is also = is ∙ sym also
 
 leads_once : (settings : SettingsValue) (L : Ledger) (arrivals : List Arrived) (responses : List (List ℕ)) (last other : Ledger)
@@ -47,7 +47,7 @@ mark_in command mark _ = mark
 
 accepted_once : (settings : SettingsValue) (L : Ledger) (a : Arrived) (own other : Accepted) → IsAccepted settings L a own → IsAccepted settings L a other → own ≡ other
 accepted_once settings L a own other (c, m, checked, is, free, passes) (d, n, checked2, also, free2, passes2) =
-    let same = checked_once settings a.bytes (Ok (Act c m)) (Ok (Act d n)) checked checked2 in
+    let same = checked_once settings a.seed a.bytes (Ok (Act c m)) (Ok (Act d n)) checked checked2 in
     let command : c ≡ d = ap (command_in c m) same in
     let mark : m ≡ n = ap (mark_in c m) same in
     is ∙ ap (λ (x : Command). taken_at L a.moment x m) command ∙ ap (λ (x : Option Mark). taken_at L a.moment d x) mark ∙ sym also

@@ -3,7 +3,7 @@
 -- A stop leaves the ledger before the run, then the commands that were answered 200, and at most one command more, which was answered
 -- `stopped`. Each response, but for those of `no_memory` and `stopped`, is the reply that the ledger so far gives at the moment handed
 -- in.
-use Rattle.std.specs.Prelude.{◌≡◌, ◌⊎◌, ℕ, List, [], ◌∷◌, ◌++◌, length, take, Bool, Option, None, Result, Ok, Err, codes, nat_eq}
+use Rattle.std.specs.Prelude.{◌≡◌, ◌⊎◌, ℕ, List, [], ◌∷◌, ◌++◌, length, take, Bool, Option, None, Result, Ok, codes, nat_eq}
 use Rattle.std.specs.List.{starts_with}
 use Rattle.std.specs.Bool.{MatchBool}
 use Rattle.portal_model.specs.declared.command.Command.{Command}
@@ -14,11 +14,11 @@ use Rattle.portal_laws.specs.Laws.{HasGrantsWithin}
 use Rattle.portal_ledger.specs.Mark.{Mark}
 use Rattle.portal_ledger.specs.Ledger.{Accepted, Ledger, history_of, repeat_in, taken_at, new_by, IsSound}
 use Rattle.portal_files.specs.SettingsFile.{SettingsValue}
-use Rattle.portal_http.specs.declared.checks.Wanted.{Wanted}
-use Rattle.portal_http.specs.declared.checks.Wanted.TheVariants.{State, Act}
-use Rattle.portal_http.specs.declared.denials.Denied.{Denied}
+use Rattle.portal_checks.specs.declared.wanted.Wanted.{Wanted}
+use Rattle.portal_checks.specs.declared.wanted.Wanted.TheVariants.{Act}
+use Rattle.portal_checks.specs.declared.denials.Denied.{Denied}
+use Rattle.portal_checks.specs.Checks.{IsChecked}
 use Rattle.portal_http.specs.Arrived.{Arrived}
-use Rattle.portal_http.specs.Checks.{IsChecked}
 use Rattle.portal_http.specs.Replies.{IsRefusal, IsReply}
 
 -- ---- what was acknowledged
@@ -30,19 +30,18 @@ is_ok response = starts_with nat_eq response (codes "HTTP/1.1 200 ")
 -- the ledger with the command of a request, where that is a new one; a repetition and a request of another kind add nothing
 abbrev pub with_command : Ledger → Result Wanted Denied → ℕ → Ledger
 with_command L (Ok (Act command mark)) moment = new_by (repeat_in L mark) (taken_at L moment command mark) ++ L
-with_command L (Ok (State device)) moment = L
-with_command L (Err denied) moment = L
+with_command L _ moment = L
 
 -- the ledger after a request: with its command, where it was answered 200
 abbrev pub Acknowledges : SettingsValue → Ledger → Arrived → List ℕ → Ledger → Type 0
 Acknowledges settings L a response after = MatchBool (is_ok response)
-    ((wanted : Result Wanted Denied) × IsChecked settings a.bytes wanted × (after ≡ with_command L wanted a.moment))
+    ((wanted : Result Wanted Denied) × IsChecked settings a.seed a.bytes wanted × (after ≡ with_command L wanted a.moment))
     (after ≡ L)
 
 -- the response is the reply that the ledger gives at the moment handed in, or that of `no_memory`, or that of `stopped`
 abbrev pub Replies : SettingsValue → Ledger → Arrived → List ℕ → Ledger → Type 0
 Replies settings L a response after =
-    ((wanted : Result Wanted Denied) × IsChecked settings a.bytes wanted × IsReply settings wanted L a.moment response after)
+    ((wanted : Result Wanted Denied) × IsChecked settings a.seed a.bytes wanted × IsReply settings wanted L a.moment response after)
     ⊎ (IsRefusal NoMemory a.moment response ⊎ IsRefusal Stopped a.moment response)
 
 -- Requests and their responses, one after another: the last ledger is the first with the acknowledged commands.
@@ -58,7 +57,7 @@ Leads settings L (a ∷ rest) (r ∷ rs) last =
 -- the command of a request as it would be accepted, where it is a new one and the verdict accepts it
 abbrev pub IsAccepted : SettingsValue → Ledger → Arrived → Accepted → Type 0
 IsAccepted settings L a own =
-    (command : Command) × (mark : Option Mark) × IsChecked settings a.bytes (Ok (Act command mark))
+    (command : Command) × (mark : Option Mark) × IsChecked settings a.seed a.bytes (Ok (Act command mark))
     × (own ≡ taken_at L a.moment command mark) × (repeat_in L mark ≡ Ok None) × (verdict (history_of L) command own.at ≡ None)
 
 -- the command of the first request that was answered `stopped`, where the ledger so far accepts it

@@ -1,8 +1,7 @@
 pub mod Arrived
-pub mod Denials
-pub mod Checks
 pub mod Replies
 pub mod Runs
 pub mod Serving
 pub mod Headline
 pub mod Lives
+pub mod Exchanges

@@ -7,7 +7,8 @@ use Rattle.portal_ledger.specs.Ledger.{Accepted, Ledger}
 use Rattle.portal_ledger.specs.States.{State, running, stopped}
 use Rattle.portal_ledger.specs.Mark.{Mark}
 use Rattle.portal_files.specs.SettingsFile.{SettingsValue}
-use Rattle.portal_http.specs.declared.checks.Wanted.TheVariants.{Act}
+use Rattle.portal_checks.specs.declared.wanted.Wanted.{Wanted}
+use Rattle.portal_checks.specs.declared.wanted.Wanted.TheVariants.{Act}
 use Rattle.portal_http.specs.Replies.{IsRefusal, IsAnswer}
 use Rattle.portal_http.specs.Runs.{CarriesOut}
 
@@ -17,7 +18,11 @@ Finishes L a answer moment bytes new =
     (IsAnswer answer moment bytes × (new ≡ running (a ∷ L)))
     ⊎ ((IsRefusal NoMemory moment bytes × (new ≡ running L)) ⊎ (IsRefusal Stopped moment bytes × (new ≡ stopped L (Some a))))
 
--- there was no memory, and nothing has changed; or the command is carried out
+-- there was no memory, and nothing has changed; or what is wanted is carried out
+abbrev pub ServesWanted : SettingsValue → Wanted → State → ℕ → List ℕ → State → Type 0
+ServesWanted settings asked old moment bytes new =
+    (IsRefusal NoMemory moment bytes × (new ≡ old)) ⊎ CarriesOut settings (Ok asked) old moment bytes new
+
+-- the same of a command
 abbrev pub Serves : SettingsValue → Command → Option Mark → State → ℕ → List ℕ → State → Type 0
-Serves settings command mark old moment bytes new =
-    (IsRefusal NoMemory moment bytes × (new ≡ old)) ⊎ CarriesOut settings (Ok (Act command mark)) old moment bytes new
+Serves settings command mark old moment bytes new = ServesWanted settings (Act command mark) old moment bytes new

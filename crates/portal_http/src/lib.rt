@@ -2,15 +2,12 @@
 #![tactic(auto)]
 
 mod arrivals;
-mod checks;
-mod denials;
+pub mod exchanges;
 mod lives;
 mod responses;
 mod runs;
 mod serving;
 
 pub use arrivals::Arrival;
-pub use checks::{Wanted, check_request};
-pub use denials::Denied;
 pub use lives::{life_is_kept, one_reading};
 pub use runs::run;

@@ -1,26 +1,30 @@
 //! One request, from its bytes to its response.
-ghost use Rattle.std.specs.Prelude.{◌≡◌, ◌≢◌, ◌⊎◌, Ok, Some, None, IfErr, MatchResult};
+ghost use Rattle.std.specs.Prelude.{◌≡◌, ◌≢◌, ◌⊎◌, Some, None, IfErr, MatchResult};
 ghost use Rattle.portal_model.specs.Change.{answer_of};
 ghost use Rattle.portal_model.specs.Verdict.{IsWellFormed};
 ghost use Rattle.portal_ledger.specs.Ledger.{Accepted, Ledger};
 ghost use Rattle.portal_ledger.specs.States.{State, running};
 ghost use Rattle.portal_ledger.specs.Calls.{Fits};
-ghost use Rattle.portal_http.specs.declared.checks.Wanted.TheVariants.{State as Asks};
-ghost use Rattle.portal_http.specs.Checks.{IsInOrder};
+ghost use Rattle.portal_checks.specs.declared.wanted.Wanted.TheVariants as wanted;
+ghost use Rattle.portal_checks.specs.Checks.{IsInOrder};
 ghost use Rattle.portal_http.specs.Replies.{IsRefusal, IsDenial};
-ghost use Rattle.portal_http.specs.Runs.{CarriesOut, Step};
-ghost use Rattle.portal_http.specs.Serving.{Finishes, Serves};
+ghost use Rattle.portal_http.specs.Runs.{Step};
+ghost use Rattle.portal_http.specs.Serving.{Finishes, Serves, ServesWanted};
 
 use crate::arrivals::Arrival;
-use crate::checks::{Wanted, check_request};
-use crate::denials::Denied;
-use crate::responses::{answer_response, captive_response, denial_response, refusal_response};
+use crate::responses::{
+    answer_response, captive_response, denial_response, refusal_response, sessions_response,
+    sheet_response, takings_response, voucher_response,
+};
+use portal_checks::{Denied, Wanted, check_request};
+use portal_codes::Code;
+use portal_days::DayRange;
 use portal_desk::Desk;
 use portal_desk::prepared::{Marked, Prepared};
 use portal_ledger::request::RequestMark;
 use portal_model::command::Command;
 use portal_model::moment::Moment;
-use portal_model::name::Device;
+use portal_model::name::{Device, Id};
 use portal_model::refusal::Refusal;
 use portal_route::Routes;
 use std::alloc::Global;
@@ -82,11 +86,100 @@ fn serve_state<D: Desk>(
     ensures told { D.settings desk.new ≡ D.settings desk.old }
     ensures honest { D.is_honest desk.new → D.is_honest desk.old }
     ensures step { D.is_honest desk.new → (old : State) → D.stands desk.old old → (new : State) × D.stands desk.new new
-        × ((IsRefusal Refusal.NoMemory moment result.items × (new ≡ old))
-        ⊎ CarriesOut (D.settings desk.old) (Ok (Asks device)) old moment result.items new) }
+        × ServesWanted (D.settings desk.old) (wanted.State device) old moment result.items new }
 {
     match desk.state(moment, device) {
         Ok(captive) => match captive_response(alloc, desk.settings(), moment, &captive) {
+            Ok(response) => response,
+            Err(_) => spare.no_memory,
+        },
+        Err(refusal) => told(alloc, moment, refusal, spare),
+    }
+}
+
+/// The print file of a batch.
+fn serve_sheet<D: Desk>(
+    desk: &mut D,
+    alloc: Global,
+    moment: Moment,
+    id: Id,
+    spare: Spare,
+) -> Vec<u8>
+    requires no_memory { IsRefusal Refusal.NoMemory moment spare.no_memory.items }
+    requires stopped { IsRefusal Refusal.Stopped moment spare.stopped.items }
+    ensures told { D.settings desk.new ≡ D.settings desk.old }
+    ensures honest { D.is_honest desk.new → D.is_honest desk.old }
+    ensures step { D.is_honest desk.new → (old : State) → D.stands desk.old old → (new : State) × D.stands desk.new new
+        × ServesWanted (D.settings desk.old) (wanted.Sheet id) old moment result.items new }
+{
+    match desk.batch(alloc, &id) {
+        Ok(sheet) => match sheet_response(alloc, desk.settings(), moment, &sheet) {
+            Ok(response) => response,
+            Err(_) => spare.no_memory,
+        },
+        Err(refusal) => told(alloc, moment, refusal, spare),
+    }
+}
+
+/// The state of a voucher.
+fn serve_voucher<D: Desk>(
+    desk: &mut D,
+    alloc: Global,
+    moment: Moment,
+    code: Code,
+    spare: Spare,
+) -> Vec<u8>
+    requires no_memory { IsRefusal Refusal.NoMemory moment spare.no_memory.items }
+    requires stopped { IsRefusal Refusal.Stopped moment spare.stopped.items }
+    ensures told { D.settings desk.new ≡ D.settings desk.old }
+    ensures honest { D.is_honest desk.new → D.is_honest desk.old }
+    ensures step { D.is_honest desk.new → (old : State) → D.stands desk.old old → (new : State) × D.stands desk.new new
+        × ServesWanted (D.settings desk.old) (wanted.Voucher code) old moment result.items new }
+{
+    match desk.voucher(&code) {
+        Ok(voucher) => match voucher_response(alloc, moment, &voucher) {
+            Ok(response) => response,
+            Err(_) => spare.no_memory,
+        },
+        Err(refusal) => told(alloc, moment, refusal, spare),
+    }
+}
+
+/// The takings of a range of days.
+fn serve_takings<D: Desk>(
+    desk: &mut D,
+    alloc: Global,
+    moment: Moment,
+    range: DayRange,
+    spare: Spare,
+) -> Vec<u8>
+    requires no_memory { IsRefusal Refusal.NoMemory moment spare.no_memory.items }
+    requires stopped { IsRefusal Refusal.Stopped moment spare.stopped.items }
+    ensures told { D.settings desk.new ≡ D.settings desk.old }
+    ensures honest { D.is_honest desk.new → D.is_honest desk.old }
+    ensures step { D.is_honest desk.new → (old : State) → D.stands desk.old old → (new : State) × D.stands desk.new new
+        × ServesWanted (D.settings desk.old) (wanted.Takings range) old moment result.items new }
+{
+    match desk.takings(alloc, range) {
+        Ok(days) => match takings_response(alloc, moment, days.as_slice()) {
+            Ok(response) => response,
+            Err(_) => spare.no_memory,
+        },
+        Err(refusal) => told(alloc, moment, refusal, spare),
+    }
+}
+
+/// The open sessions.
+fn serve_sessions<D: Desk>(desk: &mut D, alloc: Global, moment: Moment, spare: Spare) -> Vec<u8>
+    requires no_memory { IsRefusal Refusal.NoMemory moment spare.no_memory.items }
+    requires stopped { IsRefusal Refusal.Stopped moment spare.stopped.items }
+    ensures told { D.settings desk.new ≡ D.settings desk.old }
+    ensures honest { D.is_honest desk.new → D.is_honest desk.old }
+    ensures step { D.is_honest desk.new → (old : State) → D.stands desk.old old → (new : State) × D.stands desk.new new
+        × ServesWanted (D.settings desk.old) wanted.OpenSessions old moment result.items new }
+{
+    match desk.open_now(alloc, moment) {
+        Ok(sessions) => match sessions_response(alloc, moment, sessions.as_slice()) {
             Ok(response) => response,
             Err(_) => spare.no_memory,
         },
@@ -198,11 +291,14 @@ fn serve_wanted<D: Desk>(
     ensures told { D.settings desk.new ≡ D.settings desk.old }
     ensures honest { D.is_honest desk.new → D.is_honest desk.old }
     ensures step { D.is_honest desk.new → (old : State) → D.stands desk.old old → (new : State) × D.stands desk.new new
-        × ((IsRefusal Refusal.NoMemory moment result.items × (new ≡ old))
-        ⊎ CarriesOut (D.settings desk.old) (Ok wanted) old moment result.items new) }
+        × ServesWanted (D.settings desk.old) wanted old moment result.items new }
 {
     match wanted {
         Wanted::State(device) => serve_state(desk, alloc, moment, device, spare),
+        Wanted::Sheet(id) => serve_sheet(desk, alloc, moment, id, spare),
+        Wanted::Voucher(code) => serve_voucher(desk, alloc, moment, code, spare),
+        Wanted::Takings(range) => serve_takings(desk, alloc, moment, range, spare),
+        Wanted::OpenSessions => serve_sessions(desk, alloc, moment, spare),
         Wanted::Act(command, mark) => match mark {
             None => serve_unmarked(desk, alloc, moment, command, spare),
             Some(mark) => serve_marked(desk, alloc, moment, command, &mark, spare),
@@ -226,7 +322,13 @@ fn serve_checked<D: Desk>(
         × Step (D.settings desk.old) old arrival.now result.items new }
 {
     let moment = arrival.moment();
-    match check_request(alloc, desk.settings(), routes, arrival.bytes()) {
+    match check_request(
+        alloc,
+        desk.settings(),
+        routes,
+        arrival.seed(),
+        arrival.bytes(),
+    ) {
         Err(refused) => denied(alloc, moment, refused, spare),
         Ok(wanted) => serve_wanted(desk, alloc, moment, wanted, spare),
     }

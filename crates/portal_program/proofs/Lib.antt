@@ -1,2 +1,1 @@
-pub mod ExchangeLemmas
-pub mod ReplyLemmas
+pub mod AskLemmas

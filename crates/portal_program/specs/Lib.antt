@@ -1,7 +1,5 @@
-pub mod Streams
-pub mod Fault
-pub mod Input
-pub mod Status
-pub mod Replies
-pub mod Answer
+pub mod Places
+pub mod Asking
+pub mod Answering
+pub mod Serving
 pub mod Program

@@ -1,39 +1,59 @@
 -- What the program does, by the words of its command line.
-use Rattle.std.specs.Prelude.{◌≡◌, ℕ, ◌<◌, ◌⊎◌, List, length, take, Option, Result, MatchResult, string_bytes}
-use Rattle.std.specs.Io.KnownBytes.{Appends, Keeps}
+use Rattle.std.specs.Prelude.{◌≡◌, ◌⊎◌, ◌<◌, ◌≤◌, ℕ, List, Option, Result, Err, MatchResult, string_bytes}
+use Rattle.std.specs.declared.io.ErrorKind.{ErrorKind}
+use Rattle.std.specs.declared.io.ErrorKind.TheVariants.{InvalidData}
+use Rattle.std.specs.Io.KnownBytes.{Keeps}
 use Rattle.portal_cli.specs.declared.order.Order.{Order}
 use Rattle.portal_cli.specs.declared.order.Order.TheVariants as order
 use Rattle.portal_cli.specs.declared.order.NoOrder.{NoOrder}
 use Rattle.portal_cli.specs.declared.order.NoOrder.TheVariants as told
 use Rattle.portal_cli.specs.Orders.{Orders, Tells}
-use Rattle.portal_program.specs.declared.fault.Fault.TheVariants as fault
-use Rattle.portal_program.specs.Streams.{Streams, Prints}
-use Rattle.portal_program.specs.Fault.{line_of}
-use Rattle.portal_program.specs.Answer.{EndsAnswer}
+use Rattle.portal_ends.specs.declared.fault.Fault.{Fault}
+use Rattle.portal_ends.specs.declared.fault.Fault.TheVariants.{Usage, NoMemory}
+use Rattle.portal_ends.specs.Ends.{EndsPrinting, EndsWith}
+use Rattle.portal_ends.specs.Streams.{Outlets, Prints}
+use Rattle.portal_http.specs.Exchanges.{Wire}
+use Rattle.portal_program.specs.Answering.{EndsAnswer}
+use Rattle.portal_program.specs.Asking.{EndsAsking, EndsTakings}
+use Rattle.portal_program.specs.Serving.{EndsServe}
 
--- help goes to the output whole, or breaks off there
-abbrev pub EndsHelp : Option (List ℕ) → Option (List ℕ) → Option (List ℕ) → Option (List ℕ) → List ℕ → ℕ → Type 0
-EndsHelp output output_after errors errors_after text status =
-    ((status ≡ 0) × Appends output output_after text × Keeps errors errors_after)
-    ⊎ ((written : ℕ) × (status ≡ 3) × (written < length text) × Appends output output_after (take written text)
-    × Prints errors errors_after (line_of fault.Cut))
+-- why the words of the command line could not be copied: what the user wrote is not UTF-8, or there was no memory
+abbrev pub fault_of_words : ErrorKind → Fault
+fault_of_words InvalidData = Usage
+fault_of_words _ = NoMemory
 
 -- help ends the program with 0, a fault in the words with 2 and want of memory with 3
-abbrev pub EndsTelling : Option (List ℕ) → Option (List ℕ) → Option (List ℕ) → Option (List ℕ) → NoOrder → ℕ → Type 0
-EndsTelling output output_after errors errors_after (told.Help text) status =
-    EndsHelp output output_after errors errors_after (string_bytes text) status
-EndsTelling output output_after errors errors_after (told.Fault text) status =
-    (status ≡ 2) × Keeps output output_after × Prints errors errors_after (string_bytes text)
-EndsTelling output output_after errors errors_after told.NoMemory status =
-    (status ≡ 3) × Keeps output output_after × Prints errors errors_after (line_of fault.NoMemory)
+abbrev pub EndsTelling : NoOrder → Outlets → ℕ → Type 0
+EndsTelling (told.Help text) o status = EndsPrinting (string_bytes text) 0 o status
+EndsTelling (told.Fault text) o status = (status ≡ 2) × Keeps o.output o.output_after × Prints o.errors o.errors_after (string_bytes text)
+EndsTelling told.NoMemory o status = EndsWith (Err NoMemory) o status
 
--- an order is carried out
-abbrev pub EndsOrder : Streams → Option (List ℕ) → Option (List ℕ) → Order → ℕ → Type 0
-EndsOrder s errors errors_after (order.Answer now seed) status = EndsAnswer s errors errors_after now seed.now status
+-- serving at a port; one past 65,535 is a fault of usage
+abbrev pub EndsServing : ℕ → ℕ → Outlets → ℕ → Type 0
+EndsServing port count o status =
+    ((65535 < port) × EndsWith (Err Usage) o status)
+    ⊎ ((port ≤ 65535) × EndsServe (record { port = port; count = count }) o status)
+
+-- where standard output and standard error go
+abbrev pub outlets_of : Wire → Option (List ℕ) → Option (List ℕ) → Outlets
+outlets_of wire errors errors_after = record { output = wire.sent; output_after = wire.sent_after; errors = errors; errors_after = errors_after }
+
+-- an order is carried out; one without a request leaves the input alone
+abbrev pub EndsOrder : Wire → Option (List ℕ) → Option (List ℕ) → Order → ℕ → Type 0
+EndsOrder wire errors errors_after (order.Serve db settings port count) status =
+    Keeps wire.unread wire.unread_after × EndsServing port count (outlets_of wire errors errors_after) status
+EndsOrder wire errors errors_after (order.Answer db settings now seed) status =
+    EndsAnswer wire errors errors_after (record { db = db; settings = settings; now = now; seed = seed }) status
+EndsOrder wire errors errors_after (order.Print db settings batch) status =
+    Keeps wire.unread wire.unread_after × EndsAsking (outlets_of wire errors errors_after) status
+EndsOrder wire errors errors_after (order.Takings db settings from to) status =
+    Keeps wire.unread wire.unread_after × EndsTakings from.now to.now (outlets_of wire errors errors_after) status
+EndsOrder wire errors errors_after (order.Check db settings) status =
+    Keeps wire.unread wire.unread_after × EndsAsking (outlets_of wire errors errors_after) status
 
 -- the order of the words is carried out, or what they come to in its place is told, with the input left alone
-abbrev pub EndsProgram : Streams → Option (List ℕ) → Option (List ℕ) → List (List ℕ) → ℕ → Type 0
-EndsProgram s errors errors_after words status =
+abbrev pub EndsProgram : Wire → Option (List ℕ) → Option (List ℕ) → List (List ℕ) → ℕ → Type 0
+EndsProgram wire errors errors_after words status =
     (read : Result Order NoOrder) × MatchResult read
-    (λ order. Orders words order × EndsOrder s errors errors_after order status)
-    (λ told. Tells words told × Keeps s.input s.input_after × EndsTelling s.output s.output_after errors errors_after told status)
+    (λ order. Orders words order × EndsOrder wire errors errors_after order status)
+    (λ told. Tells words told × Keeps wire.unread wire.unread_after × EndsTelling told (outlets_of wire errors errors_after) status)

@@ -1,12 +1,19 @@
-//! The whole program, over its words, a reader and two writers.
-ghost use Rattle.std.specs.Prelude.{map};
-ghost use Rattle.portal_program.specs.Streams.{Streams};
-ghost use Rattle.portal_program.specs.Program.{EndsTelling, EndsOrder, EndsProgram};
+//! The whole program, over its words, a place that holds its files, a reader and two writers.
+ghost use Rattle.std.specs.Prelude.{◌≡◌, map};
+ghost use Rattle.portal_http.specs.Exchanges.{between};
+ghost use Rattle.portal_program.specs.Program.{EndsTelling, EndsOrder, EndsProgram, EndsServing};
+ghost use Rattle.portal_ends.specs.Streams.{Prints};
+ghost use Rattle.portal_ends.specs.Streams.{Prints};
 
-use crate::answer::answer;
-use crate::fault::Fault;
-use crate::output::write_output;
+use crate::answering::{Request, answer};
+use crate::checking::check;
+use crate::place::{Files, Place};
+use crate::printing::print;
+use crate::serving::{Listening, Network, serve};
+use crate::takings::takings;
 use portal_cli::{NoOrder, Order, read_words};
+use portal_ends::{Fault, print_all};
+use portal_head::write_response;
 use std::alloc::Global;
 use std::convert::AsStr;
 use std::io::{Read, Write};
@@ -15,51 +22,139 @@ use std::io::{Read, Write};
 /// at a fault in the words, which goes to `errors`, and 3 where there was no memory to read them or
 /// the help cannot be printed.
 fn tell<W: Write, E: Write>(told: &NoOrder, output: &mut W, errors: &mut E) -> u8
-    ensures { EndsTelling (W.contents output.old) (W.contents output.new) (E.contents errors.old) (E.contents errors.new) told.now result }
+    ensures { EndsTelling told.now (record { output = W.contents output.old; output_after = W.contents output.new; errors = E.contents errors.old; errors_after = E.contents errors.new }) result }
 {
     match told {
-        NoOrder::Help(text) => match write_output(output, text.as_bytes()) {
-            Ok(()) => 0,
-            Err(_) => Fault::Cut.report(errors),
-        },
-        NoOrder::Fault(text) => {
-            let _printed = write_output(errors, text.as_bytes());
-            2
-        }
+        NoOrder::Help(text) => print_all(text.as_bytes(), 0, output, errors),
+        NoOrder::Fault(text) => tell_fault(text.as_bytes(), errors),
         NoOrder::NoMemory => Fault::NoMemory.report(errors),
     }
 }
 
+/// Prints what is wrong with the words, or as much of it as goes out, and gives 2.
+fn tell_fault<E: Write>(text: &[u8], errors: &mut E) -> u8
+    ensures status { result ≡ 2 }
+    ensures printed { Prints (E.contents errors.old) (E.contents errors.new) text.now }
+{
+    match write_response(errors, text) {
+        Ok(()) => 2,
+        Err(_) => 2,
+    }
+}
+
+/// Serves at a port, and gives the status with which the program ends. Fault: `usage`, where the port is past 65,535.
+fn serve_order<P: Place, N: Network, W: Write, E: Write>(
+    place: P,
+    network: &N,
+    alloc: Global,
+    files: Files<'_>,
+    port: u64,
+    count: u64,
+    output: &mut W,
+    errors: &mut E,
+) -> u8
+    ensures { EndsServing port count (record { output = W.contents output.old; output_after = W.contents output.new; errors = E.contents errors.old; errors_after = E.contents errors.new }) result }
+{
+    if port > 65_535 {
+        return Fault::Usage.report(errors);
+    }
+    let at = Listening {
+        port: port as u16,
+        count,
+    };
+    serve(place, network, alloc, files, at, output, errors)
+}
+
 /// Carries out an order, and gives the status with which the program ends.
-fn run_order<R: Read, W: Write, E: Write>(
+fn run_order<P: Place, N: Network, R: Read, W: Write, E: Write>(
+    place: P,
+    network: &N,
     alloc: Global,
     order: Order<'_>,
     input: &mut R,
     output: &mut W,
     errors: &mut E,
 ) -> u8
-    ensures { let s : Streams = record { input = R.remaining input.old; input_after = R.remaining input.new; output = W.contents output.old; output_after = W.contents output.new } in
-        EndsOrder s (E.contents errors.old) (E.contents errors.new) order.entry result }
+    ensures { EndsOrder (between (R.remaining input.old) (R.remaining input.new) (W.contents output.old) (W.contents output.new)) (E.contents errors.old) (E.contents errors.new) order.entry result }
 {
     match order {
-        Order::Answer { now, seed } => answer(alloc, now, seed, input, output, errors),
+        Order::Serve {
+            db,
+            settings,
+            port,
+            count,
+        } => serve_order(
+            place,
+            network,
+            alloc,
+            Files { db, settings },
+            port,
+            count,
+            output,
+            errors,
+        ),
+        Order::Answer {
+            db,
+            settings,
+            now,
+            seed,
+        } => answer(
+            place,
+            alloc,
+            &Request {
+                db,
+                settings,
+                now,
+                seed,
+            },
+            input,
+            output,
+            errors,
+        ),
+        Order::Print {
+            db,
+            settings,
+            batch,
+        } => print(place, alloc, Files { db, settings }, batch, output, errors),
+        Order::Takings {
+            db,
+            settings,
+            from,
+            to,
+        } => takings(
+            place,
+            alloc,
+            Files { db, settings },
+            from,
+            to,
+            output,
+            errors,
+        ),
+        Order::Check { db, settings } => check(
+            place,
+            alloc,
+            Files { db, settings },
+            output,
+            errors,
+        ),
     }
 }
 
 /// Does what the words of the command line ask for, of which the first is the program's own name, and
 /// gives the status with which the program ends.
-pub fn run_program<S: AsStr, R: Read, W: Write, E: Write>(
+pub fn run_program<P: Place, N: Network, S: AsStr, R: Read, W: Write, E: Write>(
+    place: P,
+    network: &N,
     alloc: Global,
     words: &[S],
     input: &mut R,
     output: &mut W,
     errors: &mut E,
 ) -> u8
-    ensures { let s : Streams = record { input = R.remaining input.old; input_after = R.remaining input.new; output = W.contents output.old; output_after = W.contents output.new } in
-        EndsProgram s (E.contents errors.old) (E.contents errors.new) (map S.text words.now) result }
+    ensures { EndsProgram (between (R.remaining input.old) (R.remaining input.new) (W.contents output.old) (W.contents output.new)) (E.contents errors.old) (E.contents errors.new) (map S.text words.now) result }
 {
     match read_words(alloc, words) {
-        Ok(order) => run_order(alloc, order, input, output, errors),
+        Ok(order) => run_order(place, network, alloc, order, input, output, errors),
         Err(told) => tell(&told, output, errors),
     }
 }

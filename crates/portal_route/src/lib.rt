@@ -76,6 +76,24 @@ impl Route {
         }
     }
 
+    /// The text of its method.
+    pub fn method_text(self) -> &'static str
+        ensures { result.now ≡ method_of self }
+    {
+        match self {
+            Route::Captive | Route::Print | Route::Voucher | Route::Takings | Route::Sessions => {
+                "GET"
+            }
+            Route::Redeem
+            | Route::Plans
+            | Route::Batches
+            | Route::Sales
+            | Route::Refunds
+            | Route::Closes
+            | Route::Reports => "POST",
+        }
+    }
+
     /// Who may ask for it.
     pub fn caller(self) -> Caller
         ensures { result ≡ caller_of self }

@@ -1,5 +1,5 @@
 -- A statement on one table leaves the others.
-use Rattle.std.proofs.Common.{◌≡◌, ◌==◌, ℕ, List, false, refl, sym, ap, subst, ◌∙◌, true≢false, slice_index_or, eq-eqb}
+use Rattle.std.proofs.Common.{◌≡◌, ◌==◌, ℕ, Bool, List, false, refl, sym, ap, subst, ◌∙◌, true≢false, slice_index_or, eq-eqb}
 use Rattle.sqlite.specs.Schema.{Schema}
 use Rattle.sqlite.specs.Table.{Table}
 use Rattle.sqlite.specs.Order.{Row}
@@ -14,9 +14,10 @@ use Rattle.portal_sql.proofs.Writes.{Edits}
 use Rattle.portal_model.specs.declared.plan.Plan.{Plan}
 use Rattle.portal_model.specs.declared.record.Batch.{Batch}
 use Rattle.portal_model.specs.Rows.{VoucherRow, SessionRow, GrantRow, CountRow, TotalRow}
-use Rattle.portal_rows.specs.Layout.{head, plans, batches, vouchers, sessions, grants, counts, totals}
-use Rattle.portal_rows.specs.Contents.{Contents, HeadRow, head_stored, plan_cells, batch_cells, voucher_cells, session_stored, grant_stored, count_cells, total_stored}
-use Rattle.portal_rows.specs.Holds.{Holds, Stand}
+use Rattle.portal_rows.specs.Layout.{head, plans, batches, vouchers, sessions, grants, counts, totals, requests}
+use Rattle.portal_rows.specs.Contents.{Contents, HeadRow, head_stored, plan_cells, batch_cells, voucher_cells, session_stored, grant_stored, count_cells, total_stored, request_cells}
+use Rattle.portal_ledger.specs.RequestRow.{RequestRow}
+use Rattle.portal_rows.specs.Holds.{HoldsIn, Stand}
 
 -- the names of the tables differ after `portal_`
 abbrev pub initial : Table → ℕ
@@ -43,11 +44,11 @@ touches {old = old} {edit = edit} b here e = record {
 pub moved : {P : Type 0} {cut : Row → Row} {stored : P → Row} {rows now : List Row} {ps : List P} → now ≡ rows → Stores cut stored rows ps → Stores cut stored now ps
 moved {cut = cut} {stored = stored} {ps = ps} same h = subst (λ r. Stores cut stored r ps) (sym same) h
 
-module _ (db after : Database) (t : Contents) (h : Holds db t) where
-  pub heads_now : (now : List HeadRow) → Touches db (head h.places.heads.tree) after → Stores whole head_stored (after.trees h.places.heads.tree) now → Holds after (record t { heads = now })
+module _ (layout : ℕ) (indexed : Bool) (db after : Database) (t : Contents) (h : HoldsIn layout indexed db t) where
+  pub heads_now : (now : List HeadRow) → Touches db (head h.places.heads.tree) after → Stores whole head_stored (after.trees h.places.heads.tree) now → HoldsIn layout indexed after (record t { heads = now })
   heads_now now k stored = record {
     places = h.places;
-    stand = subst (λ s. Stand s h.places) (sym k.schema) h.stand;
+    stand = subst (λ s. Stand layout indexed s h.places) (sym k.schema) h.stand;
     store = record {
       heads = stored;
       plans = moved (k.others h.places.plans.at (plans h.places.plans.tree) h.stand.plans.stands refl) h.store.plans;
@@ -55,16 +56,17 @@ module _ (db after : Database) (t : Contents) (h : Holds db t) where
       vouchers = moved (k.others h.places.vouchers.at (vouchers h.places.vouchers.tree) h.stand.vouchers.stands refl) h.store.vouchers;
       sessions = moved (k.others h.places.sessions.at (sessions h.places.sessions.tree) h.stand.sessions.stands refl) h.store.sessions;
       grants = moved (k.others h.places.grants.at (grants h.places.grants.tree) h.stand.grants.stands refl) h.store.grants;
-      counts = moved (k.others h.places.counts.at (counts h.places.counts.tree) h.stand.counts.stands refl) h.store.counts;
-      totals = moved (k.others h.places.totals.at (totals h.places.totals.tree) h.stand.totals.stands refl) h.store.totals;
+      counts = λ on. moved (k.others h.places.counts.at (counts h.places.counts.tree) (h.stand.counts on).stands refl) (h.store.counts on);
+      totals = λ on. moved (k.others h.places.totals.at (totals h.places.totals.tree) (h.stand.totals on).stands refl) (h.store.totals on);
+      requests = λ on. moved (k.others h.places.requests.at (requests h.places.requests.tree) (h.stand.requests on).stands refl) (h.store.requests on);
     };
     sound = k.sound;
   }
 
-  pub plans_now : (now : List Plan) → Touches db (plans h.places.plans.tree) after → Stores unnumbered plan_cells (after.trees h.places.plans.tree) now → Holds after (record t { plans = now })
+  pub plans_now : (now : List Plan) → Touches db (plans h.places.plans.tree) after → Stores unnumbered plan_cells (after.trees h.places.plans.tree) now → HoldsIn layout indexed after (record t { plans = now })
   plans_now now k stored = record {
     places = h.places;
-    stand = subst (λ s. Stand s h.places) (sym k.schema) h.stand;
+    stand = subst (λ s. Stand layout indexed s h.places) (sym k.schema) h.stand;
     store = record {
       heads = moved (k.others h.places.heads.at (head h.places.heads.tree) h.stand.heads.stands refl) h.store.heads;
       plans = stored;
@@ -72,16 +74,17 @@ module _ (db after : Database) (t : Contents) (h : Holds db t) where
       vouchers = moved (k.others h.places.vouchers.at (vouchers h.places.vouchers.tree) h.stand.vouchers.stands refl) h.store.vouchers;
       sessions = moved (k.others h.places.sessions.at (sessions h.places.sessions.tree) h.stand.sessions.stands refl) h.store.sessions;
       grants = moved (k.others h.places.grants.at (grants h.places.grants.tree) h.stand.grants.stands refl) h.store.grants;
-      counts = moved (k.others h.places.counts.at (counts h.places.counts.tree) h.stand.counts.stands refl) h.store.counts;
-      totals = moved (k.others h.places.totals.at (totals h.places.totals.tree) h.stand.totals.stands refl) h.store.totals;
+      counts = λ on. moved (k.others h.places.counts.at (counts h.places.counts.tree) (h.stand.counts on).stands refl) (h.store.counts on);
+      totals = λ on. moved (k.others h.places.totals.at (totals h.places.totals.tree) (h.stand.totals on).stands refl) (h.store.totals on);
+      requests = λ on. moved (k.others h.places.requests.at (requests h.places.requests.tree) (h.stand.requests on).stands refl) (h.store.requests on);
     };
     sound = k.sound;
   }
 
-  pub batches_now : (now : List Batch) → Touches db (batches h.places.batches.tree) after → Stores unnumbered batch_cells (after.trees h.places.batches.tree) now → Holds after (record t { batches = now })
+  pub batches_now : (now : List Batch) → Touches db (batches h.places.batches.tree) after → Stores unnumbered batch_cells (after.trees h.places.batches.tree) now → HoldsIn layout indexed after (record t { batches = now })
   batches_now now k stored = record {
     places = h.places;
-    stand = subst (λ s. Stand s h.places) (sym k.schema) h.stand;
+    stand = subst (λ s. Stand layout indexed s h.places) (sym k.schema) h.stand;
     store = record {
       heads = moved (k.others h.places.heads.at (head h.places.heads.tree) h.stand.heads.stands refl) h.store.heads;
       plans = moved (k.others h.places.plans.at (plans h.places.plans.tree) h.stand.plans.stands refl) h.store.plans;
@@ -89,16 +92,17 @@ module _ (db after : Database) (t : Contents) (h : Holds db t) where
       vouchers = moved (k.others h.places.vouchers.at (vouchers h.places.vouchers.tree) h.stand.vouchers.stands refl) h.store.vouchers;
       sessions = moved (k.others h.places.sessions.at (sessions h.places.sessions.tree) h.stand.sessions.stands refl) h.store.sessions;
       grants = moved (k.others h.places.grants.at (grants h.places.grants.tree) h.stand.grants.stands refl) h.store.grants;
-      counts = moved (k.others h.places.counts.at (counts h.places.counts.tree) h.stand.counts.stands refl) h.store.counts;
-      totals = moved (k.others h.places.totals.at (totals h.places.totals.tree) h.stand.totals.stands refl) h.store.totals;
+      counts = λ on. moved (k.others h.places.counts.at (counts h.places.counts.tree) (h.stand.counts on).stands refl) (h.store.counts on);
+      totals = λ on. moved (k.others h.places.totals.at (totals h.places.totals.tree) (h.stand.totals on).stands refl) (h.store.totals on);
+      requests = λ on. moved (k.others h.places.requests.at (requests h.places.requests.tree) (h.stand.requests on).stands refl) (h.store.requests on);
     };
     sound = k.sound;
   }
 
-  pub vouchers_now : (now : List VoucherRow) → Touches db (vouchers h.places.vouchers.tree) after → Stores unnumbered voucher_cells (after.trees h.places.vouchers.tree) now → Holds after (record t { vouchers = now })
+  pub vouchers_now : (now : List VoucherRow) → Touches db (vouchers h.places.vouchers.tree) after → Stores unnumbered voucher_cells (after.trees h.places.vouchers.tree) now → HoldsIn layout indexed after (record t { vouchers = now })
   vouchers_now now k stored = record {
     places = h.places;
-    stand = subst (λ s. Stand s h.places) (sym k.schema) h.stand;
+    stand = subst (λ s. Stand layout indexed s h.places) (sym k.schema) h.stand;
     store = record {
       heads = moved (k.others h.places.heads.at (head h.places.heads.tree) h.stand.heads.stands refl) h.store.heads;
       plans = moved (k.others h.places.plans.at (plans h.places.plans.tree) h.stand.plans.stands refl) h.store.plans;
@@ -106,16 +110,17 @@ module _ (db after : Database) (t : Contents) (h : Holds db t) where
       vouchers = stored;
       sessions = moved (k.others h.places.sessions.at (sessions h.places.sessions.tree) h.stand.sessions.stands refl) h.store.sessions;
       grants = moved (k.others h.places.grants.at (grants h.places.grants.tree) h.stand.grants.stands refl) h.store.grants;
-      counts = moved (k.others h.places.counts.at (counts h.places.counts.tree) h.stand.counts.stands refl) h.store.counts;
-      totals = moved (k.others h.places.totals.at (totals h.places.totals.tree) h.stand.totals.stands refl) h.store.totals;
+      counts = λ on. moved (k.others h.places.counts.at (counts h.places.counts.tree) (h.stand.counts on).stands refl) (h.store.counts on);
+      totals = λ on. moved (k.others h.places.totals.at (totals h.places.totals.tree) (h.stand.totals on).stands refl) (h.store.totals on);
+      requests = λ on. moved (k.others h.places.requests.at (requests h.places.requests.tree) (h.stand.requests on).stands refl) (h.store.requests on);
     };
     sound = k.sound;
   }
 
-  pub sessions_now : (now : List SessionRow) → Touches db (sessions h.places.sessions.tree) after → Stores whole session_stored (after.trees h.places.sessions.tree) now → Holds after (record t { sessions = now })
+  pub sessions_now : (now : List SessionRow) → Touches db (sessions h.places.sessions.tree) after → Stores whole session_stored (after.trees h.places.sessions.tree) now → HoldsIn layout indexed after (record t { sessions = now })
   sessions_now now k stored = record {
     places = h.places;
-    stand = subst (λ s. Stand s h.places) (sym k.schema) h.stand;
+    stand = subst (λ s. Stand layout indexed s h.places) (sym k.schema) h.stand;
     store = record {
       heads = moved (k.others h.places.heads.at (head h.places.heads.tree) h.stand.heads.stands refl) h.store.heads;
       plans = moved (k.others h.places.plans.at (plans h.places.plans.tree) h.stand.plans.stands refl) h.store.plans;
@@ -123,16 +128,17 @@ module _ (db after : Database) (t : Contents) (h : Holds db t) where
       vouchers = moved (k.others h.places.vouchers.at (vouchers h.places.vouchers.tree) h.stand.vouchers.stands refl) h.store.vouchers;
       sessions = stored;
       grants = moved (k.others h.places.grants.at (grants h.places.grants.tree) h.stand.grants.stands refl) h.store.grants;
-      counts = moved (k.others h.places.counts.at (counts h.places.counts.tree) h.stand.counts.stands refl) h.store.counts;
-      totals = moved (k.others h.places.totals.at (totals h.places.totals.tree) h.stand.totals.stands refl) h.store.totals;
+      counts = λ on. moved (k.others h.places.counts.at (counts h.places.counts.tree) (h.stand.counts on).stands refl) (h.store.counts on);
+      totals = λ on. moved (k.others h.places.totals.at (totals h.places.totals.tree) (h.stand.totals on).stands refl) (h.store.totals on);
+      requests = λ on. moved (k.others h.places.requests.at (requests h.places.requests.tree) (h.stand.requests on).stands refl) (h.store.requests on);
     };
     sound = k.sound;
   }
 
-  pub grants_now : (now : List GrantRow) → Touches db (grants h.places.grants.tree) after → Stores whole grant_stored (after.trees h.places.grants.tree) now → Holds after (record t { grants = now })
+  pub grants_now : (now : List GrantRow) → Touches db (grants h.places.grants.tree) after → Stores whole grant_stored (after.trees h.places.grants.tree) now → HoldsIn layout indexed after (record t { grants = now })
   grants_now now k stored = record {
     places = h.places;
-    stand = subst (λ s. Stand s h.places) (sym k.schema) h.stand;
+    stand = subst (λ s. Stand layout indexed s h.places) (sym k.schema) h.stand;
     store = record {
       heads = moved (k.others h.places.heads.at (head h.places.heads.tree) h.stand.heads.stands refl) h.store.heads;
       plans = moved (k.others h.places.plans.at (plans h.places.plans.tree) h.stand.plans.stands refl) h.store.plans;
@@ -140,16 +146,17 @@ module _ (db after : Database) (t : Contents) (h : Holds db t) where
       vouchers = moved (k.others h.places.vouchers.at (vouchers h.places.vouchers.tree) h.stand.vouchers.stands refl) h.store.vouchers;
       sessions = moved (k.others h.places.sessions.at (sessions h.places.sessions.tree) h.stand.sessions.stands refl) h.store.sessions;
       grants = stored;
-      counts = moved (k.others h.places.counts.at (counts h.places.counts.tree) h.stand.counts.stands refl) h.store.counts;
-      totals = moved (k.others h.places.totals.at (totals h.places.totals.tree) h.stand.totals.stands refl) h.store.totals;
+      counts = λ on. moved (k.others h.places.counts.at (counts h.places.counts.tree) (h.stand.counts on).stands refl) (h.store.counts on);
+      totals = λ on. moved (k.others h.places.totals.at (totals h.places.totals.tree) (h.stand.totals on).stands refl) (h.store.totals on);
+      requests = λ on. moved (k.others h.places.requests.at (requests h.places.requests.tree) (h.stand.requests on).stands refl) (h.store.requests on);
     };
     sound = k.sound;
   }
 
-  pub counts_now : (now : List CountRow) → Touches db (counts h.places.counts.tree) after → Stores unnumbered count_cells (after.trees h.places.counts.tree) now → Holds after (record t { counts = now })
+  pub counts_now : (now : List CountRow) → Touches db (counts h.places.counts.tree) after → Stores unnumbered count_cells (after.trees h.places.counts.tree) now → HoldsIn layout indexed after (record t { counts = now })
   counts_now now k stored = record {
     places = h.places;
-    stand = subst (λ s. Stand s h.places) (sym k.schema) h.stand;
+    stand = subst (λ s. Stand layout indexed s h.places) (sym k.schema) h.stand;
     store = record {
       heads = moved (k.others h.places.heads.at (head h.places.heads.tree) h.stand.heads.stands refl) h.store.heads;
       plans = moved (k.others h.places.plans.at (plans h.places.plans.tree) h.stand.plans.stands refl) h.store.plans;
@@ -157,16 +164,17 @@ module _ (db after : Database) (t : Contents) (h : Holds db t) where
       vouchers = moved (k.others h.places.vouchers.at (vouchers h.places.vouchers.tree) h.stand.vouchers.stands refl) h.store.vouchers;
       sessions = moved (k.others h.places.sessions.at (sessions h.places.sessions.tree) h.stand.sessions.stands refl) h.store.sessions;
       grants = moved (k.others h.places.grants.at (grants h.places.grants.tree) h.stand.grants.stands refl) h.store.grants;
-      counts = stored;
-      totals = moved (k.others h.places.totals.at (totals h.places.totals.tree) h.stand.totals.stands refl) h.store.totals;
+      counts = λ on. stored;
+      totals = λ on. moved (k.others h.places.totals.at (totals h.places.totals.tree) (h.stand.totals on).stands refl) (h.store.totals on);
+      requests = λ on. moved (k.others h.places.requests.at (requests h.places.requests.tree) (h.stand.requests on).stands refl) (h.store.requests on);
     };
     sound = k.sound;
   }
 
-  pub totals_now : (now : List TotalRow) → Touches db (totals h.places.totals.tree) after → Stores whole total_stored (after.trees h.places.totals.tree) now → Holds after (record t { totals = now })
+  pub totals_now : (now : List TotalRow) → Touches db (totals h.places.totals.tree) after → Stores whole total_stored (after.trees h.places.totals.tree) now → HoldsIn layout indexed after (record t { totals = now })
   totals_now now k stored = record {
     places = h.places;
-    stand = subst (λ s. Stand s h.places) (sym k.schema) h.stand;
+    stand = subst (λ s. Stand layout indexed s h.places) (sym k.schema) h.stand;
     store = record {
       heads = moved (k.others h.places.heads.at (head h.places.heads.tree) h.stand.heads.stands refl) h.store.heads;
       plans = moved (k.others h.places.plans.at (plans h.places.plans.tree) h.stand.plans.stands refl) h.store.plans;
@@ -174,8 +182,27 @@ module _ (db after : Database) (t : Contents) (h : Holds db t) where
       vouchers = moved (k.others h.places.vouchers.at (vouchers h.places.vouchers.tree) h.stand.vouchers.stands refl) h.store.vouchers;
       sessions = moved (k.others h.places.sessions.at (sessions h.places.sessions.tree) h.stand.sessions.stands refl) h.store.sessions;
       grants = moved (k.others h.places.grants.at (grants h.places.grants.tree) h.stand.grants.stands refl) h.store.grants;
-      counts = moved (k.others h.places.counts.at (counts h.places.counts.tree) h.stand.counts.stands refl) h.store.counts;
-      totals = stored;
+      counts = λ on. moved (k.others h.places.counts.at (counts h.places.counts.tree) (h.stand.counts on).stands refl) (h.store.counts on);
+      totals = λ on. stored;
+      requests = λ on. moved (k.others h.places.requests.at (requests h.places.requests.tree) (h.stand.requests on).stands refl) (h.store.requests on);
+    };
+    sound = k.sound;
+  }
+
+  pub requests_now : (now : List RequestRow) → Touches db (requests h.places.requests.tree) after → Stores unnumbered request_cells (after.trees h.places.requests.tree) now → HoldsIn layout indexed after (record t { requests = now })
+  requests_now now k stored = record {
+    places = h.places;
+    stand = subst (λ s. Stand layout indexed s h.places) (sym k.schema) h.stand;
+    store = record {
+      heads = moved (k.others h.places.heads.at (head h.places.heads.tree) h.stand.heads.stands refl) h.store.heads;
+      plans = moved (k.others h.places.plans.at (plans h.places.plans.tree) h.stand.plans.stands refl) h.store.plans;
+      batches = moved (k.others h.places.batches.at (batches h.places.batches.tree) h.stand.batches.stands refl) h.store.batches;
+      vouchers = moved (k.others h.places.vouchers.at (vouchers h.places.vouchers.tree) h.stand.vouchers.stands refl) h.store.vouchers;
+      sessions = moved (k.others h.places.sessions.at (sessions h.places.sessions.tree) h.stand.sessions.stands refl) h.store.sessions;
+      grants = moved (k.others h.places.grants.at (grants h.places.grants.tree) h.stand.grants.stands refl) h.store.grants;
+      counts = λ on. moved (k.others h.places.counts.at (counts h.places.counts.tree) (h.stand.counts on).stands refl) (h.store.counts on);
+      totals = λ on. moved (k.others h.places.totals.at (totals h.places.totals.tree) (h.stand.totals on).stands refl) (h.store.totals on);
+      requests = λ on. stored;
     };
     sound = k.sound;
   }

@@ -1,5 +1,5 @@
 -- What each reading text answers, by the rows that the tables hold.
-use Rattle.std.proofs.Common.{◌≡◌, ℕ, List, [], ◌∷◌, map, filter, take, refl, subst, Equal, lit<}
+use Rattle.std.proofs.Common.{◌≡◌, ℕ, List, [], ◌∷◌, map, filter, take, refl, subst, Equal, lit<, lit≤}
 use Rattle.std.specs.List.Sorted.{IsPermutation}
 use Rattle.sqlite.specs.declared.types.Value.TheVariants.{Text}
 use Rattle.sqlite.specs.Order.{Row}
@@ -67,24 +67,24 @@ session_rows_are old new id rows shown t h =
     subst (λ xs. IsPermutation (filter (has_key 0 (number id)) xs) rows) (sessions_in old.now.trees place.tree t.sessions h.store.sessions) it.same
 
 pub count_plain : (schema : Schema) → HasTables schema → IsPlain (understood schema texts.count_text)
-count_plain schema h = let place = h.0.counts in (texts.count_means schema place.at place.tree h.1.counts.stands).plain
+count_plain schema h = let place = h.0.counts in (texts.count_means schema place.at place.tree (h.1.counts (lit≤ tt)).stands).plain
 
 pub count_rows_are : (old new : State) (code : List ℕ) (rows : List Row) → Shown texts.count_text (Text code ∷ []) old new rows → (t : Contents) → Holds old.now t → IsPermutation (filter (has_key 0 (Text code)) (map count_cells t.counts)) rows
 count_rows_are old new code rows shown t h =
     let place = h.places.counts in
     let table = counts place.tree in
-    let it = selected texts.count_text table _ [] (Text code ∷ []) old new texts.count_columns (has_key 0 (Text code)) (key_tests table 0 (Text code) [] (lit< tt) refl) (λ _ _. Equal) (λ _ _. refl) (texts.count_means old.now.schema place.at place.tree h.stand.counts.stands) rows shown in
-    subst (λ xs. IsPermutation (filter (has_key 0 (Text code)) xs) rows) (counts_in old.now.trees place.tree t.counts h.store.counts) it.same
+    let it = selected texts.count_text table _ [] (Text code ∷ []) old new texts.count_columns (has_key 0 (Text code)) (key_tests table 0 (Text code) [] (lit< tt) refl) (λ _ _. Equal) (λ _ _. refl) (texts.count_means old.now.schema place.at place.tree (h.stand.counts (lit≤ tt)).stands) rows shown in
+    subst (λ xs. IsPermutation (filter (has_key 0 (Text code)) xs) rows) (counts_in old.now.trees place.tree t.counts (h.store.counts (lit≤ tt))) it.same
 
 pub total_plain : (schema : Schema) → HasTables schema → IsPlain (understood schema texts.total_text)
-total_plain schema h = let place = h.0.totals in (texts.total_means schema place.at place.tree h.1.totals.stands).plain
+total_plain schema h = let place = h.0.totals in (texts.total_means schema place.at place.tree (h.1.totals (lit≤ tt)).stands).plain
 
 pub total_rows_are : (old new : State) (id : ℕ) (rows : List Row) → Shown texts.total_text (number id ∷ []) old new rows → (t : Contents) → Holds old.now t → IsPermutation (filter (has_key 0 (number id)) (map total_cells t.totals)) rows
 total_rows_are old new id rows shown t h =
     let place = h.places.totals in
     let table = totals place.tree in
-    let it = selected texts.total_text table _ [] (number id ∷ []) old new texts.total_columns (has_key 0 (number id)) (key_tests table 0 (number id) [] (lit< tt) refl) (λ _ _. Equal) (λ _ _. refl) (texts.total_means old.now.schema place.at place.tree h.stand.totals.stands) rows shown in
-    subst (λ xs. IsPermutation (filter (has_key 0 (number id)) xs) rows) (totals_in old.now.trees place.tree t.totals h.store.totals) it.same
+    let it = selected texts.total_text table _ [] (number id ∷ []) old new texts.total_columns (has_key 0 (number id)) (key_tests table 0 (number id) [] (lit< tt) refl) (λ _ _. Equal) (λ _ _. refl) (texts.total_means old.now.schema place.at place.tree (h.stand.totals (lit≤ tt)).stands) rows shown in
+    subst (λ xs. IsPermutation (filter (has_key 0 (number id)) xs) rows) (totals_in old.now.trees place.tree t.totals (h.store.totals (lit≤ tt))) it.same
 
 pub last_session_plain : (schema : Schema) → HasTables schema → IsPlain (understood schema texts.last_session_text)
 last_session_plain schema h = let place = h.0.sessions in (texts.last_session_means schema place.at place.tree h.1.sessions.stands).plain

@@ -1,5 +1,5 @@
 -- What each UPDATE makes of the rows.
-use Rattle.std.proofs.Common.{◌≡◌, ℕ, ℤ, List, [], ◌∷◌, Some, Ok, refl, ◌∙◌, is_eq, bytes_eq, nat_eq}
+use Rattle.std.proofs.Common.{◌≡◌, ℕ, ℤ, List, [], ◌∷◌, Some, Ok, refl, ◌∙◌, is_eq, bytes_eq, nat_eq, lit≤, true}
 use Rattle.sqlite.specs.declared.types.Value.TheVariants.{Int, Text}
 use Rattle.sqlite.specs.Order.{value_cmp}
 use Rattle.sqlite.specs.Term.{col}
@@ -12,7 +12,7 @@ use Rattle.portal_sql.proofs.Writes.{update_edits, meant}
 use Rattle.portal_model.specs.Rows.{VoucherRow, SessionRow, CountRow, TotalRow}
 use Rattle.portal_rows.specs.Layout.{head, vouchers, sessions, grants, counts, totals}
 use Rattle.portal_rows.specs.Contents.{Contents, HeadRow, signed_or_null, count_cells, head_stored, session_stored, total_stored, voucher_cells}
-use Rattle.portal_rows.specs.Holds.{Holds}
+use Rattle.portal_rows.specs.Holds.{Holds, this_layout}
 use Rattle.portal_rows.specs.Steps.{Steps, with_sale, with_refund, with_moment, with_numbers, with_layout, with_use, with_close, with_redeemed, with_ends}
 use Rattle.portal_rows.proofs.HoldsLemmas.{touches, heads_now, vouchers_now, sessions_now, counts_now, totals_now}
 use Rattle.portal_rows.proofs.UpdateTexts as texts
@@ -27,7 +27,7 @@ sell old new code at count ran t h =
     let place = h.places.vouchers in
     let stands = h.stand.vouchers.stands in
     let u = update_edits texts.sell_text params old new place.at (vouchers place.tree) stands.there count ran _ (texts.sell_means old.now.schema place.at place.tree stands) h.stand.vouchers.unacted in
-    vouchers_now old.now new.now t h _ (touches place.at stands u.2)
+    vouchers_now this_layout true old.now new.now t h _ (touches place.at stands u.2)
     (rows_set unnumbered voucher_cells (λ n x. Int n ∷ voucher_cells x) (opens_keyed voucher_cells) (λ n x. refl) (vouchers place.tree) texts.sell_test texts.sell_terms params (λ (x : VoucherRow). bytes_eq code x.code) (λ x. record x { sold = Some at }) (λ r. refl)
     (sell_tests place.tree code at) (λ n x. refl) (λ n x. simp (cast_int, cast_or_null)) t.vouchers h.store.vouchers u.0 u.1 u.2)
 
@@ -41,7 +41,7 @@ refund old new code at amount count ran t h =
     let place = h.places.vouchers in
     let stands = h.stand.vouchers.stands in
     let u = update_edits texts.refund_text params old new place.at (vouchers place.tree) stands.there count ran _ (texts.refund_means old.now.schema place.at place.tree stands) h.stand.vouchers.unacted in
-    vouchers_now old.now new.now t h _ (touches place.at stands u.2)
+    vouchers_now this_layout true old.now new.now t h _ (touches place.at stands u.2)
     (rows_set unnumbered voucher_cells (λ n x. Int n ∷ voucher_cells x) (opens_keyed voucher_cells) (λ n x. refl) (vouchers place.tree) texts.refund_test texts.refund_terms params (λ (x : VoucherRow). bytes_eq code x.code) (λ x. record x { refunded = Some at; amount = Some amount }) (λ r. refl)
     (refund_tests place.tree code at amount) (λ n x. refl) (λ n x. simp (cast_int, cast_or_null)) t.vouchers h.store.vouchers u.0 u.1 u.2)
 
@@ -55,7 +55,7 @@ set_moment old new at count ran t h =
     let place = h.places.heads in
     let stands = h.stand.heads.stands in
     let u = update_edits texts.set_moment_text params old new place.at (head place.tree) stands.there count ran _ (texts.set_moment_means old.now.schema place.at place.tree stands) h.stand.heads.unacted in
-    heads_now old.now new.now t h _ (touches place.at stands u.2)
+    heads_now this_layout true old.now new.now t h _ (touches place.at stands u.2)
     (rows_set whole head_stored (λ n x. head_stored x) (opens_numbered head_stored) (λ n x. refl) (head place.tree) texts.set_moment_test texts.set_moment_terms params (λ (x : HeadRow). nat_eq 1 x.id) (λ x. record x { last = at }) (λ r. refl)
     (set_moment_tests place.tree at) (λ n x. refl) (λ n x. simp (cast_null, cast_int)) t.heads h.store.heads u.0 u.1 u.2)
 
@@ -69,7 +69,7 @@ set_numbers old new at grants sessions count ran t h =
     let place = h.places.heads in
     let stands = h.stand.heads.stands in
     let u = update_edits texts.set_numbers_text params old new place.at (head place.tree) stands.there count ran _ (texts.set_numbers_means old.now.schema place.at place.tree stands) h.stand.heads.unacted in
-    heads_now old.now new.now t h _ (touches place.at stands u.2)
+    heads_now this_layout true old.now new.now t h _ (touches place.at stands u.2)
     (rows_set whole head_stored (λ n x. head_stored x) (opens_numbered head_stored) (λ n x. refl) (head place.tree) texts.set_numbers_test texts.set_numbers_terms params (λ (x : HeadRow). nat_eq 1 x.id) (λ x. record x { last = at; grants = grants; sessions = sessions }) (λ r. refl)
     (set_numbers_tests place.tree at grants sessions) (λ n x. refl) (λ n x. simp (cast_null, cast_int)) t.heads h.store.heads u.0 u.1 u.2)
 
@@ -83,7 +83,7 @@ set_layout old new layout count ran t h =
     let place = h.places.heads in
     let stands = h.stand.heads.stands in
     let u = update_edits texts.set_layout_text params old new place.at (head place.tree) stands.there count ran _ (texts.set_layout_means old.now.schema place.at place.tree stands) h.stand.heads.unacted in
-    heads_now old.now new.now t h _ (touches place.at stands u.2)
+    heads_now this_layout true old.now new.now t h _ (touches place.at stands u.2)
     (rows_set whole head_stored (λ n x. head_stored x) (opens_numbered head_stored) (λ n x. refl) (head place.tree) texts.set_layout_test texts.set_layout_terms params (λ (x : HeadRow). nat_eq 1 x.id) (λ x. record x { layout = layout }) (λ r. refl)
     (set_layout_tests place.tree layout) (λ n x. refl) (λ n x. simp (cast_null, cast_int)) t.heads h.store.heads u.0 u.1 u.2)
 
@@ -97,7 +97,7 @@ set_used old new id used count ran t h =
     let place = h.places.sessions in
     let stands = h.stand.sessions.stands in
     let u = update_edits texts.set_used_text params old new place.at (sessions place.tree) stands.there count ran _ (texts.set_used_means old.now.schema place.at place.tree stands) h.stand.sessions.unacted in
-    sessions_now old.now new.now t h _ (touches place.at stands u.2)
+    sessions_now this_layout true old.now new.now t h _ (touches place.at stands u.2)
     (rows_set whole session_stored (λ n x. session_stored x) (opens_numbered session_stored) (λ n x. refl) (sessions place.tree) texts.set_used_test texts.set_used_terms params (λ (x : SessionRow). nat_eq id x.number) (λ x. record x { used = used }) (λ r. refl)
     (set_used_tests place.tree id used) (λ n x. refl) (λ n x. simp (cast_null, cast_int, cast_or_null)) t.sessions h.store.sessions u.0 u.1 u.2)
 
@@ -111,7 +111,7 @@ set_closed old new id at count ran t h =
     let place = h.places.sessions in
     let stands = h.stand.sessions.stands in
     let u = update_edits texts.set_closed_text params old new place.at (sessions place.tree) stands.there count ran _ (texts.set_closed_means old.now.schema place.at place.tree stands) h.stand.sessions.unacted in
-    sessions_now old.now new.now t h _ (touches place.at stands u.2)
+    sessions_now this_layout true old.now new.now t h _ (touches place.at stands u.2)
     (rows_set whole session_stored (λ n x. session_stored x) (opens_numbered session_stored) (λ n x. refl) (sessions place.tree) texts.set_closed_test texts.set_closed_terms params (λ (x : SessionRow). nat_eq id x.number) (λ x. record x { closed = Some at }) (λ r. refl)
     (set_closed_tests place.tree id at) (λ n x. refl) (λ n x. simp (cast_null, cast_int, cast_or_null)) t.sessions h.store.sessions u.0 u.1 u.2)
 
@@ -123,11 +123,11 @@ pub set_redeemed : (old new : State) (code : List ℕ) (redeemed : ℕ) (count :
 set_redeemed old new code redeemed count ran t h =
     let params = Text code ∷ number redeemed ∷ [] in
     let place = h.places.counts in
-    let stands = h.stand.counts.stands in
-    let u = update_edits texts.set_redeemed_text params old new place.at (counts place.tree) stands.there count ran _ (texts.set_redeemed_means old.now.schema place.at place.tree stands) h.stand.counts.unacted in
-    counts_now old.now new.now t h _ (touches place.at stands u.2)
+    let stands = (h.stand.counts (lit≤ tt)).stands in
+    let u = update_edits texts.set_redeemed_text params old new place.at (counts place.tree) stands.there count ran _ (texts.set_redeemed_means old.now.schema place.at place.tree stands) (h.stand.counts (lit≤ tt)).unacted in
+    counts_now this_layout true old.now new.now t h _ (touches place.at stands u.2)
     (rows_set unnumbered count_cells (λ n x. Int n ∷ count_cells x) (opens_keyed count_cells) (λ n x. refl) (counts place.tree) texts.set_redeemed_test texts.set_redeemed_terms params (λ (x : CountRow). bytes_eq code x.code) (λ x. record x { redeemed = redeemed }) (λ r. refl)
-    (set_redeemed_tests place.tree code redeemed) (λ n x. refl) (λ n x. simp (cast_int)) t.counts h.store.counts u.0 u.1 u.2)
+    (set_redeemed_tests place.tree code redeemed) (λ n x. refl) (λ n x. simp (cast_int)) t.counts (h.store.counts (lit≤ tt)) u.0 u.1 u.2)
 
 set_total_tests : (tree : ℕ) (total : TotalRow) (n : ℤ) (x : TotalRow) → meant tree texts.set_total_test (col 1 0 ∷ texts.set_total_terms) (number total.number ∷ or_null total.ends ∷ signed_or_null total.remaining ∷ []) (total_stored x) ≡ nat_eq total.number x.number
 unfolding binary
@@ -137,11 +137,11 @@ pub set_total : (old new : State) (total : TotalRow) (count : ℕ) → Executes 
 set_total old new total count ran t h =
     let params = number total.number ∷ or_null total.ends ∷ signed_or_null total.remaining ∷ [] in
     let place = h.places.totals in
-    let stands = h.stand.totals.stands in
-    let u = update_edits texts.set_total_text params old new place.at (totals place.tree) stands.there count ran _ (texts.set_total_means old.now.schema place.at place.tree stands) h.stand.totals.unacted in
-    totals_now old.now new.now t h _ (touches place.at stands u.2)
+    let stands = (h.stand.totals (lit≤ tt)).stands in
+    let u = update_edits texts.set_total_text params old new place.at (totals place.tree) stands.there count ran _ (texts.set_total_means old.now.schema place.at place.tree stands) (h.stand.totals (lit≤ tt)).unacted in
+    totals_now this_layout true old.now new.now t h _ (touches place.at stands u.2)
     (rows_set whole total_stored (λ n x. total_stored x) (opens_numbered total_stored) (λ n x. refl) (totals place.tree) texts.set_total_test texts.set_total_terms params (λ (x : TotalRow). nat_eq total.number x.number) (λ x. record x { ends = total.ends; remaining = total.remaining }) (λ r. refl)
-    (set_total_tests place.tree total) (λ n x. refl) (λ n x. simp (cast_null, cast_int, cast_or_null, cast_signed_or_null)) t.totals h.store.totals u.0 u.1 u.2)
+    (set_total_tests place.tree total) (λ n x. refl) (λ n x. simp (cast_null, cast_int, cast_or_null, cast_signed_or_null)) t.totals (h.store.totals (lit≤ tt)) u.0 u.1 u.2)
 
 -- ---- the same inside a transaction
 

@@ -1,5 +1,5 @@
 -- What each command makes of the rows, and which numbers it keeps.
-use Rattle.std.specs.Prelude.{ℕ, ◌+◌, ◌^◌, ◌<◌, max, length, map, Option, Some, None}
+use Rattle.std.specs.Prelude.{ℕ, ◌+◌, ◌^◌, ◌<◌, max, length, map, Option, Some, None, IfSome}
 use Rattle.portal_codes.specs.Code.{text_of}
 use Rattle.portal_model.specs.declared.plan.Plan.{Plan}
 use Rattle.portal_model.specs.declared.record.Session.{Session}
@@ -12,10 +12,15 @@ use Rattle.portal_model.specs.declared.change.Redemption.{Redemption}
 use Rattle.portal_model.specs.declared.change.Usage.{Usage}
 use Rattle.portal_model.specs.declared.change.Repayment.{Repayment}
 use Rattle.portal_model.specs.declared.change.Closing.{Closing}
-use Rattle.portal_model.specs.Change.{sessions_after, reported}
+use Rattle.portal_model.specs.declared.change.Answer.{Answer}
+use Rattle.portal_model.specs.Change.{sessions_after, reported, answer_of}
 use Rattle.portal_model.specs.Rows.{total_row, new_vouchers, new_counts}
+use Rattle.portal_ledger.specs.Mark.{Mark}
+use Rattle.portal_ledger.specs.Ledger.{kept_with}
+use Rattle.portal_ledger.specs.RequestRow.{cells_of, row_of_request}
+use Rattle.portal_ledger.specs.declared.marked.MarkedChanges.{MarkedChanges}
 use Rattle.portal_rows.specs.Contents.{Contents}
-use Rattle.portal_rows.specs.Steps.{with_plans, with_batch, with_vouchers, with_counts, with_session, with_grant, with_total, with_sale, with_refund, with_moment, with_numbers, with_use, with_close, with_redeemed, with_ends, opened_row, granted_row}
+use Rattle.portal_rows.specs.Steps.{with_plans, with_batch, with_vouchers, with_counts, with_session, with_grant, with_total, with_sale, with_refund, with_moment, with_numbers, with_use, with_close, with_redeemed, with_ends, with_request, opened_row, granted_row}
 
 abbrev pub loaded : Loading → Contents → Contents
 loaded c t = with_moment c.at (with_plans c.added t)
@@ -56,6 +61,15 @@ kept (to.Usage c) t = used c t
 kept (to.Repayment c) t = repaid c t
 kept (to.Closing c) t = closed c t
 
+-- the request that was kept with it, where it had a mark
+abbrev pub with_mark : Option Mark → Answer → Contents → Contents
+with_mark None answer t = t
+with_mark (Some mark) answer t = with_request (row_of_request (kept_with mark answer)) t
+
+-- what a command and its mark make of the rows
+abbrev pub kept_marked : MarkedChanges → Contents → Contents
+kept_marked m t = with_mark m.mark (answer_of m.changes) (kept m.changes t)
+
 -- ---- numbers that a column of integers can keep
 
 -- a limit that is not there, or that is below
@@ -91,3 +105,19 @@ Fits (to.Redemption c) = FitsRedemption c
 Fits (to.Usage c) = FitsUsage c
 Fits (to.Repayment c) = c.amount < 2 ^ 63
 Fits (to.Closing c) = c.session.number < 2 ^ 63
+
+-- each number of the answer can be kept
+pub record FitsAnswer (answer : Answer) : Type 0 where
+  pub n1 : (cells_of answer).n1 < 2 ^ 63
+  pub n2 : IfSome (cells_of answer).n2 (λ n. n < 2 ^ 63)
+  pub n3 : IfSome (cells_of answer).n3 (λ n. n < 2 ^ 63)
+
+-- the same of the answer that is kept with a mark
+abbrev pub FitsMark : Option Mark → Answer → Type 0
+FitsMark None answer = Unit {0}
+FitsMark (Some mark) answer = FitsAnswer answer
+
+-- each number of the changes can be kept, and of what is kept with their mark
+pub record FitsMarked (m : MarkedChanges) : Type 0 where
+  pub changes : Fits m.changes
+  pub mark : FitsMark m.mark (answer_of m.changes)

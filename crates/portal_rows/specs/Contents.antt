@@ -1,13 +1,14 @@
 -- The rows of the tables as values, and the cells in which each is kept.
 use Rattle.std.specs.Prelude.{ℕ, ℤ, pos, Bool, if◌then◌else◌, List, [], ◌∷◌, Option}
 use Rattle.sqlite.specs.declared.types.Value.{Value}
-use Rattle.sqlite.specs.declared.types.Value.TheVariants.{Null, Int, Text}
+use Rattle.sqlite.specs.declared.types.Value.TheVariants.{Null, Int, Text, Blob}
 use Rattle.sqlite.specs.Order.{Row}
 use Rattle.sqlite.specs.Values.{or_null as nullable}
 use Rattle.portal_sql.specs.Stored.{number, or_null}
 use Rattle.portal_model.specs.declared.plan.Plan.{Plan}
 use Rattle.portal_model.specs.declared.record.Batch.{Batch}
 use Rattle.portal_model.specs.Rows.{VoucherRow, SessionRow, GrantRow, CountRow, TotalRow}
+use Rattle.portal_ledger.specs.RequestRow.{RequestRow}
 
 -- a row of portal_head
 pub record HeadRow : Type 0 where
@@ -27,12 +28,16 @@ pub record Contents : Type 0 where
   pub grants : List GrantRow
   pub counts : List CountRow
   pub totals : List TotalRow
+  pub requests : List RequestRow
 
 abbrev pub flag : Bool → Value
 flag b = Int (if b then pos 1 else pos 0)
 
 abbrev pub signed_or_null : Option ℤ → Value
 signed_or_null = nullable Int
+
+abbrev pub text_or_null : Option (List ℕ) → Value
+text_or_null = nullable Text
 
 -- The stored row of a table with an INTEGER PRIMARY KEY: the rowid is the key, and the key's own column is NULL.
 
@@ -73,3 +78,6 @@ count_cells k = Text k.code ∷ number k.redeemed ∷ []
 
 abbrev pub total_cells : TotalRow → Row
 total_cells m = number m.number ∷ or_null m.ends ∷ signed_or_null m.remaining ∷ []
+
+abbrev pub request_cells : RequestRow → Row
+request_cells k = Text k.caller ∷ Text k.number ∷ Text k.method ∷ Text k.path ∷ Blob k.body ∷ number k.answer.kind ∷ text_or_null k.answer.word ∷ number k.answer.n1 ∷ or_null k.answer.n2 ∷ or_null k.answer.n3 ∷ []

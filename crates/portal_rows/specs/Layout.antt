@@ -1,9 +1,9 @@
--- The tables of layout 2, each at some tree, and the texts that make them.
+-- The tables of all layouts, each at some tree, and the texts that make them.
 use Rattle.std.specs.Prelude.{Bool, true, false, [], ◌∷◌, Some, None, codes, List, ℕ}
 use Rattle.sqlite.specs.Collation.TheVariants.{Binary}
 use Rattle.sqlite.specs.declared.types.Value.TheVariants.{Null}
 use Rattle.sqlite.specs.Kind.{Kind}
-use Rattle.sqlite.specs.Kind.TheVariants.{Integer, Text}
+use Rattle.sqlite.specs.Kind.TheVariants.{Integer, Text, Blob}
 use Rattle.sqlite.specs.Table.{Table}
 use Rattle.sqlite_schema.specs.declared.schema.Column.{Column}
 use Rattle.sqlite_schema.specs.declared.schema.Reference.{Reference}
@@ -23,6 +23,12 @@ int_or_null = column Integer false
 
 abbrev pub text : List ℕ → Column
 text = column Text true
+
+abbrev pub text_or_null : List ℕ → Column
+text_or_null = column Text false
+
+abbrev pub blob : List ℕ → Column
+blob = column Blob true
 
 abbrev pub refers : ℕ → List ℕ → List ℕ → Reference
 refers place parent key = record { columns = place ∷ []; parent = parent; parent_columns = key ∷ []; on_delete = NoAction; on_update = NoAction; is_deferred = false }
@@ -85,6 +91,9 @@ counts_name = codes "portal_counts"
 abbrev pub totals_name : List ℕ
 totals_name = codes "portal_totals"
 
+abbrev pub requests_name : List ℕ
+requests_name = codes "portal_requests"
+
 abbrev pub head : ℕ → Table
 head = numbered head_name (int_or_null (codes "id") ∷ int (codes "layout") ∷ int (codes "last_moment") ∷ int (codes "grants") ∷ int (codes "sessions") ∷ []) []
 
@@ -125,6 +134,23 @@ totals =
     numbered totals_name (int_or_null (codes "number") ∷ int_or_null (codes "ends") ∷ int_or_null (codes "remaining") ∷ [])
     (refers 0 sessions_name (codes "number") ∷ [])
 
+-- the caller and the number are the key together
+abbrev pub requests : ℕ → Table
+requests tree = record {
+  name = requests_name;
+  tree = tree;
+  columns = text (codes "caller") ∷ text (codes "number") ∷ text (codes "method") ∷ text (codes "path") ∷ blob (codes "body") ∷ int (codes "kind") ∷ text_or_null (codes "word") ∷ int (codes "n1") ∷ int_or_null (codes "n2") ∷ int_or_null (codes "n3") ∷ [];
+  key = None;
+  primary = 1 ∷ 2 ∷ [];
+  uniques = (1 ∷ 2 ∷ []) ∷ [];
+  orders = plain ∷ [];
+  checks = [];
+  references = [];
+  computed = [];
+  stamps = record { places = []; terms = []; formats = [] };
+  is_counted = false;
+}
+
 abbrev pub create_head : List ℕ
 create_head = codes "CREATE TABLE portal_head (id INTEGER PRIMARY KEY, layout INTEGER NOT NULL, last_moment INTEGER NOT NULL, grants INTEGER NOT NULL, sessions INTEGER NOT NULL) STRICT"
 
@@ -148,3 +174,6 @@ create_counts = codes "CREATE TABLE portal_counts (code TEXT NOT NULL PRIMARY KE
 
 abbrev pub create_totals : List ℕ
 create_totals = codes "CREATE TABLE portal_totals (number INTEGER PRIMARY KEY REFERENCES portal_sessions (number), ends INTEGER, remaining INTEGER) STRICT"
+
+abbrev pub create_requests : List ℕ
+create_requests = codes "CREATE TABLE portal_requests (caller TEXT NOT NULL, number TEXT NOT NULL, method TEXT NOT NULL, path TEXT NOT NULL, body BLOB NOT NULL, kind INTEGER NOT NULL, word TEXT, n1 INTEGER NOT NULL, n2 INTEGER, n3 INTEGER, PRIMARY KEY (caller, number)) STRICT"

@@ -9,6 +9,7 @@ use Rattle.portal_model.specs.declared.record.Session.{Session}
 use Rattle.portal_model.specs.Device.{text_of_device}
 use Rattle.portal_model.specs.Rows.{VoucherRow, SessionRow, GrantRow, CountRow, TotalRow, sold_if, refunded_if, used_if, closed_if, counted_if}
 use Rattle.portal_rows.specs.declared.signs.Total.{Total}
+use Rattle.portal_ledger.specs.RequestRow.{RequestRow}
 use Rattle.portal_rows.specs.Contents.{Contents, HeadRow}
 use Rattle.portal_rows.specs.Holds.{Holds, LeftHolds}
 
@@ -58,6 +59,9 @@ with_count k t = record t { counts = t.counts ++ k ∷ [] }
 
 abbrev pub with_counts : List CountRow → Contents → Contents
 with_counts ks t = record t { counts = t.counts ++ ks }
+
+abbrev pub with_request : RequestRow → Contents → Contents
+with_request k t = record t { requests = t.requests ++ k ∷ [] }
 
 -- in its place by number
 

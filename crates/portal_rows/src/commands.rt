@@ -5,19 +5,22 @@ ghost use Rattle.portal_codes.specs.Code.{text_of};
 ghost use Rattle.portal_model.specs.Rows.{new_vouchers, new_counts, total_row};
 ghost use Rattle.portal_sql.specs.States.{IsUndone};
 ghost use Rattle.portal_rows.specs.Steps.{Steps, Leads, MayLead, with_plans, with_vouchers, with_counts, ends_row};
-ghost use Rattle.portal_rows.specs.Commands.{loaded, issued, sold, placed_in, granted, redeemed, used, repaid, closed, kept, FitsSession, FitsIssuance, FitsRedemption, FitsUsage, Fits};
+ghost use Rattle.portal_rows.specs.Commands.{loaded, issued, sold, placed_in, granted, redeemed, used, repaid, closed, kept, FitsSession, FitsIssuance, FitsRedemption, FitsUsage, Fits, FitsMark, FitsMarked, with_mark, kept_marked};
 
 use crate::inserts::{
     insert_batch, insert_count, insert_grant, insert_plan, insert_session, insert_total,
     insert_voucher,
 };
+use crate::requests::insert_kept;
 use crate::signs::Total;
 use crate::updates::{
     mark_refunded, mark_sold, set_closed, set_ends, set_moment, set_numbers, set_redeemed, set_used,
 };
 use portal_codes::Code;
+use portal_ledger::marked::MarkedChanges;
+use portal_ledger::request::RequestMark;
 use portal_model::change::{
-    Changes, Closing, Issuance, Loading, Redemption, Repayment, Sale, Usage,
+    Answer, Changes, Closing, Issuance, Loading, Redemption, Repayment, Sale, Usage,
 };
 use portal_model::name::Id;
 use portal_model::plan::Plan;
@@ -243,16 +246,51 @@ fn apply<S: Alter>(tx: &mut Transaction<'_, S>, changes: &Changes) -> Result<(),
     Ok(())
 }
 
-/// One transaction: all that the command changes, or nothing.
-pub fn keep<S: Alter>(conn: &mut Connection<S>, changes: &Changes) -> Result<(), Error>
+/// Keeps the request of a command that has a mark, with what its caller is told.
+fn keep_request<S: Alter>(
+    tx: &mut Transaction<'_, S>,
+    mark: &Option<RequestMark>,
+    answer: &Answer,
+) -> Result<(), Error>
+    requires { FitsMark mark.now answer.now }
+    ensures same_reference { tx.new.conn.ghost_name ≡ tx.old.conn.ghost_name }
+    ensures steps { HasCleanDisk (state S.Store tx.new.conn.now) → IsTrue (state S.Store tx.old.conn.now).in_transaction → OnOk result (Steps (with_mark mark.now answer.now) (state S.Store tx.old.conn.now) (state S.Store tx.new.conn.now)) }
+    ensures kept { HasCleanDisk (state S.Store tx.new.conn.now) → KeepsCommit (state S.Store tx.old.conn.now) (state S.Store tx.new.conn.now) }
+    ensures survives { Survives (state S.Store tx.old.conn.now) (state S.Store tx.new.conn.now) (λ _. ⊥) }
+{
+    match mark {
+        Some(mark) => {
+            insert_kept(tx, mark, answer)?;
+            Ok(())
+        }
+        None => Ok(()),
+    }
+}
+
+/// Keeps what a command changes, and its request where it has a mark, inside a transaction.
+fn apply_marked<S: Alter>(tx: &mut Transaction<'_, S>, marked: &MarkedChanges) -> Result<(), Error>
+    requires { FitsMarked marked.now }
+    ensures same_reference { tx.new.conn.ghost_name ≡ tx.old.conn.ghost_name }
+    ensures steps { HasCleanDisk (state S.Store tx.new.conn.now) → IsTrue (state S.Store tx.old.conn.now).in_transaction → OnOk result (Steps (kept_marked marked.now) (state S.Store tx.old.conn.now) (state S.Store tx.new.conn.now)) }
+    ensures kept { HasCleanDisk (state S.Store tx.new.conn.now) → KeepsCommit (state S.Store tx.old.conn.now) (state S.Store tx.new.conn.now) }
+    ensures survives { Survives (state S.Store tx.old.conn.now) (state S.Store tx.new.conn.now) (λ _. ⊥) }
+{
+    apply(tx, &marked.changes)?;
+    let answer = marked.answer();
+    keep_request(tx, &marked.mark, &answer)?;
+    Ok(())
+}
+
+/// One transaction: all that the command changes, and its request where it has a mark, or nothing.
+pub fn keep<S: Alter>(conn: &mut Connection<S>, marked: &MarkedChanges) -> Result<(), Error>
     requires outside { conn.old.in_transaction ≡ false }
-    requires fits { Fits changes.now }
-    ensures done { HasCleanDisk (state S.Store conn.new) → OnOk result (Leads (kept changes.now) (state S.Store conn.old) (state S.Store conn.new)) }
+    requires fits { FitsMarked marked.now }
+    ensures done { HasCleanDisk (state S.Store conn.new) → OnOk result (Leads (kept_marked marked.now) (state S.Store conn.old) (state S.Store conn.new)) }
     ensures undone { HasCleanDisk (state S.Store conn.new) → OnErr result (IsUndone (state S.Store conn.old) (state S.Store conn.new)) }
-    ensures crash { Survives (state S.Store conn.old) (state S.Store conn.new) (MayLead (kept changes.now) (state S.Store conn.old)) }
+    ensures crash { Survives (state S.Store conn.old) (state S.Store conn.new) (MayLead (kept_marked marked.now) (state S.Store conn.old)) }
 {
     let mut tx = conn.transaction();
-    apply(&mut tx, changes)?;
+    apply_marked(&mut tx, marked)?;
     tx.commit()?;
     Ok(())
 }

@@ -144,7 +144,7 @@ pub(crate) fn insert_grant<S: Alter>(
 }
 
 /// Adds the count of a voucher.
-pub(crate) fn insert_count<S: Alter>(
+pub fn insert_count<S: Alter>(
     tx: &mut Transaction<'_, S>,
     code: &Code,
     redeemed: u64,
@@ -169,10 +169,7 @@ pub(crate) fn insert_count<S: Alter>(
 }
 
 /// Adds the end of a session, and what remains of its allowance.
-pub(crate) fn insert_total<S: Alter>(
-    tx: &mut Transaction<'_, S>,
-    total: &Total,
-) -> Result<(), Error>
+pub fn insert_total<S: Alter>(tx: &mut Transaction<'_, S>, total: &Total) -> Result<(), Error>
     requires { total.now.number < 2 ^ 63 }
     ensures same_reference { tx.new.conn.ghost_name ≡ tx.old.conn.ghost_name }
     ensures steps { HasCleanDisk (state S.Store tx.new.conn.now) → IsTrue (state S.Store tx.old.conn.now).in_transaction → OnOk result (Steps (with_total (ends_row total.now)) (state S.Store tx.old.conn.now) (state S.Store tx.new.conn.now)) }
@@ -188,7 +185,7 @@ pub(crate) fn insert_total<S: Alter>(
 }
 
 /// Adds the row of the head: no row of the other tables, and nothing accepted.
-pub(crate) fn insert_head<S: Alter>(tx: &mut Transaction<'_, S>, layout: u64) -> Result<(), Error>
+pub fn insert_head<S: Alter>(tx: &mut Transaction<'_, S>, layout: u64) -> Result<(), Error>
     requires { layout < 2 ^ 63 }
     ensures same_reference { tx.new.conn.ghost_name ≡ tx.old.conn.ghost_name }
     ensures steps { HasCleanDisk (state S.Store tx.new.conn.now) → IsTrue (state S.Store tx.old.conn.now).in_transaction → OnOk result (Steps (with_head (first_head layout)) (state S.Store tx.old.conn.now) (state S.Store tx.new.conn.now)) }

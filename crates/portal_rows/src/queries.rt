@@ -135,7 +135,7 @@ pub(crate) fn last_session_rows<S: Alter>(
 }
 
 /// The rows of the vouchers of the batch, by place.
-pub(crate) fn batch_vouchers_rows<S: Alter>(
+pub fn batch_vouchers_rows<S: Alter>(
     conn: &mut Connection<S>,
     batch: &Id,
 ) -> Result<Vec<Row>, Error>

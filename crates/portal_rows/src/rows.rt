@@ -18,7 +18,7 @@ use portal_model::name::{Device, Id};
 use portal_model::plan::Plan;
 use portal_model::record::Batch;
 use sqlite::{Error, Row};
-use std::alloc::AllocFailed;
+use std::alloc::{AllocError, AllocFailed};
 
 /// Why the tables were not read.
 #[derive(Debug, Drop)]
@@ -38,6 +38,12 @@ impl From<Error> for Fault {
 impl<T: Drop> From<AllocFailed<T>> for Fault {
     fn from(failed: AllocFailed<T>) -> Fault {
         Fault::Sql(Error::from(failed))
+    }
+}
+
+impl From<AllocError> for Fault {
+    fn from(error: AllocError) -> Fault {
+        Fault::Sql(Error::from(error))
     }
 }
 
@@ -91,7 +97,7 @@ fn id_in(row: &Row, at: usize) -> Result<Id, Fault>
 }
 
 /// The code in a column, where it stands as it is printed.
-pub(crate) fn code_in(row: &Row, at: usize) -> Result<Code, Fault>
+pub fn code_in(row: &Row, at: usize) -> Result<Code, Fault>
     ensures { IfOk result (λ code. column row.now at ≡ Text (text_of code)) }
 {
     let text: String = row.get(at)?;
@@ -124,7 +130,7 @@ fn device_in(row: &Row, at: usize) -> Result<Device, Fault>
 }
 
 /// The moment in a column.
-pub(crate) fn moment_in(row: &Row, at: usize) -> Result<Moment, Fault>
+pub fn moment_in(row: &Row, at: usize) -> Result<Moment, Fault>
     ensures { IfOk result (λ moment. column row.now at ≡ number moment) }
 {
     let seconds: u64 = row.get(at)?;
@@ -175,7 +181,7 @@ pub(crate) fn head_of(row: &Row) -> Result<KeptHead, Fault>
     })
 }
 
-pub(crate) fn plan_of(row: &Row) -> Result<Plan, Fault>
+pub fn plan_of(row: &Row) -> Result<Plan, Fault>
     ensures { IfOk result (λ plan. plan_cells plan ≡ columns 7 row.now) }
 {
     let id = id_in(row, 0)?;
@@ -203,7 +209,7 @@ pub(crate) fn batch_of(row: &Row) -> Result<Batch, Fault>
     })
 }
 
-pub(crate) fn voucher_of(row: &Row) -> Result<KeptVoucher, Fault>
+pub fn voucher_of(row: &Row) -> Result<KeptVoucher, Fault>
     ensures { IfOk result (λ voucher. voucher_cells (voucher_read voucher) ≡ columns 6 row.now) }
 {
     Ok(KeptVoucher {
@@ -216,7 +222,7 @@ pub(crate) fn voucher_of(row: &Row) -> Result<KeptVoucher, Fault>
     })
 }
 
-pub(crate) fn session_of(row: &Row) -> Result<KeptSession, Fault>
+pub fn session_of(row: &Row) -> Result<KeptSession, Fault>
     ensures cells { IfOk result (λ session. session_cells (session_read session) ≡ columns 6 row.now) }
     ensures device { IfOk result (λ session. IsDevice session.device) }
 {
@@ -230,7 +236,7 @@ pub(crate) fn session_of(row: &Row) -> Result<KeptSession, Fault>
     })
 }
 
-pub(crate) fn count_of(row: &Row) -> Result<KeptCount, Fault>
+pub fn count_of(row: &Row) -> Result<KeptCount, Fault>
     ensures { IfOk result (λ count. count_cells (count_read count) ≡ columns 2 row.now) }
 {
     Ok(KeptCount {
@@ -239,7 +245,7 @@ pub(crate) fn count_of(row: &Row) -> Result<KeptCount, Fault>
     })
 }
 
-pub(crate) fn total_of(row: &Row) -> Result<Total, Fault>
+pub fn total_of(row: &Row) -> Result<Total, Fault>
     ensures { IfOk result (λ total. total_cells (ends_row total) ≡ columns 3 row.now) }
 {
     Ok(Total {

@@ -96,7 +96,7 @@ pub(crate) fn set_numbers<S: Alter>(
 }
 
 /// Sets the layout.
-pub(crate) fn set_layout<S: Alter>(tx: &mut Transaction<'_, S>, layout: u64) -> Result<(), Error>
+pub fn set_layout<S: Alter>(tx: &mut Transaction<'_, S>, layout: u64) -> Result<(), Error>
     requires { layout < 2 ^ 63 }
     ensures same_reference { tx.new.conn.ghost_name ≡ tx.old.conn.ghost_name }
     ensures steps { HasCleanDisk (state S.Store tx.new.conn.now) → IsTrue (state S.Store tx.old.conn.now).in_transaction → OnOk result (Steps (with_layout layout) (state S.Store tx.old.conn.now) (state S.Store tx.new.conn.now)) }

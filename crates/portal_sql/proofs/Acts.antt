@@ -1,5 +1,5 @@
 -- Where no foreign key acts, an edit is its one step.
-use Rattle.std.proofs.Common.{◌≡◌, ◌⊎◌, inl, inr, ℕ, List, [], ◌∷◌, ◌++◌, Option, Some, None, IfSome, refl, true, false, Bool, cond, if◌then◌else◌, ◌==◌, ap, sym, ◌∙◌, length}
+use Rattle.std.proofs.Common.{◌≡◌, inl, inr, ℕ, List, [], ◌∷◌, Option, Some, None, IfSome, refl, true, false, Bool, if◌then◌else◌, ◌==◌, ap}
 use Rattle.std.specs.List.{flat_map, filter_map}
 use Rattle.std.specs.Prelude.{◌&&◌}
 use Rattle.sqlite.specs.Order.{Row}
@@ -12,7 +12,7 @@ use Rattle.sqlite_schema.specs.declared.schema.Action.TheVariants.{NoAction}
 use Rattle.sqlite_schema.specs.Rules.{ParentKey, parent_key}
 use Rattle.sqlite_rules.specs.Lists.{Has}
 use Rattle.sqlite_rules.specs.declared.action.Deed.{Deed}
-use Rattle.sqlite_rules.specs.Action.{Work, works, work_for, work_by, deed_for, deed_of, pairs, loses}
+use Rattle.sqlite_rules.specs.Action.{Work, works, work_by, deed_for, pairs}
 use Rattle.portal_sql.specs.Stands.{IsUnacted}
 
 none_mapped : {X Y : Type 0} (f : X → Option Y) (xs : List X) → ((x : X) → Has xs x → f x ≡ None) → filter_map f xs ≡ []

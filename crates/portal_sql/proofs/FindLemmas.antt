@@ -14,7 +14,7 @@ use Rattle.sqlite_value.proofs.OrderLemmas.{value_cmp-Null, value_cmp_total}
 use Rattle.sqlite_rules.specs.Lists.{Has}
 use Rattle.sqlite_rules.proofs.ListLemmas.{has_filtered, has_kept, has_got, contains_had}
 use Rattle.sqlite_trees.proofs.ListLemmas.{filter-map, along_permutation}
-use Rattle.portal_sql.specs.Finds.{has_key, IsSelection, by_column, columns}
+use Rattle.portal_sql.specs.Finds.{IsSelection, by_column}
 use Rattle.portal_sql.proofs.Scan.{IsScan}
 
 pub ok_then : {X E : Type 0} {P Q : X → Type 0} (r : Result X E) → ((x : X) → P x → Q x) → IfOk r P → IfOk r Q

@@ -1,5 +1,5 @@
 -- CREATE INDEX leaves the rows of each table.
-use Rattle.std.proofs.Common.{◌≡◌, ◌⊎◌, inl, inr, ℕ, ◌+◌, List, [], Option, Some, None, is_some, Ok, Err, Result, refl, true, false, Bool, if◌then◌else◌, ap, ◌∙◌}
+use Rattle.std.proofs.Common.{◌≡◌, ◌⊎◌, inl, inr, ℕ, ◌+◌, List, [], None, is_some, Ok, Err, Result, refl, true, false, Bool, if◌then◌else◌, ap, subst, ◌∙◌, slice_range}
 use Rattle.std.specs.Option.{option_or}
 use Rattle.sqlite.specs.Schema.{Schema}
 use Rattle.sqlite.specs.Table.{Table}
@@ -12,15 +12,15 @@ use Rattle.sqlite_resolve.specs.declared.compiled.Compiled.{Compiled}
 use Rattle.sqlite_resolve.specs.declared.error.CompileError.{CompileError}
 use Rattle.sqlite_resolve.specs.declared.error.CompileError.TheVariants.{Exists}
 use Rattle.sqlite_resolve.specs.Lowering.{Checked, and_then}
-use Rattle.sqlite_resolve.specs.Compile.{compiled, planned, meaning, returning, command, timed, small, with_command}
-use Rattle.sqlite_catalog.specs.Change.{with_index, KeepsRows}
+use Rattle.sqlite_resolve.specs.Compile.{compiled, planned, meaning, returning, command, timed, small, with_command, index_defined_by}
+use Rattle.sqlite_catalog.specs.Change.{with_index, indexed, KeepsRows}
 use Rattle.sqlite_catalog.proofs.AlterLemmas.{place_has}
 use Rattle.sqlite_rules.proofs.ListLemmas.{all_has}
 use Rattle.sqlite.specs.Does.{Tally}
 use Rattle.sqlite.specs.Effect.{Database, IsDatabase}
 use Rattle.sqlite.specs.Listing.{understood, reads_listing, misses_table}
-use Rattle.sqlite.specs.State.{State, Executes, ExecutesIn}
-use Rattle.sqlite.proofs.Callers.{runs_as}
+use Rattle.sqlite.specs.State.{State, Executes, ExecutesIn, Writes}
+use Rattle.sqlite.proofs.Callers.{statement_of, runs_as}
 use Rattle.portal_sql.specs.Stands.{Stands, IsUnacted}
 use Rattle.portal_sql.proofs.Texts.{IsText, Means}
 
@@ -49,10 +49,11 @@ module _ (schema : Schema) (sql : List ℕ) (statement : Statement) (count : ℕ
   unfolding understood
   accepted c is = (rw is refl, rw is refl)
 
-  means : (a b : Bool) (at : ℕ) → command schema [] (small t.parsed.names + 0) statement ≡ made_index a b at → (x : Compiled) → understood schema sql ≡ Ok x → Means schema sql (CreateIndex at)
+  means : (a b : Bool) (at : ℕ) → command schema [] (small t.parsed.names + 0) statement ≡ made_index a b at → (x : Compiled) → understood schema sql ≡ Ok x
+      → Means schema sql (CreateIndex at) × (statement_of sql (understood schema sql) ≡ slice_range sql t.parsed.start t.parsed.end)
   means true b at is x ok = absurd (refused Exists refl (compiled_err Exists is) x ok)
   means false true at is x ok = absurd (refused Exists refl (compiled_err Exists is) x ok)
-  means false false at is x ok = let u = accepted _ (compiled_ok (CreateIndex at) is) in record { is = rw u.0 refl; plain = rw u.0 (refl, refl); unlisted = u.1 }
+  means false false at is x ok = let u = accepted _ (compiled_ok (CreateIndex at) is) in (record { is = rw u.0 refl; plain = rw u.0 (refl, refl); unlisted = u.1 }, rw u.0 refl)
 
 -- a text that makes an index on the table, wherever it stands
 pub record IsIndex (sql : List ℕ) (table : ℕ → Table) : Type 0 where
@@ -62,11 +63,13 @@ pub record IsIndex (sql : List ℕ) (table : ℕ → Table) : Type 0 where
   pub untimed : (schema : Schema) → timed schema [] statement ≡ []
   pub unshown : (schema : Schema) (base : ℕ) → returning schema base statement ≡ Ok None
   pub makes : (schema : Schema) (at tree : ℕ) → Stands schema at (table tree) → (base : ℕ) → command schema [] base statement ≡ index_in schema name at
+  pub whole : slice_range sql text.parsed.start text.parsed.end ≡ sql
 
 -- the statement made an index and left the rest
-pub record HasIndexed (db after : Database) : Type 0 where
+pub record HasIndexed (db : Database) (table : Table) (sql : List ℕ) (after : Database) : Type 0 where
   pub index : Index
-  pub is : after.schema ≡ with_index db.schema index
+  pub defined : index_defined_by table sql ≡ Ok index
+  pub is : after.schema ≡ indexed db.schema table index
   pub rows : KeepsRows db.schema.tables db.trees after.trees
   pub sound : IsDatabase after
 
@@ -78,15 +81,15 @@ same_value : {B E : Type 0} {a b : B} → ◌≡◌ {A = Result B E} (Ok a) (Ok 
 same_value e = cc
 
 -- where it answered Ok, the text made its index
-pub indexes : (sql : List ℕ) (table : ℕ → Table) (at tree : ℕ) (old new : State) (count : ℕ) → IsIndex sql table → Stands old.now.schema at (table tree) → Executes sql [] old new (Ok count) → HasIndexed old.now new.now
+pub indexes : (sql : List ℕ) (table : ℕ → Table) (at tree : ℕ) (old new : State) (count : ℕ) → IsIndex sql table → Stands old.now.schema at (table tree) → Executes sql [] old new (Ok count) → HasIndexed old.now (table tree) sql new.now
 unfolding ExecutesIn
 indexes sql table at tree old new count it stands ran =
     let known = means old.now.schema sql it.statement 0 it.text (it.untimed old.now.schema) (it.unshown old.now.schema) _ _ at (it.makes old.now.schema at tree stands _) ran.0 ran.1.is in
-    let w = runs_as sql [] old new old.now.schema refl (CreateIndex at) known.is known.plain count ran in
+    let w = subst (λ t. Writes old new None (CreateIndex at) t [] count) (known.1 ∙ it.whole) (runs_as sql [] old new old.now.schema refl (CreateIndex at) known.0.is known.0.plain count ran) in
     let all = went (rw stands.there at w.changed) in
     let made = all.1 in
     let now : new.now ≡ all.0 = ap (λ (p : Tally × Database). p.1) (same_value all.2) in
-    record { index = _; is = ap (λ (d : Database). d.schema) now ∙ made.is; rows = rw now made.rows; sound = w.sound }
+    record { index = _; defined = made.defined; is = ap (λ (d : Database). d.schema) now ∙ made.is; rows = rw now made.rows; sound = w.sound }
 
 -- an index more changes nothing of where a table stands
 pub still_stands_indexed : (schema : Schema) (index : Index) (at : ℕ) (table : Table) → Stands schema at table → Stands (with_index schema index) at table
@@ -95,5 +98,5 @@ still_stands_indexed schema index at table h = record { named = h.named; there =
 pub still_unacted_indexed : (schema : Schema) (index : Index) (tree : ℕ) → IsUnacted schema tree → IsUnacted (with_index schema index) tree
 still_unacted_indexed schema index tree h = h
 
-pub rows_indexed : (db after : Database) (a : ℕ) (x : Table) → HasIndexed db after → Stands db.schema a x → after.trees x.tree ≡ db.trees x.tree
-rows_indexed db after a x k stands = all_has _ db.schema.tables x k.rows (place_has db.schema.tables a x stands.there)
+pub rows_indexed : (db : Database) (on : Table) (sql : List ℕ) (after : Database) (a : ℕ) (x : Table) → HasIndexed db on sql after → Stands db.schema a x → after.trees x.tree ≡ db.trees x.tree
+rows_indexed db on sql after a x k stands = all_has _ db.schema.tables x k.rows (place_has db.schema.tables a x stands.there)

@@ -21,9 +21,8 @@ use Rattle.sqlite.specs.Command.TheVariants.{Select}
 use Rattle.sqlite_schema.specs.Names.{place_of}
 use Rattle.sqlite_rules.specs.Lists.{Has}
 use Rattle.sqlite_trees.proofs.ListLemmas.{map-map}
-use Rattle.sqlite.specs.Listing.{understood, reads_listing}
 use Rattle.sqlite.specs.State.{State, Shown}
-use Rattle.sqlite.proofs.Callers.{IsPlain, command_of, reads_as}
+use Rattle.sqlite.proofs.Callers.{reads_as}
 use Rattle.portal_sql.specs.Finds.{has_key, rows_in, fields, IsSelection, by_column, columns}
 use Rattle.portal_sql.proofs.Queries.{simple, equals, unlimited}
 use Rattle.portal_sql.proofs.Texts.{Means}

@@ -1,10 +1,8 @@
 -- CREATE TABLE under any schema: where it answered Ok, it made the table.
-use Rattle.std.proofs.Common.{◌≡◌, ◌⊎◌, inl, inr, ℕ, ◌+◌, List, [], ◌∷◌, ◌++◌, codes, Option, Some, None, is_some, Ok, Err, Result, slice_get, slice_range, refl, true, false, Bool, cond, if◌then◌else◌, ap, sym, subst, ◌∙◌, length}
+use Rattle.std.proofs.Common.{◌≡◌, ◌⊎◌, inl, inr, ℕ, ◌+◌, List, [], ◌∷◌, ◌++◌, codes, Option, Some, None, is_some, Ok, Err, Result, slice_get, slice_range, refl, true, false, Bool, if◌then◌else◌, ap, sym, subst, ◌∙◌}
 use Rattle.std.specs.Option.{option_or}
-use Rattle.sqlite.specs.Order.{Row}
 use Rattle.sqlite.specs.Schema.{Schema}
 use Rattle.sqlite.specs.Table.{Table}
-use Rattle.sqlite.specs.Tree.{Trees}
 use Rattle.sqlite_schema.specs.declared.command.Command.{Command}
 use Rattle.sqlite.specs.Command.TheVariants.{CreateTable, Nothing}
 use Rattle.sqlite_schema.specs.Names.{table_named, index_named, view_named}
@@ -13,7 +11,7 @@ use Rattle.sqlite_resolve.specs.declared.compiled.Compiled.{Compiled}
 use Rattle.sqlite_resolve.specs.declared.error.CompileError.{CompileError}
 use Rattle.sqlite_resolve.specs.declared.error.CompileError.TheVariants.{Exists, Unsupported}
 use Rattle.sqlite_resolve.specs.Lowering.{Checked, and_then}
-use Rattle.sqlite_resolve.specs.Compile.{first, compiled, planned, meaning, returning, command, timed, is_attached, small, with_command, table_defined_by}
+use Rattle.sqlite_resolve.specs.Compile.{compiled, planned, meaning, returning, command, timed, is_attached, small, with_command, table_defined_by}
 use Rattle.sqlite.specs.Change.{created, next_tree}
 use Rattle.std.specs.List.{list_any}
 use Rattle.std.specs.Prelude.{◌||◌, ◌&&◌, not, option_and_then}
@@ -21,11 +19,11 @@ use Rattle.sqlite_schema.specs.Names.{same_name}
 use Rattle.sqlite.specs.Rows.{sequence}
 use Rattle.portal_sql.proofs.StandsLemmas.{placed_before, got_before}
 use Rattle.portal_sql.specs.Made.{Counts, HasMade}
-use Rattle.sqlite.specs.Does.{Tally, Does, lacks_sequence}
+use Rattle.sqlite.specs.Does.{Tally, lacks_sequence}
 use Rattle.sqlite.specs.Effect.{Database}
 use Rattle.sqlite.specs.Listing.{understood, reads_listing, misses_table}
 use Rattle.sqlite.specs.State.{State, Writes, Executes, ExecutesIn, ExecutesInside, Shows}
-use Rattle.sqlite.proofs.Callers.{IsPlain, command_of, statement_of, runs_as}
+use Rattle.sqlite.proofs.Callers.{statement_of, runs_as}
 use Rattle.portal_sql.proofs.Texts.{IsText, Means}
 
 -- what a CREATE TABLE with no IF NOT EXISTS is, whatever is there

@@ -1,5 +1,5 @@
 -- That no foreign key acts on a table, said by names, which a CREATE TABLE keeps.
-use Rattle.std.proofs.Common.{◌≡◌, ◌⊎◌, inl, inr, ℕ, List, [], ◌∷◌, ◌++◌, Option, Some, None, IfSome, refl, true, false, Bool, cond, ◌==◌, ap, sym, ◌∙◌, find}
+use Rattle.std.proofs.Common.{◌≡◌, ◌⊎◌, inl, inr, ℕ, List, [], ◌∷◌, ◌++◌, Option, Some, None, IfSome, refl, true, false, Bool, ◌==◌, ap, sym, ◌∙◌, find}
 use Rattle.std.proofs.lemmas.Bool.{cases_Bool}
 use Rattle.std.specs.Prelude.{option_map, option_and_then}
 use Rattle.sqlite.specs.Table.{Table}
@@ -8,7 +8,7 @@ use Rattle.sqlite_value.specs.declared.keys.Order.{Order}
 use Rattle.sqlite_schema.specs.declared.schema.Reference.{Reference}
 use Rattle.sqlite_schema.specs.declared.schema.Action.TheVariants.{NoAction}
 use Rattle.sqlite_schema.specs.Names.{same_name}
-use Rattle.sqlite_schema.specs.Rules.{parent_key, key_in, key_places, declared_order, ParentKey}
+use Rattle.sqlite_schema.specs.Rules.{key_in, key_places, declared_order, ParentKey}
 use Rattle.sqlite_rules.specs.Lists.{Has}
 use Rattle.sqlite_catalog.specs.Change.{created}
 use Rattle.portal_sql.specs.Stands.{Stands, IsUnacted}

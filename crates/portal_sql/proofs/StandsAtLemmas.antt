@@ -1,5 +1,5 @@
 -- How standing at a value passes over a call, a commit and a reopening.
-use Rattle.std.proofs.Common.{◌≡◌, ◌⊎◌, inl, inr, false, IsTrue, refl, sym, ap, subst, ◌∙◌}
+use Rattle.std.proofs.Common.{◌≡◌, inl, inr, false, IsTrue, sym, subst, ◌∙◌}
 use Rattle.sqlite_disk.specs.declared.Disk.{Ghosts}
 use Rattle.sqlite_disk.specs.declared.Files.{Files}
 use Rattle.sqlite_trees.specs.Objects.{catalog_tree}
@@ -11,7 +11,7 @@ use Rattle.sqlite_catalog.proofs.ReadLemmas.{lists_once}
 use Rattle.sqlite.specs.Effect.{Database, IsDatabase}
 use Rattle.sqlite.proofs.StateLemmas.{survives_then}
 use Rattle.portal_sql.specs.States.{IsUndone}
-use Rattle.sqlite.specs.State.{State, HasCleanDisk, IsUnchanged, Survives, Opens, IsLive}
+use Rattle.sqlite.specs.State.{State, HasCleanDisk, IsUnchanged, Survives, IsLive}
 use Rattle.sqlite.specs.Held.{Held}
 use Rattle.sqlite_wal.specs.Reads.{AreClean}
 use Rattle.sqlite.specs.Closing.{IsCopied}

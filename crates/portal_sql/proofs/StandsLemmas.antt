@@ -1,7 +1,7 @@
 -- A table that stands goes on standing where a table is made beside it, and one that is made stands.
-use Rattle.std.proofs.Common.{◌≡◌, ◌≢◌, ◌⊎◌, inl, inr, ℕ, zero, suc, ◌||◌, ◌+◌, ◌^◌, ◌<◌, ◌≤◌, ◌==◌, nat_le, max, List, [], ◌∷◌, ◌++◌, Option, Some, None, is_some, slice_get, find, fold, refl, true, false, Bool, cond, ap, sym, subst, ◌∙◌, length, arith, filter, zero-add, ne_eqb, eq-eqb}
+use Rattle.std.proofs.Common.{◌≡◌, ◌⊎◌, inl, inr, ℕ, zero, suc, ◌||◌, ◌+◌, ◌^◌, ◌<◌, ◌≤◌, ◌==◌, nat_le, max, List, [], ◌∷◌, ◌++◌, Option, Some, None, is_some, slice_get, find, fold, refl, true, false, Bool, ap, sym, ◌∙◌, length, arith, filter, zero-add, ne_eqb, eq-eqb}
 use Rattle.std.proofs.lemmas.Bool.Decides.{nat_tests}
-use Rattle.std.specs.List.{position_from, AllZip}
+use Rattle.std.specs.List.{position_from}
 use Rattle.std.proofs.lemmas.Bool.{cases_Bool}
 use Rattle.sqlite_schema.specs.declared.schema.Index.{Index}
 use Rattle.sqlite.specs.Schema.{Schema}

@@ -1,5 +1,5 @@
 -- A row more in a table, and rows that change in place.
-use Rattle.std.proofs.Common.{◌≡◌, inl, inr, ℕ, ℤ, pos, Bool, true, false, cond, if◌then◌else◌, ◌&&◌, List, [], ◌∷◌, ◌++◌, map, Option, Some, None, option_map, IsTrue, refl, sym, ap, ap₂, subst, ◌∙◌, Less, Equal, Greater}
+use Rattle.std.proofs.Common.{◌≡◌, inl, inr, ℕ, ℤ, pos, Bool, true, false, cond, ◌&&◌, List, [], ◌∷◌, ◌++◌, map, Option, Some, None, option_map, IsTrue, refl, sym, ap, ap₂, subst, ◌∙◌, Less, Equal, Greater}
 use Rattle.std.specs.Ordering.{match_ordering}
 use Rattle.sqlite.specs.declared.types.Value.TheVariants.{Null, Int}
 use Rattle.sqlite.specs.declared.types.Value.{Value}
@@ -23,7 +23,7 @@ use Rattle.sqlite_rules.proofs.TableLemmas.{int_is}
 use Rattle.sqlite_trees.specs.View.{is_int}
 use Rattle.sqlite_trees.proofs.TreeLemmas.{IsTable-put_row, all-put_row}
 use Rattle.sqlite.specs.Term.{Term, col, eval_all}
-use Rattle.portal_sql.specs.Stored.{number, or_null, AreRows, Stores, whole, unnumbered, put_by}
+use Rattle.portal_sql.specs.Stored.{number, or_null, Stores, whole, unnumbered, put_by}
 use Rattle.portal_sql.proofs.RowLemmas.{more_rows, changed_if, still_rows}
 use Rattle.portal_sql.proofs.Queries.{over}
 use Rattle.portal_sql.proofs.Writes.{Edits, rows_changed, simple, meant}

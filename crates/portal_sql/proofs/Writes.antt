@@ -9,7 +9,6 @@ use Rattle.sqlite.specs.Query.{Query, IsAnswer, output, Output}
 use Rattle.sqlite.specs.Program.{overlay}
 use Rattle.sqlite.specs.Source.TheVariants.{Values}
 use Rattle.sqlite.specs.Command.TheVariants.{Insert, Update}
-use Rattle.sqlite.specs.Command.{Command}
 use Rattle.sqlite.specs.declared.run.Mode.{Mode}
 use Rattle.sqlite.specs.Table.{Table}
 use Rattle.sqlite.specs.Schema.{Schema}
@@ -19,15 +18,14 @@ use Rattle.sqlite.specs.Cast.{cast_row}
 use Rattle.sqlite.specs.Rowids.TheVariants.{Chosen, Given}
 use Rattle.sqlite.specs.Effect.{Database, IsDatabase, value_rows}
 use Rattle.sqlite.specs.Rows.{Written, Task}
-use Rattle.sqlite.specs.Does.{Tally, Does, OnRows, AtPlace}
+use Rattle.sqlite.specs.Does.{Tally, OnRows, AtPlace}
 use Rattle.sqlite.specs.Listing.{understood}
-use Rattle.sqlite.specs.State.{State, mode_of, Writes, Executes, Shows}
-use Rattle.sqlite.proofs.Callers.{IsPlain, command_of, statement_of, runs_as, one_step}
+use Rattle.sqlite.specs.State.{State, mode_of, Executes, Shows}
+use Rattle.sqlite.proofs.Callers.{statement_of, runs_as, one_step}
 use Rattle.sqlite_value.specs.Order.{Row}
 use Rattle.sqlite_trees.specs.Tree.{rowid, put_row}
 use Rattle.sqlite_trees.proofs.ListLemmas.{map-map, pull_back}
 use Rattle.sqlite_schema.specs.declared.schema.Keys.TheVariants.{Enforced}
-use Rattle.sqlite_rules.specs.Action.{works}
 use Rattle.sqlite_rules.specs.Calls.{ids_of}
 use Rattle.sqlite_rules.specs.Edit.{taken_by, with_rowid, Applies, next_rowid, id_in, without_all, put_all, are_fresh}
 use Rattle.sqlite_rules.specs.Lists.{Has}

@@ -1,14 +1,16 @@
 -- How the steps of adopting a store follow one another.
-use Rattle.std.proofs.Common.{ℕ, inr, IfSome, IfNone, List, Option, Some, None, sym, subst, arith}
+use Rattle.std.proofs.Common.{◌⊎◌, ℕ, false, inl, inr, IfSome, IfNone, List, Option, Some, None, sym, subst, arith}
 use Rattle.sqlite.specs.Order.{Row}
 use Rattle.sqlite.specs.Effect.{Database}
 use Rattle.sqlite.specs.State.{State, HasCleanDisk, IsUnchanged, Survives}
 use Rattle.sqlite.proofs.StateLemmas.{survives_then}
-use Rattle.portal_rows.specs.First.{HoldsFirst}
-use Rattle.portal_rows.specs.Layouts.{Answers, IsOneRow, TellsLayout}
-use Rattle.portal_rows.specs.Upgrades.{MayUpgrade}
-use Rattle.portal_tables.specs.First.{first_layout}
-use Rattle.portal_tables.specs.Adopting.{LeftCarried}
+use Rattle.portal_rows.specs.Contents.{Contents}
+use Rattle.portal_rows.specs.Holds.{Holds, HoldsIn, this_layout}
+use Rattle.portal_layouts.specs.Layouts.{Answers, IsOneRow, TellsLayout}
+use Rattle.portal_layouts.specs.Brings.{HasUpgraded, MayUpgrade, number_of, upgraded}
+use Rattle.portal_layouts.specs.declared.layouts.OldLayout.{OldLayout}
+use Rattle.portal_layouts.specs.declared.layouts.OldLayout.TheVariants.{Fourth}
+use Rattle.portal_tables.specs.Adopting.{IsCarried, IsCompleted, LeftCarried}
 
 -- what was made of the rows that the head answered
 pub tells_by : (db : Database) (rows : List Row) (o : Option ℕ) → Answers db rows → IfSome o (IsOneRow rows) → IfNone o ((layout : ℕ) → ¬ IsOneRow rows layout) → TellsLayout db o
@@ -16,8 +18,27 @@ tells_by db rows (Some n) answers one none = (rows, answers, one)
 tells_by db rows None answers one none = inr (rows, answers, none)
 
 -- a look at the head, and then the upgrade
-pub upgrades_crash : (old mid new : State) → (HasCleanDisk mid → TellsLayout old.now (Some first_layout) × IsUnchanged old mid) → Survives old mid (λ _. ⊥) → Survives mid new (MayUpgrade mid)
+pub upgrades_crash : (from : OldLayout) (old mid new : State) → (HasCleanDisk mid → TellsLayout old.now (Some (number_of from)) × IsUnchanged old mid) → Survives old mid (λ _. ⊥) → Survives mid new (MayUpgrade from mid)
     → Survives old new (LeftCarried old.now)
-upgrades_crash old mid new look one two =
+upgrades_crash from old mid new look one two =
     survives_then old mid new _ _ (LeftCarried old.now) (λ _ db none. absurd none)
-    (λ clean db may. let it = look (omega (arith, two.clean)) in inr (it.0, λ t h. may it.1.0.is_open t (subst (λ db. HoldsFirst db t) (sym it.1.0.now_is) h))) one two
+    (λ clean db may. let it = look (omega (arith, two.clean)) in (from, it.0, λ t h. may it.1.0.is_open t (subst (λ db. HoldsIn (number_of from) false db t) (sym it.1.0.now_is) h))) one two
+
+-- a look at the head, and what it led to
+pub brings : (from : OldLayout) (old mid new : State) → TellsLayout old.now (Some (number_of from)) → IsUnchanged old mid → HasUpgraded from mid new → IsCarried old new
+brings from old mid new tells same did = record {
+  carries = inr (from, tells, λ t h. did.holds t (subst (λ db. HoldsIn (number_of from) false db t) (sym same.0.now_is) h));
+  is_open = did.is_open;
+  ended = did.ended;
+  same = did.committed;
+}
+
+pub completes : (old mid new : State) → TellsLayout old.now (Some this_layout) → IsUnchanged old mid → IsCompleted mid new → IsCarried old new
+completes old mid new tells same did = go did.holds
+  where
+    here : (t : Contents) → HoldsIn this_layout false old.now t → HoldsIn this_layout false mid.now t
+    here t h = subst (λ db. HoldsIn this_layout false db t) (sym same.0.now_is) h
+
+    go : ((t : Contents) → HoldsIn this_layout false mid.now t → Holds new.now t) ⊎ ((t : Contents) → HoldsIn this_layout false mid.now t → Holds new.now (upgraded Fourth t)) → IsCarried old new
+    go (inl kept) = record { carries = inl (tells, λ t h. kept t (here t h)); is_open = did.is_open; ended = did.ended; same = did.same }
+    go (inr up) = record { carries = inr (Fourth, tells, λ t h. up t (here t h)); is_open = did.is_open; ended = did.ended; same = did.same }

@@ -1,30 +1,35 @@
 -- What adopting a store comes to, where the store shows a history.
-use Rattle.std.proofs.Common.{◌≡◌, ◌≢◌, ◌⊎◌, inl, inr, ◌<◌, ◌≤◌, ℕ, false, true≢false, IsTrue, [], Option, Some, None, refl, sym, ap, subst, ◌∙◌, arith, lit≤}
+use Rattle.std.proofs.Common.{◌≡◌, ◌≢◌, ◌⊎◌, inl, inr, ◌<◌, ◌≤◌, ℕ, true, false, cond, nat_eq, true≢false, IsTrue, [], Option, Some, None, refl, sym, ap, subst, ◌∙◌, arith, lit≤}
 use Rattle.sqlite.specs.Held.{Held, state}
 use Rattle.sqlite.specs.Tree.{Trees}
 use Rattle.sqlite.specs.Schema.{Schema}
 use Rattle.sqlite.specs.Effect.{Database, IsDatabase}
 use Rattle.sqlite.specs.State.{State, HasCleanDisk, Survives}
 use Rattle.sqlite.specs.View.{doubt as doubt_of}
+use Rattle.sqlite.proofs.StateLemmas.{survives_weaker}
 use Rattle.sqlite_trees.specs.declared.store.Store.{Ghosts}
-use Rattle.portal_model.specs.History.{History}
+use Rattle.portal_ledger.specs.Ledger.{Ledger, all_rows_of}
+use Rattle.portal_ledger.specs.States.{running}
 use Rattle.portal_sql.specs.States.{IsAsBefore}
 use Rattle.portal_sql.specs.StandsAt.{LeftShows}
 use Rattle.portal_sql.proofs.StandsAtLemmas.{at_open}
-use Rattle.portal_rows.specs.Creates.{new_store}
-use Rattle.portal_rows.specs.Holds.{Holds, LeftHolds}
-use Rattle.portal_rows.specs.Layouts.{TellsLayout}
-use Rattle.portal_rows.proofs.HeadLayout.{tells, head_named}
-use Rattle.portal_rows.proofs.TellsOnce.{tells_once}
+use Rattle.portal_layouts.specs.Creates.{new_store}
+use Rattle.portal_rows.specs.Holds.{Holds, LeftHolds, this_layout}
+use Rattle.portal_layouts.specs.Brings.{number_of}
+use Rattle.portal_layouts.specs.declared.layouts.OldLayout.{OldLayout}
+use Rattle.portal_layouts.specs.declared.layouts.OldLayout.TheVariants.{First, Second, Third, Fourth}
+use Rattle.portal_layouts.proofs.IndexedLemmas.{less_indexed}
+use Rattle.portal_layouts.specs.Layouts.{TellsLayout}
+use Rattle.portal_layouts.proofs.HeadLayout.{tells, head_named}
+use Rattle.portal_layouts.proofs.TellsOnce.{tells_once}
 use Rattle.portal_tables.specs.declared.adopt.Refused.{Refused}
 use Rattle.portal_tables.specs.declared.fault.OpenFault.{OpenFault}
 use Rattle.portal_tables.specs.declared.fault.OpenFault.TheVariants.{NotOurs, Newer, Memory, Store}
 use Rattle.portal_tables.specs.declared.tables.Tables.{Tables}
-use Rattle.portal_tables.specs.Adopting.{Carries, FailsToAdopt, HeadIsNoView, IsExact, IsKept, IsKnown, IsReady, IsWhy, LeftCarried, MayAdopt}
-use Rattle.portal_tables.specs.First.{ShowsFirst, first_layout}
-use Rattle.portal_tables.specs.Shown.{ShowsHistory, this_layout}
-use Rattle.portal_tables.specs.Standing.{running}
-use Rattle.portal_tables.specs.Stores.{IsBare, IsNamed, StoreShows}
+use Rattle.portal_tables.specs.Adopting.{Carries, Stays, IsBrought, FailsToAdopt, HeadIsNoView, IsExact, IsKept, IsKnown, IsReady, IsWhy, LeftCarried, MayAdopt}
+use Rattle.portal_tables.specs.Older.{ShowsIn}
+use Rattle.portal_tables.specs.Shown.{ShowsLedger, all_contents_of}
+use Rattle.portal_tables.specs.Stores.{IsBare, IsNamed, ShowsOlder, StoreShows}
 use Rattle.portal_tables.specs.TablesAt.{ConnAt, ConnLeaves, ConnIsHonest, FilesShow, IsHonest, TablesAt}
 use Rattle.portal_tables.proofs.StandingLemmas.{IsSettled, left_store}
 use Rattle.portal_tables.proofs.Upgrading.{upgraded_shows}
@@ -34,134 +39,197 @@ use Rattle.portal_tables.proofs.Upgrading.{upgraded_shows}
 never_both : {X : Type 0} (schema : Schema) → IsNamed schema → IsBare schema → X
 never_both schema one none = absurd (true≢false (sym one ∙ none))
 
-named : (h : History) (db : Database) → ShowsHistory h db → IsNamed db.schema
-named h db shown = let place = shown.1.places.heads in head_named db.schema place.at place.tree shown.1.stand.heads.stands
+named : (layout : ℕ) (L : Ledger) (db : Database) → ShowsIn layout L db → IsNamed db.schema
+named layout L db shown = let place = shown.holds.places.heads in head_named db.schema place.at place.tree shown.holds.stand.heads.stands
 
-named_first : (h : History) (db : Database) → ShowsFirst h db → IsNamed db.schema
-named_first h db shown = let place = shown.1.places.heads in head_named db.schema place.at place.tree shown.1.stand.heads.stands
+-- the head tells the layout
+tells_it : (layout : ℕ) (L : Ledger) (db : Database) → ShowsIn layout L db → 1 ≤ layout → (o : Option ℕ) → TellsLayout db o → o ≡ Some layout
+tells_it layout L db shown low = let place = shown.holds.places.heads in tells db place.at place.tree _ shown.holds.stand.heads.stands shown.holds.store.heads low
 
--- the head tells this layout, or the first
-tells_this : (h : History) (db : Database) → ShowsHistory h db → (o : Option ℕ) → TellsLayout db o → o ≡ Some this_layout
-tells_this h db shown = let place = shown.1.places.heads in tells db place.at place.tree _ shown.1.stand.heads.stands shown.1.store.heads (lit≤ tt)
+low_enough : (from : OldLayout) → 1 ≤ number_of from
+low_enough First = lit≤ tt
+low_enough Second = lit≤ tt
+low_enough Third = lit≤ tt
+low_enough Fourth = lit≤ tt
 
-tells_first : (h : History) (db : Database) → ShowsFirst h db → (o : Option ℕ) → TellsLayout db o → o ≡ Some first_layout
-tells_first h db shown = let place = shown.1.places.heads in tells db place.at place.tree _ shown.1.stand.heads.stands shown.1.store.heads (lit≤ tt)
+high_enough : (from : OldLayout) → number_of from ≤ this_layout
+high_enough First = lit≤ tt
+high_enough Second = lit≤ tt
+high_enough Third = lit≤ tt
+high_enough Fourth = lit≤ tt
+
+tells_old : (from : OldLayout) (L : Ledger) (db : Database) → ShowsIn (number_of from) L db → (o : Option ℕ) → TellsLayout db o → o ≡ Some (number_of from)
+tells_old from L db shown = tells_it (number_of from) L db shown (low_enough from)
+
+-- a layout is told by its number
+abbrev by_number : ℕ → OldLayout
+by_number n = cond (nat_eq n 1) First (cond (nat_eq n 2) Second (cond (nat_eq n 3) Third Fourth))
+
+numbered_back : (from : OldLayout) → by_number (number_of from) ≡ from
+numbered_back First = refl
+numbered_back Second = refl
+numbered_back Third = refl
+numbered_back Fourth = refl
+
+same_number : {a b : ℕ} → ◌≡◌ {A = Option ℕ} (Some a) (Some b) → a ≡ b
+same_number e = cc
+
+same_layout : (a b : OldLayout) → ◌≡◌ {A = Option ℕ} (Some (number_of a)) (Some (number_of b)) → a ≡ b
+same_layout a b e = sym (numbered_back a) ∙ ap by_number (same_number e) ∙ numbered_back b
+
+-- a store of this version's layout, looked at as one that may lack the index
+as_older : (L : Ledger) (db : Database) → ShowsLedger L db → ShowsOlder L db
+as_older L db shown = (
+  Fourth,
+  record {
+    sound = shown.0;
+    unmarked = λ few. absurd (omega (arith, few));
+    short = λ few. absurd (omega (arith, few));
+    no_counts = λ few. absurd (omega (arith, few));
+    no_totals = λ few. absurd (omega (arith, few));
+    no_requests = λ few. absurd (omega (arith, few));
+    holds = less_indexed this_layout true db (all_contents_of this_layout (all_rows_of L)) shown.1;
+  },
+)
 
 -- a new store shows what was accepted there: nothing
-new_shown : (h : History) (db : Database) → h ≡ [] → Holds db new_store → ShowsHistory h db
-new_shown h db none holds = subst (λ x. ShowsHistory x db) (sym none) (tt, holds)
+new_shown : (L : Ledger) (db : Database) → L ≡ [] → Holds db new_store → ShowsLedger L db
+new_shown L db none holds = subst (λ x. ShowsLedger x db) (sym none) (tt, holds)
 
 -- ---- the tables that were made ready
 
-first_is_not_this : Some first_layout ≡ Some this_layout → ⊥
-first_is_not_this e = cc
+stays_shown : (from : OldLayout) (L : Ledger) (old new : Database) → Stays old new → ShowsIn (number_of from) L old → ShowsLedger L new
+stays_shown from L old new kept shown =
+    let is : Fourth ≡ from = same_layout Fourth from (tells_old from L old shown (Some this_layout) kept.0) in
+    let here : ShowsIn this_layout L old = subst (λ (f : OldLayout). ShowsIn (number_of f) L old) (sym is) shown in
+    (here.sound, kept.1 _ here.holds)
 
-carried_shown : (h : History) (old new : Database) → Carries old new → ShowsHistory h old ⊎ ShowsFirst h old → ShowsHistory h new
-carried_shown h old new (inl kept) (inl shown) = (shown.0, kept.1 _ shown.1)
-carried_shown h old new (inl kept) (inr shown) = absurd (first_is_not_this (sym (tells_first h old shown (Some this_layout) kept.0)))
-carried_shown h old new (inr kept) (inl shown) = absurd (first_is_not_this (tells_this h old shown (Some first_layout) kept.0))
-carried_shown h old new (inr kept) (inr shown) = upgraded_shows h new shown.0 (kept.1 _ shown.1)
+brought_shown : (from : OldLayout) (L : Ledger) (old new : Database) → IsBrought old new → ShowsIn (number_of from) L old → ShowsLedger L new
+brought_shown from L old new kept shown =
+    let is : kept.0 ≡ from = same_layout kept.0 from (tells_old from L old shown (Some (number_of kept.0)) kept.1) in
+    let here : ShowsIn (number_of kept.0) L old = subst (λ (f : OldLayout). ShowsIn (number_of f) L old) (sym is) shown in
+    upgraded_shows kept.0 L new here.sound here.unmarked (kept.2 _ here.holds)
 
-ready_shown : (h : History) (old new : State) → StoreShows h old.now → IsReady old new → ShowsHistory h new.now
-ready_shown h old new shows ready = go shows ready.holds
+carried_shown : (L : Ledger) (old new : Database) → Carries old new → ShowsOlder L old → ShowsLedger L new
+carried_shown L old new (inl kept) shown = stays_shown shown.0 L old new kept shown.1
+carried_shown L old new (inr kept) shown = brought_shown shown.0 L old new kept shown.1
+
+ready_shown : (L : Ledger) (old new : State) → StoreShows L old.now → IsReady old new → ShowsLedger L new.now
+ready_shown L old new shows ready = go shows ready.holds
   where
-    go : StoreShows h old.now → (IsBare old.now.schema × Holds new.now new_store) ⊎ (IsNamed old.now.schema × Carries old.now new.now) → ShowsHistory h new.now
-    go (inl shown) (inl made) = never_both old.now.schema (named h old.now shown) made.0
-    go (inl shown) (inr kept) = carried_shown h old.now new.now kept.1 (inl shown)
-    go (inr (inl shown)) (inl made) = never_both old.now.schema (named_first h old.now shown) made.0
-    go (inr (inl shown)) (inr kept) = carried_shown h old.now new.now kept.1 (inr shown)
-    go (inr (inr is)) (inl made) = new_shown h new.now is.0 made.1
+    go : StoreShows L old.now → (IsBare old.now.schema × Holds new.now new_store) ⊎ (IsNamed old.now.schema × Carries old.now new.now) → ShowsLedger L new.now
+    go (inl shown) (inl made) = let it = as_older L old.now shown in never_both old.now.schema (named (number_of it.0) L old.now it.1) made.0
+    go (inl shown) (inr kept) = carried_shown L old.now new.now kept.1 (as_older L old.now shown)
+    go (inr (inl shown)) (inl made) = never_both old.now.schema (named (number_of shown.0) L old.now shown.1) made.0
+    go (inr (inl shown)) (inr kept) = carried_shown L old.now new.now kept.1 shown
+    go (inr (inr is)) (inl made) = new_shown L new.now is.0 made.1
     go (inr (inr is)) (inr kept) = never_both old.now.schema kept.0 is.1
 
 -- what a stop may leave
-left_carried : (h : History) (old : Database) (trees : Trees) → LeftCarried old trees → ShowsHistory h old ⊎ ShowsFirst h old → LeftShows (ShowsHistory h) trees
-left_carried h old trees (inl kept) (inl shown) = let it = kept.1 _ shown.1 in (it.0, it.1, (shown.0, it.2))
-left_carried h old trees (inl kept) (inr shown) = absurd (first_is_not_this (sym (tells_first h old shown (Some this_layout) kept.0)))
-left_carried h old trees (inr kept) (inl shown) = absurd (first_is_not_this (tells_this h old shown (Some first_layout) kept.0))
-left_carried h old trees (inr kept) (inr shown) = let it = kept.1 _ shown.1 in (it.0, it.1, upgraded_shows h (record { schema = it.0; trees = trees }) shown.0 it.2)
+left_carried : (L : Ledger) (old : Database) (trees : Trees) → LeftCarried old trees → ShowsOlder L old → LeftShows (ShowsLedger L) trees
+left_carried L old trees kept shown =
+    let is : kept.0 ≡ shown.0 = same_layout kept.0 shown.0 (tells_old shown.0 L old shown.1 (Some (number_of kept.0)) kept.1) in
+    let here : ShowsIn (number_of kept.0) L old = subst (λ (f : OldLayout). ShowsIn (number_of f) L old) (sym is) shown.1 in
+    let it = kept.2 _ here.holds in
+    (it.0, it.1, upgraded_shows kept.0 L (record { schema = it.0; trees = trees }) here.sound here.unmarked it.2)
 
-new_left : (h : History) (trees : Trees) → h ≡ [] → LeftHolds trees new_store → LeftShows (ShowsHistory h) trees
-new_left h trees none left = (left.0, left.1, new_shown h (record { schema = left.0; trees = trees }) none left.2)
+new_left : (L : Ledger) (trees : Trees) → L ≡ [] → LeftHolds trees new_store → LeftShows (ShowsLedger L) trees
+new_left L trees none left = (left.0, left.1, new_shown L (record { schema = left.0; trees = trees }) none left.2)
 
-left_shown : (h : History) (old : Database) (trees : Trees) → StoreShows h old → MayAdopt old trees → LeftShows (ShowsHistory h) trees
-left_shown h old trees (inl shown) (inl made) = never_both old.schema (named h old shown) made.0
-left_shown h old trees (inl shown) (inr kept) = left_carried h old trees kept.1 (inl shown)
-left_shown h old trees (inr (inl shown)) (inl made) = never_both old.schema (named_first h old shown) made.0
-left_shown h old trees (inr (inl shown)) (inr kept) = left_carried h old trees kept.1 (inr shown)
-left_shown h old trees (inr (inr is)) (inl made) = new_left h trees is.0 made.1
-left_shown h old trees (inr (inr is)) (inr kept) = never_both old.schema kept.0 is.1
+left_shown : (L : Ledger) (old : Database) (trees : Trees) → StoreShows L old → MayAdopt old trees → LeftShows (ShowsLedger L) trees
+left_shown L old trees (inl shown) (inl made) = let it = as_older L old shown in never_both old.schema (named (number_of it.0) L old it.1) made.0
+left_shown L old trees (inl shown) (inr kept) = left_carried L old trees kept.1 (as_older L old shown)
+left_shown L old trees (inr (inl shown)) (inl made) = never_both old.schema (named (number_of shown.0) L old shown.1) made.0
+left_shown L old trees (inr (inl shown)) (inr kept) = left_carried L old trees kept.1 shown
+left_shown L old trees (inr (inr is)) (inl made) = new_left L trees is.0 made.1
+left_shown L old trees (inr (inr is)) (inr kept) = never_both old.schema kept.0 is.1
 
--- a store that shows a history is ours, and not newer
+-- a store that shows a ledger is ours, and not newer
 none_is_not_some : (n : ℕ) → ◌≡◌ {A = Option ℕ} None (Some n) → ⊥
 none_is_not_some n e = cc
 
-never_foreign : (h : History) (old : Database) → StoreShows h old → IsWhy NotOurs old → ⊥
-never_foreign h old (inl shown) why = none_is_not_some this_layout (tells_this h old shown None why.1)
-never_foreign h old (inr (inl shown)) why = none_is_not_some first_layout (tells_first h old shown None why.1)
-never_foreign h old (inr (inr is)) why = never_both old.schema why.0 is.1
+not_foreign : (L : Ledger) (old : Database) → ShowsOlder L old → IsWhy NotOurs old → ⊥
+not_foreign L old shown why = none_is_not_some (number_of shown.0) (tells_old shown.0 L old shown.1 None why.1)
+
+never_foreign : (L : Ledger) (old : Database) → StoreShows L old → IsWhy NotOurs old → ⊥
+never_foreign L old (inl shown) why = not_foreign L old (as_older L old shown) why
+never_foreign L old (inr (inl shown)) why = not_foreign L old shown why
+never_foreign L old (inr (inr is)) why = never_both old.schema why.0 is.1
 
 not_past : (n m : ℕ) → this_layout < n → m ≤ this_layout → Some n ≡ Some m → ⊥
 not_past n m past low e = let same : n ≡ m = cc in omega (arith, past, low, same)
 
-never_newer : (h : History) (old : Database) → StoreShows h old → IsWhy Newer old → ⊥
-never_newer h old (inl shown) why = not_past why.1.0 this_layout why.1.1 (lit≤ tt) (tells_this h old shown (Some why.1.0) why.1.2)
-never_newer h old (inr (inl shown)) why = not_past why.1.0 first_layout why.1.1 (lit≤ tt) (tells_first h old shown (Some why.1.0) why.1.2)
-never_newer h old (inr (inr is)) why = never_both old.schema why.0 is.1
+not_newer : (L : Ledger) (old : Database) → ShowsOlder L old → IsWhy Newer old → ⊥
+not_newer L old shown why = not_past why.1.0 (number_of shown.0) why.1.1 (high_enough shown.0) (tells_old shown.0 L old shown.1 (Some why.1.0) why.1.2)
+
+never_newer : (L : Ledger) (old : Database) → StoreShows L old → IsWhy Newer old → ⊥
+never_newer L old (inl shown) why = not_newer L old (as_older L old shown) why
+never_newer L old (inr (inl shown)) why = not_newer L old shown why
+never_newer L old (inr (inr is)) why = never_both old.schema why.0 is.1
 
 -- ---- whatever table stands under the head's name
 
-module _ (db : Database) (no_view : HeadIsNoView db.schema) (ours : IsNamed db.schema) (told : Option ℕ) (tells_it : TellsLayout db told) where
-  pub exact_known : IsKnown db → (told ≡ Some this_layout) ⊎ (told ≡ Some first_layout)
+module _ (db : Database) (no_view : HeadIsNoView db.schema) (ours : IsNamed db.schema) (told : Option ℕ) (tells_this : TellsLayout db told) where
+  pub exact_known : IsKnown db → (layout : ℕ) × (1 ≤ layout) × (layout ≤ this_layout) × (told ≡ Some layout)
   exact_known (inl bare) = never_both db.schema ours bare
-  exact_known (inr (named, inl this)) = inl (tells_once db no_view told (Some this_layout) tells_it this)
-  exact_known (inr (named, inr first)) = inr (tells_once db no_view told (Some first_layout) tells_it first)
+  exact_known (inr (named, known)) = (known.0, known.1, known.2, tells_once db no_view told (Some known.0) tells_this known.3)
 
   pub exact_why : (fault : OpenFault) → IsWhy fault db → IsExact told fault
-  exact_why NotOurs why = tells_once db no_view told None tells_it why.1
-  exact_why Newer why = (why.1.0, why.1.1, tells_once db no_view told (Some why.1.0) tells_it why.1.2)
+  exact_why NotOurs why = tells_once db no_view told None tells_this why.1
+  exact_why Newer why = (why.1.0, why.1.1, tells_once db no_view told (Some why.1.0) tells_this why.1.2)
   exact_why Memory why = tt
   exact_why Store why = tt
+
+-- ---- a store that is not known
+
+known_by : (db : Database) (trees : Trees) → MayAdopt db trees → IsKnown db
+known_by db trees (inl made) = inl made.0
+known_by db trees (inr kept) = let it = kept.1 in inr (kept.0, (number_of it.0, low_enough it.0, high_enough it.0, it.1))
+
+-- nothing is added to what a stop may leave of it
+pub spares : (old new : State) → ¬ IsKnown old.now → Survives old new (MayAdopt old.now) → Survives old new (λ _. ⊥)
+spares old new unknown crash = survives_weaker old new (MayAdopt old.now) (λ _. ⊥) (λ _ db may. unknown (known_by old.now db may)) crash
 
 module _ {S : Type 0} (g : Ghosts S) where
   -- ---- it was adopted
 
-  pub adopted : (h : History) (old : Held S) (tables : Tables S) → tables.is_stopped ≡ false → IsSettled g tables.conn → ConnAt g old h → (IsTrue (state g old).is_open → IsReady (state g old) (state g tables.conn))
-      → TablesAt g tables (running h)
+  pub adopted : (L : Ledger) (old : Held S) (tables : Tables S) → tables.is_stopped ≡ false → IsSettled g tables.conn → ConnAt g old L → (IsTrue (state g old).is_open → IsReady (state g old) (state g tables.conn))
+      → TablesAt g tables (running L)
   unfolding ConnAt TablesAt
-  adopted h old tables works law at made =
+  adopted L old tables works law at made =
       let ready = made at.is_open in
-      let shown = ready_shown h (state g old) (state g tables.conn) at.shown ready in
-      (works, at_open (ShowsHistory h) (state g tables.conn) law ready.is_open ready.ended (sym ready.same) shown.1.sound shown)
+      let shown = ready_shown L (state g old) (state g tables.conn) at.shown ready in
+      (works, at_open (ShowsLedger L) (state g tables.conn) law ready.is_open ready.ended (sym ready.same) shown.1.sound shown)
 
   -- ---- it was not
 
-  again : (h : History) (old new : Held S) → IsSettled g new → ConnAt g old h → IsAsBefore (state g old) (state g new) → ConnAt g new h
+  again : (L : Ledger) (old new : Held S) → IsSettled g new → ConnAt g old L → IsAsBefore (state g old) (state g new) → ConnAt g new L
   unfolding ConnAt
-  again h old new law at before =
+  again L old new law at before =
       let now : (state g new).now ≡ (state g old).now = before.now ∙ sym at.settled in
-      at_open (StoreShows h) (state g new) law before.is_open before.ended (before.now ∙ sym before.committed) (subst IsDatabase (sym now) at.sound) (subst (StoreShows h) (sym now) at.shown)
+      at_open (StoreShows L) (state g new) law before.is_open before.ended (before.now ∙ sym before.committed) (subst IsDatabase (sym now) at.sound) (subst (StoreShows L) (sym now) at.shown)
 
-  leaves : (h : History) (old new : Held S) → ConnAt g old h → HasCleanDisk (state g new) → Survives (state g old) (state g new) (MayAdopt (state g old).now) → ConnLeaves g new h
+  leaves : (L : Ledger) (old new : Held S) → ConnAt g old L → HasCleanDisk (state g new) → Survives (state g old) (state g new) (MayAdopt (state g old).now) → ConnLeaves g new L
   unfolding ConnAt ConnLeaves FilesShow
-  leaves h old new at clean survives files may = elim (survives.crash clean files may) [
+  leaves L old new at clean survives files may = elim (survives.crash clean files may) [
     | inl was ↦ at.left files was
-    | inr adopts ↦ left_store h files (left_shown h (state g old).now files at.shown adopts)
+    | inr adopts ↦ left_store L files (left_shown L (state g old).now files at.shown adopts)
   ]
 
-  shows_at : (h : History) (old : Held S) → ConnAt g old h → StoreShows h (state g old).now × IsTrue (state g old).is_open
+  shows_at : (L : Ledger) (old : Held S) → ConnAt g old L → StoreShows L (state g old).now × IsTrue (state g old).is_open
   unfolding ConnAt
-  shows_at h old at = (at.shown, at.is_open)
+  shows_at L old at = (at.shown, at.is_open)
 
   memory_not_store : ◌≡◌ {A = OpenFault} Memory Store → ⊥
   memory_not_store e = cc
 
-  refused_by : (h : History) (old new : Held S) (fault : OpenFault) → ConnAt g old h → HasCleanDisk (state g new) → IsSettled g new → IsWhy fault (state g old).now
+  refused_by : (L : Ledger) (old new : Held S) (fault : OpenFault) → ConnAt g old L → HasCleanDisk (state g new) → IsSettled g new → IsWhy fault (state g old).now
       → (IsTrue (state g old).is_open → fault ≢ Store → IsAsBefore (state g old) (state g new)) → Survives (state g old) (state g new) (MayAdopt (state g old).now)
-      → FailsToAdopt g h (record { fault = fault; connection = new })
-  refused_by h old new NotOurs at clean law why kept survives = absurd (never_foreign h (state g old).now (shows_at h old at).0 why)
-  refused_by h old new Newer at clean law why kept survives = absurd (never_newer h (state g old).now (shows_at h old at).0 why)
-  refused_by h old new Memory at clean law why kept survives = inl (refl, again h old new law at (kept (shows_at h old at).1 memory_not_store))
-  refused_by h old new Store at clean law why kept survives = inr (refl, leaves h old new at clean survives)
+      → FailsToAdopt g L (record { fault = fault; connection = new })
+  refused_by L old new NotOurs at clean law why kept survives = absurd (never_foreign L (state g old).now (shows_at L old at).0 why)
+  refused_by L old new Newer at clean law why kept survives = absurd (never_newer L (state g old).now (shows_at L old at).0 why)
+  refused_by L old new Memory at clean law why kept survives = inl (refl, again L old new law at (kept (shows_at L old at).1 memory_not_store))
+  refused_by L old new Store at clean law why kept survives = inr (refl, leaves L old new at clean survives)
 
   pub conn_clean : (conn : Held S) → ConnIsHonest g conn → HasCleanDisk (state g conn)
   unfolding ConnIsHonest
@@ -171,12 +239,12 @@ module _ {S : Type 0} (g : Ghosts S) where
   unfolding IsHonest
   tables_clean tables clean = clean
 
-  pub refused : (h : History) (old : Held S) (r : Refused S) → ConnAt g old h → IsSettled g r.connection → (HasCleanDisk (state g r.connection) → IsWhy r.fault (state g old).now)
+  pub refused : (L : Ledger) (old : Held S) (r : Refused S) → ConnAt g old L → IsSettled g r.connection → (HasCleanDisk (state g r.connection) → IsWhy r.fault (state g old).now)
       → (HasCleanDisk (state g r.connection) → IsTrue (state g old).is_open → r.fault ≢ Store → IsAsBefore (state g old) (state g r.connection) × ((state g old).now ≡ (state g old).committed))
-      → Survives (state g old) (state g r.connection) (MayAdopt (state g old).now) → ConnIsHonest g r.connection → FailsToAdopt g h r
-  refused h old r at law why kept survives honest =
+      → Survives (state g old) (state g r.connection) (MayAdopt (state g old).now) → ConnIsHonest g r.connection → FailsToAdopt g L r
+  refused L old r at law why kept survives honest =
       let clean = conn_clean r.connection honest in
-      refused_by h old r.connection r.fault at clean law (why clean) (λ live other. (kept clean live other).0) survives
+      refused_by L old r.connection r.fault at clean law (why clean) (λ live other. (kept clean live other).0) survives
 
   pub kept_by : (old new : Held S) → IsSettled g new → IsAsBefore (state g old) (state g new) × ((state g old).now ≡ (state g old).committed) → IsKept (state g old) (state g new)
   kept_by old new law it = record {

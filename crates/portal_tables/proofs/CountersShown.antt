@@ -16,10 +16,12 @@ use Rattle.portal_model.specs.Verdict.{IsLegal}
 use Rattle.portal_laws.proofs.Numbers.{rows_are_numbered}
 use Rattle.portal_laws.proofs.Sessions.{counts_are_sums, totals_are_sums}
 use Rattle.portal_laws.proofs.Typed.{rows_are_typed}
-use Rattle.portal_rows.specs.Audit.{IsAudited, total_in}
-use Rattle.portal_rows.specs.Sums.{summed}
-use Rattle.portal_tables.specs.Shown.{voucher_kept, session_kept, grant_kept, count_kept, contents_of, this_layout}
-use Rattle.portal_rows.proofs.SameCode.{code_test}
+use Rattle.portal_lists.specs.Audit.{IsAudited, total_in}
+use Rattle.portal_lists.specs.Sums.{summed}
+use Rattle.portal_tables.specs.Shown.{voucher_kept, session_kept, grant_kept, count_kept, contents_of}
+use Rattle.portal_ledger.specs.RequestRow.{RequestRow}
+use Rattle.portal_rows.specs.Holds.{this_layout}
+use Rattle.portal_lists.proofs.SameCode.{code_test}
 
 has_mapped : {X Y : Type 0} (f : X → Y) (xs : List X) (x : X) → Has xs x → Has (map f xs) (f x)
 has_mapped f [] x has = absurd has
@@ -74,10 +76,10 @@ totals_shown h legal = map-map (total_from (summed (rows_of h).plans (map grant_
 -- ---- the audit
 
 -- the tables of a history pass it
-pub audit_shown : (h : History) → IsLegal h → IsAudited (contents_of this_layout (rows_of h))
-audit_shown h legal =
+pub audit_shown : (ks : List RequestRow) (h : History) → IsLegal h → IsAudited (contents_of ks this_layout (rows_of h))
+audit_shown ks h legal =
     let r = rows_of h in
-    let t = contents_of this_layout r in
+    let t = contents_of ks this_layout r in
     let counts = counts_shown h legal in
     let totals = totals_shown h legal in
     let numbered = rows_are_numbered h legal in

@@ -1,6 +1,8 @@
 -- From what the readers find to the records of the history.
 use Rattle.std.proofs.Common.{◌≡◌, inl, inr, ℕ, ◌+◌, ◌<◌, ◌≤◌, ◌^◌, Bool, true, false, cond, List, [], ◌∷◌, map, All, Option, Some, None, option_map, refl, sym, ap, subst, ◌∙◌, arith, bytes_eq, nat_eq, zero, suc}
 use Rattle.std.specs.Option.{option_or}
+use Rattle.std.specs.Prelude.{is_some}
+use Rattle.std.proofs.Math.Bool.{or-false}
 use Rattle.std.specs.List.{range_with_len}
 use Rattle.std.proofs.lemmas.List.Elements.{recursion_from_All}
 use Rattle.std.proofs.lemmas.Bool.Decides.{Decides-eqb}
@@ -11,14 +13,14 @@ use Rattle.portal_codes.specs.Code.{IsCode, text_of}
 use Rattle.portal_model.specs.Device.{IsDevice, text_of_device}
 use Rattle.portal_model.specs.declared.plan.Plan.{Plan}
 use Rattle.portal_model.specs.declared.record.Batch.{Batch}
-use Rattle.portal_model.specs.History.{History, plan_of, batch_of, voucher_of, session_of, last_session_of, head_of}
+use Rattle.portal_model.specs.History.{History, plan_of, batch_of, issued_of, voucher_of, session_of, last_session_of, head_of}
 use Rattle.portal_model.specs.Change.{plan_among}
 use Rattle.portal_model.specs.Rows.{VoucherRow, SessionRow, CountRow, TotalRow, rows_of, plans_of, batches_of, vouchers_of, sessions_of, counts_of, totals_of, places_of, row_of_place, count_of_place, batch_among, row_among, count_among, session_among, total_among, last_among, joined, joined_session, voucher_from, session_from, last_session_from, allowance_from}
 use Rattle.portal_model.specs.Verdict.{IsLegal, stands_twice}
 use Rattle.portal_laws.proofs.Basics.{map-map}
 use Rattle.portal_laws.proofs.Keys.{batch_is_row}
 use Rattle.portal_laws.proofs.Plans.{plan_is_row}
-use Rattle.portal_laws.proofs.Vouchers.{voucher_is_row}
+use Rattle.portal_laws.proofs.Vouchers.{voucher_is_row, taken_are_rows}
 use Rattle.portal_laws.proofs.Sessions.{session_is_row, last_session_is_row}
 use Rattle.portal_laws.proofs.Numbers.{rows_are_numbered, keys_apart}
 use Rattle.portal_laws.proofs.Typed.{rows_are_typed}
@@ -32,8 +34,9 @@ use Rattle.portal_rows.specs.declared.signs.Total.{Total}
 use Rattle.portal_rows.specs.Contents.{HeadRow}
 use Rattle.portal_rows.specs.Steps.{ends_row}
 use Rattle.portal_rows.specs.Read.{head_read, voucher_read, session_read, count_read}
-use Rattle.portal_tables.specs.Shown.{head_kept, voucher_kept, session_kept, count_kept, this_layout, IsRowOf}
-use Rattle.portal_rows.proofs.SameCode.{same_code}
+use Rattle.portal_tables.specs.Shown.{head_kept, voucher_kept, session_kept, count_kept, IsRowOf}
+use Rattle.portal_rows.specs.Holds.{this_layout}
+use Rattle.portal_lists.proofs.SameCode.{same_code}
 use Rattle.portal_tables.proofs.Spelled.{same_device}
 use Rattle.portal_tables.proofs.Lookups.{IsApart, finds_it, finds_none_of, apart_by_text, apart_by_number, from_on, has_origin, has_image_of}
 
@@ -97,6 +100,16 @@ module _ (h : History) (legal : IsLegal h) (code : List ℕ) (is : IsCode code) 
       let it = has_origin count_kept (counts_of h) (count_read count) f.0 in
       let named = the_counts it.0 it.1 (ap (λ (k : CountRow). k.code) (sym it.2) ∙ f.1) in
       (it.0, finds_it (λ (k : CountRow). k.code) bytes_eq same_bytes code (counts_of h) (apart_by_text (λ (k : CountRow). k.code) (counts_of h) counts_apart) it.0 it.1 named, ap (λ (k : CountRow). k.redeemed) it.2)
+
+  held_by_row : is_some (issued_of h code) ≡ is_some (row_among (vouchers_of h) code)
+  held_by_row = sym (or-false (is_some (issued_of h code))) ∙ taken_are_rows h legal (code ∷ []) ∙ or-false (is_some (row_among (vouchers_of h) code))
+
+  pub held_is : (found : Option KeptVoucher) → Finds (λ (x : VoucherRow). x.code) (text_of code) (map voucher_kept (vouchers_of h)) (option_map voucher_read found) → is_some found ≡ is_some (issued_of h code)
+  held_is None none =
+      let gone : row_among (vouchers_of h) code ≡ None =
+      finds_none_of (λ (v : VoucherRow). v.code) bytes_eq same_bytes code (vouchers_of h) (λ x has same. none (voucher_kept x) (has_image_of voucher_kept (vouchers_of h) x has) (ap text_of same)) in
+      sym (held_by_row ∙ ap (λ (o : Option VoucherRow). is_some o) gone)
+  held_is (Some row) f = let it = row_found row f in sym (held_by_row ∙ ap (λ (o : Option VoucherRow). is_some o) it.1)
 
   pub voucher_joined : (row : KeptVoucher) (count : KeptCount) (batch : Batch) (plan : Plan) → Finds (λ (x : VoucherRow). x.code) (text_of code) (map voucher_kept (vouchers_of h)) (Some (voucher_read row))
       → Finds (λ (x : CountRow). x.code) (text_of code) (map count_kept (counts_of h)) (Some (count_read count)) → batch_of h row.batch ≡ Some batch → plan_of h batch.plan ≡ Some plan

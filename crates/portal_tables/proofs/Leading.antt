@@ -27,8 +27,9 @@ use Rattle.portal_laws.proofs.Typed.{rows_are_typed}
 use Rattle.portal_sql.specs.Stored.{number, put_by}
 use Rattle.portal_rows.specs.Steps.{ended_if}
 use Rattle.portal_rows.specs.Commands.{kept}
+use Rattle.portal_ledger.specs.RequestRow.{RequestRow}
 use Rattle.portal_tables.specs.Shown.{contents_of, head_kept, voucher_kept, session_kept, grant_kept, count_kept}
-use Rattle.portal_rows.proofs.SameCode.{code_test}
+use Rattle.portal_lists.proofs.SameCode.{code_test}
 
 -- ---- rows that change
 
@@ -116,7 +117,7 @@ pub record AreCounted (r : Rows) : Type 0 where
   pub totals : map (λ (m : TotalRow). m.number) r.totals ≡ range_with_len 1 r.head.sessions
   pub grants : map (λ (g : GrantRow). g.number) r.grants ≡ range_with_len 1 r.head.grants
 
-module _ (layout : ℕ) (r : Rows) (typed : AreTyped r) (counted : AreCounted r) where
+module _ (ks : List RequestRow) (layout : ℕ) (r : Rows) (typed : AreTyped r) (counted : AreCounted r) where
   session_added : (s : SessionRow) → s.number ≡ r.head.sessions + 1 → put_by (λ (x : SessionRow). x.number) (session_kept s) (map session_kept r.sessions) ≡ map session_kept (r.sessions ++ s ∷ [])
   session_added s next =
       put_last (λ (x : SessionRow). x.number) (session_kept s) 1 r.head.sessions (map session_kept r.sessions) (keys_kept session_kept (λ (x : SessionRow). x.number) (λ x. refl) r.sessions ∙ counted.sessions) (omega (arith, next))
@@ -131,7 +132,7 @@ module _ (layout : ℕ) (r : Rows) (typed : AreTyped r) (counted : AreCounted r)
       ∙ sym (map-append grant_kept r.grants (g ∷ []))
 
   redeem_kept : (at : ℕ) (v : Voucher) (running : Option Session) (s : Session) → IsCode v.code → (running ≡ None → s.number ≡ r.head.sessions + 1)
-      → let c = to.Redemption (record { at = at; head = r.head; voucher = v; running = running; session = s }) in kept c (contents_of layout r) ≡ contents_of layout (lead c r)
+      → let c = to.Redemption (record { at = at; head = r.head; voucher = v; running = running; session = s }) in kept c (contents_of ks layout r) ≡ contents_of ks layout (lead c r)
   redeem_kept at v None s code next = λ i. record {
     heads = head_kept layout (head_after r.head None at) ∷ [];
     plans = r.plans;
@@ -141,6 +142,7 @@ module _ (layout : ℕ) (r : Rows) (typed : AreTyped r) (counted : AreCounted r)
     grants = grant_added (new_grant r.head v s at) refl i;
     counts = counted_alike v.code (v.redeemed + 1) code r.counts typed.counts i;
     totals = total_added (total_row s) (next refl) i;
+    requests = ks;
   }
   redeem_kept at v (Some running) s code next = λ i. record {
     heads = head_kept layout (head_after r.head (Some running) at) ∷ [];
@@ -151,6 +153,7 @@ module _ (layout : ℕ) (r : Rows) (typed : AreTyped r) (counted : AreCounted r)
     grants = grant_added (new_grant r.head v s at) refl i;
     counts = counted_alike v.code (v.redeemed + 1) code r.counts typed.counts i;
     totals = ended_alike s r.totals i;
+    requests = ks;
   }
 
   -- the changes are those of a command over these rows
@@ -163,7 +166,7 @@ module _ (layout : ℕ) (r : Rows) (typed : AreTyped r) (counted : AreCounted r)
   IsOver (to.Repayment c) = IsCode c.voucher.code
   IsOver (to.Closing c) = Unit {0}
 
-  pub kept_is : (c : Changes) → IsOver c → kept c (contents_of layout r) ≡ contents_of layout (lead c r)
+  pub kept_is : (c : Changes) → IsOver c → kept c (contents_of ks layout r) ≡ contents_of ks layout (lead c r)
   kept_is (to.Loading c) h = refl
   kept_is (to.Issuance c) h = λ i. record {
     heads = head_kept layout (record r.head { last = c.at }) ∷ [];
@@ -174,16 +177,17 @@ module _ (layout : ℕ) (r : Rows) (typed : AreTyped r) (counted : AreCounted r)
     grants = map grant_kept r.grants;
     counts = (ap (λ ks. map count_kept r.counts ++ ks) (zeros_alike c.codes) ∙ sym (map-append count_kept r.counts (new_counts c.codes))) i;
     totals = r.totals;
+    requests = ks;
   }
-  kept_is (to.Sale c) h = λ i. record (contents_of layout (lead (to.Sale c) r)) { vouchers = sold_alike c.voucher.code c.at h r.vouchers typed.vouchers i }
+  kept_is (to.Sale c) h = λ i. record (contents_of ks layout (lead (to.Sale c) r)) { vouchers = sold_alike c.voucher.code c.at h r.vouchers typed.vouchers i }
   kept_is (to.Redemption c) h =
-      subst (λ (x : Head). let y = to.Redemption (record c { head = x }) in kept y (contents_of layout r) ≡ contents_of layout (lead y r)) (sym h.1) (redeem_kept c.at c.voucher c.running c.session h.0 h.2)
-  kept_is (to.Usage c) h = λ i. record (contents_of layout (lead (to.Usage c) r)) {
+      subst (λ (x : Head). let y = to.Redemption (record c { head = x }) in kept y (contents_of ks layout r) ≡ contents_of ks layout (lead y r)) (sym h.1) (redeem_kept c.at c.voucher c.running c.session h.0 h.2)
+  kept_is (to.Usage c) h = λ i. record (contents_of ks layout (lead (to.Usage c) r)) {
     sessions = used_alike c.session.number (max c.bytes c.session.used) r.sessions i;
     totals = ended_alike (reported c.bytes c.session) r.totals i;
   }
-  kept_is (to.Repayment c) h = λ i. record (contents_of layout (lead (to.Repayment c) r)) { vouchers = refunded_alike c.voucher.code c.at c.amount h r.vouchers typed.vouchers i }
-  kept_is (to.Closing c) h = λ i. record (contents_of layout (lead (to.Closing c) r)) { sessions = closed_alike c.session.number c.at r.sessions i }
+  kept_is (to.Repayment c) h = λ i. record (contents_of ks layout (lead (to.Repayment c) r)) { vouchers = refunded_alike c.voucher.code c.at c.amount h r.vouchers typed.vouchers i }
+  kept_is (to.Closing c) h = λ i. record (contents_of ks layout (lead (to.Closing c) r)) { sessions = closed_alike c.session.number c.at r.sessions i }
 
 -- ---- the changes of a command
 
@@ -204,9 +208,9 @@ next_number : (head : Head) (plan : Plan) (device : List ℕ) (t : ℕ) (running
 next_number head plan device t None e = refl
 next_number head plan device t (Some s) e = absurd (cc)
 
-module _ (layout : ℕ) (H : History) (legal : IsLegal H) (t : ℕ) (typed : AreTyped (rows_of H)) (counted : AreCounted (rows_of H)) where
+module _ (ks : List RequestRow) (layout : ℕ) (H : History) (legal : IsLegal H) (t : ℕ) (typed : AreTyped (rows_of H)) (counted : AreCounted (rows_of H)) where
   abbrev Over : Changes → Type 0
-  Over = IsOver layout (rows_of H) typed counted
+  Over = IsOver ks layout (rows_of H) typed counted
 
   sells : (code : List ℕ) (o : Option Voucher) (changes : Changes) → ((v : Voucher) → o ≡ Some v → IsCode v.code) → sell_change o t ≡ Some changes → Over changes
   sells code None changes is e = absurd (cc)
@@ -242,10 +246,10 @@ module _ (layout : ℕ) (H : History) (legal : IsLegal H) (t : ℕ) (typed : Are
   over (Close n) changes h e = closes (session_of H n) changes e
 
 -- a command makes of the tables of a history those of the history with its entry
-pub leads_on : (layout : ℕ) (H : History) → IsLegal H → (command : Command) (t : ℕ) → Follows H t command → (changes : Changes) → changes_of H command t ≡ Some changes
-    → kept changes (contents_of layout (rows_of H)) ≡ contents_of layout (rows_of (entry t command ∷ H))
-leads_on layout H legal command t follows changes is =
+pub leads_on : (ks : List RequestRow) (layout : ℕ) (H : History) → IsLegal H → (command : Command) (t : ℕ) → Follows H t command → (changes : Changes) → changes_of H command t ≡ Some changes
+    → kept changes (contents_of ks layout (rows_of H)) ≡ contents_of ks layout (rows_of (entry t command ∷ H))
+leads_on ks layout H legal command t follows changes is =
     let typed = rows_are_typed H legal in
     let n = rows_are_numbered H legal in
     let counted : AreCounted (rows_of H) = record { sessions = n.sessions; totals = n.totals; grants = n.grants } in
-    kept_is layout (rows_of H) typed counted changes (over layout H legal t typed counted command changes follows.typed is) ∙ ap (contents_of layout) (sym (rows_lead H legal command t follows changes is))
+    kept_is ks layout (rows_of H) typed counted changes (over ks layout H legal t typed counted command changes follows.typed is) ∙ ap (contents_of ks layout) (sym (rows_lead H legal command t follows changes is))

@@ -3,6 +3,7 @@ pub mod AdoptedLemmas
 pub mod CountersShown
 pub mod InOrder
 pub mod Joining
+pub mod KeptLemmas
 pub mod Leading
 pub mod ListLaws
 pub mod ListSteps

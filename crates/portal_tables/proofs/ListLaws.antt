@@ -19,11 +19,11 @@ use Rattle.portal_laws.proofs.Numbers.{rows_are_numbered}
 use Rattle.portal_laws.proofs.Openings.{IsFirst, openings_first, session_at}
 use Rattle.portal_laws.proofs.Typed.{rows_are_typed}
 use Rattle.portal_sql.proofs.Keys.{agree}
-use Rattle.portal_rows.specs.Lists.{Lists, ListsAs, by_place, by_number, is_left, may_be_open, numbers_open}
+use Rattle.portal_lists.specs.Lists.{Lists, ListsAs, by_place, by_number, is_left, may_be_open, numbers_open}
 use Rattle.portal_tables.specs.Lists.{open_numbered}
 use Rattle.portal_tables.specs.Shown.{voucher_kept}
 use Rattle.portal_tables.proofs.InOrder.{in_order, filter_true}
-use Rattle.portal_rows.proofs.SameCode.{same_code}
+use Rattle.portal_lists.proofs.SameCode.{same_code}
 
 -- ---- the codes of a batch
 

@@ -13,10 +13,10 @@ use Rattle.sqlite.specs.Steps.{over_memory, IsEmpty}
 use Rattle.sqlite_trees.specs.declared.memory.MemStore.{MemStore}
 use Rattle.sqlite.specs.Closing.{IsCopied}
 use Rattle.sqlite.specs.Files.{HoldsDatabase, image_of, file_state, over_files, Finds, IsOpened}
-use Rattle.portal_model.specs.History.{History}
+use Rattle.portal_ledger.specs.Ledger.{Ledger}
 use Rattle.portal_sql.specs.StandsAt.{LeftShows}
 use Rattle.portal_sql.proofs.StandsAtLemmas.{at_open, opened_at, shows_under}
-use Rattle.portal_rows.specs.Layouts.{is_any_named}
+use Rattle.portal_layouts.specs.Layouts.{is_any_named}
 use Rattle.portal_tables.specs.Stores.{StoreShows}
 use Rattle.portal_tables.specs.TablesAt.{ConnAt, FilesShow}
 
@@ -24,21 +24,21 @@ use Rattle.portal_tables.specs.TablesAt.{ConnAt, FilesShow}
 abbrev pub IsSettledOver : {D : Type 0} {g : Ghosts D} → Held (FileStore D g) → Type 0
 IsSettledOver c = (db : Trees) → IsTrue (file_state c).is_open → (file_state c).may_leave db → db ≡ (file_state c).committed.trees
 
-module _ {D : Type 0} {g : Ghosts D} (h : History) where
-  pub opened_stands : (files : Files D) (c : Held (FileStore D g)) (left : Trees) → IsSettledOver c → HoldsDatabase (image_of g files) left → FilesShow left h → IsOpened c → Finds files c → ConnAt over_files c h
+module _ {D : Type 0} {g : Ghosts D} (L : Ledger) where
+  pub opened_stands : (files : Files D) (c : Held (FileStore D g)) (left : Trees) → IsSettledOver c → HoldsDatabase (image_of g files) left → FilesShow left L → IsOpened c → Finds files c → ConnAt over_files c L
   unfolding FilesShow ConnAt
   opened_stands files c left law holds shown opened found =
-      at_open (StoreShows h) (file_state c) law opened.0.is_open opened.0.autocommit opened.0.clean (opened.1 opened.0.is_open).0 (opened_at (StoreShows h) files c left holds shown opened found)
+      at_open (StoreShows L) (file_state c) law opened.0.is_open opened.0.autocommit opened.0.clean (opened.1 opened.0.is_open).0 (opened_at (StoreShows L) files c left holds shown opened found)
 
-  pub reopened_stands : (old again : Held (FileStore D g)) (files : Files D) → IsSettledOver again → ConnAt over_files old h → (AreClean g files.log files.db → IsCopied old files) → IsOpened again → Finds files again → ConnAt over_files again h
+  pub reopened_stands : (old again : Held (FileStore D g)) (files : Files D) → IsSettledOver again → ConnAt over_files old L → (AreClean g files.log files.db → IsCopied old files) → IsOpened again → Finds files again → ConnAt over_files again L
   unfolding ConnAt
   reopened_stands old again files law at closed opened found =
       let s = file_state again in
-      let was : LeftShows (StoreShows h) (file_state old).committed.trees = subst (λ (db : Database). LeftShows (StoreShows h) db.trees) at.settled ((file_state old).now.schema, at.sound, at.shown) in
-      let here : LeftShows (StoreShows h) s.committed.trees = subst (LeftShows (StoreShows h)) (sym (finds_again old again files closed found)) was in
+      let was : LeftShows (StoreShows L) (file_state old).committed.trees = subst (λ (db : Database). LeftShows (StoreShows L) db.trees) at.settled ((file_state old).now.schema, at.sound, at.shown) in
+      let here : LeftShows (StoreShows L) s.committed.trees = subst (LeftShows (StoreShows L)) (sym (finds_again old again files closed found)) was in
       let live = opened.1 opened.0.is_open in
-      at_open (StoreShows h) s law opened.0.is_open opened.0.autocommit opened.0.clean live.0
-      (subst (StoreShows h) (sym opened.0.clean) (shows_under (StoreShows h) s.committed.trees s.committed.schema live.1 here))
+      at_open (StoreShows L) s law opened.0.is_open opened.0.autocommit opened.0.clean live.0
+      (subst (StoreShows L) (sym opened.0.clean) (shows_under (StoreShows L) s.committed.trees s.committed.schema live.1 here))
 
 -- an empty schema has no table of ours
 bare : (schema : Schema) → schema ≡ record { tables = []; indexes = []; views = [] } → is_any_named schema ≡ false

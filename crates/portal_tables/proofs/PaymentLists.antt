@@ -15,8 +15,8 @@ use Rattle.portal_laws.proofs.Basics.{map-map, filter-map}
 use Rattle.portal_laws.proofs.Keys.{batch_is_row}
 use Rattle.portal_laws.proofs.Paid.{sales_are_rows, refunds_are_rows}
 use Rattle.portal_laws.proofs.Plans.{plan_is_row}
-use Rattle.portal_rows.specs.Lists.{Lists, ListsAs, is_within, by_sale, by_refund, sale_shown, refund_shown, refund_read}
-use Rattle.portal_rows.proofs.Listing.{sorted_from_map}
+use Rattle.portal_lists.specs.Lists.{Lists, ListsAs, is_within, by_sale, by_refund, sale_shown, refund_shown, refund_read}
+use Rattle.portal_lists.proofs.Listing.{sorted_from_map}
 use Rattle.portal_tables.specs.Lists.{AreSales, AreRefunds, paid, is_paid_within, sale_of_shown}
 use Rattle.portal_tables.specs.Shown.{voucher_kept}
 

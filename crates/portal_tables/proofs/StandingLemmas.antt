@@ -1,5 +1,8 @@
 -- From what the calls of the store say to how the tables stand.
-use Rattle.std.proofs.Common.{◌≡◌, ◌⊎◌, inl, inr, true, false, IsTrue, Bool, ◌∷◌, Option, Some, None, refl, sym, subst, ◌∙◌, ◌≤◌, arith}
+use Rattle.std.proofs.Common.{◌≡◌, ◌⊎◌, inl, inr, ℕ, true, false, IsTrue, Bool, List, [], ◌∷◌, ◌++◌, map, Option, Some, None, option_map, refl, sym, ap, subst, ◌∙◌, ◌≤◌, arith, append-nil}
+use Rattle.std.specs.Prelude.{option_and_then}
+use Rattle.std.specs.Option.{option_to_list}
+use Rattle.std.proofs.lemmas.List.{map-append}
 use Rattle.sqlite.specs.Held.{Held, state}
 use Rattle.sqlite.specs.Tree.{Trees}
 use Rattle.sqlite.specs.Effect.{Database}
@@ -8,11 +11,17 @@ use Rattle.sqlite.specs.State.{State, HasCleanDisk, IsUnchanged, Survives}
 use Rattle.sqlite.specs.View.{doubt as doubt_of}
 use Rattle.sqlite.proofs.StateLemmas.{survives_then, survives_weaker}
 use Rattle.portal_model.specs.declared.change.Changes.{Changes}
-use Rattle.portal_model.specs.declared.command.Command.{Command}
-use Rattle.portal_model.specs.History.{Entry, entry, History}
-use Rattle.portal_model.specs.Change.{changes_of}
-use Rattle.portal_model.specs.Rows.{rows_of}
-use Rattle.portal_model.specs.Verdict.{IsLegal, Follows}
+use Rattle.portal_model.specs.History.{entry, History}
+use Rattle.portal_model.specs.Change.{changes_of, answer_of}
+use Rattle.portal_model.specs.Rows.{Rows, rows_of}
+use Rattle.portal_ledger.specs.declared.marked.MarkedChanges.{MarkedChanges}
+use Rattle.portal_ledger.specs.declared.request.KeptRequest.{KeptRequest}
+use Rattle.portal_ledger.specs.Mark.{Mark}
+use Rattle.portal_ledger.specs.Ledger.{Accepted, Ledger, IsSound, history_of, answer_in, kept_with, request_kept, requests_of, all_rows_of}
+use Rattle.portal_ledger.specs.RequestRow.{RequestRow, row_of_request}
+use Rattle.portal_ledger.specs.States.{State as Standing, running, stopped, MayStand}
+use Rattle.portal_ledger.specs.Calls.{ReadsOf, ReadsThat, FailsToRead, Fits, Keeps, FailsToKeep}
+use Rattle.portal_ledger.proofs.Ledgers.{the_sound_is_legal, kept_under}
 use Rattle.portal_sql.specs.States.{IsUndone}
 use Rattle.portal_sql.specs.Looks.{Reads, Fails}
 use Rattle.portal_sql.specs.StandsAt.{StandsAt, LeftShows}
@@ -20,15 +29,14 @@ use Rattle.portal_sql.proofs.StandsAtLemmas.{still_at, at_open, again_at, left_s
 use Rattle.portal_tables.specs.declared.fault.StoreFault.{StoreFault}
 use Rattle.portal_tables.specs.declared.fault.StoreFault.TheVariants.{Memory, Stopped}
 use Rattle.portal_tables.specs.declared.tables.Tables.{Tables}
-use Rattle.portal_rows.specs.Holds.{Holds, HasTables}
+use Rattle.portal_rows.specs.Holds.{Holds, HasTables, this_layout}
 use Rattle.portal_rows.specs.Steps.{Leads, MayLead}
-use Rattle.portal_rows.specs.Commands.{kept}
-use Rattle.portal_tables.specs.Shown.{ShowsHistory, OfShown, contents_of, this_layout}
+use Rattle.portal_rows.specs.Commands.{kept, kept_marked, with_mark}
+use Rattle.portal_tables.specs.Shown.{ShowsLedger, OfShown, OfLedger, contents_of, all_contents_of}
 use Rattle.portal_tables.specs.Stores.{StoreShows}
-use Rattle.portal_tables.specs.Standing.{Standing, running, stopped, MayStand, ReadsThat, FailsToRead, MayFollow, Keeps, FailsToKeep}
-use Rattle.portal_tables.specs.TablesAt.{ConnAt, IsHonest, TablesAt, Leaves, FilesShow}
+use Rattle.portal_tables.specs.TablesAt.{ConnAt, ConnLeaves, IsHonest, TablesAt, Leaves, LeavesNoMore, MayLeave, FilesShow}
 use Rattle.portal_tables.proofs.Leading.{leads_on}
-use Rattle.portal_tables.proofs.ShownLemmas.{has_tables}
+use Rattle.portal_tables.proofs.ShownLemmas.{has_all_tables, history_shown}
 
 -- the law of the store, at this connection
 abbrev pub IsSettled : {S : Type 0} → Ghosts S → Held S → Type 0
@@ -39,10 +47,10 @@ abbrev pub IsTold : StoreFault → Bool → Bool → Type 0
 IsTold fault old new = ((fault ≡ Memory) × (new ≡ old)) ⊎ ((fault ≡ Stopped) × (new ≡ true))
 
 -- tables that show a history are a store that does
-pub left_store : (h : History) (trees : Trees) → LeftShows (ShowsHistory h) trees → LeftShows (StoreShows h) trees
+pub left_store : (h : Ledger) (trees : Trees) → LeftShows (ShowsLedger h) trees → LeftShows (StoreShows h) trees
 left_store h trees left = (left.0, left.1, inl left.2)
 
-pub store_at : (h : History) (s : State) → StandsAt (ShowsHistory h) s → StandsAt (StoreShows h) s
+pub store_at : (h : Ledger) (s : State) → StandsAt (ShowsLedger h) s → StandsAt (StoreShows h) s
 store_at h s at = record {
   is_open = at.is_open;
   autocommit = at.autocommit;
@@ -51,6 +59,41 @@ store_at h s at = record {
   shown = inl at.shown;
   left = λ trees may. left_store h trees (at.left trees may);
 }
+
+-- ---- what a command and its mark make of the tables of a ledger
+
+marked_rows : (requests : List KeptRequest) (k : KeptRequest) → map row_of_request (requests ++ k ∷ []) ≡ map row_of_request requests ++ row_of_request k ∷ []
+marked_rows requests k = map-append row_of_request requests (k ∷ [])
+
+-- the rows with the request of the mark beside
+marked : (layout : ℕ) (L : Ledger) (a : Accepted) (changes : Changes) (rows : Rows) (mark : Option Mark) → mark ≡ a.mark → changes_of (history_of L) a.command a.at ≡ Some changes
+    → with_mark mark (answer_of changes) (contents_of (map row_of_request (requests_of L)) layout rows) ≡ contents_of (map row_of_request (requests_of (a ∷ L))) layout rows
+marked layout L a changes rows None same is =
+    let none : request_kept (history_of L) a ≡ None = ap (option_and_then (λ (mark : Mark). option_map (kept_with mark) (answer_in (history_of L) a))) (sym same) in
+    ap (λ (ks : List KeptRequest). contents_of (map row_of_request ks) layout rows) (sym (append-nil (requests_of L)) ∙ ap (λ (o : Option KeptRequest). requests_of L ++ option_to_list o) (sym none))
+marked layout L a changes rows (Some mark) same is =
+    let own : request_kept (history_of L) a ≡ Some (kept_with mark (answer_of changes)) = kept_under (history_of L) a mark changes (sym same) is in
+    ap (λ (ks : List RequestRow). contents_of ks layout rows)
+    (sym (marked_rows (requests_of L) (kept_with mark (answer_of changes))) ∙ ap (λ (o : Option KeptRequest). map row_of_request (requests_of L ++ option_to_list o)) (sym own))
+
+-- tables that hold what the changes make of a ledger's rows show the ledger with the command
+grows : (L : Ledger) (m : MarkedChanges) (a : Accepted) (db : Database) → IsSound L → Fits (running L) m a → Holds db (kept_marked m (all_contents_of this_layout (all_rows_of L))) → ShowsLedger (a ∷ L) db
+grows L m a db sound may holds =
+    let H = history_of L in
+    let ks = map row_of_request (requests_of L) in
+    let led : kept m.changes (contents_of ks this_layout (rows_of H)) ≡ contents_of ks this_layout (rows_of (entry a.at a.command ∷ H)) =
+    leads_on ks this_layout H (the_sound_is_legal L sound) a.command a.at may.0.follows m.changes may.1 in
+    let led_all : kept_marked m (all_contents_of this_layout (all_rows_of L)) ≡ all_contents_of this_layout (all_rows_of (a ∷ L)) =
+    ap (with_mark m.mark (answer_of m.changes)) led ∙ marked this_layout L a m.changes (rows_of (entry a.at a.command ∷ H)) m.mark may.2 may.1 in
+    ((may.0, sound), subst (Holds db) led_all holds)
+
+-- ---- what a stop may leave
+
+leaves_before : (a b : State) (files : Trees) → HasCleanDisk b → Survives a b (λ _. ⊥) → b.may_leave files → a.may_leave files
+leaves_before a b files clean survives may = elim (survives.crash clean files may) [ inl was ↦ was | inr none ↦ absurd none ]
+
+left_before : (a b c : State) (files : Trees) → HasCleanDisk c → Survives a b (λ _. ⊥) → Survives b c (λ _. ⊥) → c.may_leave files → a.may_leave files
+left_before a b c files clean one two may = leaves_before a b files (omega (arith, clean, two.clean)) one (leaves_before b c files clean two may)
 
 module _ {S : Type 0} (g : Ghosts S) where
   pub honest_is : (tables : Tables S) → IsHonest g tables → HasCleanDisk (state g tables.conn)
@@ -61,151 +104,168 @@ module _ {S : Type 0} (g : Ghosts S) where
   unfolding IsHonest
   honest_by old new less clean = omega (arith, less, clean)
 
-  stopped_is : (tables : Tables S) (s : Standing) → TablesAt g tables s → tables.is_stopped ≡ true → (h : History) × (doubt : Option Entry) × (s ≡ stopped h doubt)
+  stopped_is : (tables : Tables S) (s : Standing) → TablesAt g tables s → tables.is_stopped ≡ true → (h : Ledger) × (doubt : Option Accepted) × (s ≡ stopped h doubt)
   unfolding TablesAt
   stopped_is tables (running h) at on = absurd (let off = at.0 in cc)
   stopped_is tables (stopped h doubt) at on = (h, doubt, refl)
 
-  running_is : (tables : Tables S) (s : Standing) → TablesAt g tables s → tables.is_stopped ≡ false → (h : History) × (s ≡ running h)
+  running_is : (tables : Tables S) (s : Standing) → TablesAt g tables s → tables.is_stopped ≡ false → (h : Ledger) × (s ≡ running h)
   unfolding TablesAt
   running_is tables (running h) at on = (h, refl)
   running_is tables (stopped h doubt) at on = absurd (let off = at.0 in cc)
 
   -- what tables that stopped answer
-  pub stays_read : (tables : Tables S) (s : Standing) → TablesAt g tables s → tables.is_stopped ≡ true → (new : Standing) × TablesAt g tables new × FailsToRead s Stopped new
-  stays_read tables s at on = let it = stopped_is tables s at on in (s, at, subst (λ (x : Standing). FailsToRead x Stopped x) (sym it.2) refl)
+  pub stays_read : (tables : Tables S) (s : Standing) → TablesAt g tables s → tables.is_stopped ≡ true → (new : Standing) × TablesAt g tables new × LeavesNoMore g tables tables × FailsToRead Memory Stopped s Stopped new
+  unfolding MayLeave
+  stays_read tables s at on = let it = stopped_is tables s at on in (s, at, λ files may. may, subst (λ (x : Standing). FailsToRead Memory Stopped x Stopped x) (sym it.2) (refl, refl))
 
-  pub stays_keep : (e : Entry) (tables : Tables S) (s : Standing) → TablesAt g tables s → tables.is_stopped ≡ true → (new : Standing) × TablesAt g tables new × FailsToKeep s e Stopped new
-  stays_keep e tables s at on = let it = stopped_is tables s at on in (s, at, subst (λ (x : Standing). FailsToKeep x e Stopped x) (sym it.2) refl)
+  pub stays_keep : (a : Accepted) (tables : Tables S) (s : Standing) → TablesAt g tables s → tables.is_stopped ≡ true → (new : Standing) × TablesAt g tables new × FailsToKeep Memory Stopped s a Stopped new
+  stays_keep a tables s at on = let it = stopped_is tables s at on in (s, at, subst (λ (x : Standing). FailsToKeep Memory Stopped x a Stopped x) (sym it.2) (refl, refl))
 
   -- ---- a call that read
 
-  reads_at : (h : History) (old new : Tables S) → TablesAt g old (running h) → HasCleanDisk (state g new.conn) → new.is_stopped ≡ old.is_stopped → Reads HasTables (state g old.conn) (state g new.conn)
-      → TablesAt g new (running h) × ShowsHistory h (state g old.conn).now × IsTrue (state g old.conn).is_open
-  unfolding TablesAt
+  reads_at : (h : Ledger) (old new : Tables S) → TablesAt g old (running h) → HasCleanDisk (state g new.conn) → new.is_stopped ≡ old.is_stopped → Reads HasTables (state g old.conn) (state g new.conn)
+      → TablesAt g new (running h) × ShowsLedger h (state g old.conn).now × IsTrue (state g old.conn).is_open × LeavesNoMore g old new
+  unfolding TablesAt MayLeave
   reads_at h old new at clean on read =
-      let has = has_tables h (state g old.conn).now at.1.shown in
-      ((on ∙ at.0, still_at (ShowsHistory h) (state g old.conn) (state g new.conn) at.1 clean (read.same clean at.1.is_open has) (survives_weaker _ _ _ _ (λ _ db none. none at.1.is_open has) read.crash)), at.1.shown, at.1.is_open)
+      let has = has_all_tables h (state g old.conn).now at.1.shown in
+      ((on ∙ at.0, still_at (ShowsLedger h) (state g old.conn) (state g new.conn) at.1 clean (read.same clean at.1.is_open has) (survives_weaker _ _ _ _ (λ _ db none. none at.1.is_open has) read.crash)), at.1.shown, at.1.is_open, λ files may. leaves_before (state g old.conn) (state g new.conn) files clean (survives_weaker _ _ _ _ (λ _ db none. none at.1.is_open has) read.crash) may)
 
-  pub reads : (old new : Tables S) → old.is_stopped ≡ false → new.is_stopped ≡ old.is_stopped → IsHonest g new → Reads HasTables (state g old.conn) (state g new.conn) → (Is : History → Type 0)
-      → OfShown (state g old.conn) (state g new.conn) Is → (s : Standing) → TablesAt g old s → (x : Standing) × TablesAt g new x × ReadsThat s Is x
-  reads old new on same honest read Is found s at =
+  pub reads_of : (old new : Tables S) → old.is_stopped ≡ false → new.is_stopped ≡ old.is_stopped → IsHonest g new → Reads HasTables (state g old.conn) (state g new.conn) → (Is : Ledger → Type 0)
+      → OfLedger (state g old.conn) (state g new.conn) Is → (s : Standing) → TablesAt g old s → (x : Standing) × TablesAt g new x × LeavesNoMore g old new × ReadsOf s Is x
+  reads_of old new on same honest read Is found s at =
       let it = running_is old s at on in
       let got = reads_at it.0 old new (subst (TablesAt g old) it.1 at) (honest_is new honest) same read in
-      subst (λ (y : Standing). (x : Standing) × TablesAt g new x × ReadsThat y Is x) (sym it.1) (running it.0, got.0, (found (honest_is new honest) got.2 it.0 got.1, refl))
+      subst (λ (y : Standing). (x : Standing) × TablesAt g new x × LeavesNoMore g old new × ReadsOf y Is x) (sym it.1) (running it.0, got.0, got.3, (found (honest_is new honest) got.2 it.0 got.1, refl))
+
+  pub reads : (old new : Tables S) → old.is_stopped ≡ false → new.is_stopped ≡ old.is_stopped → IsHonest g new → Reads HasTables (state g old.conn) (state g new.conn) → (Is : History → Type 0)
+      → OfShown (state g old.conn) (state g new.conn) Is → (s : Standing) → TablesAt g old s → (x : Standing) × TablesAt g new x × LeavesNoMore g old new × ReadsThat s Is x
+  reads old new on same honest read Is found s at =
+      reads_of old new on same honest read (λ L. Is (history_of L)) (λ clean live L shown. found clean live (history_of L) (history_shown L (state g old.conn).now shown)) s at
 
   -- ---- a call that did not
 
-  fails_at : (h : History) (old new : Tables S) (mid : Held S) → TablesAt g old (running h) → HasCleanDisk (state g new.conn) → Fails HasTables (state g old.conn) (state g mid) → Survives (state g mid) (state g new.conn) (λ _. ⊥)
-      → IsSettled g new.conn → (fault : StoreFault) → IsTold fault old.is_stopped new.is_stopped → (fault ≡ Memory → IsUnchanged (state g mid) (state g new.conn)) → (x : Standing) × TablesAt g new x × FailsToRead (running h) fault x
-  unfolding TablesAt
+  fails_at : (h : Ledger) (old new : Tables S) (mid : Held S) → TablesAt g old (running h) → HasCleanDisk (state g new.conn) → Fails HasTables (state g old.conn) (state g mid) → Survives (state g mid) (state g new.conn) (λ _. ⊥)
+      → IsSettled g new.conn → (fault : StoreFault) → IsTold fault old.is_stopped new.is_stopped → (fault ≡ Memory → IsUnchanged (state g mid) (state g new.conn)) → (x : Standing) × TablesAt g new x × LeavesNoMore g old new × FailsToRead Memory Stopped (running h) fault x
+  unfolding TablesAt MayLeave
   fails_at h old new mid at clean failed later law fault (inl told) same =
-      let has = has_tables h (state g old.conn).now at.1.shown in
+      let has = has_all_tables h (state g old.conn).now at.1.shown in
       let undone = failed.undone (omega (arith, clean, later.clean)) at.1.is_open has at.1.autocommit at.1.settled in (
         running h,
-        (told.1 ∙ at.0, again_at (ShowsHistory h) (state g old.conn) (state g mid) (state g new.conn) law at.1 undone (same told.0)),
-        subst (λ (f : StoreFault). FailsToRead (running h) f (running h)) (sym told.0) refl,
+        (told.1 ∙ at.0, again_at (ShowsLedger h) (state g old.conn) (state g mid) (state g new.conn) law at.1 undone (same told.0)),
+        λ files may. left_before (state g old.conn) (state g mid) (state g new.conn) files clean (survives_weaker _ _ _ (λ _. ⊥) (λ _ db none. none at.1.is_open has) failed.crash) later may,
+        inl (told.0, refl),
       )
   fails_at h old new mid at clean failed later law fault (inr told) same =
-      let has = has_tables h (state g old.conn).now at.1.shown in
+      let has = has_all_tables h (state g old.conn).now at.1.shown in
       let first = survives_weaker _ _ _ (λ _. ⊥) (λ _ db none. none at.1.is_open has) failed.crash in (
         stopped h None,
-        (told.1, left_still (ShowsHistory h) (state g old.conn) (state g mid) (state g new.conn) at.1 clean first later),
-        subst (λ (f : StoreFault). FailsToRead (running h) f (stopped h None)) (sym told.0) refl,
+        (told.1, left_still (ShowsLedger h) (state g old.conn) (state g mid) (state g new.conn) at.1 clean first later),
+        λ files may. left_before (state g old.conn) (state g mid) (state g new.conn) files clean first later may,
+        inr (told.0, refl),
       )
 
   pub fails : (old new : Tables S) (mid : Held S) → old.is_stopped ≡ false → IsHonest g new → Fails HasTables (state g old.conn) (state g mid) → Survives (state g mid) (state g new.conn) (λ _. ⊥) → IsSettled g new.conn
       → (fault : StoreFault) → IsTold fault old.is_stopped new.is_stopped → (HasCleanDisk (state g new.conn) → fault ≡ Memory → IsUnchanged (state g mid) (state g new.conn)) → (s : Standing) → TablesAt g old s
-      → (x : Standing) × TablesAt g new x × FailsToRead s fault x
+      → (x : Standing) × TablesAt g new x × LeavesNoMore g old new × FailsToRead Memory Stopped s fault x
   fails old new mid on honest failed later law fault told same s at =
       let it = running_is old s at on in
       let clean = honest_is new honest in
-      subst (λ (y : Standing). (x : Standing) × TablesAt g new x × FailsToRead y fault x) (sym it.1) (fails_at it.0 old new mid (subst (TablesAt g old) it.1 at) clean failed later law fault told (same clean))
+      subst (λ (y : Standing). (x : Standing) × TablesAt g new x × LeavesNoMore g old new × FailsToRead Memory Stopped y fault x) (sym it.1) (fails_at it.0 old new mid (subst (TablesAt g old) it.1 at) clean failed later law fault told (same clean))
 
   -- ---- a commit
 
-  -- what the changes make of a history's tables shows the history with the entry
-  grows : (h : History) (changes : Changes) (t : _) (command : Command) (db : Database) → IsLegal h → Follows h t command → changes_of h command t ≡ Some changes → Holds db (kept changes (contents_of this_layout (rows_of h)))
-      → ShowsHistory (entry t command ∷ h) db
-  grows h changes t command db legal follows is holds = ((follows, legal), subst (Holds db) (leads_on this_layout h legal command t follows changes is) holds)
-
-  kept_at : (h : History) (changes : Changes) (e : Entry) (old new : Tables S) → TablesAt g old (running h) → new.is_stopped ≡ old.is_stopped → IsSettled g new.conn → MayFollow (running h) changes e
-      → Leads (kept changes) (state g old.conn) (state g new.conn) → TablesAt g new (running (e ∷ h))
+  kept_at : (L : Ledger) (m : MarkedChanges) (a : Accepted) (old new : Tables S) → TablesAt g old (running L) → new.is_stopped ≡ old.is_stopped → IsSettled g new.conn → Fits (running L) m a
+      → Leads (kept_marked m) (state g old.conn) (state g new.conn) → TablesAt g new (running (a ∷ L))
   unfolding TablesAt
-  kept_at h changes (entry t command) old new at on law may leads =
-      let holds = leads.holds (contents_of this_layout (rows_of h)) at.1.shown.1 in (
+  kept_at L m a old new at on law may leads =
+      let holds = leads.holds (all_contents_of this_layout (all_rows_of L)) at.1.shown.1 in (
         on ∙ at.0,
-        at_open (ShowsHistory (entry t command ∷ h)) (state g new.conn) law leads.is_open leads.ended (sym leads.committed) holds.sound (grows h changes t command (state g new.conn).now at.1.shown.0 may.0 may.1 holds),
+        at_open (ShowsLedger (a ∷ L)) (state g new.conn) law leads.is_open leads.ended (sym leads.committed) holds.sound (grows L m a (state g new.conn).now at.1.shown.0 may holds),
       )
 
-  pub keeps : (changes : Changes) (e : Entry) (old new : Tables S) → old.is_stopped ≡ false → new.is_stopped ≡ old.is_stopped → IsSettled g new.conn → Leads (kept changes) (state g old.conn) (state g new.conn)
-      → (s : Standing) → TablesAt g old s → MayFollow s changes e → (x : Standing) × TablesAt g new x × Keeps s e x
-  keeps changes e old new on same law leads s at may =
+  pub keeps : (m : MarkedChanges) (a : Accepted) (old new : Tables S) → old.is_stopped ≡ false → new.is_stopped ≡ old.is_stopped → IsSettled g new.conn → Leads (kept_marked m) (state g old.conn) (state g new.conn)
+      → (s : Standing) → TablesAt g old s → Fits s m a → (x : Standing) × TablesAt g new x × Keeps s a x
+  keeps m a old new on same law leads s at may =
       let it = running_is old s at on in
-      subst (λ (y : Standing). (x : Standing) × TablesAt g new x × Keeps y e x) (sym it.1)
-      (running (e ∷ it.0), kept_at it.0 changes e old new (subst (TablesAt g old) it.1 at) same law (subst (λ (y : Standing). MayFollow y changes e) it.1 may) leads, refl)
+      subst (λ (y : Standing). (x : Standing) × TablesAt g new x × Keeps y a x) (sym it.1)
+      (running (a ∷ it.0), kept_at it.0 m a old new (subst (TablesAt g old) it.1 at) same law (subst (λ (y : Standing). Fits y m a) it.1 may) leads, refl)
 
-  doubts_at : (h : History) (changes : Changes) (e : Entry) (old new : Tables S) (mid : Held S) → TablesAt g old (running h) → HasCleanDisk (state g new.conn) → MayFollow (running h) changes e
-      → IsUndone (state g old.conn) (state g mid) → Survives (state g old.conn) (state g mid) (MayLead (kept changes) (state g old.conn)) → Survives (state g mid) (state g new.conn) (λ _. ⊥) → IsSettled g new.conn
-      → (fault : StoreFault) → IsTold fault old.is_stopped new.is_stopped → (fault ≡ Memory → IsUnchanged (state g mid) (state g new.conn)) → (x : Standing) × TablesAt g new x × FailsToKeep (running h) e fault x
+  doubts_at : (L : Ledger) (m : MarkedChanges) (a : Accepted) (old new : Tables S) (mid : Held S) → TablesAt g old (running L) → HasCleanDisk (state g new.conn) → Fits (running L) m a
+      → IsUndone (state g old.conn) (state g mid) → Survives (state g old.conn) (state g mid) (MayLead (kept_marked m) (state g old.conn)) → Survives (state g mid) (state g new.conn) (λ _. ⊥) → IsSettled g new.conn
+      → (fault : StoreFault) → IsTold fault old.is_stopped new.is_stopped → (fault ≡ Memory → IsUnchanged (state g mid) (state g new.conn)) → (x : Standing) × TablesAt g new x × FailsToKeep Memory Stopped (running L) a fault x
   unfolding TablesAt
-  doubts_at h changes e old new mid at clean may undone crash later law fault (inl told) same = (
-    running h,
-    (told.1 ∙ at.0, again_at (ShowsHistory h) (state g old.conn) (state g mid) (state g new.conn) law at.1 undone (same told.0)),
-    subst (λ (f : StoreFault). FailsToKeep (running h) e f (running h)) (sym told.0) refl,
+  doubts_at L m a old new mid at clean may undone crash later law fault (inl told) same = (
+    running L,
+    (told.1 ∙ at.0, again_at (ShowsLedger L) (state g old.conn) (state g mid) (state g new.conn) law at.1 undone (same told.0)),
+    inl (told.0, refl),
   )
-  doubts_at h changes (entry t command) old new mid at clean may undone crash later law fault (inr told) same =
-      let P = MayLead (kept changes) (state g old.conn) in
+  doubts_at L m a old new mid at clean may undone crash later law fault (inr told) same =
+      let P = MayLead (kept_marked m) (state g old.conn) in
       let all = survives_then (state g old.conn) (state g mid) (state g new.conn) P (λ _. ⊥) P (λ _ db made. made) (λ _ db none. absurd none) crash later in (
-        stopped h (Some (entry t command)),
+        stopped L (Some a),
         (
           told.1,
           λ trees left. elim (all.crash clean trees left) [
             | inl was ↦ inl (at.1.left trees was)
             | inr made ↦
-                let it = made (contents_of this_layout (rows_of h)) at.1.shown.1 in
-                inr (it.0, it.1, grows h changes t command (record { schema = it.0; trees = trees }) at.1.shown.0 may.0 may.1 it.2)
+                let it = made (all_contents_of this_layout (all_rows_of L)) at.1.shown.1 in
+                inr (it.0, it.1, grows L m a (record { schema = it.0; trees = trees }) at.1.shown.0 may it.2)
           ],
         ),
-        subst (λ (f : StoreFault). FailsToKeep (running h) (entry t command) f (stopped h (Some (entry t command)))) (sym told.0) refl,
+        inr (told.0, refl),
       )
 
-  pub doubts : (changes : Changes) (e : Entry) (old new : Tables S) (mid : Held S) → old.is_stopped ≡ false → IsHonest g new → (HasCleanDisk (state g mid) → IsUndone (state g old.conn) (state g mid))
-      → Survives (state g old.conn) (state g mid) (MayLead (kept changes) (state g old.conn)) → Survives (state g mid) (state g new.conn) (λ _. ⊥) → IsSettled g new.conn → (fault : StoreFault)
-      → IsTold fault old.is_stopped new.is_stopped → (HasCleanDisk (state g new.conn) → fault ≡ Memory → IsUnchanged (state g mid) (state g new.conn)) → (s : Standing) → TablesAt g old s → MayFollow s changes e
-      → (x : Standing) × TablesAt g new x × FailsToKeep s e fault x
-  doubts changes e old new mid on honest undone crash later law fault told same s at may =
+  pub doubts : (m : MarkedChanges) (a : Accepted) (old new : Tables S) (mid : Held S) → old.is_stopped ≡ false → IsHonest g new → (HasCleanDisk (state g mid) → IsUndone (state g old.conn) (state g mid))
+      → Survives (state g old.conn) (state g mid) (MayLead (kept_marked m) (state g old.conn)) → Survives (state g mid) (state g new.conn) (λ _. ⊥) → IsSettled g new.conn → (fault : StoreFault)
+      → IsTold fault old.is_stopped new.is_stopped → (HasCleanDisk (state g new.conn) → fault ≡ Memory → IsUnchanged (state g mid) (state g new.conn)) → (s : Standing) → TablesAt g old s → Fits s m a
+      → (x : Standing) × TablesAt g new x × FailsToKeep Memory Stopped s a fault x
+  doubts m a old new mid on honest undone crash later law fault told same s at may =
       let it = running_is old s at on in
       let clean = honest_is new honest in
-      subst (λ (y : Standing). (x : Standing) × TablesAt g new x × FailsToKeep y e fault x) (sym it.1)
-      (doubts_at it.0 changes e old new mid (subst (TablesAt g old) it.1 at) clean (subst (λ (y : Standing). MayFollow y changes e) it.1 may) (undone (omega (arith, clean, later.clean))) crash later law fault told (same clean))
+      subst (λ (y : Standing). (x : Standing) × TablesAt g new x × FailsToKeep Memory Stopped y a fault x) (sym it.1)
+      (doubts_at it.0 m a old new mid (subst (TablesAt g old) it.1 at) clean (subst (λ (y : Standing). Fits y m a) it.1 may) (undone (omega (arith, clean, later.clean))) crash later law fault told (same clean))
 
   -- tables that stop before they wrote anything
-  halts_at : (h : History) (e : Entry) (tables : Tables S) → TablesAt g tables (running h) → TablesAt g (record tables { is_stopped = true }) (stopped h (Some e))
+  halts_at : (L : Ledger) (a : Accepted) (tables : Tables S) → TablesAt g tables (running L) → TablesAt g (record tables { is_stopped = true }) (stopped L (Some a))
   unfolding TablesAt
-  halts_at h e tables at = (refl, λ trees left. inl (at.1.left trees left))
+  halts_at L a tables at = (refl, λ trees left. inl (at.1.left trees left))
 
-  pub halts : (e : Entry) (tables : Tables S) → tables.is_stopped ≡ false → (s : Standing) → TablesAt g tables s → (x : Standing) × TablesAt g (record tables { is_stopped = true }) x × FailsToKeep s e Stopped x
-  halts e tables on s at =
+  pub halts : (a : Accepted) (tables : Tables S) → tables.is_stopped ≡ false → (s : Standing) → TablesAt g tables s → (x : Standing) × TablesAt g (record tables { is_stopped = true }) x × FailsToKeep Memory Stopped s a Stopped x
+  halts a tables on s at =
       let it = running_is tables s at on in
-      subst (λ (y : Standing). (x : Standing) × TablesAt g (record tables { is_stopped = true }) x × FailsToKeep y e Stopped x) (sym it.1)
-      (stopped it.0 (Some e), halts_at it.0 e tables (subst (TablesAt g tables) it.1 at), refl)
+      subst (λ (y : Standing). (x : Standing) × TablesAt g (record tables { is_stopped = true }) x × FailsToKeep Memory Stopped y a Stopped x) (sym it.1)
+      (stopped it.0 (Some a), halts_at it.0 a tables (subst (TablesAt g tables) it.1 at), inr (refl, refl))
 
   -- ---- the connection, handed over and back
 
-  pub released : (h : History) (tables : Tables S) → TablesAt g tables (running h) → ConnAt g tables.conn h
+  pub released : (L : Ledger) (tables : Tables S) → TablesAt g tables (running L) → ConnAt g tables.conn L
   unfolding TablesAt ConnAt
-  released h tables at = store_at h (state g tables.conn) at.1
+  released L tables at = store_at L (state g tables.conn) at.1
 
 -- ---- what a reopening may find after a stop
 
 pub leaves : {S : Type 0} (g : Ghosts S) (tables : Tables S) (s : Standing) → TablesAt g tables s → Leaves g tables (MayStand s)
-unfolding TablesAt Leaves FilesShow
+unfolding TablesAt MayLeave FilesShow
 leaves g tables (running h) at files may = (h, refl, left_store h files (at.1.left files may))
 leaves g tables (stopped h None) at files may = (h, refl, left_store h files (at.1 files may))
-leaves g tables (stopped h (Some e)) at files may = elim (at.1 files may) [ inl old ↦ (h, inl refl, left_store h files old) | inr new ↦ (e ∷ h, inr refl, left_store (e ∷ h) files new) ]
+leaves g tables (stopped h (Some a)) at files may = elim (at.1 files may) [ inl old ↦ (h, inl refl, left_store h files old) | inr new ↦ (a ∷ h, inr refl, left_store (a ∷ h) files new) ]
 
--- a weaker word for what is found
-pub leaves_weaker : {S : Type 0} (g : Ghosts S) (tables : Tables S) (P Q : History → Type 0) → ((h : History) → P h → Q h) → Leaves g tables P → Leaves g tables Q
-unfolding Leaves
-leaves_weaker g tables P Q f left files may = let it = left files may in (it.0, f it.0 it.1, it.2)
+pub sound_at : {S : Type 0} (g : Ghosts S) (L : Ledger) (tables : Tables S) → TablesAt g tables (running L) → IsSound L
+unfolding TablesAt
+sound_at g L tables at = at.1.shown.0
+
+-- ---- what files show
+
+store_sound : (L : Ledger) (db : Database) → StoreShows L db → IsSound L
+store_sound L db (inl shown) = shown.0
+store_sound L db (inr (inl shown)) = shown.1.sound
+store_sound L db (inr (inr is)) = subst IsSound (sym is.0) tt
+
+pub files_sound : (files : Trees) (L : Ledger) → FilesShow files L → IsSound L
+unfolding FilesShow
+files_sound files L left = store_sound L (record { schema = left.0; trees = files }) left.2
+
+pub conn_leaves : {S : Type 0} (g : Ghosts S) (conn : Held S) (L : Ledger) → ConnAt g conn L → ConnLeaves g conn L
+unfolding ConnAt ConnLeaves FilesShow
+conn_leaves g conn L at files may = at.left files may

@@ -1,5 +1,5 @@
 -- An upgraded store shows the history that it showed.
-use Rattle.std.proofs.Common.{◌≡◌, inl, inr, ◌+◌, ℕ, IsTrue, Bool, cond, List, [], ◌∷◌, map, filter, count_by, sum_by, refl, sym, ap, ap₂, subst, ◌∙◌, bytes_eq, nat_eq}
+use Rattle.std.proofs.Common.{lit<, option_to_list, ◌≡◌, inl, inr, ◌+◌, ◌<◌, ℕ, IsTrue, Bool, cond, Option, None, option_map, List, [], ◌∷◌, ◌++◌, map, filter, count_by, sum_by, refl, sym, ap, ap₂, subst, ◌∙◌, bytes_eq, nat_eq}
 use Rattle.std.specs.Prelude.{option_and_then}
 use Rattle.std.specs.List.{AllByRecursion}
 use Rattle.std.proofs.lemmas.List.Elements.{recursion_from_All}
@@ -18,12 +18,19 @@ use Rattle.portal_laws.proofs.Sessions.{counts_are_sums, totals_are_sums}
 use Rattle.portal_laws.proofs.Typed.{rows_are_typed}
 use Rattle.portal_sql.specs.StandsAt.{StandsAt}
 use Rattle.portal_sql.proofs.StandsAtLemmas.{at_open}
-use Rattle.portal_rows.specs.Holds.{Holds}
-use Rattle.portal_rows.specs.Sums.{summed}
-use Rattle.portal_rows.specs.Upgrades.{upgraded, HasUpgraded, MayUpgrade}
-use Rattle.portal_tables.specs.First.{first_layout, ShowsFirst, LeftInEither}
-use Rattle.portal_tables.specs.Shown.{voucher_kept, session_kept, grant_kept, count_kept, contents_of, this_layout, ShowsHistory}
-use Rattle.portal_rows.proofs.SameCode.{code_test}
+use Rattle.portal_rows.specs.Holds.{Holds, this_layout}
+use Rattle.portal_lists.specs.Sums.{summed}
+use Rattle.portal_tables.specs.Older.{AreUnmarked, ShowsIn, LeftInEither}
+use Rattle.portal_ledger.specs.Mark.{Mark}
+use Rattle.portal_ledger.specs.declared.request.KeptRequest.{KeptRequest}
+use Rattle.portal_ledger.specs.Ledger.{Accepted, Ledger, IsSound, history_of, answer_in, kept_with, request_kept, requests_of, all_rows_of}
+use Rattle.portal_ledger.specs.RequestRow.{RequestRow, row_of_request}
+use Rattle.portal_ledger.proofs.Ledgers.{the_sound_is_legal}
+use Rattle.portal_layouts.specs.Brings.{HasUpgraded, MayUpgrade, number_of, upgraded}
+use Rattle.portal_layouts.specs.declared.layouts.OldLayout.{OldLayout}
+use Rattle.portal_layouts.specs.declared.layouts.OldLayout.TheVariants.{First, Second, Third, Fourth}
+use Rattle.portal_tables.specs.Shown.{voucher_kept, session_kept, grant_kept, count_kept, contents_of, all_contents_of, ShowsLedger}
+use Rattle.portal_lists.proofs.SameCode.{code_test}
 
 -- ---- the counts
 
@@ -66,31 +73,50 @@ totals_kept r [] = refl
 totals_kept r (s ∷ ss) =
     ap₂ ◌∷◌ (ap₂ (total_given r.plans s) (sums_kept (λ (g : GrantRow). g.seconds) (λ g. refl) s.number r.grants) (sums_kept (λ (g : GrantRow). g.bytes) (λ g. refl) s.number r.grants)) (totals_kept r ss)
 
--- the rows of a history, upgraded, are its rows in this version's layout
-pub upgraded_is : (h : History) → IsLegal h → upgraded (contents_of first_layout (rows_of h)) ≡ contents_of this_layout (rows_of h)
-upgraded_is h legal =
+-- the rows of a history in layout 1, upgraded, are its rows in this version's
+first_is : (ks : List RequestRow) (h : History) → IsLegal h → upgraded First (contents_of ks 1 (rows_of h)) ≡ contents_of [] this_layout (rows_of h)
+first_is ks h legal =
     let r = rows_of h in
     let typed = rows_are_typed h legal in
     let grants = recursion_from_All (λ (g : GrantRow). IsCode g.code) r.grants typed.grants in
     let vouchers = recursion_from_All (λ (v : VoucherRow). IsCode v.code) r.vouchers typed.vouchers in
-    ap₂ (λ (ks : List CountRow) (ms : List TotalRow). record (contents_of this_layout r) { counts = ks; totals = ms })
+    ap₂ (λ (counts : List CountRow) (ms : List TotalRow). record (contents_of [] this_layout r) { counts = counts; totals = ms })
     (counts_kept r.grants r.vouchers grants vouchers ∙ sym (ap (map count_kept) (counts_are_sums h legal))) (totals_kept r r.sessions ∙ sym (totals_are_sums h legal))
+
+-- where no request acted once, none is kept
+none_kept : (L : Ledger) → AllByRecursion (λ (a : Accepted). a.mark ≡ None) L → requests_of L ≡ []
+none_kept [] all = refl
+none_kept (a ∷ L) all =
+    let none : request_kept (history_of L) a ≡ None = ap (option_and_then (λ (mark : Mark). option_map (kept_with mark) (answer_in (history_of L) a))) all.0 in
+    ap₂ (λ (ks : List KeptRequest) (o : Option KeptRequest). ks ++ option_to_list o) (none_kept L all.1) none
+
+unmarked : (L : Ledger) → AreUnmarked L → map row_of_request (requests_of L) ≡ []
+unmarked L all = ap (map row_of_request) (none_kept L (recursion_from_All (λ (a : Accepted). a.mark ≡ None) L all))
+
+-- the rows of a ledger that an older layout can show, upgraded, are its rows in this version's layout
+pub upgraded_is : (from : OldLayout) (L : Ledger) → IsSound L → (number_of from < 3 → AreUnmarked L) → upgraded from (all_contents_of (number_of from) (all_rows_of L)) ≡ all_contents_of this_layout (all_rows_of L)
+upgraded_is First L sound few =
+    let H = history_of L in
+    first_is (map row_of_request (requests_of L)) H (the_sound_is_legal L sound) ∙ ap (λ (ks : List RequestRow). contents_of ks this_layout (rows_of H)) (sym (unmarked L (few (lit< tt))))
+upgraded_is Second L sound few = ap (λ (ks : List RequestRow). contents_of ks this_layout (rows_of (history_of L))) (sym (unmarked L (few (lit< tt))))
+upgraded_is Third L sound few = refl
+upgraded_is Fourth L sound few = refl
 
 -- ---- where a connection stands
 
-pub upgraded_shows : (h : History) (db : Database) → IsLegal h → Holds db (upgraded (contents_of first_layout (rows_of h))) → ShowsHistory h db
-upgraded_shows h db legal holds = (legal, subst (Holds db) (upgraded_is h legal) holds)
+pub upgraded_shows : (from : OldLayout) (L : Ledger) (db : Database) → IsSound L → (number_of from < 3 → AreUnmarked L) → Holds db (upgraded from (all_contents_of (number_of from) (all_rows_of L))) → ShowsLedger L db
+upgraded_shows from L db sound few holds = (sound, subst (Holds db) (upgraded_is from L sound few) holds)
 
-module _ (h : History) (old new : State) (at : StandsAt (ShowsFirst h) old) where
-  pub upgraded_at : ((db : Trees) → IsTrue new.is_open → new.may_leave db → db ≡ new.committed.trees) → HasUpgraded old new → StandsAt (ShowsHistory h) new
+module _ (from : OldLayout) (L : Ledger) (old new : State) (at : StandsAt (ShowsIn (number_of from) L) old) where
+  pub upgraded_at : ((db : Trees) → IsTrue new.is_open → new.may_leave db → db ≡ new.committed.trees) → HasUpgraded from old new → StandsAt (ShowsLedger L) new
   upgraded_at law did =
-      let holds = did.holds (contents_of first_layout (rows_of h)) at.shown.1 in
-      at_open (ShowsHistory h) new law did.is_open did.ended (sym did.committed) holds.sound (upgraded_shows h new.now at.shown.0 holds)
+      let holds = did.holds (all_contents_of (number_of from) (all_rows_of L)) at.shown.holds in
+      at_open (ShowsLedger L) new law did.is_open did.ended (sym did.committed) holds.sound (upgraded_shows from L new.now at.shown.sound at.shown.unmarked holds)
 
-  pub left_in_either : HasCleanDisk new → Survives old new (MayUpgrade old) → (trees : Trees) → new.may_leave trees → LeftInEither h trees
+  pub left_in_either : HasCleanDisk new → Survives old new (MayUpgrade from old) → (trees : Trees) → new.may_leave trees → LeftInEither from L trees
   left_in_either clean survives trees may = elim (survives.crash clean trees may) [
     | inl was ↦ inl (at.left trees was)
     | inr made ↦
-        let it = made at.is_open (contents_of first_layout (rows_of h)) at.shown.1 in
-        inr (it.0, it.1, upgraded_shows h (record { schema = it.0; trees = trees }) at.shown.0 it.2)
+        let it = made at.is_open (all_contents_of (number_of from) (all_rows_of L)) at.shown.holds in
+        inr (it.0, it.1, upgraded_shows from L (record { schema = it.0; trees = trees }) at.shown.sound at.shown.unmarked it.2)
   ]

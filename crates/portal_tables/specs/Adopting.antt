@@ -1,32 +1,31 @@
 -- What adopting a store comes to.
-use Rattle.std.specs.Prelude.{◌≡◌, ◌⊎◌, ◌<◌, ℕ, false, IsTrue, Option, Some, None}
+use Rattle.std.specs.Prelude.{◌≡◌, ◌⊎◌, ◌<◌, ◌≤◌, ℕ, false, IsTrue, Option, Some, None}
 use Rattle.sqlite.specs.Tree.{Trees}
 use Rattle.sqlite.specs.Effect.{Database}
 use Rattle.sqlite.specs.Schema.{Schema}
 use Rattle.sqlite_schema.specs.Names.{view_named}
 use Rattle.sqlite.specs.State.{State}
 use Rattle.sqlite_trees.specs.declared.store.Store.{Ghosts}
-use Rattle.portal_model.specs.History.{History}
+use Rattle.portal_ledger.specs.Ledger.{Ledger}
 use Rattle.portal_rows.specs.Contents.{Contents}
-use Rattle.portal_rows.specs.Creates.{new_store}
-use Rattle.portal_rows.specs.Holds.{Holds, LeftHolds}
+use Rattle.portal_layouts.specs.Creates.{new_store}
+use Rattle.portal_rows.specs.Holds.{Holds, HoldsIn, LeftHolds, this_layout}
 use Rattle.portal_rows.specs.Layout.{head_name}
-use Rattle.portal_rows.specs.First.{HoldsFirst}
-use Rattle.portal_rows.specs.Layouts.{TellsLayout}
-use Rattle.portal_rows.specs.Upgrades.{upgraded}
+use Rattle.portal_layouts.specs.Layouts.{TellsLayout}
+use Rattle.portal_layouts.specs.Brings.{number_of, upgraded}
+use Rattle.portal_layouts.specs.declared.layouts.OldLayout.{OldLayout}
+use Rattle.portal_layouts.specs.declared.layouts.OldLayout.TheVariants.{Fourth}
 use Rattle.portal_tables.specs.declared.fault.OpenFault.{OpenFault}
 use Rattle.portal_tables.specs.declared.fault.OpenFault.TheVariants.{NotOurs, Newer, Memory, Store}
 use Rattle.portal_tables.specs.declared.adopt.Refused.{Refused}
-use Rattle.portal_tables.specs.First.{first_layout}
-use Rattle.portal_tables.specs.Shown.{this_layout}
 use Rattle.portal_tables.specs.Stores.{IsBare, IsNamed}
 use Rattle.portal_tables.specs.TablesAt.{ConnAt, ConnLeaves}
 
 -- ---- by what stands there
 
--- the head is one row with this version's layout, or with the first
+-- the head is one row with this version's layout, or with an older one
 abbrev pub TellsKnown : Database → Type 0
-TellsKnown db = TellsLayout db (Some this_layout) ⊎ TellsLayout db (Some first_layout)
+TellsKnown db = (layout : ℕ) × (1 ≤ layout) × (layout ≤ this_layout) × TellsLayout db (Some layout)
 
 -- a store that may be adopted: no table of ours stands there, or the head has a layout that is known
 abbrev pub IsKnown : Database → Type 0
@@ -56,15 +55,27 @@ IsExact told Store = Unit {0}
 
 -- ---- what became of the tables
 
--- the rows of our tables stay, and those of the first layout are upgraded
+-- a store of this version's layout has its index, and all is committed
+pub record IsCompleted (old new : State) : Type 0 where
+  pub holds : ((t : Contents) → HoldsIn this_layout false old.now t → Holds new.now t) ⊎ ((t : Contents) → HoldsIn this_layout false old.now t → Holds new.now (upgraded Fourth t))
+  pub is_open : IsTrue new.is_open
+  pub ended : new.in_transaction ≡ false
+  pub same : new.committed ≡ new.now
+
+-- the rows of our tables stay in this version's layout
+abbrev pub Stays : Database → Database → Type 0
+Stays db after = TellsLayout db (Some this_layout) × ((t : Contents) → HoldsIn this_layout false db t → Holds after t)
+
+-- those of an older layout, or of this one without its index, are brought to it
+abbrev pub IsBrought : Database → Database → Type 0
+IsBrought db after = (from : OldLayout) × TellsLayout db (Some (number_of from)) × ((t : Contents) → HoldsIn (number_of from) false db t → Holds after (upgraded from t))
+
 abbrev pub Carries : Database → Database → Type 0
-Carries db after =
-    (TellsLayout db (Some this_layout) × ((t : Contents) → Holds db t → Holds after t)) ⊎ (TellsLayout db (Some first_layout) × ((t : Contents) → HoldsFirst db t → Holds after (upgraded t)))
+Carries db after = Stays db after ⊎ IsBrought db after
 
 -- the same of trees that a stop leaves
 abbrev pub LeftCarried : Database → Trees → Type 0
-LeftCarried db trees =
-    (TellsLayout db (Some this_layout) × ((t : Contents) → Holds db t → LeftHolds trees t)) ⊎ (TellsLayout db (Some first_layout) × ((t : Contents) → HoldsFirst db t → LeftHolds trees (upgraded t)))
+LeftCarried db trees = (from : OldLayout) × TellsLayout db (Some (number_of from)) × ((t : Contents) → HoldsIn (number_of from) false db t → LeftHolds trees (upgraded from t))
 
 -- what a stop may leave beside what it could leave before: a new store where there was none, or the rows that were there
 abbrev pub MayAdopt : Database → Trees → Type 0
@@ -92,8 +103,8 @@ pub record IsKept (old new : State) : Type 0 where
   pub committed : new.committed ≡ old.committed
   pub left : (trees : Trees) → new.may_leave trees → trees ≡ old.now.trees
 
--- a store that shows the history was not adopted: want of memory changed nothing, and after any other fault its files still show the history
-abbrev pub FailsToAdopt : {S : Type 0} → Ghosts S → History → Refused S → Type 0
-FailsToAdopt g h refused =
-    ((refused.fault ≡ Memory) × ConnAt g refused.connection h)
-    ⊎ ((refused.fault ≡ Store) × ConnLeaves g refused.connection h)
+-- a store that shows the ledger was not adopted: want of memory changed nothing, and after any other fault its files still show the ledger
+abbrev pub FailsToAdopt : {S : Type 0} → Ghosts S → Ledger → Refused S → Type 0
+FailsToAdopt g L refused =
+    ((refused.fault ≡ Memory) × ConnAt g refused.connection L)
+    ⊎ ((refused.fault ≡ Store) × ConnLeaves g refused.connection L)

@@ -1,7 +1,6 @@
 pub mod Adopting
-pub mod First
 pub mod Lists
+pub mod Older
 pub mod Shown
-pub mod Standing
 pub mod Stores
 pub mod TablesAt

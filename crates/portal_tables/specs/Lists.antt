@@ -7,7 +7,7 @@ use Rattle.portal_model.specs.Payments.{Payment, payment, sales_of, sale_from, r
 use Rattle.portal_model.specs.Change.{plan_among}
 use Rattle.portal_model.specs.Rows.{Rows, VoucherRow, rows_of, vouchers_of, batch_among}
 use Rattle.portal_model.specs.declared.record.Session.{Session}
-use Rattle.portal_rows.specs.Lists.{is_within, by_sale, by_refund}
+use Rattle.portal_lists.specs.Lists.{is_within, by_sale, by_refund}
 use Rattle.portal_tables.specs.Shown.{voucher_kept}
 
 -- an answer's moment and amount

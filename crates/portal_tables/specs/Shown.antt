@@ -1,5 +1,5 @@
 -- When a database shows a history.
-use Rattle.std.specs.Prelude.{◌≡◌, ℕ, IsTrue, [], ◌∷◌, map}
+use Rattle.std.specs.Prelude.{◌≡◌, ℕ, IsTrue, List, [], ◌∷◌, map, Option}
 use Rattle.sqlite.specs.Effect.{Database}
 use Rattle.sqlite_rules.specs.Lists.{Has}
 use Rattle.sqlite.specs.State.{State, HasCleanDisk}
@@ -10,7 +10,12 @@ use Rattle.portal_model.specs.History.{History}
 use Rattle.portal_model.specs.Rows.{Rows, VoucherRow, SessionRow, GrantRow, CountRow, rows_of, sessions_of}
 use Rattle.portal_model.specs.Verdict.{IsLegal}
 use Rattle.portal_rows.specs.Contents.{Contents, HeadRow}
-use Rattle.portal_rows.specs.Holds.{Holds}
+use Rattle.portal_ledger.specs.Ledger.{Ledger, IsSound, AllRows, all_rows_of, held_in}
+use Rattle.portal_ledger.specs.Mark.{Mark}
+use Rattle.portal_ledger.specs.declared.caller.Caller.{Caller}
+use Rattle.portal_ledger.specs.declared.request.KeptRequest.{KeptRequest}
+use Rattle.portal_ledger.specs.RequestRow.{RequestRow, row_of_request}
+use Rattle.portal_rows.specs.Holds.{Holds, this_layout}
 use Rattle.portal_rows.specs.Read.{session_read}
 use Rattle.portal_rows.specs.declared.rows.KeptSession.{KeptSession}
 
@@ -32,9 +37,9 @@ count_kept k = record k { code = text_of k.code }
 abbrev pub head_kept : ℕ → Head → HeadRow
 head_kept layout h = record { id = 1; layout = layout; last = h.last; grants = h.grants; sessions = h.sessions }
 
--- the rows as the tables keep them
-abbrev pub contents_of : ℕ → Rows → Contents
-contents_of layout r = record {
+-- the rows as the tables keep them, with these rows of portal_requests beside
+abbrev pub contents_of : List RequestRow → ℕ → Rows → Contents
+contents_of requests layout r = record {
   heads = head_kept layout r.head ∷ [];
   plans = r.plans;
   batches = r.batches;
@@ -43,15 +48,20 @@ contents_of layout r = record {
   grants = map grant_kept r.grants;
   counts = map count_kept r.counts;
   totals = r.totals;
+  requests = requests;
 }
 
--- the layout of this version
-abbrev pub this_layout : ℕ
-this_layout = 2
+-- the rows of all nine tables as the tables keep them
+abbrev pub all_contents_of : ℕ → AllRows → Contents
+all_contents_of layout r = contents_of (map row_of_request r.requests) layout r.rows
 
--- the tables hold just the rows of the history
+-- the tables hold just the rows of the ledger
+abbrev pub ShowsLedger : Ledger → Database → Type 0
+ShowsLedger L db = IsSound L × Holds db (all_contents_of this_layout (all_rows_of L))
+
+-- eight of them hold just the rows of the history, whatever requests are kept
 abbrev pub ShowsHistory : History → Database → Type 0
-ShowsHistory h db = IsLegal h × Holds db (contents_of this_layout (rows_of h))
+ShowsHistory h db = IsLegal h × ((requests : List RequestRow) × Holds db (contents_of requests this_layout (rows_of h)))
 
 -- what is so of each history that the open connection showed
 abbrev pub OfShown : State → State → (History → Type 0) → Type 0
@@ -62,3 +72,11 @@ pub record IsRowOf (h : History) (row : KeptSession) : Type 0 where
   pub of_history : SessionRow
   pub among : Has (sessions_of h) of_history
   pub is : session_read row ≡ session_kept of_history
+
+-- what is so of each ledger that it showed
+abbrev pub OfLedger : State → State → (Ledger → Type 0) → Type 0
+OfLedger old new Is = HasCleanDisk new → IsTrue old.is_open → (L : Ledger) → ShowsLedger L old.now → Is L
+
+-- what is found is what is held under the caller's number
+abbrev pub IsHeldUnder : Ledger → Caller → List ℕ → Option KeptRequest → Type 0
+IsHeldUnder L caller number found = (mark : Mark) → mark.caller ≡ caller → mark.number ≡ number → found ≡ held_in L mark

@@ -5,10 +5,10 @@ use Rattle.sqlite.specs.State.{HasCleanDisk}
 use Rattle.sqlite.specs.Held.{Held, state}
 use Rattle.sqlite_trees.specs.declared.store.Store.{Ghosts}
 use Rattle.portal_sql.specs.StandsAt.{LeftShows, StandsAt}
-use Rattle.portal_model.specs.History.{History}
+use Rattle.portal_ledger.specs.Ledger.{Ledger}
+use Rattle.portal_ledger.specs.States.{State as Standing, running, stopped}
 use Rattle.portal_tables.specs.declared.tables.Tables.{Tables}
-use Rattle.portal_tables.specs.Shown.{ShowsHistory}
-use Rattle.portal_tables.specs.Standing.{Standing, running, stopped}
+use Rattle.portal_tables.specs.Shown.{ShowsLedger}
 use Rattle.portal_tables.specs.Stores.{StoreShows}
 
 -- what a stop may leave: a set of tables, other tables beside ours among them
@@ -16,23 +16,23 @@ abbrev pub Files : Type 0
 Files = Trees
 
 -- the files show the history
-unfoldable pub FilesShow : Files → History → Type 0
-FilesShow files h = LeftShows (StoreShows h) files
+unfoldable pub FilesShow : Files → Ledger → Type 0
+FilesShow files L = LeftShows (StoreShows L) files
 
 -- files that show what the standing allows
 abbrev pub LeftBy : Standing → Trees → Type 0
-LeftBy (running h) trees = LeftShows (ShowsHistory h) trees
-LeftBy (stopped h None) trees = LeftShows (ShowsHistory h) trees
-LeftBy (stopped h (Some e)) trees = LeftShows (ShowsHistory h) trees ⊎ LeftShows (ShowsHistory (e ∷ h)) trees
+LeftBy (running L) trees = LeftShows (ShowsLedger L) trees
+LeftBy (stopped L None) trees = LeftShows (ShowsLedger L) trees
+LeftBy (stopped L (Some a)) trees = LeftShows (ShowsLedger L) trees ⊎ LeftShows (ShowsLedger (a ∷ L)) trees
 
 module _ {S : Type 0} (g : Ghosts S) where
-  -- a connection that stands at a history: open, outside a transaction, and its store shows the history, now and in what a stop may leave
-  unfoldable pub ConnAt : Held S → History → Type 0
-  ConnAt conn h = StandsAt (StoreShows h) (state g conn)
+  -- a connection that stands at a ledger: open, outside a transaction, and its store shows the ledger, now and in what a stop may leave
+  unfoldable pub ConnAt : Held S → Ledger → Type 0
+  ConnAt conn L = StandsAt (StoreShows L) (state g conn)
 
-  -- each set of files that a stop at this moment may leave shows the history
-  unfoldable pub ConnLeaves : Held S → History → Type 0
-  ConnLeaves conn h = (files : Files) → (state g conn).may_leave files → FilesShow files h
+  -- each set of files that a stop at this moment may leave shows the ledger
+  unfoldable pub ConnLeaves : Held S → Ledger → Type 0
+  ConnLeaves conn L = (files : Files) → (state g conn).may_leave files → FilesShow files L
 
   -- the disk has returned what was written
   unfoldable pub ConnIsHonest : Held S → Type 0
@@ -44,9 +44,21 @@ module _ {S : Type 0} (g : Ghosts S) where
 
   -- the tables stand so
   unfoldable pub TablesAt : Tables S → Standing → Type 0
-  TablesAt tables (running h) = (tables.is_stopped ≡ false) × StandsAt (ShowsHistory h) (state g tables.conn)
-  TablesAt tables (stopped h doubt) = (tables.is_stopped ≡ true) × ((trees : Trees) → (state g tables.conn).may_leave trees → LeftBy (stopped h doubt) trees)
+  TablesAt tables (running L) = (tables.is_stopped ≡ false) × StandsAt (ShowsLedger L) (state g tables.conn)
+  TablesAt tables (stopped L doubt) = (tables.is_stopped ≡ true) × ((trees : Trees) → (state g tables.conn).may_leave trees → LeftBy (stopped L doubt) trees)
 
-  -- each set of files that a stop at this moment may leave shows a history of this kind
-  unfoldable pub Leaves : Tables S → (History → Type 0) → Type 0
-  Leaves tables Is = (files : Files) → (state g tables.conn).may_leave files → (h : History) × Is h × FilesShow files h
+  -- a stop at this moment may leave these files
+  unfoldable pub MayLeave : Tables S → Files → Type 0
+  MayLeave tables files = (state g tables.conn).may_leave files
+
+  -- each set of files that it may leave shows a ledger of this kind
+  abbrev pub Leaves : Tables S → (Ledger → Type 0) → Type 0
+  Leaves tables Is = (files : Files) → MayLeave tables files → (L : Ledger) × Is L × FilesShow files L
+
+  -- they have stopped
+  abbrev pub IsStopped : Tables S → Type 0
+  IsStopped tables = tables.is_stopped ≡ true
+
+  -- each set of files that a stop may leave after is one that it might leave before
+  abbrev pub LeavesNoMore : Tables S → Tables S → Type 0
+  LeavesNoMore old new = (files : Files) → MayLeave new files → MayLeave old files

@@ -4,18 +4,20 @@ ghost use Rattle.std.specs.Prelude.{◌≡◌, ◌≢◌, ◌⊎◌, ◌<◌, �
 ghost use Rattle.sqlite.specs.Held.{state};
 ghost use Rattle.sqlite.specs.State.{HasCleanDisk, IsUnchanged, Survives};
 ghost use Rattle.portal_sql.specs.States.{IsAsBefore};
-ghost use Rattle.portal_rows.specs.Creates.{IsCommitted, new_store};
+ghost use Rattle.portal_layouts.specs.Creates.{IsCommitted, new_store};
 ghost use Rattle.portal_rows.specs.Holds.{Holds, LeftHolds};
-ghost use Rattle.portal_rows.specs.Layouts.{TellsLayout};
-ghost use Rattle.portal_rows.specs.Steps.{Leads, MayLead};
-ghost use Rattle.portal_tables.specs.Adopting.{IsCarried, IsKnown, IsReady, IsWhy, LeftCarried, MayAdopt, TellsKnown, TellsNewer};
+ghost use Rattle.portal_layouts.specs.Layouts.{TellsLayout};
+ghost use Rattle.portal_layouts.specs.Brings.{MayUpgrade};
+ghost use Rattle.portal_layouts.specs.declared.layouts.OldLayout.TheVariants.{Fourth};
+ghost use Rattle.portal_tables.specs.Adopting.{IsCarried, IsCompleted, IsKnown, IsReady, IsWhy, LeftCarried, MayAdopt, TellsKnown, TellsNewer};
 ghost use Rattle.portal_tables.specs.declared.fault.OpenFault.TheVariants.{NotOurs, Newer, Memory, Store};
 
 use crate::fault::OpenFault;
 use crate::upgrade::upgrade;
-use portal_rows::creates::{create, is_room};
-use portal_rows::indexes::add_index;
-use portal_rows::layouts::{is_any_named, is_indexed, is_whole, layout_in, layout_rows};
+use portal_layouts::creates::{create, is_room};
+use portal_layouts::layouts::{
+    OldLayout, is_any_named, is_indexed, is_whole, layout_in, layout_rows,
+};
 use portal_sql::query::answers;
 use sqlite::{Alter, Connection, Error, ErrorCode};
 
@@ -68,10 +70,11 @@ fn start<S: Alter>(conn: &mut Connection<S>) -> Result<(), OpenFault>
 fn complete<S: Alter>(conn: &mut Connection<S>) -> Result<(), OpenFault>
     requires { conn.old.in_transaction ≡ false }
     ensures done { HasCleanDisk (state S.Store conn.new) → IsTrue (state S.Store conn.old).is_open → (state S.Store conn.old).now ≡ (state S.Store conn.old).committed
-        → OnOk result (Leads (λ t. t) (state S.Store conn.old) (state S.Store conn.new)) }
+        → OnOk result (IsCompleted (state S.Store conn.old) (state S.Store conn.new)) }
     ensures faults { IfErr result (λ fault. (fault ≡ Memory) ⊎ (fault ≡ Store)) }
-    ensures memory { HasCleanDisk (state S.Store conn.new) → IfErr result (λ fault. fault ≡ Memory → IsAsBefore (state S.Store conn.old) (state S.Store conn.new)) }
-    ensures crash { Survives (state S.Store conn.old) (state S.Store conn.new) (MayLead (λ t. t) (state S.Store conn.old)) }
+    ensures memory { HasCleanDisk (state S.Store conn.new) → IsTrue (state S.Store conn.old).is_open → (state S.Store conn.old).now ≡ (state S.Store conn.old).committed
+        → IfErr result (λ fault. fault ≡ Memory → IsAsBefore (state S.Store conn.old) (state S.Store conn.new)) }
+    ensures crash { Survives (state S.Store conn.old) (state S.Store conn.new) (MayUpgrade Fourth (state S.Store conn.old)) }
 {
     if !is_whole(conn.schema()) {
         return Err(OpenFault::Store);
@@ -79,13 +82,11 @@ fn complete<S: Alter>(conn: &mut Connection<S>) -> Result<(), OpenFault>
     if is_indexed(conn.schema()) {
         return Ok(());
     }
-    match add_index(conn) {
-        Ok(()) => Ok(()),
-        Err(error) => Err(told(conn, &error)),
-    }
+    upgrade(conn, OldLayout::Fourth)?;
+    Ok(())
 }
 
-/// Goes on with the tables that stand in a store; those of the first layout are upgraded.
+/// Goes on with the tables that stand in a store; those of an older layout are upgraded.
 fn resume<S: Alter>(conn: &mut Connection<S>) -> Result<(), OpenFault>
     requires { conn.old.in_transaction ≡ false }
     ensures why { HasCleanDisk (state S.Store conn.new) → MatchResult result (λ _. TellsKnown (state S.Store conn.old).now)
@@ -99,10 +100,18 @@ fn resume<S: Alter>(conn: &mut Connection<S>) -> Result<(), OpenFault>
     match read_layout(conn)? {
         None => Err(OpenFault::NotOurs),
         Some(1) => {
-            upgrade(conn)?;
+            upgrade(conn, OldLayout::First)?;
             Ok(())
         }
         Some(2) => {
+            upgrade(conn, OldLayout::Second)?;
+            Ok(())
+        }
+        Some(3) => {
+            upgrade(conn, OldLayout::Third)?;
+            Ok(())
+        }
+        Some(4) => {
             complete(conn)?;
             Ok(())
         }

@@ -4,6 +4,7 @@
 pub mod adopt;
 mod adoption;
 pub mod fault;
+pub mod laws;
 mod lists;
 pub mod opening;
 mod records;

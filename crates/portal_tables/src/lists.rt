@@ -8,14 +8,14 @@ ghost use Rattle.portal_model.specs.History.{is_open_at};
 ghost use Rattle.portal_model.specs.Rows.{rows_of};
 ghost use Rattle.portal_sql.specs.Looks.{Looks};
 ghost use Rattle.portal_rows.specs.Holds.{HasTables};
-ghost use Rattle.portal_rows.specs.Lists.{sale_read};
+ghost use Rattle.portal_lists.specs.Lists.{sale_read};
 ghost use Rattle.portal_tables.specs.Lists.{AreSales, open_numbered, paid, sale_of_shown};
 ghost use Rattle.portal_tables.specs.Shown.{OfShown};
 
 use crate::records::{read_session, read_terms};
+use portal_lists::lists::{KeptSale, list_numbers, list_sales};
 use portal_model::moment::Moment;
 use portal_model::record::{Session, is_open};
-use portal_rows::lists::{KeptSale, list_numbers, list_sales};
 use portal_rows::rows::Fault;
 use sqlite::{Alter, Connection};
 use std::alloc::Global;

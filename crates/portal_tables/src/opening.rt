@@ -5,7 +5,7 @@ ghost use Rattle.sqlite.specs.Tree.{Trees};
 ghost use Rattle.sqlite.specs.Files.{HoldsDatabase, image_of, file_state, over_files};
 ghost use Rattle.sqlite.specs.State.{HasCleanDisk};
 ghost use Rattle.sqlite.specs.Steps.{over_memory};
-ghost use Rattle.portal_model.specs.History.{History};
+ghost use Rattle.portal_ledger.specs.Ledger.{Ledger};
 ghost use Rattle.portal_tables.specs.TablesAt.{ConnAt, FilesShow};
 
 use sqlite::{Connection, Error, FileStore, Leftover, MemStore, Options};
@@ -22,7 +22,7 @@ pub fn open_in_memory(alloc: Global) -> Result<Connection<MemStore>, AllocError>
     }
 }
 
-/// Opens files. Where they hold a table set that shows a history, as a stop leaves them, the connection stands at it.
+/// Opens files. Where they hold a table set that shows a ledger, as a stop leaves them, the connection stands at it.
 pub fn open_files<D: Disk + Drop>(
     alloc: Global,
     files: Files<D>,
@@ -30,8 +30,8 @@ pub fn open_files<D: Disk + Drop>(
 ) -> Result<Connection<FileStore<D>>, (Error, Leftover<D>)>
     requires log { IsTrue (D.Disk.is_usable files.log) }
     requires db { IsTrue (D.Disk.is_usable files.db) }
-    ensures { (h : History) (left : Trees) → HoldsDatabase (image_of D.Disk files) left → FilesShow left h
-        → IfOk result (λ conn. HasCleanDisk (file_state conn) → ConnAt over_files conn h) }
+    ensures { (L : Ledger) (left : Trees) → HoldsDatabase (image_of D.Disk files) left → FilesShow left L
+        → IfOk result (λ conn. HasCleanDisk (file_state conn) → ConnAt over_files conn L) }
 {
     match Connection::open_files(alloc, files, options) {
         Ok(conn) => Ok(conn),
@@ -51,7 +51,7 @@ pub fn reopen<D: Disk + Drop>(
     conn: Connection<FileStore<D>>,
     options: Options,
 ) -> Result<Connection<FileStore<D>>, Unopened<D>>
-    ensures { (h : History) → ConnAt over_files conn h → IfOk result (λ again. HasCleanDisk (file_state again) → ConnAt over_files again h) }
+    ensures { (L : Ledger) → ConnAt over_files conn L → IfOk result (λ again. HasCleanDisk (file_state again) → ConnAt over_files again L) }
 {
     match conn.close_files() {
         Ok(files) => match Connection::open_files(alloc, files, options) {

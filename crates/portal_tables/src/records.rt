@@ -1,15 +1,17 @@
 //! The records of a history, read from several tables.
 
-ghost use Rattle.std.specs.Prelude.{◌≡◌, Some, IfOk};
+ghost use Rattle.std.specs.Prelude.{◌≡◌, Some, IfOk, is_some};
 ghost use Rattle.sqlite.specs.Held.{state};
-ghost use Rattle.portal_model.specs.History.{plan_of, batch_of, voucher_of, session_of, last_session_of, head_of};
+ghost use Rattle.portal_model.specs.History.{plan_of, batch_of, issued_of, voucher_of, session_of, last_session_of, head_of};
 ghost use Rattle.portal_model.specs.Device.{IsDevice};
 ghost use Rattle.portal_model.specs.Rows.{allowance_from};
 ghost use Rattle.portal_sql.specs.Looks.{Looks};
 ghost use Rattle.portal_rows.specs.Holds.{HasTables};
-ghost use Rattle.portal_tables.specs.Shown.{IsRowOf, OfShown};
+ghost use Rattle.portal_tables.specs.Shown.{IsHeldUnder, IsRowOf, OfLedger, OfShown};
 
 use portal_codes::Code;
+use portal_ledger::caller::Caller;
+use portal_ledger::request::{KeptRequest, RequestNumber};
 use portal_model::name::{Device, Id};
 use portal_model::plan::Plan;
 use portal_model::record::{Batch, Head, Session, Voucher};
@@ -17,8 +19,10 @@ use portal_rows::finds::{
     find_batch, find_count, find_head, find_last_session, find_plan, find_session, find_total,
     find_voucher,
 };
+use portal_rows::requests::find_kept;
 use portal_rows::rows::{Fault, KeptSession};
 use sqlite::{Alter, Connection};
+use std::alloc::Global;
 
 /// The head.
 pub(crate) fn read_head<S: Alter>(conn: &mut Connection<S>) -> Result<Head, Fault>
@@ -76,6 +80,15 @@ pub(crate) fn read_voucher<S: Alter>(
         refund: row.amount,
         redeemed: count.redeemed,
     }))
+}
+
+/// Whether a voucher of the code was issued.
+pub(crate) fn read_is_held<S: Alter>(conn: &mut Connection<S>, code: &Code) -> Result<bool, Fault>
+    ensures found { OfShown (state S.Store conn.old) (state S.Store conn.new) (λ h. IfOk result (λ held. held ≡ is_some (issued_of h code.now))) }
+    ensures looks { Looks HasTables result (state S.Store conn.old) (state S.Store conn.new) }
+{
+    let found = find_voucher(conn, code)?;
+    Ok(found.is_some())
 }
 
 /// What was granted in all: what remains, and what was used.
@@ -157,4 +170,18 @@ pub(crate) fn read_last_session<S: Alter>(
         Some(row) => Ok(Some(complete(conn, &row)?)),
         None => Ok(None),
     }
+}
+
+/// The request that is kept under the caller's number, with what its caller was told.
+pub(crate) fn read_kept<S: Alter>(
+    alloc: Global,
+    conn: &mut Connection<S>,
+    caller: &Caller,
+    number: &RequestNumber,
+) -> Result<Option<KeptRequest>, Fault>
+    ensures found { OfLedger (state S.Store conn.old) (state S.Store conn.new) (λ L. IfOk result (IsHeldUnder L caller.now number.now)) }
+    ensures looks { Looks HasTables result (state S.Store conn.old) (state S.Store conn.new) }
+{
+    let found = find_kept(alloc, conn, caller, number)?;
+    Ok(found)
 }

@@ -1,19 +1,27 @@
-ghost use Rattle.std.specs.Prelude.{◌≡◌, ◌⊎◌, true, false, IsTrue, MatchResult};
+ghost use Rattle.std.specs.Prelude.{◌≡◌, ◌↔◌, ◌⊎◌, true, false, IsTrue, MatchResult, IsErrOf, is_some};
 ghost use Rattle.sqlite.specs.Held.{state};
 ghost use Rattle.sqlite.specs.State.{HasCleanDisk, IsUnchanged, Survives};
-ghost use Rattle.portal_model.specs.History.{Entry, History, head_of, plan_of, batch_of, voucher_of, session_of, last_session_of};
-ghost use Rattle.portal_rows.specs.Commands.{Fits, FitsSession, FitsIssuance, FitsRedemption, FitsUsage};
-ghost use Rattle.portal_tables.specs.Standing.{Standing, running, MayFollow, Keeps, FailsToKeep, ReadsThat, FailsToRead};
-ghost use Rattle.portal_tables.specs.TablesAt.{ConnAt, IsHonest, TablesAt};
+ghost use Rattle.portal_ledger.specs.Ledger.{Accepted, Ledger};
+ghost use Rattle.portal_model.specs.History.{head_of, plan_of, batch_of, issued_of, voucher_of, session_of, last_session_of};
+ghost use Rattle.portal_rows.specs.Commands.{Fits as FitsColumns, FitsSession, FitsIssuance, FitsRedemption, FitsUsage, FitsAnswer, FitsMark, FitsMarked};
+ghost use Rattle.portal_ledger.specs.States.{State as Standing, running};
+ghost use Rattle.portal_ledger.specs.Calls.{Fits, Keeps, FailsToKeep, ReadsOf, ReadsThat, FailsToRead};
+ghost use Rattle.portal_tables.specs.Shown.{IsHeldUnder};
+ghost use Rattle.portal_tables.specs.TablesAt.{ConnAt, IsHonest, TablesAt, LeavesNoMore, IsStopped};
 ghost use Rattle.portal_tables.specs.declared.fault.StoreFault.TheVariants.{Memory, Stopped};
 
 mod audits;
 mod lists;
 
 use crate::fault::StoreFault;
-use crate::records::{LIMIT, read_head, read_last_session, read_session, read_voucher};
+use crate::records::{
+    LIMIT, read_head, read_is_held, read_kept, read_last_session, read_session, read_voucher,
+};
 use portal_codes::Code;
-use portal_model::change::{Changes, Issuance, Redemption, Usage};
+use portal_ledger::caller::Caller;
+use portal_ledger::marked::MarkedChanges;
+use portal_ledger::request::{KeptRequest, RequestMark, RequestNumber};
+use portal_model::change::{Answer, Changes, Issuance, Redemption, Usage};
 use portal_model::name::{Device, Id};
 use portal_model::plan::Plan;
 use portal_model::record::{Batch, Head, Session, Voucher};
@@ -22,6 +30,7 @@ use portal_rows::finds::{find_batch, find_plan};
 use portal_rows::rows::Fault;
 use portal_sql::query::answers;
 use sqlite::{Alter, Connection, Error, ErrorCode};
+use std::alloc::Global;
 
 /// The product's tables in a store.
 pub struct Tables<S: Alter> {
@@ -42,13 +51,20 @@ impl<S: Alter> Tables<S> {
 
     /// Hands the connection back. Where the tables are not stopped, it stands where they stood.
     pub fn release(self) -> Connection<S>
-        ensures { (h : History) → TablesAt S.Store self (running h) → ConnAt S.Store result h }
+        ensures { (L : Ledger) → TablesAt S.Store self (running L) → ConnAt S.Store result L }
     {
         let Tables {
             conn,
             is_stopped: _,
         } = self;
         conn
+    }
+
+    /// Whether the tables have stopped: each call but this and `release` answers `Stopped` then.
+    pub fn is_stopped(&self) -> bool
+        ensures { IsTrue result ↔ IsStopped S.Store self.now }
+    {
+        self.is_stopped
     }
 
     /// What a fault comes to. Want of memory is told only where the connection still answers, and so nothing has changed.
@@ -68,21 +84,22 @@ impl<S: Alter> Tables<S> {
         StoreFault::Stopped
     }
 
-    /// Keeps what a command changes, in one transaction. The changes are to be those of an entry that may follow.
-    /// Memory leaves all as it was. After Stopped the files hold the entry whole or not at all.
-    pub fn commit(&mut self, changes: &Changes) -> Result<(), StoreFault>
+    /// Keeps what a command changes, and its request where it has a mark, in one transaction. They are to be those of a command that may follow, under a key that is not held.
+    /// Memory leaves all as it was. After Stopped the files hold the command whole or not at all.
+    pub fn commit(&mut self, marked: &MarkedChanges) -> Result<(), StoreFault>
         ensures honest { IsHonest S.Store self.new → IsHonest S.Store self.old }
-        ensures commit { IsHonest S.Store self.new → (old : Standing) → TablesAt S.Store self.old old → (e : Entry) → MayFollow old changes.now e
-            → (new : Standing) × TablesAt S.Store self.new new × MatchResult result (λ _. Keeps old e new) (λ fault. FailsToKeep old e fault new) }
+        ensures stopped { IsStopped S.Store self.old → IsErrOf result Stopped × (self.new ≡ self.old) }
+        ensures commit { IsHonest S.Store self.new → (old : Standing) → TablesAt S.Store self.old old → (a : Accepted) → Fits old marked.now a
+            → (new : Standing) × TablesAt S.Store self.new new × MatchResult result (λ _. Keeps old a new) (λ fault. FailsToKeep Memory Stopped old a fault new) }
     {
         if self.is_stopped {
             return Err(StoreFault::Stopped);
         }
-        if !self.conn.is_autocommit() || !fit(changes) {
+        if !self.conn.is_autocommit() || !are_kept(marked) {
             self.is_stopped = true;
             return Err(StoreFault::Stopped);
         }
-        match keep(&mut self.conn, changes) {
+        match keep(&mut self.conn, marked) {
             Ok(()) => Ok(()),
             Err(error) => Err(self.fault(Fault::Sql(error))),
         }
@@ -91,8 +108,9 @@ impl<S: Alter> Tables<S> {
     /// The last moment, and the numbers of redemptions and sessions.
     pub fn head(&mut self) -> Result<Head, StoreFault>
         ensures honest { IsHonest S.Store self.new → IsHonest S.Store self.old }
+        ensures stopped { IsStopped S.Store self.old → IsErrOf result Stopped × (self.new ≡ self.old) }
         ensures head { IsHonest S.Store self.new → (old : Standing) → TablesAt S.Store self.old old → (new : Standing) × TablesAt S.Store self.new new
-            × MatchResult result (λ found. ReadsThat old (λ h. found ≡ head_of h) new) (λ fault. FailsToRead old fault new) }
+            × LeavesNoMore S.Store self.old self.new × MatchResult result (λ found. ReadsThat old (λ h. found ≡ head_of h) new) (λ fault. FailsToRead Memory Stopped old fault new) }
     {
         if self.is_stopped {
             return Err(StoreFault::Stopped);
@@ -106,8 +124,9 @@ impl<S: Alter> Tables<S> {
     /// The plan of the id, where it is held.
     pub fn plan(&mut self, id: &Id) -> Result<Option<Plan>, StoreFault>
         ensures honest { IsHonest S.Store self.new → IsHonest S.Store self.old }
+        ensures stopped { IsStopped S.Store self.old → IsErrOf result Stopped × (self.new ≡ self.old) }
         ensures plan { IsHonest S.Store self.new → (old : Standing) → TablesAt S.Store self.old old → (new : Standing) × TablesAt S.Store self.new new
-            × MatchResult result (λ found. ReadsThat old (λ h. found ≡ plan_of h id.now) new) (λ fault. FailsToRead old fault new) }
+            × LeavesNoMore S.Store self.old self.new × MatchResult result (λ found. ReadsThat old (λ h. found ≡ plan_of h id.now) new) (λ fault. FailsToRead Memory Stopped old fault new) }
     {
         if self.is_stopped {
             return Err(StoreFault::Stopped);
@@ -121,8 +140,9 @@ impl<S: Alter> Tables<S> {
     /// The batch of the id, where there is one.
     pub fn batch(&mut self, id: &Id) -> Result<Option<Batch>, StoreFault>
         ensures honest { IsHonest S.Store self.new → IsHonest S.Store self.old }
+        ensures stopped { IsStopped S.Store self.old → IsErrOf result Stopped × (self.new ≡ self.old) }
         ensures batch { IsHonest S.Store self.new → (old : Standing) → TablesAt S.Store self.old old → (new : Standing) × TablesAt S.Store self.new new
-            × MatchResult result (λ found. ReadsThat old (λ h. found ≡ batch_of h id.now) new) (λ fault. FailsToRead old fault new) }
+            × LeavesNoMore S.Store self.old self.new × MatchResult result (λ found. ReadsThat old (λ h. found ≡ batch_of h id.now) new) (λ fault. FailsToRead Memory Stopped old fault new) }
     {
         if self.is_stopped {
             return Err(StoreFault::Stopped);
@@ -136,8 +156,9 @@ impl<S: Alter> Tables<S> {
     /// The voucher of the code, where it was issued.
     pub fn voucher(&mut self, code: &Code) -> Result<Option<Voucher>, StoreFault>
         ensures honest { IsHonest S.Store self.new → IsHonest S.Store self.old }
+        ensures stopped { IsStopped S.Store self.old → IsErrOf result Stopped × (self.new ≡ self.old) }
         ensures voucher { IsHonest S.Store self.new → (old : Standing) → TablesAt S.Store self.old old → (new : Standing) × TablesAt S.Store self.new new
-            × MatchResult result (λ found. ReadsThat old (λ h. found ≡ voucher_of h code.now) new) (λ fault. FailsToRead old fault new) }
+            × LeavesNoMore S.Store self.old self.new × MatchResult result (λ found. ReadsThat old (λ h. found ≡ voucher_of h code.now) new) (λ fault. FailsToRead Memory Stopped old fault new) }
     {
         if self.is_stopped {
             return Err(StoreFault::Stopped);
@@ -148,11 +169,28 @@ impl<S: Alter> Tables<S> {
         }
     }
 
+    /// Whether a voucher of the code was issued: one look at the tables, where its voucher takes up to four.
+    pub fn is_held(&mut self, code: &Code) -> Result<bool, StoreFault>
+        ensures honest { IsHonest S.Store self.new → IsHonest S.Store self.old }
+        ensures stopped { IsStopped S.Store self.old → IsErrOf result Stopped × (self.new ≡ self.old) }
+        ensures is_held { IsHonest S.Store self.new → (old : Standing) → TablesAt S.Store self.old old → (new : Standing) × TablesAt S.Store self.new new
+            × LeavesNoMore S.Store self.old self.new × MatchResult result (λ held. ReadsThat old (λ h. held ≡ is_some (issued_of h code.now)) new) (λ fault. FailsToRead Memory Stopped old fault new) }
+    {
+        if self.is_stopped {
+            return Err(StoreFault::Stopped);
+        }
+        match read_is_held(&mut self.conn, code) {
+            Ok(held) => Ok(held),
+            Err(fault) => Err(self.fault(fault)),
+        }
+    }
+
     /// The session of the number, where there is one.
     pub fn session(&mut self, number: u64) -> Result<Option<Session>, StoreFault>
         ensures honest { IsHonest S.Store self.new → IsHonest S.Store self.old }
+        ensures stopped { IsStopped S.Store self.old → IsErrOf result Stopped × (self.new ≡ self.old) }
         ensures session { IsHonest S.Store self.new → (old : Standing) → TablesAt S.Store self.old old → (new : Standing) × TablesAt S.Store self.new new
-            × MatchResult result (λ found. ReadsThat old (λ h. found ≡ session_of h number) new) (λ fault. FailsToRead old fault new) }
+            × LeavesNoMore S.Store self.old self.new × MatchResult result (λ found. ReadsThat old (λ h. found ≡ session_of h number) new) (λ fault. FailsToRead Memory Stopped old fault new) }
     {
         if self.is_stopped {
             return Err(StoreFault::Stopped);
@@ -166,8 +204,9 @@ impl<S: Alter> Tables<S> {
     /// The session of the device with the greatest number, where there is one.
     pub fn last_session(&mut self, device: &Device) -> Result<Option<Session>, StoreFault>
         ensures honest { IsHonest S.Store self.new → IsHonest S.Store self.old }
+        ensures stopped { IsStopped S.Store self.old → IsErrOf result Stopped × (self.new ≡ self.old) }
         ensures last_session { IsHonest S.Store self.new → (old : Standing) → TablesAt S.Store self.old old → (new : Standing) × TablesAt S.Store self.new new
-            × MatchResult result (λ found. ReadsThat old (λ h. found ≡ last_session_of h device.now) new) (λ fault. FailsToRead old fault new) }
+            × LeavesNoMore S.Store self.old self.new × MatchResult result (λ found. ReadsThat old (λ h. found ≡ last_session_of h device.now) new) (λ fault. FailsToRead Memory Stopped old fault new) }
     {
         if self.is_stopped {
             return Err(StoreFault::Stopped);
@@ -177,10 +216,31 @@ impl<S: Alter> Tables<S> {
             Err(fault) => Err(self.fault(fault)),
         }
     }
+
+    /// The request that is kept under the caller's number, with what its caller was told, where there is one.
+    pub fn request(
+        &mut self,
+        alloc: Global,
+        caller: &Caller,
+        number: &RequestNumber,
+    ) -> Result<Option<KeptRequest>, StoreFault>
+        ensures honest { IsHonest S.Store self.new → IsHonest S.Store self.old }
+        ensures stopped { IsStopped S.Store self.old → IsErrOf result Stopped × (self.new ≡ self.old) }
+        ensures request { IsHonest S.Store self.new → (old : Standing) → TablesAt S.Store self.old old → (new : Standing) × TablesAt S.Store self.new new
+            × LeavesNoMore S.Store self.old self.new × MatchResult result (λ found. ReadsOf old (λ L. IsHeldUnder L caller.now number.now found) new) (λ fault. FailsToRead Memory Stopped old fault new) }
+    {
+        if self.is_stopped {
+            return Err(StoreFault::Stopped);
+        }
+        match read_kept(alloc, &mut self.conn, caller, number) {
+            Ok(found) => Ok(found),
+            Err(fault) => Err(self.fault(fault)),
+        }
+    }
 }
 
 fn session_fits(session: &Session) -> bool
-    ensures { IsTrue result → FitsSession session.now }
+    ensures { IsTrue result ↔ FitsSession session.now }
 {
     session.number < LIMIT
         && session.used < LIMIT
@@ -188,13 +248,13 @@ fn session_fits(session: &Session) -> bool
 }
 
 fn issuance_fits(c: &Issuance) -> bool
-    ensures { IsTrue result → FitsIssuance c.now }
+    ensures { IsTrue result ↔ FitsIssuance c.now }
 {
     c.batch.size < LIMIT && (c.codes.as_slice().len() as u64) < LIMIT
 }
 
 fn redemption_fits(c: &Redemption) -> bool
-    ensures { IsTrue result → FitsRedemption c.now }
+    ensures { IsTrue result ↔ FitsRedemption c.now }
 {
     session_fits(&c.session)
         && c.head.grants < LIMIT - 1
@@ -203,14 +263,14 @@ fn redemption_fits(c: &Redemption) -> bool
 }
 
 fn usage_fits(c: &Usage) -> bool
-    ensures { IsTrue result → FitsUsage c.now }
+    ensures { IsTrue result ↔ FitsUsage c.now }
 {
     session_fits(&c.session) && c.bytes < LIMIT
 }
 
 /// Whether each number of the changes can be kept.
 fn fit(changes: &Changes) -> bool
-    ensures { IsTrue result → Fits changes.now }
+    ensures { IsTrue result ↔ FitsColumns changes.now }
 {
     match changes {
         Changes::Loading(_) => true,
@@ -221,4 +281,49 @@ fn fit(changes: &Changes) -> bool
         Changes::Repayment(c) => c.amount < LIMIT,
         Changes::Closing(c) => c.session.number < LIMIT,
     }
+}
+
+/// Whether each number of the answer can be kept.
+fn answer_fits(answer: &Answer) -> bool
+    ensures { IsTrue result ↔ FitsAnswer answer.now }
+{
+    match answer {
+        Answer::Plans { plans } => *plans < LIMIT,
+        Answer::Issued {
+            batch: _,
+            count,
+            expires,
+        } => *count < LIMIT && expires.get() < LIMIT,
+        Answer::Sold { code: _, price } => *price < LIMIT,
+        Answer::Redeemed {
+            extended: _,
+            session,
+            uses_left,
+        } => *session < LIMIT && *uses_left < LIMIT,
+        Answer::Reported {
+            still_open: _,
+            session,
+            used,
+        } => *session < LIMIT && *used < LIMIT,
+        Answer::Refunded { amount, code: _ } => *amount < LIMIT,
+        Answer::Closed { session } => *session < LIMIT,
+    }
+}
+
+/// Whether each number of the answer can be kept, where it is kept with a mark.
+fn mark_fits(mark: &Option<RequestMark>, answer: &Answer) -> bool
+    ensures { IsTrue result ↔ FitsMark mark.now answer.now }
+{
+    match mark {
+        Some(_) => answer_fits(answer),
+        None => true,
+    }
+}
+
+/// Whether each number that is kept with the changes can be.
+fn are_kept(marked: &MarkedChanges) -> bool
+    ensures { IsTrue result ↔ FitsMarked marked.now }
+{
+    let answer = marked.answer();
+    fit(&marked.changes) && mark_fits(&marked.mark, &answer)
 }

@@ -1,22 +1,21 @@
 //! Whether the counters of the tables are those that the rows come to.
-use crate::stores::run;
-use crate::tables::{ZERO_SEED_CODE, adopted, code, read_voucher, worked};
-use portal_core::Voucher;
-use sqlite::{Alter, Connection};
+use crate::cases::WORKED;
+use crate::jobs::Job;
+use crate::place::in_memory;
+use crate::seen::{Seen, VoucherSeen};
+use crate::values::{HOUR, ZERO_SEED_CODE};
 use std::test::Fail;
 
-/// What the audit answers, and the voucher of the case.
-fn audited<S: Alter + Drop>(
-    conn: Connection<S>,
-) -> Result<(Connection<S>, bool, Option<Voucher>), Fail> {
-    let code = code(ZERO_SEED_CODE)?;
-    let mut tables = adopted(conn)?;
-    let holds = tables.audit();
-    let voucher = read_voucher(&mut tables, &code);
-    let conn = tables.release();
-    let voucher = voucher?;
-    Ok((conn, holds?, voucher))
-}
+/// The voucher of the case, whose redemption is not counted.
+const NOT_COUNTED: VoucherSeen = VoucherSeen {
+    code: ZERO_SEED_CODE,
+    batch: "b1",
+    plan: HOUR,
+    expires: 2_593_000,
+    sold: Some(1000),
+    refund: None,
+    redeemed: 0,
+};
 
 /// Changes of one row each, after which the counters differ from the rows.
 const CHANGES: [&str; 8] = [
@@ -30,34 +29,27 @@ const CHANGES: [&str; 8] = [
     "UPDATE portal_grants SET seconds = 3601",
 ];
 
-#[test]
-fn audit_differs(rt: HostRuntime) -> Result<(), Fail> {
-    let conn = Connection::open_in_memory(rt.alloc())?;
-    let conn = worked(rt.alloc(), conn)?;
-    let (mut conn, holds, voucher) = audited(conn)?;
-    assert!(rt; holds);
-    assert_eq!(rt; voucher.ok_or("no voucher")?.redeemed, 1);
-    run(&mut conn, "UPDATE portal_counts SET redeemed = 0")?;
-    let (_conn, holds, voucher) = audited(conn)?;
-    assert!(rt; !holds);
-    assert_eq!(rt; voucher.ok_or("no voucher")?.redeemed, 0);
-    Ok(())
-}
+const AUDITED: Job<'static> = Job::Seen(&[Seen::Audit(true)]);
 
-fn audit<S: Alter + Drop>(conn: Connection<S>) -> Result<bool, Fail> {
-    let mut tables = adopted(conn)?;
-    let holds = tables.audit();
-    drop(tables.release());
-    Ok(holds?)
-}
+const DIFFERS: Job<'static> = Job::Seen(&[Seen::Audit(false)]);
 
 #[test]
 fn each_counter_is_audited(rt: HostRuntime) -> Result<(), Fail> {
     for change in CHANGES {
-        let conn = Connection::open_in_memory(rt.alloc())?;
-        let mut conn = worked(rt.alloc(), conn)?;
-        run(&mut conn, change)?;
-        assert!(rt; !audit(conn)?, "{change}");
+        let jobs = [Job::Entries(WORKED), AUDITED, Job::Sql(change), DIFFERS];
+        in_memory(&rt, rt.alloc(), jobs.as_slice())?;
     }
     Ok(())
+}
+
+/// The counter is read and not the grants.
+const COUNTER_DIFFERS: &[Job<'static>] = &[
+    Job::Entries(WORKED),
+    Job::Sql("UPDATE portal_counts SET redeemed = 0"),
+    Job::Seen(&[Seen::Voucher(NOT_COUNTED), Seen::Audit(false)]),
+];
+
+#[test]
+fn a_counter_that_differs(rt: HostRuntime) -> Result<(), Fail> {
+    in_memory(&rt, rt.alloc(), COUNTER_DIFFERS)
 }

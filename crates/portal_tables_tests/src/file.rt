@@ -1,7 +1,8 @@
 //! A store in a file of the file system.
-use crate::tables::{ZERO_SEED_CODE, adopted, code, read_voucher, worked};
-use portal_core::Voucher;
-use sqlite::{Connection, Error};
+use crate::cases::WORKED;
+use crate::jobs::Job;
+use crate::place::in_file;
+use crate::seen::Seen;
 use std::fs;
 use std::test::Fail;
 
@@ -9,28 +10,18 @@ const FOLDER: &str = "portal_tables_file";
 
 const PATH: &str = "portal_tables_file/desk.db";
 
-fn write(rt: &HostRuntime) -> Result<(), Fail> {
-    let conn = worked(rt.alloc(), Connection::open(rt, PATH)?)?;
-    Ok(conn.close()?)
-}
-
-fn read(rt: &HostRuntime) -> Result<Option<Voucher>, Fail> {
-    let code = code(ZERO_SEED_CODE)?;
-    let mut tables = adopted(Connection::open(rt, PATH)?)?;
-    let voucher = read_voucher(&mut tables, &code);
-    let closed: Result<(), Error> = tables.release().close();
-    let voucher = voucher?;
-    closed?;
-    Ok(voucher)
-}
+const JOBS: &[Job<'static>] = &[
+    Job::Entries(WORKED),
+    Job::Seen(&[Seen::Head(1000, 1, 1), Seen::Audit(true)]),
+];
 
 #[test]
 fn a_file_is_written_and_read(rt: HostRuntime) -> Result<(), Fail> {
     let _ = fs::remove_dir_all(&rt, FOLDER);
     fs::create_dir(&rt, FOLDER)?;
-    write(&rt)?;
-    let voucher = read(&rt)?;
+    for job in JOBS {
+        in_file(&rt, &rt, PATH, *job)?;
+    }
     fs::remove_dir_all(&rt, FOLDER)?;
-    assert_eq!(rt; voucher.ok_or("no voucher")?.redeemed, 1);
     Ok(())
 }

@@ -2,7 +2,7 @@
 #![tactic(auto)]
 
 #[cfg(test)]
-mod adopt_stops;
+mod asks;
 #[cfg(test)]
 mod audit;
 #[cfg(test)]
@@ -12,14 +12,28 @@ mod file;
 #[cfg(test)]
 mod foreign;
 #[cfg(test)]
-mod fuses;
+mod jobs;
+#[cfg(test)]
+mod large;
 #[cfg(test)]
 mod lists;
 #[cfg(test)]
 mod old;
 #[cfg(test)]
+mod once;
+#[cfg(test)]
+mod place;
+#[cfg(test)]
+mod reads;
+#[cfg(test)]
+mod requests;
+#[cfg(test)]
+mod seen;
+#[cfg(test)]
+mod shared;
+#[cfg(test)]
+mod sql;
+#[cfg(test)]
 mod stops;
 #[cfg(test)]
-mod stores;
-#[cfg(test)]
-mod tables;
+mod values;

@@ -1,167 +1,158 @@
 //! The lists of the tables.
-use crate::tables::{
-    LAST_ONE_CODE, SECOND_DEVICE, ZERO_SEED_CODE, ZEROS_CODE, adopted, code, id, issue,
-    issue_and_sell, issue_sell_redeem, load_both, moment, read_session, redeem, refund, sell,
+use crate::asks::{Ask, Reply};
+use crate::cases::WORKED;
+use crate::jobs::Job;
+use crate::place::in_memory;
+use crate::seen::{BatchSeen, Seen};
+use crate::values::{
+    FIRST_DEVICE, GIG, HOUR, LAST_ONE_CODE, SECOND_DEVICE, ZERO_SEED_CODE, ZEROS_CODE,
 };
-use portal_codes::Code;
-use portal_core::{Moment, Session};
-use portal_tables::tables::Tables;
-use sqlite::{Alter, Connection};
-use std::alloc::Global;
-use std::process::Abort;
 use std::test::Fail;
 
-fn codes<S: Alter>(alloc: Global, tables: &mut Tables<S>, batch: &str) -> Result<Vec<Code>, Fail> {
-    Ok(tables.batch_rows(alloc, &id(batch)?)?)
-}
+/// Two codes that are not in the order of their texts.
+const TWO: BatchSeen = BatchSeen {
+    id: "b2",
+    plan: "gig",
+    issued: 1000,
+    expires: 2_593_000,
+    codes: &[LAST_ONE_CODE, ZEROS_CODE],
+};
 
-fn open<S: Alter>(alloc: Global, tables: &mut Tables<S>, t: u64) -> Result<Vec<Session>, Fail> {
-    Ok(tables.open_sessions(alloc, moment(t)?)?)
-}
+const CODES: &[Job<'static>] = &[
+    Job::Entries(WORKED),
+    Job::Entries(&[(
+        1000,
+        Ask::Issue("b2", "gig", &[LAST_ONE_CODE, ZEROS_CODE]),
+        Reply::Issued("b2", 2, 2_593_000),
+    )]),
+    Job::Seen(&[Seen::Batch(TWO), Seen::NoBatch("b9")]),
+];
 
-fn sales<S: Alter>(
-    alloc: Global,
-    tables: &mut Tables<S>,
-    from: u64,
-    to: u64,
-) -> Result<Vec<(Moment, u64)>, Fail> {
-    Ok(tables.sales_between(alloc, moment(from)?, moment(to)?)?)
-}
-
-fn refunds<S: Alter>(
-    alloc: Global,
-    tables: &mut Tables<S>,
-    from: u64,
-    to: u64,
-) -> Result<Vec<(Moment, u64)>, Fail> {
-    Ok(tables.refunds_between(alloc, moment(from)?, moment(to)?)?)
-}
-
-/// An hour from 1000 on, and a batch of two codes that are not in the order of their texts.
-fn check_codes<S: Alter>(
-    rt: &impl Abort,
-    alloc: Global,
-    tables: &mut Tables<S>,
-) -> Result<(), Fail> {
-    issue_sell_redeem(alloc, tables)?;
-    let two = [code(LAST_ONE_CODE)?, code(ZEROS_CODE)?];
-    issue(alloc, tables, "b2", "gig", &two, 1000)?;
-    assert_eq!(rt; codes(alloc, tables, "b2")?.as_slice(), two.as_slice());
-    assert_eq!(rt; codes(alloc, tables, "b9")?.len(), 0);
-    Ok(())
-}
-
-/// The hour, and beside it a session that is limited in bytes.
-fn check_open_sessions<S: Alter>(
-    rt: &impl Abort,
-    alloc: Global,
-    tables: &mut Tables<S>,
-) -> Result<(), Fail> {
-    let hour = read_session(tables, 1)?.ok_or("no session")?;
-    assert_eq!(rt; hour.ends, Some(moment(4600)?));
-    assert_eq!(rt; open(alloc, tables, 2000)?.as_slice(), [hour].as_slice());
-    assert_eq!(rt; open(alloc, tables, 4599)?.as_slice(), [hour].as_slice());
-    assert_eq!(rt; open(alloc, tables, 4600)?.len(), 0);
-    sell(tables, LAST_ONE_CODE, 2000)?;
-    redeem(tables, LAST_ONE_CODE, SECOND_DEVICE, 2000)?;
-    let gig = read_session(tables, 2)?.ok_or("no session")?;
-    assert_eq!(rt;
-        open(alloc, tables, 2000)?.as_slice(),
-        [hour, gig].as_slice()
-    );
-    assert_eq!(rt; open(alloc, tables, 4600)?.as_slice(), [gig].as_slice());
-    Ok(())
-}
-
-#[test]
-fn batch_rows_and_open_sessions(rt: HostRuntime) -> Result<(), Fail> {
-    let alloc = rt.alloc();
-    let mut tables = adopted(Connection::open_in_memory(alloc)?)?;
-    let codes = check_codes(&rt, alloc, &mut tables);
-    let sessions = match codes {
-        Ok(()) => check_open_sessions(&rt, alloc, &mut tables),
-        Err(fail) => Err(fail),
-    };
-    drop(tables.release());
-    sessions
-}
+/// An hour from 1000 on, and from 2000 on a session beside it that is limited in bytes.
+const OPEN_SESSIONS: &[Job<'static>] = &[
+    Job::Entries(WORKED),
+    Job::Seen(&[
+        Seen::Open(2000, &[1]),
+        Seen::Open(4599, &[1]),
+        Seen::Open(4600, &[]),
+    ]),
+    Job::Entries(&[
+        (
+            2000,
+            Ask::Issue("b2", "gig", &[LAST_ONE_CODE]),
+            Reply::Issued("b2", 1, 2_594_000),
+        ),
+        (
+            2000,
+            Ask::Sell(LAST_ONE_CODE),
+            Reply::Sold(LAST_ONE_CODE, 500),
+        ),
+        (
+            2000,
+            Ask::Redeem(LAST_ONE_CODE, SECOND_DEVICE),
+            Reply::Opened(2, 2),
+        ),
+    ]),
+    Job::Seen(&[Seen::Open(2000, &[1, 2]), Seen::Open(4600, &[2])]),
+];
 
 /// An hour at 2020-03-01 23:30 UTC.
-fn check_sales<S: Alter>(
-    rt: &impl Abort,
-    alloc: Global,
-    tables: &mut Tables<S>,
-) -> Result<(), Fail> {
-    load_both(alloc, tables)?;
-    issue_and_sell(alloc, tables, "b1", "hour", ZERO_SEED_CODE, 1_583_105_400)?;
-    let sale = (moment(1_583_105_400)?, 300);
-    let days = sales(alloc, tables, 1_583_020_800, 1_583_193_599)?;
-    assert_eq!(rt; days.as_slice(), [sale].as_slice());
-    let second = sales(alloc, tables, 1_583_105_400, 1_583_105_400)?;
-    assert_eq!(rt; second.as_slice(), [sale].as_slice());
-    let later = sales(alloc, tables, 1_583_105_401, 1_583_193_599)?;
-    assert_eq!(rt; later.len(), 0);
-    assert_eq!(rt; refunds(alloc, tables, 0, 1_583_193_599)?.len(), 0);
-    Ok(())
-}
-
-#[test]
-fn sales_within_moments(rt: HostRuntime) -> Result<(), Fail> {
-    let alloc = rt.alloc();
-    let mut tables = adopted(Connection::open_in_memory(alloc)?)?;
-    let outcome = check_sales(&rt, alloc, &mut tables);
-    drop(tables.release());
-    outcome
-}
+const SALES: &[Job<'static>] = &[
+    Job::Entries(&[
+        (0, Ask::Plans(&[HOUR, GIG]), Reply::Plans(2)),
+        (
+            1_583_105_400,
+            Ask::Issue("b1", "hour", &[ZERO_SEED_CODE]),
+            Reply::Issued("b1", 1, 1_585_697_400),
+        ),
+        (
+            1_583_105_400,
+            Ask::Sell(ZERO_SEED_CODE),
+            Reply::Sold(ZERO_SEED_CODE, 300),
+        ),
+    ]),
+    Job::Seen(&[
+        Seen::Sales(1_583_020_800, 1_583_193_599, &[(1_583_105_400, 300)]),
+        Seen::Sales(1_583_105_400, 1_583_105_400, &[(1_583_105_400, 300)]),
+        Seen::Sales(1_583_105_401, 1_583_193_599, &[]),
+        Seen::Sales(0, 1_583_105_399, &[]),
+        Seen::Refunds(0, 1_583_193_599, &[]),
+    ]),
+];
 
 /// A voucher of three uses that is sold at 1000, redeemed once, and refunded on the next day.
-fn check_refunds<S: Alter>(
-    rt: &impl Abort,
-    alloc: Global,
-    tables: &mut Tables<S>,
-) -> Result<(), Fail> {
-    load_both(alloc, tables)?;
-    issue_and_sell(alloc, tables, "b1", "gig", LAST_ONE_CODE, 1000)?;
-    redeem(tables, LAST_ONE_CODE, SECOND_DEVICE, 1000)?;
-    refund(tables, LAST_ONE_CODE, 86_400)?;
-    let days = refunds(alloc, tables, 86_400, 172_799)?;
-    assert_eq!(rt; days.as_slice(), [(moment(86_400)?, 333)].as_slice());
-    assert_eq!(rt; refunds(alloc, tables, 0, 86_399)?.len(), 0);
-    assert_eq!(rt; sales(alloc, tables, 86_400, 172_799)?.len(), 0);
-    let first = sales(alloc, tables, 0, 86_399)?;
-    assert_eq!(rt; first.as_slice(), [(moment(1000)?, 500)].as_slice());
-    Ok(())
-}
+const REFUNDS: &[Job<'static>] = &[
+    Job::Entries(&[
+        (0, Ask::Plans(&[HOUR, GIG]), Reply::Plans(2)),
+        (
+            1000,
+            Ask::Issue("b1", "gig", &[LAST_ONE_CODE]),
+            Reply::Issued("b1", 1, 2_593_000),
+        ),
+        (
+            1000,
+            Ask::Sell(LAST_ONE_CODE),
+            Reply::Sold(LAST_ONE_CODE, 500),
+        ),
+        (
+            1000,
+            Ask::Redeem(LAST_ONE_CODE, FIRST_DEVICE),
+            Reply::Opened(1, 2),
+        ),
+        (
+            86_400,
+            Ask::Refund(LAST_ONE_CODE),
+            Reply::Refunded(333, LAST_ONE_CODE),
+        ),
+    ]),
+    Job::Seen(&[
+        Seen::Refunds(86_400, 172_799, &[(86_400, 333)]),
+        Seen::Refunds(0, 86_399, &[]),
+        Seen::Sales(86_400, 172_799, &[]),
+        Seen::Sales(0, 86_399, &[(1000, 500)]),
+    ]),
+];
+
+/// Two vouchers that are sold at one moment, not in the order of their codes, and one before that has the last code.
+const ORDER: &[Job<'static>] = &[
+    Job::Entries(&[
+        (0, Ask::Plans(&[HOUR, GIG]), Reply::Plans(2)),
+        (
+            900,
+            Ask::Issue("b1", "hour", &["3N55-WA4S-KH53", ZERO_SEED_CODE]),
+            Reply::Issued("b1", 2, 2_592_900),
+        ),
+        (
+            900,
+            Ask::Issue("b2", "gig", &[LAST_ONE_CODE]),
+            Reply::Issued("b2", 1, 2_592_900),
+        ),
+        (
+            900,
+            Ask::Sell(ZERO_SEED_CODE),
+            Reply::Sold(ZERO_SEED_CODE, 300),
+        ),
+        (
+            1000,
+            Ask::Sell("3N55-WA4S-KH53"),
+            Reply::Sold("3N55-WA4S-KH53", 300),
+        ),
+        (
+            1000,
+            Ask::Sell(LAST_ONE_CODE),
+            Reply::Sold(LAST_ONE_CODE, 500),
+        ),
+    ]),
+    Job::Seen(&[
+        Seen::Sales(0, 1000, &[(900, 300), (1000, 500), (1000, 300)]),
+        Seen::Sales(901, 1000, &[(1000, 500), (1000, 300)]),
+    ]),
+];
 
 #[test]
-fn refunds_within_moments(rt: HostRuntime) -> Result<(), Fail> {
-    let alloc = rt.alloc();
-    let mut tables = adopted(Connection::open_in_memory(alloc)?)?;
-    let outcome = check_refunds(&rt, alloc, &mut tables);
-    drop(tables.release());
-    outcome
-}
-
-/// Two vouchers that are sold at one moment, not in the order of their codes.
-fn check_order<S: Alter>(
-    rt: &impl Abort,
-    alloc: Global,
-    tables: &mut Tables<S>,
-) -> Result<(), Fail> {
-    load_both(alloc, tables)?;
-    issue_and_sell(alloc, tables, "b1", "hour", ZERO_SEED_CODE, 1000)?;
-    issue_and_sell(alloc, tables, "b2", "gig", LAST_ONE_CODE, 1000)?;
-    let both = sales(alloc, tables, 0, 1000)?;
-    let t = moment(1000)?;
-    assert_eq!(rt; both.as_slice(), [(t, 500), (t, 300)].as_slice());
+fn lists_of_the_tables(rt: HostRuntime) -> Result<(), Fail> {
+    for jobs in [CODES, OPEN_SESSIONS, SALES, REFUNDS, ORDER] {
+        in_memory(&rt, rt.alloc(), jobs)?;
+    }
     Ok(())
-}
-
-#[test]
-fn sales_at_one_moment(rt: HostRuntime) -> Result<(), Fail> {
-    let alloc = rt.alloc();
-    let mut tables = adopted(Connection::open_in_memory(alloc)?)?;
-    let outcome = check_order(&rt, alloc, &mut tables);
-    drop(tables.release());
-    outcome
 }

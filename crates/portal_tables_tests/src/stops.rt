@@ -1,237 +1,618 @@
-//! A store that is stopped at each call of a sale, and opened again.
-use crate::fuses::{MANY, Part, STEPS, Stop, after, dropped, fused, opened};
-use crate::stores::{closed, in_files};
-use crate::tables::{
-    LAST_ONE_CODE, ZERO_SEED_CODE, adopted, code, issue, issue_sell_redeem, moment, read_head,
-    read_session, read_voucher,
+//! A store that is stopped at a call of its files, and opened again: what stands there is what stood there before, or
+//! what the command makes of it, whole.
+use crate::asks::{Ask, Entry, Reply, answer, is_told};
+use crate::jobs::{Job, Told};
+use crate::once::{Once, Who, answer_once};
+use crate::place::{AT_END, Image, InFiles, Limit, Part, in_memory};
+use crate::reads::read_head;
+use crate::values::{
+    DAY, FIRST_DEVICE, GIG, HOUR, LAST_ONE_CODE, SECOND_DEVICE, SHORT_SEED_CODE, Trouble,
+    ZERO_SEED_CODE, ZEROS_CODE,
 };
-use portal_codes::Code;
-use portal_core::{Head, Moment, Session, Voucher, decide_sell};
-use portal_tables::adopt::Refused;
-use portal_tables::fault::StoreFault;
+use portal_core::Refusal;
+use portal_tables::fault::{OpenFault, StoreFault};
 use portal_tables::tables::Tables;
-use sqlite::{Alter, Files};
-use sqlite_disk::{Fuse, Memory};
+use sqlite::Alter;
 use std::alloc::Global;
 use std::process::Abort;
 use std::test::Fail;
 
-/// The moment of the sale.
-const SOLD: u64 = 2000;
-
-/// The database file with a voucher that was redeemed, and one that is not sold.
-fn database(alloc: Global) -> Result<Memory, Fail> {
-    let mut tables = adopted(in_files(alloc)?)?;
-    let outcome = prepare(alloc, &mut tables);
-    let conn = tables.release();
-    outcome?;
-    closed(conn)
+/// What is stopped.
+#[derive(Clone, Copy)]
+pub enum Deed {
+    /// The tables are adopted, and nothing more.
+    Adopt,
+    Carry(Entry),
+    Send(Once),
 }
 
-fn prepare<S: Alter>(alloc: Global, tables: &mut Tables<S>) -> Result<(), Fail> {
-    issue_sell_redeem(alloc, tables)?;
-    issue(alloc, tables, "b2", "gig", &[code(LAST_ONE_CODE)?], 1000)?;
+/// What came of it.
+#[derive(Clone, Copy, Debug, PartialEq, Eq)]
+pub enum Outcome {
+    Unopened,
+    Unadopted(OpenFault),
+    Refused(StoreFault),
+    Done,
+    /// It was refused by a decision or answered otherwise, or the tables answered after they stopped.
+    Wrong(Trouble),
+}
+
+fn carry_out<S: Alter>(alloc: Global, tables: &mut Tables<S>, deed: Deed) -> Result<(), Trouble> {
+    let (outcome, reply) = match deed {
+        Deed::Adopt => return Ok(()),
+        Deed::Carry((at, ask, reply)) => (answer(alloc, tables, at, ask), reply),
+        Deed::Send(once) => {
+            let (_, _, reply) = once.entry;
+            (answer_once(alloc, tables, once), reply)
+        }
+    };
+    if is_told(outcome, reply)? {
+        Ok(())
+    } else {
+        Err(Trouble::Unexpected)
+    }
+}
+
+/// Carries it out. Tables that stopped answer nothing.
+pub fn carry_out_deed<S: Alter>(alloc: Global, tables: &mut Tables<S>, deed: Deed) -> Outcome {
+    match carry_out(alloc, tables, deed) {
+        Ok(()) => Outcome::Done,
+        Err(Trouble::Fault(StoreFault::Memory)) => Outcome::Refused(StoreFault::Memory),
+        Err(Trouble::Fault(StoreFault::Stopped))
+            if read_head(tables) == Err(Trouble::Fault(StoreFault::Stopped)) => {
+            Outcome::Refused(StoreFault::Stopped)
+        }
+        Err(trouble) => Outcome::Wrong(trouble),
+    }
+}
+
+/// Carries it out, once more where there was no memory for it.
+pub fn carry_out_patiently<S: Alter>(alloc: Global, tables: &mut Tables<S>, deed: Deed) -> Outcome {
+    match carry_out_deed(alloc, tables, deed) {
+        Outcome::Refused(StoreFault::Memory)
+        | Outcome::Wrong(Trouble::Memory | Trouble::Refused(Refusal::NoMemory)) => {
+            carry_out_deed(alloc, tables, deed)
+        }
+        outcome => outcome,
+    }
+}
+
+/// What came of a deed.
+fn outcome_of(told: Told) -> Result<Outcome, Fail> {
+    match told {
+        Told::Outcome(outcome) => Ok(outcome),
+        Told::Unopened => Ok(Outcome::Unopened),
+        _ => Err("no outcome is told".into()),
+    }
+}
+
+/// All that stands in the store.
+fn left_in(rt: &impl Abort, files: &mut InFiles) -> Result<String, Fail> {
+    match files.visit(rt, Job::Whole)? {
+        Told::Whole(left) => Ok(left),
+        _ => Err("the files are not opened again".into()),
+    }
+}
+
+/// The store that is stopped.
+#[derive(Clone, Copy)]
+enum Start {
+    /// There is no table.
+    Empty,
+    /// The tables of an older layout.
+    Old(u64),
+    Vouchers,
+    /// The same, and a redemption that stands in the log.
+    Logged,
+}
+
+/// A deed that is stopped, and rows that stand there once it is done.
+#[derive(Clone, Copy)]
+struct Trial {
+    start: Start,
+    deed: Deed,
+    rows: &'static [&'static str],
+}
+
+/// The trial in the files: all that stands there before and then, and files of which it is known.
+#[derive(Drop)]
+struct Case {
+    image: Image,
+    deed: Deed,
+    before: String,
+    then: String,
+    known: Vec<(Image, Left)>,
+}
+
+/// What is left in the files.
+#[derive(Clone, Copy)]
+enum Left {
+    Before,
+    Then,
+    /// The deed changes nothing.
+    Both,
+    Other,
+}
+
+fn prepared_case(
+    rt: &impl Abort,
+    alloc: Global,
+    files: &mut InFiles,
+    trial: &Trial,
+) -> Result<Case, Fail> {
+    let image = image_of(rt, files, trial.start)?;
+    let before = left_in(rt, files)?;
+    files.put(&image)?;
+    let outcome = outcome_of(files.visit(rt, Job::Deed(trial.deed))?)?;
+    assert_eq!(rt; outcome, Outcome::Done);
+    let then = left_in(rt, files)?;
+    drop(files.visit(rt, Job::Rows(trial.rows))?);
+    Ok(Case {
+        image,
+        deed: trial.deed,
+        before,
+        then,
+        known: Vec::new(alloc),
+    })
+}
+
+/// Whether what is left is what the outcome allows.
+fn is_allowed(deed: Deed, outcome: Outcome, left: Left) -> bool {
+    let is_before = matches!(left, Left::Before | Left::Both);
+    let is_then = matches!(left, Left::Then | Left::Both);
+    let is_adoption = matches!(deed, Deed::Adopt);
+    match outcome {
+        Outcome::Unopened => is_before,
+        Outcome::Unadopted(OpenFault::Memory) => is_before,
+        Outcome::Unadopted(OpenFault::Store) => is_before || (is_adoption && is_then),
+        Outcome::Unadopted(_) => false,
+        Outcome::Refused(StoreFault::Memory) => is_before,
+        Outcome::Refused(StoreFault::Stopped) => is_before || is_then,
+        Outcome::Done => is_then,
+        Outcome::Wrong(_) => false,
+    }
+}
+
+/// Adoptions and numbered requests are carried out again, and then all stands there.
+fn check_again(rt: &impl Abort, files: &mut InFiles, case: &Case) -> Result<(), Fail> {
+    if matches!(case.deed, Deed::Carry(_)) {
+        return Ok(());
+    }
+    let outcome = outcome_of(files.visit(rt, Job::Deed(case.deed))?)?;
+    assert_eq!(rt; outcome, Outcome::Done);
+    let left = left_in(rt, files)?;
+    assert_eq!(rt; left.as_str(), case.then.as_str());
     Ok(())
 }
 
-/// What came of the sale.
-#[derive(Clone, Copy, Debug, PartialEq, Eq)]
-enum Outcome {
-    NotReached,
-    Refused(StoreFault),
-    Done,
-}
-
-fn sell<S: Alter>(tables: &mut Tables<S>, code: &Code, t: Moment) -> Result<(), StoreFault> {
-    let voucher = tables.voucher(code)?;
-    match decide_sell(voucher, t) {
-        Ok(changes) => tables.commit(&changes),
-        Err(_) => Ok(()),
-    }
-}
-
-/// The sale, and whether the tables answer nothing after a fault.
-fn sell_or_stop<S: Alter>(tables: &mut Tables<S>, code: &Code, t: Moment) -> (Outcome, bool) {
-    match sell(tables, code, t) {
-        Ok(()) => (Outcome::Done, true),
-        Err(fault) => (
-            Outcome::Refused(fault),
-            tables.head() == Err(StoreFault::Stopped),
-        ),
-    }
-}
-
-/// Opens the files, sells, and leaves the files as a stop does.
-fn try_sale(
+/// Opens the files again, and reads all that stands there.
+fn read_left(
     rt: &impl Abort,
-    alloc: Global,
-    files: Files<Fuse<Memory>>,
-) -> Result<(Outcome, Files<Fuse<Memory>>), Fail> {
-    let conn = match opened(alloc, files) {
-        Ok(conn) => conn,
-        Err(files) => return Ok((Outcome::NotReached, files)),
-    };
-    let code = code(LAST_ONE_CODE)?;
-    let t = moment(SOLD)?;
-    match Tables::adopt(conn) {
-        Ok(adopted) => {
-            let mut tables = adopted;
-            let (outcome, stays) = sell_or_stop(&mut tables, &code, t);
-            assert!(rt; stays);
-            Ok((outcome, dropped(tables.release())))
-        }
-        Err(
-            Refused {
-                fault: _,
-                connection,
-            },
-        ) => Ok((Outcome::NotReached, dropped(connection))),
-    }
-}
-
-/// What is read after the stop: the head, the voucher of the sale, and those that have no part in it.
-#[derive(Clone, Copy, Debug, PartialEq, Eq)]
-struct Found {
-    head: Head,
-    voucher: Option<Voucher>,
-    other: Option<Voucher>,
-    session: Option<Session>,
-}
-
-fn read<S: Alter>(tables: &mut Tables<S>) -> Result<Found, Fail> {
-    Ok(Found {
-        head: read_head(tables)?,
-        voucher: read_voucher(tables, &code(LAST_ONE_CODE)?)?,
-        other: read_voucher(tables, &code(ZERO_SEED_CODE)?)?,
-        session: read_session(tables, 1)?,
+    files: &mut InFiles,
+    case: &Case,
+    image: &Image,
+) -> Result<Left, Fail> {
+    files.put(image)?;
+    let left = left_in(rt, files)?;
+    check_again(rt, files, case)?;
+    let is_before = left.as_str() == case.before.as_str();
+    let is_then = left.as_str() == case.then.as_str();
+    Ok(match (is_before, is_then) {
+        (true, true) => Left::Both,
+        (true, false) => Left::Before,
+        (false, true) => Left::Then,
+        (false, false) => Left::Other,
     })
 }
 
-fn reread(alloc: Global, files: Files<Fuse<Memory>>) -> Result<Found, Fail> {
-    let conn = match opened(alloc, files) {
-        Ok(conn) => conn,
-        Err(files) => {
-            drop(files);
-            return Err("the files are not opened again".into());
-        }
-    };
-    let mut tables = adopted(conn)?;
-    let found = read(&mut tables);
-    drop(tables.release());
-    found
-}
-
-/// The same once the sale is kept.
-fn with_sale(before: Found) -> Result<Found, Fail> {
-    let t = moment(SOLD)?;
-    let voucher = before.voucher.ok_or("no voucher")?;
-    Ok(Found {
-        head: Head {
-            last: t,
-            ..before.head
-        },
-        voucher: Some(Voucher {
-            sold: Some(t),
-            ..voucher
-        }),
-        ..before
-    })
-}
-
-/// Stops the store after so many calls. Answers what came of the sale.
-fn stop_after(
+/// The same. Files with the same bytes are read once.
+fn left_by(
     rt: &impl Abort,
-    alloc: Global,
-    database: &Memory,
-    before: Found,
-    part: Part,
-    stop: Stop,
-    calls: u64,
+    files: &mut InFiles,
+    case: &mut Case,
+    image: Image,
+) -> Result<Left, Fail> {
+    for (known, left) in &case.known {
+        if known.is(&image) {
+            return Ok(*left);
+        }
+    }
+    let left = read_left(rt, files, case, &image)?;
+    case.known.push((image, left))?;
+    Ok(left)
+}
+
+/// Stops the store so, and checks what is left where the process ends and where the power fails.
+fn stopped(
+    rt: &impl Abort,
+    files: &mut InFiles,
+    case: &mut Case,
+    limit: Limit,
 ) -> Result<Outcome, Fail> {
-    let sold = with_sale(before)?;
-    let (outcome, files) = try_sale(rt, alloc, fused(alloc, database, part, calls)?)?;
-    let left = reread(alloc, after(alloc, files, stop)?)?;
-    match outcome {
-        Outcome::NotReached => assert_eq!(rt; left, before, "{part:?} {stop:?} {calls}"),
-        Outcome::Refused(_) => {
-            assert!(rt;
-                left == before || left == sold,
-                "{part:?} {stop:?} {calls}: {left:?}"
-            )
-        }
-        Outcome::Done => assert_eq!(rt; left, sold, "{part:?} {stop:?} {calls}"),
+    files.put(&case.image)?;
+    let (told, ended, failed) = files.stop(rt, Job::Deed(case.deed), limit)?;
+    let outcome = outcome_of(told)?;
+    for image in [ended, failed] {
+        let left = left_by(rt, files, case, image)?;
+        assert!(rt;
+            is_allowed(case.deed, outcome, left),
+            "{limit:?} {outcome:?}"
+        );
     }
     Ok(outcome)
 }
 
-/// Whether the tables are adopted.
-fn is_reached(alloc: Global, files: Files<Fuse<Memory>>) -> bool {
-    let conn = match opened(alloc, files) {
-        Ok(conn) => conn,
-        Err(files) => {
-            drop(files);
-            return false;
+/// More calls than an opening and a deed make of a file.
+const MANY: u64 = 1024;
+
+/// Stops the store at each call of the file from its opening on, until it is done. Answers how often it was not.
+fn stop_at_each(
+    rt: &impl Abort,
+    files: &mut InFiles,
+    case: &mut Case,
+    part: Part,
+) -> Result<u64, Fail> {
+    for calls in 0..MANY {
+        if stopped(rt, files, case, Limit { part, calls })? == Outcome::Done {
+            return Ok(calls);
         }
-    };
-    match Tables::adopt(conn) {
-        Ok(tables) => {
-            drop(tables.release());
-            true
-        }
-        Err(
-            Refused {
-                fault: _,
-                connection,
-            },
-        ) => {
-            drop(connection);
-            false
-        }
+    }
+    Err("it was never done".into())
+}
+
+/// A voucher redeemed, one sold and one not sold, and a session that is open.
+const VOUCHERS: &[Entry] = &[
+    (0, Ask::Plans(&[HOUR, GIG]), Reply::Plans(2)),
+    (
+        1000,
+        Ask::Issue("b1", "hour", &[ZERO_SEED_CODE]),
+        Reply::Issued("b1", 1, 2_593_000),
+    ),
+    (
+        1000,
+        Ask::Sell(ZERO_SEED_CODE),
+        Reply::Sold(ZERO_SEED_CODE, 300),
+    ),
+    (
+        1000,
+        Ask::Redeem(ZERO_SEED_CODE, FIRST_DEVICE),
+        Reply::Opened(1, 0),
+    ),
+    (
+        1000,
+        Ask::Issue("b2", "hour", &[ZEROS_CODE]),
+        Reply::Issued("b2", 1, 2_593_000),
+    ),
+    (1000, Ask::Sell(ZEROS_CODE), Reply::Sold(ZEROS_CODE, 300)),
+    (
+        1000,
+        Ask::Issue("b3", "gig", &[LAST_ONE_CODE]),
+        Reply::Issued("b3", 1, 2_593_000),
+    ),
+];
+
+const LOAD: Trial = Trial {
+    start: Start::Vouchers,
+    deed: Deed::Carry((2000, Ask::Plans(&[DAY]), Reply::Plans(1))),
+    rows: &[
+        "portal_head WHERE last_moment = 2000 AND grants = 1 AND sessions = 1",
+        "portal_plans WHERE id = 'day' AND price = 100 AND uses = 1 AND seconds = 86400 AND bytes = 0 AND shelf_days = 30 AND extend = 0",
+    ],
+};
+
+const ISSUE: Trial = Trial {
+    start: Start::Vouchers,
+    deed: Deed::Carry((
+        2000,
+        Ask::Issue("b4", "gig", &[SHORT_SEED_CODE]),
+        Reply::Issued("b4", 1, 2_594_000),
+    )),
+    rows: &[
+        "portal_head WHERE last_moment = 2000 AND grants = 1 AND sessions = 1",
+        "portal_batches WHERE id = 'b4' AND plan_id = 'gig' AND issued = 2000 AND expires = 2594000 AND size = 1",
+        "portal_vouchers WHERE code = '3N55-WA4S-KH53' AND batch_id = 'b4' AND place = 0 AND sold IS NULL",
+        "portal_counts WHERE code = '3N55-WA4S-KH53' AND redeemed = 0",
+    ],
+};
+
+const SALE: Trial = Trial {
+    start: Start::Vouchers,
+    deed: Deed::Carry((
+        2000,
+        Ask::Sell(LAST_ONE_CODE),
+        Reply::Sold(LAST_ONE_CODE, 500),
+    )),
+    rows: &[
+        "portal_head WHERE last_moment = 2000 AND grants = 1 AND sessions = 1",
+        "portal_vouchers WHERE code = '2222-2222-223N' AND sold = 2000 AND refunded IS NULL",
+    ],
+};
+
+/// A redemption that opens a session.
+const OPENING: Trial = Trial {
+    start: Start::Vouchers,
+    deed: Deed::Carry((
+        2000,
+        Ask::Redeem(ZEROS_CODE, SECOND_DEVICE),
+        Reply::Opened(2, 0),
+    )),
+    rows: &[
+        "portal_head WHERE last_moment = 2000 AND grants = 2 AND sessions = 2",
+        "portal_counts WHERE code = '2222-2222-2222' AND redeemed = 1",
+        "portal_sessions WHERE number = 2 AND device = '02:00:00:00:00:02' AND plan_id = 'hour' AND opened = 2000 AND used = 0 AND closed IS NULL",
+        "portal_grants WHERE number = 2 AND code = '2222-2222-2222' AND session = 2 AND moment = 2000 AND seconds = 3600 AND bytes = 0",
+        "portal_totals WHERE number = 2 AND ends = 5600 AND remaining IS NULL",
+    ],
+};
+
+/// A redemption that extends a session.
+const EXTENSION: Trial = Trial {
+    start: Start::Vouchers,
+    deed: Deed::Carry((
+        2000,
+        Ask::Redeem(ZEROS_CODE, FIRST_DEVICE),
+        Reply::Extended(1, 0),
+    )),
+    rows: EXTENDED,
+};
+
+const EXTENDED: &[&str] = &[
+    "portal_head WHERE last_moment = 2000 AND grants = 2 AND sessions = 1",
+    "portal_counts WHERE code = '2222-2222-2222' AND redeemed = 1",
+    "portal_grants WHERE number = 2 AND code = '2222-2222-2222' AND session = 1 AND moment = 2000 AND seconds = 3600 AND bytes = 0",
+    "portal_totals WHERE number = 1 AND ends = 8200 AND remaining IS NULL",
+];
+
+const REPORT: Trial = Trial {
+    start: Start::Vouchers,
+    deed: Deed::Carry((2000, Ask::Report(1, 7), Reply::Reported(true, 1, 7))),
+    rows: &[
+        "portal_head WHERE last_moment = 2000 AND grants = 1 AND sessions = 1",
+        "portal_sessions WHERE number = 1 AND used = 7 AND closed IS NULL",
+    ],
+};
+
+const REFUND: Trial = Trial {
+    start: Start::Vouchers,
+    deed: Deed::Carry((
+        2000,
+        Ask::Refund(ZEROS_CODE),
+        Reply::Refunded(300, ZEROS_CODE),
+    )),
+    rows: &[
+        "portal_head WHERE last_moment = 2000 AND grants = 1 AND sessions = 1",
+        "portal_vouchers WHERE code = '2222-2222-2222' AND sold = 1000 AND refunded = 2000 AND amount = 300",
+    ],
+};
+
+const CLOSE: Trial = Trial {
+    start: Start::Vouchers,
+    deed: Deed::Carry((2000, Ask::Close(1), Reply::Closed(1))),
+    rows: &[
+        "portal_head WHERE last_moment = 2000 AND grants = 1 AND sessions = 1",
+        "portal_sessions WHERE number = 1 AND used = 0 AND closed = 2000",
+    ],
+};
+
+/// A redemption that extends a session, under a number.
+const NUMBERED: Trial = Trial {
+    start: Start::Vouchers,
+    deed: Deed::Send(Once {
+        who: Who::Guest(FIRST_DEVICE),
+        number: "a1",
+        body: "{\"code\":\"2222-2222-2222\"}",
+        entry: (
+            2000,
+            Ask::Redeem(ZEROS_CODE, FIRST_DEVICE),
+            Reply::Extended(1, 0),
+        ),
+    }),
+    rows: &[
+        "portal_requests WHERE caller = '02:00:00:00:00:01' AND number = 'a1' AND method = 'POST' AND path = '/portal/redeem' AND kind = 4 AND word IS NULL AND n1 = 1 AND n2 = 0 AND n3 = 1",
+        "portal_requests",
+        "portal_head WHERE last_moment = 2000 AND grants = 2 AND sessions = 1",
+        "portal_counts WHERE code = '2222-2222-2222' AND redeemed = 1",
+        "portal_grants WHERE number = 2 AND code = '2222-2222-2222' AND session = 1 AND moment = 2000 AND seconds = 3600 AND bytes = 0",
+        "portal_totals WHERE number = 1 AND ends = 8200 AND remaining IS NULL",
+    ],
+};
+
+/// Adoptions of each store.
+const NEW: Trial = Trial {
+    start: Start::Empty,
+    deed: Deed::Adopt,
+    rows: &[
+        "portal_head WHERE id = 1 AND layout = 4 AND last_moment = 0 AND grants = 0 AND sessions = 0",
+        "sqlite_master WHERE type = 'table' AND name = 'portal_requests'",
+    ],
+};
+
+const MIGRATED: &[&str] = &[
+    "portal_head WHERE id = 1 AND layout = 4 AND last_moment = 1000 AND grants = 2 AND sessions = 2",
+    "sqlite_master WHERE type = 'table' AND name = 'portal_requests'",
+    "portal_head WHERE (SELECT count(*) FROM portal_totals) * 10 + (SELECT count(*) FROM portal_counts) = 24",
+];
+
+const FIRST: Trial = Trial {
+    start: Start::Old(1),
+    deed: Deed::Adopt,
+    rows: MIGRATED,
+};
+
+const SECOND: Trial = Trial {
+    start: Start::Old(2),
+    deed: Deed::Adopt,
+    rows: MIGRATED,
+};
+
+const THIRD: Trial = Trial {
+    start: Start::Old(3),
+    deed: Deed::Adopt,
+    rows: MIGRATED,
+};
+
+/// Files that were closed are opened.
+const OPENED: Trial = Trial {
+    start: Start::Vouchers,
+    deed: Deed::Adopt,
+    rows: &["portal_head WHERE layout = 4 AND last_moment = 1000 AND grants = 1 AND sessions = 1"],
+};
+
+/// Files that a stop left are opened.
+const REOPENED: Trial = Trial {
+    start: Start::Logged,
+    deed: Deed::Adopt,
+    rows: EXTENDED,
+};
+
+fn start_of(start: Start) -> Job<'static> {
+    match start {
+        Start::Empty => Job::Sql(""),
+        Start::Old(layout) => Job::Make(layout),
+        Start::Vouchers | Start::Logged => Job::Entries(VOUCHERS),
     }
 }
 
-/// The most calls of one file with which the tables are not adopted, or 0.
-fn calls_before(alloc: Global, database: &Memory, part: Part) -> Result<u64, Fail> {
-    let mut calls = 0u64;
-    for step in STEPS {
-        let more = calls.saturating_add(step);
-        if !is_reached(alloc, fused(alloc, database, part, more)?) {
-            calls = more;
-        }
+/// Makes the store in new files. Answers the files.
+fn image_of(rt: &impl Abort, files: &mut InFiles, start: Start) -> Result<Image, Fail> {
+    drop(files.visit(rt, start_of(start))?);
+    if matches!(start, Start::Logged) {
+        let (told, ended, failed) = files.stop(rt, Job::Deed(EXTENSION.deed), AT_END)?;
+        assert_eq!(rt; outcome_of(told)?, Outcome::Done);
+        drop(failed);
+        files.put(&ended)?;
     }
-    Ok(calls)
+    files.image()
 }
 
-/// Stops the store at each call of one file from then on, until the sale is kept. Answers how often it was refused.
-fn stop_at_each(rt: &impl Abort, alloc: Global, part: Part, stop: Stop) -> Result<u64, Fail> {
-    let database = database(alloc)?;
-    let before = reread(alloc, fused(alloc, &database, part, u64::MAX)?)?;
-    let first = calls_before(alloc, &database, part)?;
-    let mut refusals = 0u64;
-    for more in 0..MANY {
-        let calls = first.saturating_add(more);
-        match stop_after(rt, alloc, &database, before, part, stop, calls)? {
-            Outcome::NotReached => {}
-            Outcome::Refused(_) => refusals = refusals.saturating_add(1),
-            Outcome::Done => return Ok(refusals),
-        }
-    }
-    Err("the sale was never kept".into())
+/// Stops the deed on the store at each call of the file.
+fn stop_deed(rt: &impl Abort, alloc: Global, trial: &Trial, part: Part) -> Result<(), Fail> {
+    let mut files = InFiles::new(alloc);
+    let mut case = prepared_case(rt, alloc, &mut files, trial)?;
+    let refusals = stop_at_each(rt, &mut files, &mut case, part)?;
+    assert!(rt; refusals > 2, "{part:?} {refusals}");
+    Ok(())
 }
 
+/// Each deed in memory, tried again where there was no memory for it.
 #[test]
-fn a_sale_stopped_at_each_call_of_the_log(rt: HostRuntime) -> Result<(), Fail> {
-    for stop in [Stop::Power, Stop::Process] {
-        let refusals = stop_at_each(&rt, rt.alloc(), Part::Log, stop)?;
-        assert!(rt; refusals > 0);
+fn deeds_tried_again(rt: HostRuntime) -> Result<(), Fail> {
+    let trials = [
+        LOAD, ISSUE, SALE, OPENING, EXTENSION, REPORT, REFUND, CLOSE, NUMBERED, NEW, FIRST, SECOND,
+        THIRD,
+    ];
+    for trial in trials {
+        let jobs = [
+            start_of(trial.start),
+            Job::Patient(trial.deed),
+            Job::Rows(trial.rows),
+        ];
+        in_memory(&rt, rt.alloc(), jobs.as_slice())?;
     }
     Ok(())
 }
 
 #[test]
-fn a_sale_stopped_at_each_call_of_the_database(rt: HostRuntime) -> Result<(), Fail> {
-    for stop in [Stop::Power, Stop::Process] {
-        stop_at_each(&rt, rt.alloc(), Part::Database, stop)?;
-    }
-    Ok(())
+fn a_load_stopped_by_the_log(rt: HostRuntime) -> Result<(), Fail> {
+    stop_deed(&rt, rt.alloc(), &LOAD, Part::Log)
+}
+
+#[test]
+fn an_issue_stopped_by_the_log(rt: HostRuntime) -> Result<(), Fail> {
+    stop_deed(&rt, rt.alloc(), &ISSUE, Part::Log)
+}
+
+#[test]
+fn a_sale_stopped_by_the_log(rt: HostRuntime) -> Result<(), Fail> {
+    stop_deed(&rt, rt.alloc(), &SALE, Part::Log)
+}
+
+#[test]
+fn a_redemption_stopped_by_the_log(rt: HostRuntime) -> Result<(), Fail> {
+    stop_deed(&rt, rt.alloc(), &OPENING, Part::Log)
+}
+
+#[test]
+fn an_extension_stopped_by_the_log(rt: HostRuntime) -> Result<(), Fail> {
+    stop_deed(&rt, rt.alloc(), &EXTENSION, Part::Log)
+}
+
+#[test]
+fn a_report_stopped_by_the_log(rt: HostRuntime) -> Result<(), Fail> {
+    stop_deed(&rt, rt.alloc(), &REPORT, Part::Log)
+}
+
+#[test]
+fn a_refund_stopped_by_the_log(rt: HostRuntime) -> Result<(), Fail> {
+    stop_deed(&rt, rt.alloc(), &REFUND, Part::Log)
+}
+
+#[test]
+fn a_close_stopped_by_the_log(rt: HostRuntime) -> Result<(), Fail> {
+    stop_deed(&rt, rt.alloc(), &CLOSE, Part::Log)
+}
+
+#[test]
+fn a_numbered_request_stopped_by_the_log(rt: HostRuntime) -> Result<(), Fail> {
+    stop_deed(&rt, rt.alloc(), &NUMBERED, Part::Log)
+}
+
+#[test]
+fn new_tables_stopped_by_the_log(rt: HostRuntime) -> Result<(), Fail> {
+    stop_deed(&rt, rt.alloc(), &NEW, Part::Log)
+}
+
+#[test]
+fn first_layout_stopped_by_the_log(rt: HostRuntime) -> Result<(), Fail> {
+    stop_deed(&rt, rt.alloc(), &FIRST, Part::Log)
+}
+
+#[test]
+fn second_layout_stopped_by_the_log(rt: HostRuntime) -> Result<(), Fail> {
+    stop_deed(&rt, rt.alloc(), &SECOND, Part::Log)
+}
+
+#[test]
+fn third_layout_stopped_by_the_log(rt: HostRuntime) -> Result<(), Fail> {
+    stop_deed(&rt, rt.alloc(), &THIRD, Part::Log)
+}
+
+#[test]
+fn an_opening_stopped_by_the_log(rt: HostRuntime) -> Result<(), Fail> {
+    stop_deed(&rt, rt.alloc(), &OPENED, Part::Log)
+}
+
+#[test]
+fn a_reopening_stopped_by_the_log(rt: HostRuntime) -> Result<(), Fail> {
+    stop_deed(&rt, rt.alloc(), &REOPENED, Part::Log)
+}
+
+#[test]
+fn a_redemption_stopped_by_the_database(rt: HostRuntime) -> Result<(), Fail> {
+    stop_deed(&rt, rt.alloc(), &OPENING, Part::Database)
+}
+
+#[test]
+fn new_tables_stopped_by_the_database(rt: HostRuntime) -> Result<(), Fail> {
+    stop_deed(&rt, rt.alloc(), &NEW, Part::Database)
+}
+
+#[test]
+fn first_layout_stopped_by_the_database(rt: HostRuntime) -> Result<(), Fail> {
+    stop_deed(&rt, rt.alloc(), &FIRST, Part::Database)
+}
+
+#[test]
+fn third_layout_stopped_by_the_database(rt: HostRuntime) -> Result<(), Fail> {
+    stop_deed(&rt, rt.alloc(), &THIRD, Part::Database)
+}
+
+#[test]
+fn a_reopening_stopped_by_the_database(rt: HostRuntime) -> Result<(), Fail> {
+    stop_deed(&rt, rt.alloc(), &REOPENED, Part::Database)
+}
+
+#[test]
+fn a_numbered_request_stopped_by_the_database(rt: HostRuntime) -> Result<(), Fail> {
+    stop_deed(&rt, rt.alloc(), &NUMBERED, Part::Database)
 }

@@ -49,11 +49,110 @@ fn orders(rt: HostRuntime) {
     ];
     for (words, moment) in spellings {
         match read_words(rt.alloc(), words) {
-            Ok(Order::Answer { now, seed }) => {
+            Ok(
+                Order::Answer {
+                    db,
+                    settings,
+                    now,
+                    seed,
+                },
+            ) => {
+                assert!(rt; db.is_none() && settings.is_none(), "at {words:?}");
                 assert!(rt; now == moment && seed == "00", "at {words:?}");
             }
-            Err(_) => panic!(rt; "no order at {words:?}"),
+            _ => panic!(rt; "no such order at {words:?}"),
         }
+    }
+}
+
+#[test]
+fn orders_over_files(rt: HostRuntime) {
+    let lines = [
+        ["portal", "serve", "--db", "x", "--settings", "y"].as_slice(),
+        [
+            "portal",
+            "serve",
+            "--port=65535",
+            "--count=1",
+            "--settings=y",
+            "--db=x",
+        ]
+        .as_slice(),
+        ["portal", "print", "b1", "--db", "x", "--settings", "y"].as_slice(),
+        ["portal", "print", "--db", "x", "--settings", "y", "b1"].as_slice(),
+        [
+            "portal",
+            "takings",
+            "--db",
+            "x",
+            "from",
+            "--settings",
+            "y",
+            "to",
+        ]
+        .as_slice(),
+        ["portal", "check", "--db", "x", "--settings", "y"].as_slice(),
+        [
+            "portal",
+            "answer",
+            "--db",
+            "x",
+            "--settings",
+            "y",
+            "--now",
+            "1",
+            "--seed",
+            "00",
+        ]
+        .as_slice(),
+    ];
+    let mut orders = [None; 7];
+    for at in 0..7usize {
+        match read_words(rt.alloc(), lines[at]) {
+            Ok(order) => orders[at] = Some(order),
+            Err(_) => panic!(rt; "no order at {at}"),
+        }
+    }
+    let (db, settings) = ("x", "y");
+    let wanted = [
+        Order::Serve {
+            db,
+            settings,
+            port: 8080,
+            count: 1_000_000_000,
+        },
+        Order::Serve {
+            db,
+            settings,
+            port: 65_535,
+            count: 1,
+        },
+        Order::Print {
+            db,
+            settings,
+            batch: "b1",
+        },
+        Order::Print {
+            db,
+            settings,
+            batch: "b1",
+        },
+        Order::Takings {
+            db,
+            settings,
+            from: "from",
+            to: "to",
+        },
+        Order::Check { db, settings },
+        Order::Answer {
+            db: Some(db),
+            settings: Some(settings),
+            now: 1,
+            seed: "00",
+        },
+    ];
+    for at in 0..7usize {
+        assert!(rt; orders[at] == Some(wanted[at]), "at {at}");
     }
 }
 
@@ -65,7 +164,11 @@ fn texts_told(rt: HostRuntime) {
             true,
             "portal answer --now 1583125693",
         ),
-        (["portal", "--help"].as_slice(), true, "253370764799"),
+        (
+            ["portal", "--help"].as_slice(),
+            true,
+            "portal serve --db portal.db",
+        ),
         (
             ["portal", "answer", "--help"].as_slice(),
             true,
@@ -83,7 +186,107 @@ fn texts_told(rt: HostRuntime) {
         ),
         (["portal"].as_slice(), false, "subcommand"),
         (["portal", "ask"].as_slice(), false, "ask"),
-        (["portal", "serve"].as_slice(), false, "serve"),
+        (["portal", "serve"].as_slice(), false, "--db <PATH>"),
+        (
+            ["portal", "serve", "--help"].as_slice(),
+            true,
+            "portal serve --db portal.db",
+        ),
+        (["portal", "serve", "--help"].as_slice(), true, "locked"),
+        (
+            ["portal", "print", "--help"].as_slice(),
+            true,
+            "portal print b1",
+        ),
+        (
+            ["portal", "print", "--help"].as_slice(),
+            true,
+            "portal: file",
+        ),
+        (
+            ["portal", "takings", "--help"].as_slice(),
+            true,
+            "portal takings 2020-03-01",
+        ),
+        (
+            ["portal", "check", "--help"].as_slice(),
+            true,
+            "portal check --db",
+        ),
+        (
+            ["portal", "print", "--db", "x", "--settings", "y"].as_slice(),
+            false,
+            "<BATCH>",
+        ),
+        (
+            ["portal", "print", "b1", "--settings", "y"].as_slice(),
+            false,
+            "--db <PATH>",
+        ),
+        (
+            ["portal", "check", "--db", "x"].as_slice(),
+            false,
+            "--settings <PATH>",
+        ),
+        (
+            [
+                "portal",
+                "takings",
+                "1970-01-01",
+                "--db",
+                "x",
+                "--settings",
+                "y",
+            ]
+            .as_slice(),
+            false,
+            "<TO>",
+        ),
+        (
+            [
+                "portal",
+                "serve",
+                "--db",
+                "x",
+                "--settings",
+                "y",
+                "--port",
+                "0",
+            ]
+            .as_slice(),
+            false,
+            "0",
+        ),
+        (
+            [
+                "portal",
+                "serve",
+                "--db",
+                "x",
+                "--settings",
+                "y",
+                "--port",
+                "65536",
+            ]
+            .as_slice(),
+            false,
+            "65536",
+        ),
+        (
+            [
+                "portal",
+                "serve",
+                "--db",
+                "x",
+                "--settings",
+                "y",
+                "--count",
+                "1000000001",
+            ]
+            .as_slice(),
+            false,
+            "1000000001",
+        ),
         (
             ["portal", "answer", "--now", "1"].as_slice(),
             false,
@@ -127,11 +330,11 @@ fn texts_told(rt: HostRuntime) {
         ),
         (
             [
-                "portal", "answer", "--now", "1", "--seed", "00", "--db", "x",
+                "portal", "answer", "--now", "1", "--seed", "00", "--port", "1",
             ]
             .as_slice(),
             false,
-            "--db",
+            "--port",
         ),
         (
             ["portal", "answer", "--now", "1", "--seed", "00", "more"].as_slice(),

@@ -2,6 +2,8 @@
 #![tactic(auto)]
 
 #[cfg(test)]
+mod asked;
+#[cfg(test)]
 mod batches;
 #[cfg(test)]
 mod bodies;
@@ -11,6 +13,8 @@ mod callers;
 mod command_lines;
 #[cfg(test)]
 mod desk;
+#[cfg(test)]
+mod exchanges;
 #[cfg(test)]
 mod heads;
 #[cfg(test)]
@@ -22,6 +26,8 @@ mod numbers;
 #[cfg(test)]
 mod pieces;
 #[cfg(test)]
+mod places;
+#[cfg(test)]
 mod plans;
 #[cfg(test)]
 mod program;
@@ -29,3 +35,9 @@ mod program;
 mod responses;
 #[cfg(test)]
 mod routes;
+#[cfg(test)]
+mod serving;
+#[cfg(test)]
+mod subcommands;
+#[cfg(test)]
+mod wanted;

@@ -1,11 +1,10 @@
 //! The program over words, a reader and two writers: what goes out, and the status with which it ends.
 use crate::desk::{CAPTIVE, MOMENT};
-use portal_program::answer::answer;
-use portal_program::fault::Fault;
-use portal_program::input::read_input;
+use crate::places::{Line, good_shelf};
+use portal_ends::Fault;
+use portal_program::answering::{Request, answer};
 use portal_program::program::run_program;
 use portal_program::seed::read_seed;
-use portal_program::status::exit_status;
 use portal_program::words::words_of;
 use std::alloc::Global;
 use std::env::{Env, FillError};
@@ -105,7 +104,20 @@ fn ends_so<R: Read, W: Write>(
     said: &str,
 ) -> bool {
     let mut errors = Vec::new(alloc);
-    let ended = answer(alloc, now, seed, input, output, &mut errors);
+    let request = Request {
+        db: None,
+        settings: None,
+        now,
+        seed,
+    };
+    let ended = answer(
+        good_shelf(alloc),
+        alloc,
+        &request,
+        input,
+        output,
+        &mut errors,
+    );
     ended == status && errors.as_slice() == said.as_bytes()
 }
 
@@ -214,7 +226,7 @@ fn usage_faults(rt: HostRuntime) {
 #[test]
 fn cut_connections(rt: HostRuntime) {
     let alloc = rt.alloc();
-    for reads_left in 0..=70usize {
+    for reads_left in 0..70usize {
         let mut input = FailingReader {
             bytes: REQUEST.as_bytes(),
             reads_left,
@@ -233,7 +245,7 @@ fn cut_connections(rt: HostRuntime) {
     }
     let mut input = FailingReader {
         bytes: REQUEST.as_bytes(),
-        reads_left: 71,
+        reads_left: 70,
     };
     let mut output = Vec::new(alloc);
     assert!(rt; ends_so(alloc, MOMENT, SEED, &mut input, &mut output, 0, ""));
@@ -305,6 +317,96 @@ fn words_to_status(rt: HostRuntime) {
             "error: ",
         ),
         (["portal"].as_slice(), 1000, 2, "", "error: "),
+        (["portal", "check"].as_slice(), 1000, 2, "", "error: "),
+        (
+            ["portal", "check", "--db", "d", "--settings", "s"].as_slice(),
+            1000,
+            0,
+            "ok\n",
+            "",
+        ),
+        (
+            ["portal", "check", "--db", "d", "--settings", "s"].as_slice(),
+            2,
+            3,
+            "ok",
+            "portal: cut\n",
+        ),
+        (
+            ["portal", "print", "b1", "--db", "d", "--settings", "s"].as_slice(),
+            1000,
+            1,
+            "",
+            "portal: unknown_batch\n",
+        ),
+        (
+            [
+                "portal",
+                "takings",
+                "1970-01-01",
+                "1970-01-01",
+                "--db",
+                "d",
+                "--settings",
+                "s",
+            ]
+            .as_slice(),
+            1000,
+            0,
+            "day ",
+            "",
+        ),
+        (
+            [
+                "portal",
+                "takings",
+                "1970-01-02",
+                "1970-01-01",
+                "--db",
+                "d",
+                "--settings",
+                "s",
+            ]
+            .as_slice(),
+            1000,
+            2,
+            "",
+            "portal: usage\n",
+        ),
+        (
+            [
+                "portal",
+                "serve",
+                "--db",
+                "d",
+                "--settings",
+                "s",
+                "--count",
+                "2",
+            ]
+            .as_slice(),
+            1000,
+            0,
+            "listening 127.0.0.1:8080\n",
+            "portal: network\nportal: network\n",
+        ),
+        (
+            [
+                "portal",
+                "serve",
+                "--db",
+                "d",
+                "--settings",
+                "s",
+                "--port",
+                "1",
+            ]
+            .as_slice(),
+            10,
+            3,
+            "listening ",
+            "portal: cut\n",
+        ),
     ];
     for (words, room, status, wrote, said) in lines {
         let mut input = REQUEST.as_bytes();
@@ -314,7 +416,15 @@ fn words_to_status(rt: HostRuntime) {
             fails: true,
         };
         let mut errors = Vec::new(alloc);
-        let ended = run_program(alloc, words, &mut input, &mut output, &mut errors);
+        let ended = run_program(
+            good_shelf(alloc),
+            &Line { is_free: true },
+            alloc,
+            words,
+            &mut input,
+            &mut output,
+            &mut errors,
+        );
         let is_well = ended == status
             && is_framed(output.taken.as_slice(), wrote, "")
             && is_framed(errors.as_slice(), said, "");
@@ -354,12 +464,7 @@ fn words_in_utf8(rt: HostRuntime) {
 }
 
 #[test]
-fn ends_of_input(rt: HostRuntime) -> Result<(), Fail> {
-    let alloc = rt.alloc();
-    let whole = vec![in alloc; b'a'; 80_000]?;
-    let mut input = whole.as_slice();
-    let read = read_input(alloc, &mut input)?;
-    assert!(rt; read.len() == 73_728 && input.len() == 6272);
+fn seeds(rt: HostRuntime) -> Result<(), Fail> {
     let seed = read_seed("000102030405060708090a0B0c0D0e0F101112131415161718191A1b1C1dFefF").ok_or(
         "no seed",
     )?;
@@ -367,29 +472,5 @@ fn ends_of_input(rt: HostRuntime) -> Result<(), Fail> {
         assert!(rt; usize::from(seed[at]) == at);
     }
     assert!(rt; seed[30] == 254 && seed[31] == 255);
-    Ok(())
-}
-
-#[test]
-fn statuses(rt: HostRuntime) -> Result<(), Fail> {
-    let alloc = rt.alloc();
-    let head =
-        "HTTP/1.1 503 Service Unavailable\r\nDate: Mon, 02 Mar 2020 05:08:13 GMT\r\nContent-Type: application/json\r\n";
-    let rest = "Cache-Control: no-store\r\nConnection: close\r\n\r\n";
-    for (word, length, status) in [("stopped", 19, 3), ("no_memory", 21, 1)] {
-        let response = format!(in alloc;
-            "{head}Content-Length: {length}\r\n{rest}{{\"error\":\"{word}\"}}"
-        )?;
-        assert_eq!(rt; exit_status(response.as_bytes()), status, "at {word}");
-    }
-    for (fault, status, said) in [
-        (Fault::Usage, 2, "portal: usage\n"),
-        (Fault::Cut, 3, "portal: cut\n"),
-        (Fault::NoMemory, 3, "portal: no_memory\n"),
-    ] {
-        let mut errors = Vec::new(alloc);
-        let is_told = fault.report(&mut errors) == status && errors.as_slice() == said.as_bytes();
-        assert!(rt; is_told, "at {said}");
-    }
     Ok(())
 }

@@ -1,16 +1,18 @@
 //! Whether the counters agree with the rows that they count.
 
-ghost use Rattle.std.specs.Prelude.{◌≡◌, ◌↔◌, true, IfOk, IsTrue, MatchResult};
+ghost use Rattle.std.specs.Prelude.{◌≡◌, ◌↔◌, true, IfOk, IsTrue, MatchResult, IsErrOf};
 ghost use Rattle.sqlite.specs.Held.{state};
-ghost use Rattle.portal_rows.specs.Audit.{IsAudited};
+ghost use Rattle.portal_lists.specs.Audit.{IsAudited};
 ghost use Rattle.portal_rows.specs.Contents.{Contents};
 ghost use Rattle.portal_rows.specs.Holds.{Holds};
-ghost use Rattle.portal_tables.specs.Standing.{Standing, ReadsThat, FailsToRead};
-ghost use Rattle.portal_tables.specs.TablesAt.{IsHonest, TablesAt};
+ghost use Rattle.portal_ledger.specs.States.{State as Standing};
+ghost use Rattle.portal_ledger.specs.Calls.{ReadsThat, FailsToRead};
+ghost use Rattle.portal_tables.specs.declared.fault.StoreFault.TheVariants.{Memory, Stopped};
+ghost use Rattle.portal_tables.specs.TablesAt.{IsHonest, TablesAt, LeavesNoMore, IsStopped};
 
 use super::Tables;
 use crate::fault::StoreFault;
-use portal_rows::audits::audit;
+use portal_lists::audits::audit;
 use sqlite::Alter;
 
 impl<S: Alter> Tables<S> {
@@ -18,8 +20,9 @@ impl<S: Alter> Tables<S> {
     /// So it is in tables that only this product has written.
     pub fn audit(&mut self) -> Result<bool, StoreFault>
         ensures honest { IsHonest S.Store self.new → IsHonest S.Store self.old }
+        ensures stopped { IsStopped S.Store self.old → IsErrOf result Stopped × (self.new ≡ self.old) }
         ensures audit { IsHonest S.Store self.new → (old : Standing) → TablesAt S.Store self.old old → (new : Standing) × TablesAt S.Store self.new new
-            × MatchResult result (λ audited. ReadsThat old (λ h. audited ≡ true) new) (λ fault. FailsToRead old fault new) }
+            × LeavesNoMore S.Store self.old self.new × MatchResult result (λ audited. ReadsThat old (λ h. audited ≡ true) new) (λ fault. FailsToRead Memory Stopped old fault new) }
         ensures exact { IsHonest S.Store self.new → IsTrue (state S.Store self.old.conn).is_open → (t : Contents) → Holds (state S.Store self.old.conn).now t → IfOk result (λ audited. IsTrue audited ↔ IsAudited t) }
     {
         if self.is_stopped {

@@ -1,20 +1,22 @@
 //! The lists of the tables.
 
-ghost use Rattle.std.specs.Prelude.{◌≡◌, MatchResult, filter};
+ghost use Rattle.std.specs.Prelude.{◌≡◌, MatchResult, filter, IsErrOf};
 ghost use Rattle.portal_model.specs.Captive.{all_sessions};
 ghost use Rattle.portal_model.specs.History.{codes_of, is_open_at};
 ghost use Rattle.portal_tables.specs.Lists.{AreSales, AreRefunds};
-ghost use Rattle.portal_tables.specs.Standing.{Standing, ReadsThat, FailsToRead};
-ghost use Rattle.portal_tables.specs.TablesAt.{IsHonest, TablesAt};
+ghost use Rattle.portal_ledger.specs.States.{State as Standing};
+ghost use Rattle.portal_ledger.specs.Calls.{ReadsThat, FailsToRead};
+ghost use Rattle.portal_tables.specs.declared.fault.StoreFault.TheVariants.{Memory, Stopped};
+ghost use Rattle.portal_tables.specs.TablesAt.{IsHonest, TablesAt, LeavesNoMore, IsStopped};
 
 use super::Tables;
 use crate::fault::StoreFault;
 use crate::lists::{read_open_sessions, read_sales};
 use portal_codes::Code;
+use portal_lists::lists::{list_codes, list_refunds};
 use portal_model::moment::Moment;
 use portal_model::name::Id;
 use portal_model::record::Session;
-use portal_rows::lists::{list_codes, list_refunds};
 use sqlite::Alter;
 use std::alloc::Global;
 
@@ -22,8 +24,9 @@ impl<S: Alter> Tables<S> {
     /// The codes of the batch, by place. There are none where there is no such batch.
     pub fn batch_rows(&mut self, alloc: Global, id: &Id) -> Result<Vec<Code>, StoreFault>
         ensures honest { IsHonest S.Store self.new → IsHonest S.Store self.old }
+        ensures stopped { IsStopped S.Store self.old → IsErrOf result Stopped × (self.new ≡ self.old) }
         ensures batch_rows { IsHonest S.Store self.new → (old : Standing) → TablesAt S.Store self.old old → (new : Standing) × TablesAt S.Store self.new new
-            × MatchResult result (λ found. ReadsThat old (λ h. found.items ≡ codes_of h id.now) new) (λ fault. FailsToRead old fault new) }
+            × LeavesNoMore S.Store self.old self.new × MatchResult result (λ found. ReadsThat old (λ h. found.items ≡ codes_of h id.now) new) (λ fault. FailsToRead Memory Stopped old fault new) }
     {
         if self.is_stopped {
             return Err(StoreFault::Stopped);
@@ -37,8 +40,9 @@ impl<S: Alter> Tables<S> {
     /// The sessions that are open at `t`, by number.
     pub fn open_sessions(&mut self, alloc: Global, t: Moment) -> Result<Vec<Session>, StoreFault>
         ensures honest { IsHonest S.Store self.new → IsHonest S.Store self.old }
+        ensures stopped { IsStopped S.Store self.old → IsErrOf result Stopped × (self.new ≡ self.old) }
         ensures open_sessions { IsHonest S.Store self.new → (old : Standing) → TablesAt S.Store self.old old → (new : Standing) × TablesAt S.Store self.new new
-            × MatchResult result (λ found. ReadsThat old (λ h. found.items ≡ filter (is_open_at t) (all_sessions h)) new) (λ fault. FailsToRead old fault new) }
+            × LeavesNoMore S.Store self.old self.new × MatchResult result (λ found. ReadsThat old (λ h. found.items ≡ filter (is_open_at t) (all_sessions h)) new) (λ fault. FailsToRead Memory Stopped old fault new) }
     {
         if self.is_stopped {
             return Err(StoreFault::Stopped);
@@ -57,8 +61,9 @@ impl<S: Alter> Tables<S> {
         to: Moment,
     ) -> Result<Vec<(Moment, u64)>, StoreFault>
         ensures honest { IsHonest S.Store self.new → IsHonest S.Store self.old }
+        ensures stopped { IsStopped S.Store self.old → IsErrOf result Stopped × (self.new ≡ self.old) }
         ensures sales_between { IsHonest S.Store self.new → (old : Standing) → TablesAt S.Store self.old old → (new : Standing) × TablesAt S.Store self.new new
-            × MatchResult result (λ found. ReadsThat old (λ h. AreSales h from to found.items) new) (λ fault. FailsToRead old fault new) }
+            × LeavesNoMore S.Store self.old self.new × MatchResult result (λ found. ReadsThat old (λ h. AreSales h from to found.items) new) (λ fault. FailsToRead Memory Stopped old fault new) }
     {
         if self.is_stopped {
             return Err(StoreFault::Stopped);
@@ -77,8 +82,9 @@ impl<S: Alter> Tables<S> {
         to: Moment,
     ) -> Result<Vec<(Moment, u64)>, StoreFault>
         ensures honest { IsHonest S.Store self.new → IsHonest S.Store self.old }
+        ensures stopped { IsStopped S.Store self.old → IsErrOf result Stopped × (self.new ≡ self.old) }
         ensures refunds_between { IsHonest S.Store self.new → (old : Standing) → TablesAt S.Store self.old old → (new : Standing) × TablesAt S.Store self.new new
-            × MatchResult result (λ found. ReadsThat old (λ h. AreRefunds h from to found.items) new) (λ fault. FailsToRead old fault new) }
+            × LeavesNoMore S.Store self.old self.new × MatchResult result (λ found. ReadsThat old (λ h. AreRefunds h from to found.items) new) (λ fault. FailsToRead Memory Stopped old fault new) }
     {
         if self.is_stopped {
             return Err(StoreFault::Stopped);

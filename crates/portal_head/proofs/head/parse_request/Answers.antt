@@ -17,13 +17,13 @@ split_at-requires-2 c =
 pub returns-in-Ok : goal.returns-in-Ok
 returns-in-Ok c =
     let found = c.in-Whole.ensures.found in
-    told c.args.bytes.now c.front-front.result.now c.find_head.new.headers c.in-Whole.head found.0 c.new-fields.result c.declared_length.result _ _ _ _ _
+    told c.args.bytes.now c.front-front.result.now c.find_head.new.headers c.in-Whole.head found.0 c.new-fields.result c.declared_length.result _ _ _ _ _ _
     c.front-front.ensures found.1 found.2 (c.new-fields.ensures ∙ ap (map (header_bytes c.front-front.result.now)) c.split_at.ensures.front) c.declared_length.ensures.value
-    (c.in-Ok.ensures ∙ ap (body_after c.declared_length.result) c.split_at-2.ensures.back) c.only-token.ensures c.only-device.ensures c.of.ensures c.of-in-Ok.ensures
+    (c.in-Ok.ensures ∙ ap (body_after c.declared_length.result) c.split_at-2.ensures.back) c.only-token.ensures c.only-device.ensures c.at_most_one-number.ensures c.of.ensures c.of-in-Ok.ensures
 
 pub returns-in-Err : goal.returns-in-Err
 returns-in-Err c =
     let found = c.in-Whole.ensures.found in
-    told c.args.bytes.now c.front-front.result.now c.find_head.new.headers c.in-Whole.head found.0 c.new-fields.result c.declared_length.result _ _ _ _ _
+    told c.args.bytes.now c.front-front.result.now c.find_head.new.headers c.in-Whole.head found.0 c.new-fields.result c.declared_length.result _ _ _ _ _ _
     c.front-front.ensures found.1 found.2 (c.new-fields.ensures ∙ ap (map (header_bytes c.front-front.result.now)) c.split_at.ensures.front) c.declared_length.ensures.value
-    (c.in-Err.ensures ∙ ap (body_after c.declared_length.result) c.split_at-2.ensures.back) c.only-token.ensures c.only-device.ensures refl refl
+    (c.in-Err.ensures ∙ ap (body_after c.declared_length.result) c.split_at-2.ensures.back) c.only-token.ensures c.only-device.ensures c.at_most_one-number.ensures refl refl

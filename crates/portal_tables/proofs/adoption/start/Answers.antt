@@ -3,9 +3,9 @@ use Rattle.sqlite.specs.Held.{state}
 use Rattle.sqlite.specs.State.{HasCleanDisk}
 use Rattle.sqlite.proofs.StateLemmas.{survives_weaker, survives_then}
 use Rattle.portal_sql.proofs.HarmlessLemmas.{as_before}
-use Rattle.portal_rows.specs.Creates.{IsFree, new_store}
+use Rattle.portal_layouts.specs.Creates.{IsFree, new_store}
 use Rattle.portal_rows.specs.Holds.{LeftHolds}
-use Rattle.portal_rows.proofs.FreeLemmas.{free_is}
+use Rattle.portal_layouts.proofs.FreeLemmas.{free_is}
 use Rattle.portal_tables.proofs.adoption.start.Goals as goal
 
 pub returns-in-Ok-clause-made : goal.returns-in-Ok-clause-made

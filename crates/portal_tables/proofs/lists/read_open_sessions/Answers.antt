@@ -25,6 +25,6 @@ returns-clause-found g c clean live h shown =
     let clean1 : HasCleanDisk b = omega (arith, c.in_ok-sessions.ensures.looks.crash.clean) in
     let shown1 = shown_after h a b c.in_ok-numbers.ensures.looks clean1 live shown in
     let live1 = open_after h a b c.in_ok-numbers.ensures.looks clean1 live shown in
-    let numbers = c.in_ok-numbers.ensures.found clean1 _ shown.1 in
+    let numbers = c.in_ok-numbers.ensures.found clean1 _ shown.1.1 in
     let sessions = c.in_ok-sessions.ensures.found clean live1 h shown1 in
     open_listed h shown.0 c.args.t numbers.0 c.in_ok-numbers.numbers.items c.in_ok-sessions.sessions.items numbers.1 numbers.2 (sessions ∙ ap (filter_map (open_numbered h c.args.t)) c.deref.ensures.value)

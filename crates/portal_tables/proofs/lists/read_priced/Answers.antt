@@ -5,9 +5,9 @@ use Rattle.sqlite.specs.State.{HasCleanDisk}
 use Rattle.portal_model.specs.Rows.{rows_of}
 use Rattle.portal_sql.specs.Looks.{Looks}
 use Rattle.portal_sql.proofs.LooksLemmas.{reads_none, reads_then, looks_then, looks_read}
-use Rattle.portal_rows.specs.declared.lists.KeptSale.{KeptSale}
+use Rattle.portal_lists.specs.declared.lists.KeptSale.{KeptSale}
 use Rattle.portal_rows.specs.Holds.{HasTables}
-use Rattle.portal_rows.specs.Lists.{sale_read}
+use Rattle.portal_lists.specs.Lists.{sale_read}
 use Rattle.portal_rows.proofs.Compose.{more_mapped}
 use Rattle.portal_tables.specs.Lists.{paid, sale_of_shown}
 use Rattle.portal_tables.proofs.ShownLemmas.{shown_after, open_after}

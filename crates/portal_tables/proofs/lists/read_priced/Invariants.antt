@@ -2,9 +2,9 @@ use Rattle.std.proofs.Common.{◌≡◌, map, take, Some, ℕ}
 use Rattle.sqlite.specs.Held.{state}
 use Rattle.portal_model.specs.Rows.{rows_of}
 use Rattle.portal_sql.specs.Looks.{Reads}
-use Rattle.portal_rows.specs.declared.lists.KeptSale.{KeptSale}
+use Rattle.portal_lists.specs.declared.lists.KeptSale.{KeptSale}
 use Rattle.portal_rows.specs.Holds.{HasTables}
-use Rattle.portal_rows.specs.Lists.{sale_read}
+use Rattle.portal_lists.specs.Lists.{sale_read}
 use Rattle.portal_tables.specs.Lists.{paid, sale_of_shown}
 use Rattle.portal_tables.specs.Shown.{OfShown}
 use Rattle.portal_tables.proofs.lists.read_priced.Given as goal

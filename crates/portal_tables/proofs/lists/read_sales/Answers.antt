@@ -5,9 +5,9 @@ use Rattle.portal_laws.proofs.Basics.{map-map}
 use Rattle.portal_model.specs.Rows.{rows_of}
 use Rattle.portal_sql.specs.Looks.{Looks}
 use Rattle.portal_sql.proofs.LooksLemmas.{reads_then, looks_then}
-use Rattle.portal_rows.specs.declared.lists.KeptSale.{KeptSale}
+use Rattle.portal_lists.specs.declared.lists.KeptSale.{KeptSale}
 use Rattle.portal_rows.specs.Holds.{HasTables}
-use Rattle.portal_rows.specs.Lists.{sale_read}
+use Rattle.portal_lists.specs.Lists.{sale_read}
 use Rattle.portal_tables.specs.Lists.{sale_of_shown}
 use Rattle.portal_tables.proofs.PaymentLists.{sales_listed}
 use Rattle.portal_tables.proofs.ShownLemmas.{shown_after, open_after}
@@ -31,4 +31,4 @@ returns-clause-found g c clean live h shown =
     let sales = c.in_ok-sales.sales.items in
     let tell = sale_of_shown (rows_of h) in
     let priced = map-map sale_read tell sales ∙ ap (map (λ (s : KeptSale). tell (sale_read s))) (sym c.deref.ensures.value) ∙ c.in_ok-payments.ensures.found clean live1 h shown1 in
-    sales_listed h shown.0 c.args.from c.args.to (map sale_read sales) (c.in_ok-sales.ensures.found clean1 _ shown.1) c.in_ok-payments.payments.items priced
+    sales_listed h shown.0 c.args.from c.args.to (map sale_read sales) (c.in_ok-sales.ensures.found clean1 _ shown.1.1) c.in_ok-payments.payments.items priced

@@ -30,6 +30,6 @@ returns-clause-found g c clean live h shown is_row =
     let row = c.args.row.now in
     let clean1 : HasCleanDisk b = omega (arith, c.in_ok-plan.ensures.looks.crash.clean) in
     let shown1 = shown_after h a b c.in_ok-total.ensures.looks clean1 live shown in
-    let total = subst (λ (o : Option Total). Finds (λ (x : TotalRow). x.number) row.number (totals_of h) (option_map ends_row o)) c.in-Some.is (c.in_ok-total.ensures.found clean1 _ shown.1) in
-    let plan = plan_found h shown.0 row.plan c.in_ok-plan.field-0 (c.in_ok-plan.ensures.found clean _ shown1.1) in
+    let total = subst (λ (o : Option Total). Finds (λ (x : TotalRow). x.number) row.number (totals_of h) (option_map ends_row o)) c.in-Some.is (c.in_ok-total.ensures.found clean1 _ shown.1.1) in
+    let plan = plan_found h shown.0 row.plan c.in_ok-plan.field-0 (c.in_ok-plan.ensures.found clean _ shown1.1.1) in
     session_joined h shown.0 row c.in-Some.total c.in-Some-2.plan c.in_ok-allowance.allowance c.requires is_row total (sym plan ∙ c.in-Some-2.is) c.in_ok-allowance.ensures

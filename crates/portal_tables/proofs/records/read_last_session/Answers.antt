@@ -31,7 +31,7 @@ returns-in_ok-complete-in-Some-clause-found g c clean live h shown =
     let live1 = open_after h a b c.in_ok-row.ensures.looks clean1 live shown in
     let row =
     subst (λ (o : Option KeptSession). FindsLast (λ (x : SessionRow). x.device) (text_of_device c.args.device.now) (λ (x : SessionRow). x.number) (map session_kept (sessions_of h)) (option_map session_read o)) c.in-Some.is
-    (c.in_ok-row.ensures.found clean1 _ shown.1) in
+    (c.in_ok-row.ensures.found clean1 _ shown.1.1) in
     let it = last_found h shown.0 c.args.device.now c.find_last_session.ensures.device c.in-Some.row row in
     c.in_ok-complete-in-Some.ensures.found clean live1 h shown1 it.0 ∙ sym it.1
 
@@ -39,5 +39,5 @@ pub returns-in-None-clause-found : goal.returns-in-None-clause-found
 returns-in-None-clause-found g c clean live h shown =
     let gone =
     subst (λ (o : Option KeptSession). FindsLast (λ (x : SessionRow). x.device) (text_of_device c.args.device.now) (λ (x : SessionRow). x.number) (map session_kept (sessions_of h)) (option_map session_read o)) c.in-None.is
-    (c.in_ok-row.ensures.found clean _ shown.1) in
+    (c.in_ok-row.ensures.found clean _ shown.1.1) in
     sym (last_missing h shown.0 c.args.device.now c.find_last_session.ensures.device gone)

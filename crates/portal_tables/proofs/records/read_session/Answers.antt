@@ -37,12 +37,12 @@ returns-in_ok-complete-in-Some-clause-found g c clean live h shown =
     let shown1 = shown_after h a b c.in_ok-row.ensures.looks clean1 live shown in
     let live1 = open_after h a b c.in_ok-row.ensures.looks clean1 live shown in
     let row =
-    subst (λ (o : Option KeptSession). Finds (λ (x : SessionRow). x.number) c.args.number (map session_kept (sessions_of h)) (option_map session_read o)) c.in-Some.is (c.in_ok-row.ensures.found clean1 _ shown.1) in
+    subst (λ (o : Option KeptSession). Finds (λ (x : SessionRow). x.number) c.args.number (map session_kept (sessions_of h)) (option_map session_read o)) c.in-Some.is (c.in_ok-row.ensures.found clean1 _ shown.1.1) in
     let it = row_of_number h shown.0 c.args.number c.in-Some.row row in
     c.in_ok-complete-in-Some.ensures.found clean live1 h shown1 it.0 ∙ ap (session_of h) it.1
 
 pub returns-in-None-clause-found : goal.returns-in-None-clause-found
 returns-in-None-clause-found g c clean live h shown =
     let gone =
-    subst (λ (o : Option KeptSession). Finds (λ (x : SessionRow). x.number) c.args.number (map session_kept (sessions_of h)) (option_map session_read o)) c.in-None.is (c.in_ok-row.ensures.found clean _ shown.1) in
+    subst (λ (o : Option KeptSession). Finds (λ (x : SessionRow). x.number) c.args.number (map session_kept (sessions_of h)) (option_map session_read o)) c.in-None.is (c.in_ok-row.ensures.found clean _ shown.1.1) in
     sym (session_missing h shown.0 c.args.number gone)

@@ -23,6 +23,6 @@ returns-in-Some-2-clause-found g c clean live h shown =
     let first = c.in_ok-batch.ensures.looks in
     let mid : HasCleanDisk b = omega (arith, c.in_ok-plan.ensures.looks.crash.clean) in
     let later = shown_after h a b first mid live shown in
-    let batch = batch_found h shown.0 c.args.id.now c.in_ok-batch.field-0 (c.in_ok-batch.ensures.found mid _ shown.1) in
-    let plan = plan_found h shown.0 c.in-Some.batch.plan c.in_ok-plan.field-0 (c.in_ok-plan.ensures.found clean _ later.1) in
+    let batch = batch_found h shown.0 c.args.id.now c.in_ok-batch.field-0 (c.in_ok-batch.ensures.found mid _ shown.1.1) in
+    let plan = plan_found h shown.0 c.in-Some.batch.plan c.in_ok-plan.field-0 (c.in_ok-plan.ensures.found clean _ later.1.1) in
     (sym batch ∙ c.in-Some.is, sym plan ∙ c.in-Some-2.is)

@@ -19,7 +19,7 @@ pub returns-in_default-clause-found : goal.returns-in_default-clause-found
 returns-in_default-clause-found g c clean live h shown =
     let none : c.in_ok-row.field-0 ≡ None = search rules in
     let gone =
-    subst (λ (o : Option KeptVoucher). Finds (λ (x : VoucherRow). x.code) (text_of c.args.code.now) (map voucher_kept (vouchers_of h)) (option_map voucher_read o)) none (c.in_ok-row.ensures.found clean _ shown.1) in
+    subst (λ (o : Option KeptVoucher). Finds (λ (x : VoucherRow). x.code) (text_of c.args.code.now) (map voucher_kept (vouchers_of h)) (option_map voucher_read o)) none (c.in_ok-row.ensures.found clean _ shown.1.1) in
     sym (voucher_missing h shown.0 c.args.code.now c.find_voucher.ensures.code gone)
 
 pub returns-in_err-count-clause-looks : goal.returns-in_err-count-clause-looks
@@ -50,8 +50,8 @@ returns-clause-found g c clean live h shown =
     let shown2 = shown_after h b d c.in_ok-count.ensures.looks clean2 live1 shown1 in
     let live2 = open_after h b d c.in_ok-count.ensures.looks clean2 live1 shown1 in
     let row =
-    subst (λ (o : Option KeptVoucher). Finds (λ (x : VoucherRow). x.code) (text_of c.args.code.now) (map voucher_kept (vouchers_of h)) (option_map voucher_read o)) c.in-Some.is (c.in_ok-row.ensures.found clean1 _ shown.1) in
+    subst (λ (o : Option KeptVoucher). Finds (λ (x : VoucherRow). x.code) (text_of c.args.code.now) (map voucher_kept (vouchers_of h)) (option_map voucher_read o)) c.in-Some.is (c.in_ok-row.ensures.found clean1 _ shown.1.1) in
     let count =
-    subst (λ (o : Option KeptCount). Finds (λ (x : CountRow). x.code) (text_of c.args.code.now) (map count_kept (counts_of h)) (option_map count_read o)) c.in-Some-2.is (c.in_ok-count.ensures.found clean2 _ shown1.1) in
+    subst (λ (o : Option KeptCount). Finds (λ (x : CountRow). x.code) (text_of c.args.code.now) (map count_kept (counts_of h)) (option_map count_read o)) c.in-Some-2.is (c.in_ok-count.ensures.found clean2 _ shown1.1.1) in
     let terms = c.in_ok-batch.ensures.found clean live2 h shown2 in
     voucher_joined h shown.0 c.args.code.now c.find_voucher.ensures.code c.in-Some.row c.in-Some-2.count c.in_ok-batch.batch c.in_ok-batch.plan row count terms.0 terms.1

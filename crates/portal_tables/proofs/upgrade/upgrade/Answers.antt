@@ -4,17 +4,17 @@ use Rattle.sqlite.specs.State.{HasCleanDisk}
 use Rattle.sqlite.proofs.StateLemmas.{survives_then}
 use Rattle.portal_sql.proofs.HarmlessLemmas.{as_before}
 use Rattle.portal_sql.proofs.StandsAtLemmas.{again_at}
-use Rattle.portal_rows.specs.Upgrades.{MayUpgrade}
-use Rattle.portal_tables.specs.First.{ShowsFirst}
+use Rattle.portal_layouts.specs.Brings.{MayUpgrade, number_of}
+use Rattle.portal_tables.specs.Older.{ShowsIn}
 use Rattle.portal_tables.proofs.Upgrading.{upgraded_at, left_in_either}
 use Rattle.portal_tables.proofs.upgrade.upgrade.Goals as goal
 
 pub returns-in-Ok-clause-stands : goal.returns-in-Ok-clause-stands
 returns-in-Ok-clause-stands g c clean h at =
-    upgraded_at h (state g.S.Store c.args.conn.now) (state g.S.Store c.upgrade.new.conn) at (λ db. g.met.S.Store.settled c.upgrade.new.conn.store db) (c.in-Ok.ensures.done clean at.is_open)
+    upgraded_at c.args.from h (state g.S.Store c.args.conn.now) (state g.S.Store c.upgrade.new.conn) at (λ db. g.met.S.Store.settled c.upgrade.new.conn.store db) (c.in-Ok.ensures.done clean at.is_open)
 
 pub returns-in-Ok-clause-left : goal.returns-in-Ok-clause-left
-returns-in-Ok-clause-left g c clean h at = left_in_either h (state g.S.Store c.args.conn.now) (state g.S.Store c.upgrade.new.conn) at clean c.upgrade.ensures.crash
+returns-in-Ok-clause-left g c clean h at = left_in_either c.args.from h (state g.S.Store c.args.conn.now) (state g.S.Store c.upgrade.new.conn) at clean c.upgrade.ensures.crash
 
 pub returns-in-Err-clause-memory : goal.returns-in-Err-clause-memory
 returns-in-Err-clause-memory g c clean live outside settled is =
@@ -24,16 +24,16 @@ returns-in-Err-clause-memory g c clean live outside settled is =
 pub returns-in-Err-clause-crash : goal.returns-in-Err-clause-crash
 returns-in-Err-clause-crash g c =
     let a = state g.S.Store c.args.conn.now in
-    survives_then a (state g.S.Store c.upgrade.new.conn) (state g.S.Store c.told.new.conn) _ _ (MayUpgrade a) (λ _ db may. may) (λ _ db none. absurd none) c.upgrade.ensures.crash c.told.ensures.survives
+    survives_then a (state g.S.Store c.upgrade.new.conn) (state g.S.Store c.told.new.conn) _ _ (MayUpgrade c.args.from a) (λ _ db may. may) (λ _ db none. absurd none) c.upgrade.ensures.crash c.told.ensures.survives
 
 pub returns-in-Err-clause-stays : goal.returns-in-Err-clause-stays
 returns-in-Err-clause-stays g c clean h at is =
     let mid : HasCleanDisk (state g.S.Store c.upgrade.new.conn) = omega (arith, c.told.ensures.survives.clean) in
-    again_at (ShowsFirst h) (state g.S.Store c.args.conn.now) (state g.S.Store c.upgrade.new.conn) (state g.S.Store c.told.new.conn) (λ db. g.met.S.Store.settled c.told.new.conn.store db) at
+    again_at (ShowsIn (number_of c.args.from) h) (state g.S.Store c.args.conn.now) (state g.S.Store c.upgrade.new.conn) (state g.S.Store c.told.new.conn) (λ db. g.met.S.Store.settled c.told.new.conn.store db) at
     (c.in-Err.ensures.undone mid at.is_open at.autocommit at.settled) (c.told.ensures.same clean is)
 
 pub returns-in-Err-clause-left : goal.returns-in-Err-clause-left
 returns-in-Err-clause-left g c clean h at =
     let a = state g.S.Store c.args.conn.now in
-    left_in_either h a (state g.S.Store c.told.new.conn) at clean
-    (survives_then a (state g.S.Store c.upgrade.new.conn) (state g.S.Store c.told.new.conn) _ _ (MayUpgrade a) (λ _ db may. may) (λ _ db none. absurd none) c.upgrade.ensures.crash c.told.ensures.survives)
+    left_in_either c.args.from h a (state g.S.Store c.told.new.conn) at clean
+    (survives_then a (state g.S.Store c.upgrade.new.conn) (state g.S.Store c.told.new.conn) _ _ (MayUpgrade c.args.from a) (λ _ db may. may) (λ _ db none. absurd none) c.upgrade.ensures.crash c.told.ensures.survives)

@@ -1,13 +1,12 @@
-use Rattle.std.proofs.Common.{◌≡◌, ◌⊎◌, Some, false, sym, subst, refl}
+use Rattle.std.proofs.Common.{◌≡◌, ◌≤◌, ℕ, Some, false, sym, subst, refl}
 use Rattle.sqlite.specs.Held.{state}
 use Rattle.portal_tables.specs.declared.adopt.Refused.{Refused}
 use Rattle.portal_tables.specs.declared.tables.Tables.{Tables}
 use Rattle.portal_tables.specs.Adopting.{IsKnown}
-use Rattle.portal_tables.specs.First.{first_layout}
-use Rattle.portal_tables.specs.Shown.{this_layout}
-use Rattle.portal_tables.specs.Standing.{running}
+use Rattle.portal_rows.specs.Holds.{this_layout}
+use Rattle.portal_ledger.specs.States.{running}
 use Rattle.portal_tables.specs.TablesAt.{IsHonest, ConnIsHonest, TablesAt}
-use Rattle.portal_tables.proofs.AdoptedLemmas.{adopted, exact_known, exact_why, refused, kept_by, conn_honest, conn_clean, tables_honest, tables_clean}
+use Rattle.portal_tables.proofs.AdoptedLemmas.{adopted, exact_known, exact_why, refused, spares, kept_by, conn_honest, conn_clean, tables_honest, tables_clean}
 use Rattle.portal_tables.proofs.tables.Tables.adopt.Goals as goal
 
 pub returns-in-Ok-clause-honest : goal.returns-in-Ok-clause-honest
@@ -29,7 +28,7 @@ returns-in-Ok-clause-why g c =
 pub returns-in-Ok-clause-exact : goal.returns-in-Ok-clause-exact
 returns-in-Ok-clause-exact g c no_view ours told tells =
     let tables : Tables g.row.S.Denot = record { conn = c.make_ready.new.conn; is_stopped = false } in
-    subst (λ (t : Tables g.row.S.Denot). IsHonest g.S.Store t → (told ≡ Some this_layout) ⊎ (told ≡ Some first_layout)) (sym c.new.ensures)
+    subst (λ (t : Tables g.row.S.Denot). IsHonest g.S.Store t → (layout : ℕ) × (1 ≤ layout) × (layout ≤ this_layout) × (told ≡ Some layout)) (sym c.new.ensures)
     (λ honest. exact_known (state g.S.Store c.args.conn).now no_view ours told tells (c.in-Ok.ensures.why (tables_clean g.S.Store tables honest)))
 
 pub returns-in-Err-clause-honest : goal.returns-in-Err-clause-honest
@@ -50,3 +49,6 @@ returns-in-Err-clause-kept g c honest live other =
 pub returns-in-Err-clause-exact : goal.returns-in-Err-clause-exact
 returns-in-Err-clause-exact g c no_view ours told tells honest =
     exact_why (state g.S.Store c.args.conn).now no_view ours told tells c.in-Err.fault (c.in-Err.ensures.why (conn_clean g.S.Store c.make_ready.new.conn honest))
+
+pub returns-in-Err-clause-spared : goal.returns-in-Err-clause-spared
+returns-in-Err-clause-spared g c unknown = spares (state g.S.Store c.args.conn) (state g.S.Store c.make_ready.new.conn) unknown c.make_ready.ensures.crash

@@ -15,7 +15,7 @@ returns-in-Ok-clause-honest g c clean =
 pub returns-in-Ok-clause-audit : goal.returns-in-Ok-clause-audit
 returns-in-Ok-clause-audit g c clean old at =
     let new : Tables g.row.S.Denot = record { conn = c.audit.new.conn; is_stopped = c.args.self.now.is_stopped } in
-    reads g.S.Store c.args.self.now new c.if-self.false refl clean c.in-Ok.ensures.looks (λ (h : History). c.in-Ok.audited ≡ true) (λ clear live h shown. (c.in-Ok.ensures.audited clear live _ shown.1).1 (audit_shown h shown.0)) old at
+    reads g.S.Store c.args.self.now new c.if-self.false refl clean c.in-Ok.ensures.looks (λ (h : History). c.in-Ok.audited ≡ true) (λ clear live h shown. (c.in-Ok.ensures.audited clear live _ shown.1.1).1 (audit_shown shown.1.0 h shown.0)) old at
 
 pub returns-in-Ok-clause-exact : goal.returns-in-Ok-clause-exact
 returns-in-Ok-clause-exact g c clean live t held = c.in-Ok.ensures.audited (honest_is g.S.Store (record { conn = c.audit.new.conn; is_stopped = c.args.self.now.is_stopped }) clean) live t held

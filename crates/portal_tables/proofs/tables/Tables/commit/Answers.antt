@@ -19,7 +19,7 @@ returns-in-Ok-clause-honest g c clean =
 pub returns-in-Ok-clause-commit : goal.returns-in-Ok-clause-commit
 returns-in-Ok-clause-commit g c clean old at e may =
     let new : Tables g.row.S.Denot = record { conn = c.keep.new.conn; is_stopped = c.args.self.now.is_stopped } in
-    keeps g.S.Store c.args.changes.now e c.args.self.now new c.if-self.false refl (λ db. g.met.S.Store.settled new.conn.store db) (c.in-Ok.ensures.done (honest_is g.S.Store new clean)) old at may
+    keeps g.S.Store c.args.marked.now e c.args.self.now new c.if-self.false refl (λ db. g.met.S.Store.settled new.conn.store db) (c.in-Ok.ensures.done (honest_is g.S.Store new clean)) old at may
 
 pub returns-in-Err-clause-honest : goal.returns-in-Err-clause-honest
 returns-in-Err-clause-honest g c clean =
@@ -28,5 +28,5 @@ returns-in-Err-clause-honest g c clean =
 pub returns-in-Err-clause-commit : goal.returns-in-Err-clause-commit
 returns-in-Err-clause-commit g c clean old at e may =
     let new = c.fault.new.self in
-    doubts g.S.Store c.args.changes.now e c.args.self.now new c.keep.new.conn c.if-self.false clean c.in-Err.ensures.undone c.keep.ensures.crash c.fault.ensures.survives (λ db. g.met.S.Store.settled new.conn.store db)
+    doubts g.S.Store c.args.marked.now e c.args.self.now new c.keep.new.conn c.if-self.false clean c.in-Err.ensures.undone c.keep.ensures.crash c.fault.ensures.survives (λ db. g.met.S.Store.settled new.conn.store db)
     c.fault.result c.fault.ensures.told c.fault.ensures.same old at may

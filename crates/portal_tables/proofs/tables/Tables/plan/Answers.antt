@@ -15,7 +15,7 @@ returns-in-Ok-clause-honest g c clean =
 pub returns-in-Ok-clause-plan : goal.returns-in-Ok-clause-plan
 returns-in-Ok-clause-plan g c clean old at =
     let new : Tables g.row.S.Denot = record { conn = c.find_plan.new.conn; is_stopped = c.args.self.now.is_stopped } in
-    reads g.S.Store c.args.self.now new c.if-self.false refl clean c.in-Ok.ensures.looks (λ (h : History). c.in-Ok.found ≡ plan_of h c.args.id.now) (λ clear live h shown. plan_found h shown.0 c.args.id.now c.in-Ok.found (c.in-Ok.ensures.found clear _ shown.1)) old at
+    reads g.S.Store c.args.self.now new c.if-self.false refl clean c.in-Ok.ensures.looks (λ (h : History). c.in-Ok.found ≡ plan_of h c.args.id.now) (λ clear live h shown. plan_found h shown.0 c.args.id.now c.in-Ok.found (c.in-Ok.ensures.found clear _ shown.1.1)) old at
 
 pub returns-in-Err-clause-honest : goal.returns-in-Err-clause-honest
 returns-in-Err-clause-honest g c clean =

@@ -16,7 +16,7 @@ returns-in-Ok-clause-honest g c clean =
 pub returns-in-Ok-clause-refunds_between : goal.returns-in-Ok-clause-refunds_between
 returns-in-Ok-clause-refunds_between g c clean old at =
     let new : Tables g.row.S.Denot = record { conn = c.list_refunds.new.conn; is_stopped = c.args.self.now.is_stopped } in
-    reads g.S.Store c.args.self.now new c.if-self.false refl clean c.in-Ok.ensures.looks (λ (h : History). AreRefunds h c.args.from c.args.to c.in-Ok.found.items) (λ clear live h shown. refunds_listed h shown.0 c.args.from c.args.to c.in-Ok.found.items (c.in-Ok.ensures.found clear _ shown.1)) old at
+    reads g.S.Store c.args.self.now new c.if-self.false refl clean c.in-Ok.ensures.looks (λ (h : History). AreRefunds h c.args.from c.args.to c.in-Ok.found.items) (λ clear live h shown. refunds_listed h shown.0 c.args.from c.args.to c.in-Ok.found.items (c.in-Ok.ensures.found clear _ shown.1.1)) old at
 
 pub returns-in-Err-clause-honest : goal.returns-in-Err-clause-honest
 returns-in-Err-clause-honest g c clean =

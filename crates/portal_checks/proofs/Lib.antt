@@ -1,0 +1,4 @@
+pub mod QueryLemmas
+pub mod RouteLemmas
+pub mod CheckedOnce
+pub mod NoStops

@@ -1,0 +1,91 @@
+//! The commands that bodies order.
+ghost use Rattle.std.specs.Prelude.{◌≡◌, ◌⊎◌, Err, IfOk};
+ghost use Rattle.portal_model.specs.Verdict.{IsWellFormed};
+ghost use Rattle.portal_model.specs.declared.command.Command.TheVariants.{Load, Sell, Redeem, Report, Refund, Close};
+ghost use Rattle.portal_files.specs.PlansFile.{IsPlansFile};
+ghost use Rattle.portal_json.specs.Orders.{CodeOrder, Exactly, IsCloseOrder, IsReportOrder};
+ghost use Rattle.portal_checks.specs.Bodies.{Gives, Orders};
+
+use portal_files::{FileFault, read_plans};
+use portal_json::{read_close, read_redeem, read_refund, read_report, read_sale};
+use portal_model::command::Command;
+use portal_model::name::Device;
+use portal_model::refusal::Refusal;
+use std::alloc::Global;
+
+/// The plans in a body, to be loaded.
+///
+/// Refusals: `BadPlans` where the body is no plans file; `NoMemory`.
+pub fn order_load(alloc: Global, body: &[u8]) -> Result<Command, Refusal>
+    ensures orders { (result ≡ Err Refusal.NoMemory) ⊎ Gives (IsPlansFile body.now) Load Refusal.BadPlans result }
+    ensures well_formed { IfOk result IsWellFormed }
+{
+    match read_plans(alloc, body) {
+        Ok(plans) => Ok(Command::Load { plans }),
+        Err(fault) => match fault {
+            FileFault::Bad => Err(Refusal::BadPlans),
+            FileFault::Memory => Err(Refusal::NoMemory),
+        },
+    }
+}
+
+/// The code in a body, to be redeemed for a device.
+///
+/// Refusals: `BadRequest` where the body has no text under `code`, `BadCode` where that is no code; `NoMemory`.
+pub fn order_redeem(alloc: Global, device: Device, body: &[u8]) -> Result<Command, Refusal>
+    ensures orders { (result ≡ Err Refusal.NoMemory) ⊎ Orders CodeOrder (Redeem device) body.now result }
+    ensures well_formed { IfOk result IsWellFormed }
+{
+    match read_redeem(alloc, body) {
+        Ok(code) => Ok(Command::Redeem { device, code }),
+        Err(refusal) => Err(refusal),
+    }
+}
+
+/// The code in a body, to be sold. Refused as `order_redeem` refuses.
+pub fn order_sale(alloc: Global, body: &[u8]) -> Result<Command, Refusal>
+    ensures orders { (result ≡ Err Refusal.NoMemory) ⊎ Orders CodeOrder Sell body.now result }
+    ensures well_formed { IfOk result IsWellFormed }
+{
+    match read_sale(alloc, body) {
+        Ok(code) => Ok(Command::Sell { code }),
+        Err(refusal) => Err(refusal),
+    }
+}
+
+/// The code in a body, to be refunded. Refused as `order_redeem` refuses.
+pub fn order_refund(alloc: Global, body: &[u8]) -> Result<Command, Refusal>
+    ensures orders { (result ≡ Err Refusal.NoMemory) ⊎ Orders CodeOrder Refund body.now result }
+    ensures well_formed { IfOk result IsWellFormed }
+{
+    match read_refund(alloc, body) {
+        Ok(code) => Ok(Command::Refund { code }),
+        Err(refusal) => Err(refusal),
+    }
+}
+
+/// The number of a session in a body, to be closed. Refusals: `BadRequest`; `NoMemory`.
+pub fn order_close(alloc: Global, body: &[u8]) -> Result<Command, Refusal>
+    ensures orders { (result ≡ Err Refusal.NoMemory) ⊎ Orders (λ value. Exactly (IsCloseOrder value)) Close body.now result }
+    ensures well_formed { IfOk result IsWellFormed }
+{
+    match read_close(alloc, body) {
+        Ok(session) => Ok(Command::Close { session }),
+        Err(refusal) => Err(refusal),
+    }
+}
+
+/// The gateway's report in a body. Refusals: `BadRequest`; `NoMemory`.
+pub fn order_report(alloc: Global, body: &[u8]) -> Result<Command, Refusal>
+    ensures orders { (result ≡ Err Refusal.NoMemory)
+        ⊎ Orders (λ value. Exactly (IsReportOrder value)) (λ order. Report order.session order.bytes) body.now result }
+    ensures well_formed { IfOk result IsWellFormed }
+{
+    match read_report(alloc, body) {
+        Ok(order) => Ok(Command::Report {
+            session: order.session,
+            bytes: order.bytes,
+        }),
+        Err(refusal) => Err(refusal),
+    }
+}

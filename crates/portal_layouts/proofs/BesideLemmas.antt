@@ -1,0 +1,258 @@
+-- Tables made beside those of an older layout.
+use Rattle.std.proofs.Common.{◌≡◌, ◌⊎◌, inl, inr, ℕ, Bool, true, ◌+◌, ◌≤◌, ◌<◌, ◌==◌, ◌++◌, false, max, fold, find, List, [], ◌∷◌, Option, Some, None, IfSome, refl, sym, ap, subst, arith, ne_eqb, lit≤, lit<}
+use Rattle.std.specs.Prelude.{option_map, option_and_then}
+use Rattle.std.specs.Option.{option_or}
+use Rattle.std.proofs.lemmas.Bool.{cases_Bool}
+use Rattle.std.proofs.lemmas.List.Folds.{find-append}
+use Rattle.sqlite.specs.Schema.{Schema}
+use Rattle.sqlite.specs.Table.{Table}
+use Rattle.sqlite.specs.Effect.{Database}
+use Rattle.sqlite.specs.Change.{created, next_tree}
+use Rattle.sqlite_value.specs.declared.keys.Order.{Order}
+use Rattle.sqlite_schema.specs.declared.schema.Index.{Index}
+use Rattle.sqlite_schema.specs.declared.schema.Reference.{Reference}
+use Rattle.sqlite_schema.specs.Names.{same_name}
+use Rattle.sqlite_schema.specs.Rules.{key_in, key_places, declared_order, ParentKey}
+use Rattle.sqlite_catalog.specs.Change.{past_views}
+use Rattle.sqlite_catalog.proofs.AlterLemmas.{place_has}
+use Rattle.sqlite_catalog.proofs.ListFacts.{most_from, most_above}
+use Rattle.sqlite_rules.specs.Lists.{Has}
+use Rattle.sqlite_rules.proofs.ListLemmas.{all_has}
+use Rattle.portal_sql.specs.Stands.{IsUnacted, IsUnactedBy}
+use Rattle.portal_sql.specs.Harmless.{any_counts}
+use Rattle.portal_sql.specs.Made.{Counts, HasMade}
+use Rattle.portal_sql.proofs.StandsLemmas.{still_stands}
+use Rattle.portal_sql.proofs.HarmlessLemmas.{both, counts_of, unacted_of}
+use Rattle.portal_rows.specs.Layout.{head, plans, batches, vouchers, sessions, grants, counts, totals, requests, counts_name, totals_name, requests_name}
+use Rattle.portal_rows.specs.Contents.{Contents}
+use Rattle.portal_rows.specs.Holds.{Place, IsAt, HoldsIn, HasSessionIndex}
+use Rattle.portal_layouts.specs.Brings.{HasRoom, has_room, uncounted, unasked}
+use Rattle.portal_rows.proofs.HoldsLemmas.{moved}
+use Rattle.portal_layouts.proofs.CreateLemmas.{IsIdle, new_place, still_by, made_ready, still_ready, ready_at, stores_none}
+
+pub room_is : (schema : Schema) → has_room schema ≡ true → HasRoom schema
+room_is schema e =
+    let p0 = both _ _ e in
+    let p1 = both _ _ p0.1 in
+    let p2 = both _ _ p1.1 in
+    record { numbered = counts_of (any_counts schema) _ p0.0; counts = unacted_of schema _ p1.0; totals = unacted_of schema _ p2.0; requests = unacted_of schema _ p2.1 }
+
+-- ---- a table made beside one that stands
+
+has_part : {X : Type 0} (xs ys : List X) (x : X) → Has (xs ++ ys) x → Has xs x ⊎ Has ys x
+has_part [] ys x h = inr h
+has_part (y ∷ xs) ys x (inl e) = inl (inl e)
+has_part (y ∷ xs) ys x (inr h) = elim (has_part xs ys x h) [ inl a ↦ inl (inr a) | inr b ↦ inr b ]
+
+-- its tree is past those of the tables that are there
+past : (schema : Schema) (t : Table) → Has schema.tables t → t.tree < next_tree schema
+past schema t has =
+    let tables : ℕ = fold (λ n (u : Table). max n (u.tree + 1)) (past_views schema) schema.tables in
+    let first : t.tree < tables = most_above (λ (u : Table). u.tree) (past_views schema) schema.tables t has in
+    let more : tables ≤ next_tree schema = most_from (λ (i : Index). i.tree) tables schema.indexes in
+    omega arith
+
+abbrev key_of : ℕ → List ℕ → Order → ParentKey
+key_of tree places o = (tree, places, o)
+
+-- the key that a reference finds in the table that it names
+abbrev key_by : Reference → Option Table → Option ParentKey
+key_by ref got = option_and_then (λ t. option_and_then (key_in t) (key_places t ref.parent_columns)) got
+
+abbrev IsElsewhere : ℕ → Option ParentKey → Type 0
+IsElsewhere tree key = IfSome key (λ (k : ParentKey). (k.0 == tree) ≡ false)
+
+elsewhere_in : (tree : ℕ) (t : Table) (places : Option (List ℕ)) → (t.tree == tree) ≡ false → IsElsewhere tree (option_and_then (key_in t) places)
+elsewhere_in tree t None other = tt
+elsewhere_in tree t (Some places) other = ordered (declared_order t places)
+  where
+    ordered : (o : Option Order) → IsElsewhere tree (option_map (key_of t.tree places) o)
+    ordered None = tt
+    ordered (Some o) = other
+
+elsewhere_last : (tree : ℕ) (new : Table) (ref : Reference) → (new.tree == tree) ≡ false → IsElsewhere tree (key_by ref (find (λ t. same_name t.name ref.parent) (new ∷ [])))
+elsewhere_last tree new ref other = elim (cases_Bool (same_name new.name ref.parent)) [
+  | inl on ↦ rw on (elsewhere_in tree new (key_places new ref.parent_columns) other)
+  | inr off ↦ rw off tt
+]
+
+elsewhere_or : (tree : ℕ) (ref : Reference) (a b : Option Table) → IsElsewhere tree (key_by ref a) → IsElsewhere tree (key_by ref b) → IsElsewhere tree (key_by ref (option_or a b))
+elsewhere_or tree ref None b p q = q
+elsewhere_or tree ref (Some t) b p q = p
+
+still_unacted_at : (schema : Schema) (tree : ℕ) (made : Table) → IsIdle made → tree < next_tree schema → IsUnacted schema tree → IsUnacted (created schema made) tree
+still_unacted_at schema tree made idle low h child ref listed has = elim (has_part schema.tables _ child listed) [
+  | inl was ↦ elim (h child ref was has) [
+    | inl none ↦ inl none
+    | inr other ↦
+        let new : Table = record made { tree = next_tree schema } in
+        inr (rw (find-append (λ (t : Table). same_name t.name ref.parent) schema.tables (new ∷ []))
+        (elsewhere_or tree ref (find (λ (t : Table). same_name t.name ref.parent) schema.tables) (find (λ (t : Table). same_name t.name ref.parent) (new ∷ [])) other
+        (elsewhere_last tree new ref (ne_eqb (next_tree schema) tree (omega arith)))))
+  ]
+  | inr (inl new) ↦ inl (all_has _ made.references ref idle (rw (ap (λ (t : Table). t.references) new) at has))
+  | inr (inr none) ↦ absurd none
+]
+
+still_at : (db after : Database) (made : Table) (table : ℕ → Table) (place : Place) → (table place.tree).tree ≡ place.tree → IsIdle made → HasMade db made after → IsAt db.schema table place → IsAt after.schema table place
+still_at db after made table place tree idle h r =
+    let low : (table place.tree).tree < next_tree db.schema = past db.schema (table place.tree) (place_has db.schema.tables place.at (table place.tree) r.stands.there) in
+    subst (λ s. IsAt s table place) (sym h.is) (record {
+      stands = still_stands db.schema place.at (table place.tree) made r.stands;
+      unacted = still_unacted_at db.schema place.tree made idle (subst (λ n. n < next_tree db.schema) tree low) r.unacted;
+    })
+
+still_rows : (db after : Database) (made : Table) (table : ℕ → Table) (place : Place) → (table place.tree).tree ≡ place.tree → HasMade db made after → IsAt db.schema table place → after.trees place.tree ≡ db.trees place.tree
+still_rows db after made table place tree h r =
+    subst (λ n. after.trees n ≡ db.trees n) tree (all_has _ db.schema.tables (table place.tree) h.others (place_has db.schema.tables place.at (table place.tree) r.stands.there))
+
+-- the tables of a layout hold their rows where a table is made beside them
+has_more : {X : Type 0} (xs ys : List X) (x : X) → Has xs x → Has (xs ++ ys) x
+has_more [] ys x h = absurd h
+has_more (y ∷ xs) ys x (inl e) = inl e
+has_more (y ∷ xs) ys x (inr h) = inr (has_more xs ys x h)
+
+-- an index stays where a table is made
+still_index : (db after : Database) (made : Table) (tree : ℕ) → HasMade db made after → HasSessionIndex db.schema tree → HasSessionIndex after.schema tree
+still_index db after made tree h it = subst (λ (s : Schema). HasSessionIndex s tree) (sym h.is) (it.0, has_more db.schema.indexes _ it.0 it.1, it.2)
+
+pub still_in : (layout : ℕ) (had : Bool) (db after : Database) (made : Table) → IsIdle made → HasMade db made after → (t : Contents) → HoldsIn layout had db t → HoldsIn layout had after t
+still_in layout had db after made idle h t f = record {
+  places = f.places;
+  stand = record {
+    heads = still_at db after made head f.places.heads refl idle h f.stand.heads;
+    plans = still_at db after made plans f.places.plans refl idle h f.stand.plans;
+    batches = still_at db after made batches f.places.batches refl idle h f.stand.batches;
+    vouchers = still_at db after made vouchers f.places.vouchers refl idle h f.stand.vouchers;
+    sessions = still_at db after made sessions f.places.sessions refl idle h f.stand.sessions;
+    grants = still_at db after made grants f.places.grants refl idle h f.stand.grants;
+    counts = λ on. still_at db after made counts f.places.counts refl idle h (f.stand.counts on);
+    totals = λ on. still_at db after made totals f.places.totals refl idle h (f.stand.totals on);
+    requests = λ on. still_at db after made requests f.places.requests refl idle h (f.stand.requests on);
+    index = λ on. still_index db after made f.places.sessions.tree h (f.stand.index on);
+  };
+  store = record {
+    heads = moved (still_rows db after made head f.places.heads refl h f.stand.heads) f.store.heads;
+    plans = moved (still_rows db after made plans f.places.plans refl h f.stand.plans) f.store.plans;
+    batches = moved (still_rows db after made batches f.places.batches refl h f.stand.batches) f.store.batches;
+    vouchers = moved (still_rows db after made vouchers f.places.vouchers refl h f.stand.vouchers) f.store.vouchers;
+    sessions = moved (still_rows db after made sessions f.places.sessions refl h f.stand.sessions) f.store.sessions;
+    grants = moved (still_rows db after made grants f.places.grants refl h f.stand.grants) f.store.grants;
+    counts = λ on. moved (still_rows db after made counts f.places.counts refl h (f.stand.counts on)) (f.store.counts on);
+    totals = λ on. moved (still_rows db after made totals f.places.totals refl h (f.stand.totals on)) (f.store.totals on);
+    requests = λ on. moved (still_rows db after made requests f.places.requests refl h (f.stand.requests on)) (f.store.requests on);
+  };
+  sound = h.sound;
+}
+
+too_low : {X : Type 0} (k n : ℕ) → k < n → n ≤ k → X
+too_low k n low high = absurd (omega arith)
+
+-- from the tables of layout 1 to those of layout 2: the two of counters, just made
+pub counted : (db mid after : Database) → HasRoom db.schema → HasMade db (counts 0) mid → HasMade mid (totals 0) after → (had : Bool) (t : Contents) → HoldsIn 1 had db t → HoldsIn 2 had after (uncounted t)
+unfolding same_name
+counted db mid after room one two had t f =
+    let counts0 = made_ready db mid counts refl refl one (still_by db mid (counts 0) (counts 0).name ((refl, refl), tt) one room.counts) in
+    let counts1 = still_ready mid after (totals 0) counts (new_place db) refl ((refl, refl), tt) two counts0 in
+    let totals0 = made_ready mid after totals refl refl two (still_by mid after (totals 0) (totals 0).name ((refl, refl), tt) two (still_by db mid (counts 0) (totals 0).name ((refl, refl), tt) one room.totals)) in
+    let first = still_in 1 had mid after (totals 0) ((refl, refl), tt) two t (still_in 1 had db mid (counts 0) ((refl, refl), tt) one t f) in
+    record {
+      places = record first.places { counts = new_place db; totals = new_place mid };
+      stand = record {
+        heads = first.stand.heads;
+        plans = first.stand.plans;
+        batches = first.stand.batches;
+        vouchers = first.stand.vouchers;
+        sessions = first.stand.sessions;
+        grants = first.stand.grants;
+        counts = λ on. ready_at after counts (new_place db) refl counts1;
+        totals = λ on. ready_at after totals (new_place mid) refl totals0;
+        requests = λ on. too_low 2 3 (lit< tt) on;
+        index = first.stand.index;
+      };
+      store = record {
+        heads = first.store.heads;
+        plans = first.store.plans;
+        batches = first.store.batches;
+        vouchers = first.store.vouchers;
+        sessions = first.store.sessions;
+        grants = first.store.grants;
+        counts = λ on. stores_none _ _ _ counts1.empty;
+        totals = λ on. stores_none _ _ _ totals0.empty;
+        requests = λ on. too_low 2 3 (lit< tt) on;
+      };
+      sound = two.sound;
+    }
+
+-- from the tables of layout 2 to those of layouts 3 and 4: the one of requests, just made
+pub asked : (db after : Database) → HasRoom db.schema → HasMade db (requests 0) after → (had : Bool) (t : Contents) → HoldsIn 2 had db t → HoldsIn 4 had after (unasked t)
+unfolding same_name
+asked db after room one had t f =
+    let requests0 = made_ready db after requests refl refl one (still_by db after (requests 0) (requests 0).name tt one room.requests) in
+    let second = still_in 2 had db after (requests 0) tt one t f in
+    record {
+      places = record second.places { requests = new_place db };
+      stand = record {
+        heads = second.stand.heads;
+        plans = second.stand.plans;
+        batches = second.stand.batches;
+        vouchers = second.stand.vouchers;
+        sessions = second.stand.sessions;
+        grants = second.stand.grants;
+        counts = λ on. second.stand.counts (lit≤ tt);
+        totals = λ on. second.stand.totals (lit≤ tt);
+        requests = λ on. ready_at after requests (new_place db) refl requests0;
+        index = second.stand.index;
+      };
+      store = record {
+        heads = second.store.heads;
+        plans = second.store.plans;
+        batches = second.store.batches;
+        vouchers = second.store.vouchers;
+        sessions = second.store.sessions;
+        grants = second.store.grants;
+        counts = λ on. second.store.counts (lit≤ tt);
+        totals = λ on. second.store.totals (lit≤ tt);
+        requests = λ on. stores_none _ _ _ requests0.empty;
+      };
+      sound = one.sound;
+    }
+
+-- layouts 3 and 4 have the same tables
+pub alike : (had : Bool) (db : Database) (t : Contents) → HoldsIn 3 had db t → HoldsIn 4 had db t
+alike had db t f = record {
+  places = f.places;
+  stand = record {
+    heads = f.stand.heads;
+    plans = f.stand.plans;
+    batches = f.stand.batches;
+    vouchers = f.stand.vouchers;
+    sessions = f.stand.sessions;
+    grants = f.stand.grants;
+    counts = λ on. f.stand.counts (lit≤ tt);
+    totals = λ on. f.stand.totals (lit≤ tt);
+    requests = λ on. f.stand.requests (lit≤ tt);
+    index = f.stand.index;
+  };
+  store = record {
+    heads = f.store.heads;
+    plans = f.store.plans;
+    batches = f.store.batches;
+    vouchers = f.store.vouchers;
+    sessions = f.store.sessions;
+    grants = f.store.grants;
+    counts = λ on. f.store.counts (lit≤ tt);
+    totals = λ on. f.store.totals (lit≤ tt);
+    requests = λ on. f.store.requests (lit≤ tt);
+  };
+  sound = f.sound;
+}
+
+-- from the tables of layout 1 to those of this version: the three, just made
+pub widened_first : (db mid late after : Database) → HasRoom db.schema → HasMade db (counts 0) mid → HasMade mid (totals 0) late → Counts late.schema → HasMade late (requests 0) after
+    → (had : Bool) (t : Contents) → HoldsIn 1 had db t → HoldsIn 4 had after (unasked (uncounted t))
+widened_first db mid late after room one two counting three had t f =
+    let past1 = λ (name : List ℕ) (h : IsUnactedBy db.schema name). still_by db mid (counts 0) name ((refl, refl), tt) one h in
+    let past2 = λ (name : List ℕ) (h : IsUnactedBy db.schema name). still_by mid late (totals 0) name ((refl, refl), tt) two (past1 name h) in
+    let later : HasRoom late.schema = record { numbered = counting; counts = past2 counts_name room.counts; totals = past2 totals_name room.totals; requests = past2 requests_name room.requests } in
+    asked late after later three had (uncounted t) (counted db mid late room one two had t f)

@@ -1,0 +1,51 @@
+-- One transaction that leads from the tables of a layout to those of this version.
+use Rattle.std.proofs.Common.{◌≡◌, inl, inr, ℕ, Bool, true≢false, true, false, IsTrue, refl, sym, subst, ◌∙◌, arith}
+use Rattle.sqlite.specs.Store.{Ghosts}
+use Rattle.sqlite.specs.Held.{Held, state}
+use Rattle.sqlite.specs.Schema.{Schema}
+use Rattle.sqlite.specs.State.{HasCleanDisk, Survives, Shows, KeepsCommit}
+use Rattle.sqlite.specs.Steps.{FailsToCommit}
+use Rattle.sqlite.specs.declared.error.Error.{Error}
+use Rattle.sqlite.proofs.StateLemmas.{survives_then}
+use Rattle.sqlite.proofs.Callers.{survives_begin}
+use Rattle.portal_sql.specs.States.{IsUndone}
+use Rattle.portal_rows.specs.Contents.{Contents}
+use Rattle.portal_rows.specs.Holds.{Holds, HoldsIn, LeftHolds, this_layout}
+use Rattle.portal_layouts.specs.Brings.{StepsFrom, LeadsFrom, MayLeadFrom}
+
+module _ {S : Type 0} (g : Ghosts S) (layout : ℕ) (had : Bool) (Room : Schema → Type 0) (f : Contents → Contents) (old begun last end : Held S) (begins : begun ≡ record old { in_transaction = true })
+    (steps : HasCleanDisk (state g last) → IsTrue begun.in_transaction → Room (state g begun).now.schema → StepsFrom layout had this_layout true f (state g begun) (state g last)) where
+  stepped : HasCleanDisk (state g last) → Room (state g old).now.schema → StepsFrom layout had this_layout true f (state g (record old { in_transaction = true })) (state g last)
+  stepped clean room = rw begins at (steps clean (rw begins refl) (rw begins room))
+
+  held : HasCleanDisk (state g last) → Room (state g old).now.schema → (t : Contents) → HoldsIn layout had (state g old).now t → Holds (state g last).now (f t)
+  held clean room t was = (stepped clean room).holds t was
+
+  -- the transaction is committed
+  pub led_done : HasCleanDisk (state g last) → Shows (state g last) (state g end) (state g last).now (state g last).now false → LeadsFrom layout had Room f (state g old) (state g end)
+  led_done clean shown = record {
+    holds = λ room t was. rw shown.now_is (held clean room t was);
+    committed = shown.committed_is ∙ sym shown.now_is;
+    ended = shown.mode;
+    is_open = shown.is_open;
+  }
+
+  -- what a stop leaves
+  pub led_crash : Survives (state g begun) (state g last) (λ _. ⊥) → Survives (state g last) (state g end) (λ db. db ≡ (state g last).now.trees)
+      → Survives (state g old) (state g end) (MayLeadFrom layout had Room f (state g old))
+  led_crash inside ending =
+      survives_then (state g old) (state g last) (state g end) _ _ (MayLeadFrom layout had Room f (state g old)) (λ _ db none. absurd none)
+      (λ clean db is room t was. let it = held (omega (arith, ending.clean)) room t was in subst (λ trees. LeftHolds trees (f t)) (sym is) ((state g last).now.schema, it.sound, it))
+      (survives_begin g old (state g last) _ (rw begins at inside)) ending
+
+  -- where the commit fails, nothing is changed
+  pub led_undone : (e : Error) → HasCleanDisk (state g last) → Room (state g old).now.schema → (HasCleanDisk (state g last) → KeepsCommit (state g begun) (state g last))
+      → FailsToCommit (state g last) (state g end) e → (state g end).in_transaction ≡ false → IsUndone (state g old) (state g end)
+  led_undone e clean room kept (inl fails) ended =
+      let keeps : KeepsCommit (state g (record old { in_transaction = true })) (state g last) = rw begins at (kept clean) in
+      record {
+        now = λ live. (fails.3.undone live).0 ∙ keeps.committed (fails.3.was_open live);
+        committed = λ live. (fails.3.undone live).1 ∙ keeps.committed (fails.3.was_open live);
+        ended = ended;
+      }
+  led_undone e clean room kept (inr late) ended = absurd (true≢false (sym (stepped clean room).mode ∙ late.1))

@@ -1,0 +1,102 @@
+-- CREATE INDEX leaves all that the tables hold, and the index stands.
+use Rattle.std.proofs.Common.{◌≡◌, ℕ, Bool, true, false, List, [], ◌∷◌, ◌++◌, codes, Ok, Result, inl, inr, refl, sym, ap, subst, ◌∙◌}
+use Rattle.sqlite.specs.Schema.{Schema}
+use Rattle.sqlite.specs.Table.{Table}
+use Rattle.sqlite.specs.Effect.{Database}
+use Rattle.sqlite.specs.State.{State, ExecutesInside}
+use Rattle.sqlite_schema.specs.declared.schema.Index.{Index}
+use Rattle.sqlite_value.specs.declared.keys.Order.{Order}
+use Rattle.sqlite_schema.specs.Names.{same_name}
+use Rattle.sqlite_catalog.specs.Change.{with_index, indexed}
+use Rattle.sqlite.specs.Change.{next_tree}
+use Rattle.sqlite_resolve.specs.Compile.{index_defined_by}
+use Rattle.sqlite_rules.specs.Lists.{Has}
+use Rattle.sqlite_tied.specs.Compute.{everything}
+use Rattle.portal_sql.proofs.IndexLemmas.{IsIndex, HasIndexed, indexes, still_stands_indexed, rows_indexed}
+use Rattle.portal_rows.specs.Layout.{head, plans, batches, vouchers, sessions, grants, counts, totals, requests}
+use Rattle.portal_rows.specs.Contents.{Contents}
+use Rattle.portal_rows.specs.Holds.{Place, IsAt, Stand, HoldsIn, HasSessionIndex}
+use Rattle.portal_rows.proofs.HoldsLemmas.{moved}
+use Rattle.portal_layouts.specs.Brings.{StepsFrom}
+
+still_at : (schema : Schema) (index : Index) (table : ℕ → Table) (place : Place) → IsAt schema table place → IsAt (with_index schema index) table place
+still_at schema index table place h = record { stands = still_stands_indexed schema index place.at (table place.tree) h.stands; unacted = h.unacted }
+
+abbrev pub index_text : List ℕ
+index_text = codes "CREATE INDEX portal_sessions_by_device ON portal_sessions (device, number)"
+
+index_is : IsIndex index_text sessions
+unfolding everything
+index_is = record {
+  statement = _;
+  text = record { parsed = _; read = refl; is = refl; timeless = refl; counted = refl };
+  name = codes "portal_sessions_by_device";
+  untimed = λ schema. refl;
+  unshown = λ schema base. refl;
+  makes = λ schema at tree stands base. simp (stands.named, stands.there) refl;
+  whole = refl;
+}
+
+-- the index that the text makes, whatever its order
+abbrev index_at : ℕ → Order → Index
+index_at tree order = record { name = codes "portal_sessions_by_device"; tree = 0; table = tree; columns = 2 ∷ 0 ∷ []; order = order; is_unique = false }
+
+index_defined : (tree : ℕ) → (order : Order) × (index_defined_by (sessions tree) index_text ≡ Ok (index_at tree order))
+unfolding everything
+index_defined tree = (_, refl)
+
+same_value : {B E : Type 0} {a b : B} → ◌≡◌ {A = Result B E} (Ok a) (Ok b) → a ≡ b
+same_value e = cc
+
+has_last : {X : Type 0} (xs : List X) (x : X) → Has (xs ++ x ∷ []) x
+has_last [] x = inl refl
+has_last (y ∷ xs) x = inr (has_last xs x)
+
+-- the index stands
+now_indexed : (db : Database) (tree : ℕ) (after : Database) → HasIndexed db (sessions tree) index_text after → HasSessionIndex after.schema tree
+unfolding same_name
+now_indexed db tree after k =
+    let defined = index_defined tree in
+    let bare : k.index ≡ index_at tree defined.0 = same_value (sym k.defined ∙ defined.1) in
+    let made : Index = record (index_at tree defined.0) { tree = next_tree db.schema; table = tree } in
+    let is : after.schema ≡ with_index db.schema made = k.is ∙ ap (λ (i : Index). indexed db.schema (sessions tree) i) bare in
+    subst (λ (s : Schema). HasSessionIndex s tree) (sym is) (made, has_last db.schema.indexes made, record { name = refl; table = refl; columns = refl })
+
+still_holds : (layout : ℕ) (db after : Database) (t : Contents) (had : Bool) (h : HoldsIn layout had db t) → HasIndexed db (sessions h.places.sessions.tree) index_text after → HoldsIn layout true after t
+still_holds layout db after t had h k =
+    let index : Index = record k.index { tree = next_tree db.schema; table = h.places.sessions.tree } in
+    let here : Stand layout had db.schema h.places = h.stand in
+    record {
+      places = h.places;
+      stand = record {
+        heads = subst (λ s. IsAt s head h.places.heads) (sym k.is) (still_at db.schema index head h.places.heads here.heads);
+        plans = subst (λ s. IsAt s plans h.places.plans) (sym k.is) (still_at db.schema index plans h.places.plans here.plans);
+        batches = subst (λ s. IsAt s batches h.places.batches) (sym k.is) (still_at db.schema index batches h.places.batches here.batches);
+        vouchers = subst (λ s. IsAt s vouchers h.places.vouchers) (sym k.is) (still_at db.schema index vouchers h.places.vouchers here.vouchers);
+        sessions = subst (λ s. IsAt s sessions h.places.sessions) (sym k.is) (still_at db.schema index sessions h.places.sessions here.sessions);
+        grants = subst (λ s. IsAt s grants h.places.grants) (sym k.is) (still_at db.schema index grants h.places.grants here.grants);
+        counts = λ on. subst (λ s. IsAt s counts h.places.counts) (sym k.is) (still_at db.schema index counts h.places.counts (here.counts on));
+        totals = λ on. subst (λ s. IsAt s totals h.places.totals) (sym k.is) (still_at db.schema index totals h.places.totals (here.totals on));
+        requests = λ on. subst (λ s. IsAt s requests h.places.requests) (sym k.is) (still_at db.schema index requests h.places.requests (here.requests on));
+        index = λ on. now_indexed db h.places.sessions.tree after k;
+      };
+      store = record {
+        heads = moved (rows_indexed db _ _ after h.places.heads.at (head h.places.heads.tree) k here.heads.stands) h.store.heads;
+        plans = moved (rows_indexed db _ _ after h.places.plans.at (plans h.places.plans.tree) k here.plans.stands) h.store.plans;
+        batches = moved (rows_indexed db _ _ after h.places.batches.at (batches h.places.batches.tree) k here.batches.stands) h.store.batches;
+        vouchers = moved (rows_indexed db _ _ after h.places.vouchers.at (vouchers h.places.vouchers.tree) k here.vouchers.stands) h.store.vouchers;
+        sessions = moved (rows_indexed db _ _ after h.places.sessions.at (sessions h.places.sessions.tree) k here.sessions.stands) h.store.sessions;
+        grants = moved (rows_indexed db _ _ after h.places.grants.at (grants h.places.grants.tree) k here.grants.stands) h.store.grants;
+        counts = λ on. moved (rows_indexed db _ _ after h.places.counts.at (counts h.places.counts.tree) k (here.counts on).stands) (h.store.counts on);
+        totals = λ on. moved (rows_indexed db _ _ after h.places.totals.at (totals h.places.totals.tree) k (here.totals on).stands) (h.store.totals on);
+        requests = λ on. moved (rows_indexed db _ _ after h.places.requests.at (requests h.places.requests.tree) k (here.requests on).stands) (h.store.requests on);
+      };
+      sound = k.sound;
+    }
+
+pub indexes_inside : (layout : ℕ) (had : Bool) (old new : State) (count : ℕ) → ExecutesInside 0 index_text [] old new (Ok count) → StepsFrom layout had layout true (λ t. t) old new
+indexes_inside layout had old new count ran = record {
+  holds = λ t h. still_holds layout old.now new.now t had h (indexes index_text sessions h.places.sessions.at h.places.sessions.tree old new count index_is h.stand.sessions.stands ran.0);
+  committed = ran.1.committed_is;
+  mode = ran.1.mode;
+}

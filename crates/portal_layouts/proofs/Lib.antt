@@ -1,0 +1,13 @@
+pub mod BesideLemmas
+pub mod CreateLemmas
+pub mod CreateTexts
+pub mod Frame
+pub mod FreeLemmas
+pub mod HeadLayout
+pub mod HeadScan
+pub mod IndexedLemmas
+pub mod Indexing
+pub mod MigrateLemmas
+pub mod NeverWrites
+pub mod TellsOnce
+pub mod UpgradeLemmas

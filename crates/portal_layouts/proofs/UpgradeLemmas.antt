@@ -1,0 +1,159 @@
+-- How an upgrade goes from the rows that were read to the tables that it leaves.
+use Rattle.std.proofs.Common.{◌≡◌, false, IsTrue, ℕ, suc, zero, ◌+◌, ◌<◌, get_or, map, List, [], ◌∷◌, refl, sym, ap, subst, ◌∙◌, arith, Less}
+use Rattle.std.proofs.lemmas.Bool.Decides.{nat_tests}
+use Rattle.std.proofs.lemmas.Int.{ints}
+use Rattle.std.specs.List.Sorted.{IsStrictlyIncreasing}
+use Rattle.sqlite.specs.Order.{value_cmp}
+use Rattle.sqlite.specs.Tree.{IsTable}
+use Rattle.sqlite.specs.Effect.{Database}
+use Rattle.sqlite.specs.State.{State, HasCleanDisk, Survives}
+use Rattle.sqlite.proofs.StateLemmas.{survives_then, survives_weaker}
+use Rattle.portal_sql.specs.States.{IsUndone}
+use Rattle.portal_sql.specs.Looks.{Reads, Fails}
+use Rattle.portal_sql.proofs.LooksLemmas.{reads_then, same_now, still_open}
+use Rattle.sqlite_value.proofs.OrderLemmas.{value_cmp-Int}
+use Rattle.portal_sql.specs.Stored.{number}
+use Rattle.portal_model.specs.declared.plan.Plan.{Plan}
+use Rattle.portal_model.specs.Rows.{SessionRow, TotalRow, count_from, total_from}
+use Rattle.portal_rows.specs.declared.signs.Total.{Total}
+use Rattle.portal_rows.specs.Contents.{Contents, session_stored}
+use Rattle.portal_lists.specs.Sums.{summed, grant_read}
+use Rattle.portal_lists.specs.Asks.{Anything}
+use Rattle.portal_rows.specs.First.{HoldsFirst}
+use Rattle.portal_rows.specs.Holds.{Holds, LeftHolds, this_layout}
+use Rattle.portal_rows.specs.Steps.{with_layout}
+use Rattle.portal_rows.specs.declared.rows.KeptCount.{KeptCount}
+use Rattle.portal_rows.specs.declared.rows.KeptVoucher.{KeptVoucher}
+use Rattle.portal_rows.specs.declared.rows.KeptSession.{KeptSession}
+use Rattle.portal_lists.specs.declared.grants.KeptGrant.{KeptGrant}
+use Rattle.portal_rows.specs.Read.{voucher_read, session_read}
+use Rattle.portal_layouts.specs.declared.layouts.OldLayout.{OldLayout}
+use Rattle.portal_layouts.specs.declared.layouts.OldLayout.TheVariants.{First}
+use Rattle.portal_layouts.specs.Brings.{Rise, LeadsFrom, MayLeadFrom, HasUpgraded, MayUpgrade, brought, upgraded, counts_read, totals_read, counts_summed, totals_summed, number_of}
+use Rattle.portal_layouts.proofs.MigrateLemmas.{brought_first}
+
+-- ---- numbers that rise, since they are rowids
+
+abbrev session_number : SessionRow → ℕ
+session_number s = s.number
+
+higher : (a b : ℕ) → value_cmp (number a) (number b) ≡ Less → a < b
+higher a b h = let k = rw (value_cmp-Int _ _) at h in grind (arith, ints, nat_tests)
+
+risen : (ss : List SessionRow) → IsTable (map session_stored ss) → IsStrictlyIncreasing (map session_number ss)
+risen [] table = λ k within. absurd (omega arith)
+risen (s ∷ []) table = λ k within. absurd (omega arith)
+risen (s ∷ r ∷ ss) table = go (risen (r ∷ ss) table.1)
+  where
+    go : IsStrictlyIncreasing (map session_number (r ∷ ss)) → IsStrictlyIncreasing (map session_number (s ∷ r ∷ ss))
+    go rest zero within = higher s.number r.number table.0.0
+    go rest (suc k) within =
+        let e : suc (k + 1) ≡ suc k + 1 = omega arith in
+        subst (λ n. get_or (map session_number (r ∷ ss)) k 0 < get_or (map session_number (s ∷ r ∷ ss)) n 0) e (rest k (omega arith))
+
+map_whole : {X : Type 0} (xs : List X) → map (λ x. x) xs ≡ xs
+map_whole [] = refl
+map_whole (x ∷ xs) = ap (λ l. x ∷ l) (map_whole xs)
+
+numbers_summed : (t : Contents) (ss : List SessionRow) → map (λ (m : TotalRow). m.number) (map (total_from (summed t.plans t.grants)) ss) ≡ map session_number ss
+numbers_summed t [] = refl
+numbers_summed t (s ∷ ss) = ap (λ l. s.number ∷ l) (numbers_summed t ss)
+
+numbers_read : (totals : List Total) → map (λ (m : TotalRow). m.number) (totals_read totals) ≡ map (λ (m : Total). m.number) totals
+numbers_read [] = refl
+numbers_read (m ∷ ms) = ap (λ l. m.number ∷ l) (numbers_read ms)
+
+pub summed_rise : (db : Database) (t : Contents) (totals : List Total) → HoldsFirst db t → totals_read totals ≡ totals_summed t → Rise totals
+summed_rise db t totals first is =
+    let stored = first.store.sessions in
+    let table = subst IsTable (sym (map_whole _) ∙ stored.is) stored.are.rise in
+    let numbers = sym (numbers_summed t t.sessions) ∙ ap (map (λ (m : TotalRow). m.number)) (sym is) ∙ numbers_read totals in
+    subst IsStrictlyIncreasing numbers (risen t.sessions table)
+
+-- ---- sums over what was read
+
+pub counts_are : (t : Contents) (gs : List KeptGrant) (vs items : List KeptVoucher) (ks : List KeptCount) → counts_read ks ≡ map (count_from (map grant_read gs)) (map voucher_read vs) → vs ≡ items
+    → map voucher_read items ≡ t.vouchers → map grant_read gs ≡ t.grants → counts_read ks ≡ counts_summed t
+counts_are t gs vs items ks is same vouchers grants =
+    is ∙ ap (λ l. map (count_from (map grant_read gs)) (map voucher_read l)) same ∙ ap (map (count_from (map grant_read gs))) vouchers ∙ ap (λ l. map (count_from l) t.vouchers) grants
+
+pub totals_are : (t : Contents) (gs : List KeptGrant) (ps plans : List Plan) (ss items : List KeptSession) (ms : List Total)
+    → totals_read ms ≡ map (total_from (summed ps (map grant_read gs))) (map session_read ss) → ps ≡ plans → ss ≡ items → plans ≡ t.plans → map session_read items ≡ t.sessions → map grant_read gs ≡ t.grants
+    → totals_read ms ≡ totals_summed t
+totals_are t gs ps plans ss items ms is same_plans same_sessions read_plans read_sessions grants =
+    is ∙ ap (λ l. map (total_from (summed l (map grant_read gs))) (map session_read ss)) (same_plans ∙ read_plans)
+    ∙ ap (λ l. map (total_from (summed t.plans (map grant_read gs))) (map session_read l)) same_sessions
+    ∙ ap (map (total_from (summed t.plans (map grant_read gs)))) read_sessions ∙ ap (λ l. map (total_from (summed t.plans l)) t.sessions) grants
+
+-- ---- what a reading leaves
+
+module _ (a b : State) (read : Reads Anything a b) (clean : HasCleanDisk b) (live : IsTrue a.is_open) (t : Contents) (first : HoldsFirst a.now t) where
+  pub first_after : HoldsFirst b.now t
+  first_after = subst (λ db. HoldsFirst db t) (sym (same_now Anything a b read clean live tt)) first
+
+  pub open_after : IsTrue b.is_open
+  open_after = still_open Anything a b read clean live tt
+
+-- what is known of the counters when they are written
+record Knows (db : Database) (ks : List KeptCount) (ms : List Total) (t : Contents) : Type 0 where
+  first : HoldsFirst db t
+  counts : counts_read ks ≡ counts_summed t
+  totals : totals_read ms ≡ totals_summed t
+
+upgraded_is : (counts : List KeptCount) (totals : List Total) (t : Contents) → Rise totals → counts_read counts ≡ counts_summed t → totals_read totals ≡ totals_summed t → brought First counts totals t ≡ upgraded First t
+upgraded_is counts totals t rise ks ms =
+    brought_first counts totals rise t ∙ ap (λ l. with_layout this_layout (record t { counts = l; totals = totals_read totals; requests = [] })) ks
+    ∙ ap (λ l. with_layout this_layout (record t { counts = counts_summed t; totals = l; requests = [] })) ms
+
+module _ (a b c d e : State) (one : Reads Anything a b) (two : Reads Anything b c) (three : Reads Anything c d) (gs gs1 gs2 : List KeptGrant) (same1 : gs1 ≡ gs) (same2 : gs2 ≡ gs)
+    (ks ks1 : List KeptCount) (same3 : ks1 ≡ ks) (ms ms1 : List Total) (same4 : ms1 ≡ ms)
+    (grants : HasCleanDisk b → (t : Contents) → HoldsFirst a.now t → map grant_read gs ≡ t.grants)
+    (counts : HasCleanDisk c → (t : Contents) → HoldsFirst b.now t → map grant_read gs1 ≡ t.grants → counts_read ks ≡ counts_summed t)
+    (totals : HasCleanDisk d → IsTrue c.is_open → (t : Contents) → HoldsFirst c.now t → map grant_read gs2 ≡ t.grants → totals_read ms ≡ totals_summed t) where
+  knows : HasCleanDisk d → IsTrue a.is_open → (t : Contents) → HoldsFirst a.now t → Knows d.now ks1 ms1 t
+  knows clean live t first =
+      let clean2 : HasCleanDisk c = omega (arith, clean, three.crash.clean) in
+      let clean1 : HasCleanDisk b = omega (arith, clean2, two.crash.clean) in
+      let first1 = first_after a b one clean1 live t first in
+      let live1 = open_after a b one clean1 live t first in
+      let first2 = first_after b c two clean2 live1 t first1 in
+      let live2 = open_after b c two clean2 live1 t first1 in
+      let read = grants clean1 t first in
+      record {
+        first = first_after c d three clean live2 t first2;
+        counts = ap counts_read same3 ∙ counts clean2 t first1 (ap (map grant_read) same1 ∙ read);
+        totals = ap totals_read same4 ∙ totals clean live2 t first2 (ap (map grant_read) same2 ∙ read);
+      }
+
+  pub upgrade_done : HasCleanDisk d → IsTrue a.is_open → LeadsFrom 1 false Anything (brought First ks1 ms1) d e → HasUpgraded First a e
+  upgrade_done clean live gained = record {
+    holds = λ t first.
+        let k = knows clean live t first in
+        let rise = summed_rise d.now t ms1 k.first k.totals in
+        subst (Holds e.now) (upgraded_is ks1 ms1 t rise k.counts k.totals) (gained.holds tt t k.first);
+    committed = gained.committed;
+    ended = gained.ended;
+    is_open = gained.is_open;
+  }
+
+  pub upgrade_crash : Survives d e (MayLeadFrom 1 false Anything (brought First ks1 ms1) d) → Survives a e (MayUpgrade First a)
+  upgrade_crash ending =
+      survives_then a d e _ _ (MayUpgrade First a) (λ _ db none live t first. absurd (none live tt))
+      (λ clean db may live t first.
+      let k = knows (omega (arith, clean, ending.clean)) live t first in
+      let rise = summed_rise d.now t ms1 k.first k.totals in
+      subst (LeftHolds db) (upgraded_is ks1 ms1 t rise k.counts k.totals) (may tt t k.first))
+      (reads_then Anything a b d one (reads_then Anything b c d two three)).crash ending
+
+-- where a reading fails, nothing is changed
+pub fails_crash : (a b : State) → Fails Anything a b → Survives a b (MayUpgrade First a)
+fails_crash a b failed = survives_weaker a b _ _ (λ _ db none live t first. absurd (none live tt)) failed.crash
+
+pub undone_after : (a d e : State) → Reads Anything a d → HasCleanDisk d → IsTrue a.is_open → IsUndone d e → IsUndone a e
+undone_after a d e read clean live undone =
+    let same = read.same clean live tt in
+    record { now = λ on. undone.now on ∙ same.0.committed_is; committed = λ on. undone.committed on ∙ same.0.committed_is; ended = undone.ended }
+
+-- a layout that has its counters is brought up with none added
+pub later_crash : (from : OldLayout) (a e : State) → ((t : Contents) → brought from [] [] t ≡ upgraded from t) → Survives a e (MayLeadFrom (number_of from) false Anything (brought from [] []) a) → Survives a e (MayUpgrade from a)
+later_crash from a e same = survives_weaker a e _ _ (λ _ db may live t h. subst (LeftHolds db) (same t) (may tt t h))

@@ -1,0 +1,14 @@
+use Rattle.std.proofs.Common.{arith, ◌∙◌}
+use Rattle.sqlite.specs.Held.{state}
+use Rattle.sqlite.specs.State.{HasCleanDisk}
+use Rattle.portal_layouts.proofs.BesideLemmas.{widened_first}
+use Rattle.portal_layouts.proofs.migrates.make_later.Goals as goal
+
+pub returns-clause-steps : goal.returns-clause-steps
+returns-clause-steps g c clean inside room had =
+    let c2 : HasCleanDisk (state g.S.Store c.make_totals.new.tx.conn.now) = omega (arith, c.make_requests.ensures.survives.clean) in
+    let c1 : HasCleanDisk (state g.S.Store c.make_counts.new.tx.conn.now) = omega (arith, c.make_totals.ensures.survives.clean) in
+    let one = c.in_ok-make_counts.ensures.made c1 inside room.numbered in
+    let two = c.in_ok-make_totals.ensures.made c2 one.2.mode one.1 in
+    let three = c.in_ok-make_requests.ensures.made clean two.2.mode two.1 in
+    record { holds = widened_first _ _ _ _ room one.0 two.0 two.1 three.0 had; committed = three.2.committed_is ∙ two.2.committed_is ∙ one.2.committed_is; mode = three.2.mode }

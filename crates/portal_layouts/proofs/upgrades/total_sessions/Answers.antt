@@ -1,0 +1,28 @@
+use Rattle.std.proofs.Common.{arith, rules}
+use Rattle.sqlite.specs.Held.{state}
+use Rattle.sqlite.specs.State.{HasCleanDisk}
+use Rattle.portal_sql.specs.Looks.{Looks}
+use Rattle.portal_sql.proofs.LooksLemmas.{reads_then, looks_then, looks_read}
+use Rattle.portal_lists.specs.Asks.{Anything}
+use Rattle.portal_layouts.proofs.UpgradeLemmas.{totals_are, first_after}
+use Rattle.portal_layouts.proofs.upgrades.total_sessions.Goals as goal
+
+pub returns-clause-summed : goal.returns-clause-summed
+returns-clause-summed g c clean live t first given =
+    let a = state g.S.Store c.args.conn.now in
+    let b = state g.S.Store c.all_plans.new.conn in
+    let clean1 : HasCleanDisk b = omega (arith, c.in_ok-sessions.ensures.always.crash.clean) in
+    let first1 = first_after a b c.in_ok-plans.ensures.always clean1 live t first in
+    totals_are t c.args.grants.now c.as_slice.result.now c.in_ok-plans.plans.items c.as_slice-2.result.now c.in_ok-sessions.sessions.items c.in_ok-sum_totals.field-0.items c.in_ok-sum_totals.ensures c.as_slice.ensures.value
+    c.as_slice-2.ensures.value (c.in_ok-plans.ensures.read clean1 t first) (c.in_ok-sessions.ensures.read clean t first1) given
+
+pub returns-clause-looks : goal.returns-clause-looks
+returns-clause-looks g c = reads_then Anything _ _ _ c.in_ok-plans.ensures.always c.in_ok-sessions.ensures.always
+
+pub returns-in_err-sessions-clause-looks : goal.returns-in_err-sessions-clause-looks
+returns-in_err-sessions-clause-looks g c =
+    let failed : Looks Anything c.from_residual-in_err-sessions.result (state g.S.Store c.all_plans.new.conn) (state g.S.Store c.all_sessions.new.conn) = search rules in
+    looks_then Anything _ _ _ _ c.in_ok-plans.ensures.always failed
+
+pub returns-in_err-sum_totals-clause-looks : goal.returns-in_err-sum_totals-clause-looks
+returns-in_err-sum_totals-clause-looks g c = looks_read Anything _ _ _ (reads_then Anything _ _ _ c.in_ok-plans.ensures.always c.in_ok-sessions.ensures.always)

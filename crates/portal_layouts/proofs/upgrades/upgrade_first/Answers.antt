@@ -1,0 +1,51 @@
+use Rattle.std.proofs.Common.{arith, ◌∙◌}
+use Rattle.sqlite.specs.Held.{state}
+use Rattle.sqlite.specs.State.{HasCleanDisk}
+use Rattle.portal_sql.proofs.Frame.{on_err}
+use Rattle.portal_sql.proofs.LooksLemmas.{reads_then, fails_then}
+use Rattle.portal_lists.specs.Asks.{Anything}
+use Rattle.portal_layouts.proofs.UpgradeLemmas.{upgrade_done, upgrade_crash, fails_crash, undone_after}
+use Rattle.portal_layouts.proofs.upgrades.upgrade_first.Goals as goal
+
+pub returns-clause-done : goal.returns-clause-done
+returns-clause-done g c clean live =
+    upgrade_done (state g.S.Store c.args.conn.now) (state g.S.Store c.all_grants.new.conn) (state g.S.Store c.count_vouchers.new.conn) (state g.S.Store c.total_sessions.new.conn) (state g.S.Store c.gain.new.conn)
+    c.in_ok-grants.ensures.always c.in_ok-counts.ensures.looks c.in_ok-totals.ensures.looks c.in_ok-grants.grants.items c.as_slice.result.now c.as_slice-2.result.now c.as_slice.ensures.value c.as_slice-2.ensures.value
+    c.in_ok-counts.counts.items c.as_slice-3.result.now c.as_slice-3.ensures.value c.in_ok-totals.totals.items c.as_slice-4.result.now c.as_slice-4.ensures.value
+    c.in_ok-grants.ensures.read c.in_ok-counts.ensures.summed c.in_ok-totals.ensures.summed (omega (arith, c.gain.ensures.crash.clean)) live (c.in_ok-gain.ensures.done clean)
+
+pub returns-clause-crash : goal.returns-clause-crash
+returns-clause-crash g c =
+    upgrade_crash (state g.S.Store c.args.conn.now) (state g.S.Store c.all_grants.new.conn) (state g.S.Store c.count_vouchers.new.conn) (state g.S.Store c.total_sessions.new.conn) (state g.S.Store c.gain.new.conn)
+    c.in_ok-grants.ensures.always c.in_ok-counts.ensures.looks c.in_ok-totals.ensures.looks c.in_ok-grants.grants.items c.as_slice.result.now c.as_slice-2.result.now c.as_slice.ensures.value c.as_slice-2.ensures.value
+    c.in_ok-counts.counts.items c.as_slice-3.result.now c.as_slice-3.ensures.value c.in_ok-totals.totals.items c.as_slice-4.result.now c.as_slice-4.ensures.value
+    c.in_ok-grants.ensures.read c.in_ok-counts.ensures.summed c.in_ok-totals.ensures.summed c.gain.ensures.crash
+
+pub returns-in_err-gain-clause-crash : goal.returns-in_err-gain-clause-crash
+returns-in_err-gain-clause-crash g c =
+    upgrade_crash (state g.S.Store c.args.conn.now) (state g.S.Store c.all_grants.new.conn) (state g.S.Store c.count_vouchers.new.conn) (state g.S.Store c.total_sessions.new.conn) (state g.S.Store c.gain.new.conn)
+    c.in_ok-grants.ensures.always c.in_ok-counts.ensures.looks c.in_ok-totals.ensures.looks c.in_ok-grants.grants.items c.as_slice.result.now c.as_slice-2.result.now c.as_slice.ensures.value c.as_slice-2.ensures.value
+    c.in_ok-counts.counts.items c.as_slice-3.result.now c.as_slice-3.ensures.value c.in_ok-totals.totals.items c.as_slice-4.result.now c.as_slice-4.ensures.value
+    c.in_ok-grants.ensures.read c.in_ok-counts.ensures.summed c.in_ok-totals.ensures.summed c.gain.ensures.crash
+
+pub returns-in_err-counts-clause-crash : goal.returns-in_err-counts-clause-crash
+returns-in_err-counts-clause-crash g c = fails_crash _ _ (fails_then Anything _ _ _ c.in_ok-grants.ensures.always c.in_err-counts.ensures.looks)
+
+pub returns-in_err-totals-clause-crash : goal.returns-in_err-totals-clause-crash
+returns-in_err-totals-clause-crash g c = fails_crash _ _ (fails_then Anything _ _ _ (reads_then Anything _ _ _ c.in_ok-grants.ensures.always c.in_ok-counts.ensures.looks) c.in_err-totals.ensures.looks)
+
+pub returns-in_err-counts-clause-undone : goal.returns-in_err-counts-clause-undone
+returns-in_err-counts-clause-undone g c clean live outside settled =
+    on_err _ ((fails_then Anything _ _ _ c.in_ok-grants.ensures.always c.in_err-counts.ensures.looks).undone clean live tt outside settled)
+
+pub returns-in_err-totals-clause-undone : goal.returns-in_err-totals-clause-undone
+returns-in_err-totals-clause-undone g c clean live outside settled =
+    on_err _ ((fails_then Anything _ _ _ (reads_then Anything _ _ _ c.in_ok-grants.ensures.always c.in_ok-counts.ensures.looks) c.in_err-totals.ensures.looks).undone clean live tt outside settled)
+
+pub returns-in_err-gain-clause-undone : goal.returns-in_err-gain-clause-undone
+returns-in_err-gain-clause-undone g c clean live outside settled =
+    let d = state g.S.Store c.total_sessions.new.conn in
+    let clean3 : HasCleanDisk d = omega (arith, c.gain.ensures.crash.clean) in
+    let read = reads_then Anything _ _ _ c.in_ok-grants.ensures.always (reads_then Anything _ _ _ c.in_ok-counts.ensures.looks c.in_ok-totals.ensures.looks) in
+    let same = read.same clean3 live tt in
+    on_err _ (undone_after (state g.S.Store c.args.conn.now) d (state g.S.Store c.gain.new.conn) read clean3 live (c.in_err-gain.ensures.undone clean (same.0.mode ∙ outside)))

@@ -1,0 +1,76 @@
+-- What creating the tables makes of a database.
+use Rattle.std.specs.Prelude.{◌≡◌, [], ◌∷◌, true, false, Bool, IsTrue, not, is_some, ◌&&◌, ◌||◌}
+use Rattle.sqlite.specs.Schema.{Schema}
+use Rattle.sqlite.specs.Tree.{Trees}
+use Rattle.sqlite.specs.Effect.{Database}
+use Rattle.sqlite.specs.State.{State}
+use Rattle.sqlite.specs.Rows.{sequence}
+use Rattle.portal_sql.specs.Stands.{IsUnactedBy}
+use Rattle.portal_sql.specs.Made.{Counts, HasMade}
+use Rattle.portal_sql.specs.Harmless.{are_harmless, any_counts}
+use Rattle.portal_rows.specs.Layout.{head, plans, batches, vouchers, sessions, grants, counts, totals, requests, head_name, plans_name, batches_name, vouchers_name, sessions_name, grants_name, counts_name, totals_name, requests_name}
+use Rattle.portal_rows.specs.Contents.{Contents}
+use Rattle.portal_rows.specs.Steps.{first_head}
+use Rattle.portal_rows.specs.Holds.{Holds, LeftHolds, this_layout}
+
+-- no foreign key that is there acts on a table of these names, and tables that count have the table that keeps the numbers
+pub record IsFree (schema : Schema) : Type 0 where
+  pub numbered : Counts schema
+  pub heads : IsUnactedBy schema head_name
+  pub plans : IsUnactedBy schema plans_name
+  pub batches : IsUnactedBy schema batches_name
+  pub vouchers : IsUnactedBy schema vouchers_name
+  pub sessions : IsUnactedBy schema sessions_name
+  pub grants : IsUnactedBy schema grants_name
+  pub counts : IsUnactedBy schema counts_name
+  pub totals : IsUnactedBy schema totals_name
+  pub requests : IsUnactedBy schema requests_name
+
+-- the same as a test
+abbrev pub is_free : Schema → Bool
+is_free schema =
+    (not (any_counts schema) || is_some (sequence schema))
+    && (are_harmless head_name schema && (are_harmless plans_name schema && (are_harmless batches_name schema && (are_harmless vouchers_name schema && (are_harmless sessions_name schema && (are_harmless grants_name schema && (are_harmless counts_name schema && (are_harmless totals_name schema && (are_harmless requests_name schema)))))))))
+
+pub record HasMadeFirst (db after : Database) : Type 0 where
+  pub one : Database
+  pub two : Database
+  pub three : Database
+  pub heads : HasMade db (head 0) one
+  pub plans : HasMade one (plans 0) two
+  pub batches : HasMade two (batches 0) three
+  pub vouchers : HasMade three (vouchers 0) after
+
+pub record HasMadeLast (db after : Database) : Type 0 where
+  pub one : Database
+  pub two : Database
+  pub three : Database
+  pub four : Database
+  pub sessions : HasMade db (sessions 0) one
+  pub grants : HasMade one (grants 0) two
+  pub counts : HasMade two (counts 0) three
+  pub totals : HasMade three (totals 0) four
+  pub requests : HasMade four (requests 0) after
+
+abbrev pub no_rows : Contents
+no_rows = record { heads = []; plans = []; batches = []; vouchers = []; sessions = []; grants = []; counts = []; totals = []; requests = [] }
+
+-- a new store: one row of the head, and no other
+abbrev pub new_store : Contents
+new_store = record no_rows { heads = first_head this_layout ∷ [] }
+
+-- inside a transaction the tables were made, and nothing is committed
+pub record Builds (old new : State) : Type 0 where
+  pub holds : Holds new.now new_store
+  pub committed : new.committed ≡ old.committed
+  pub mode : new.in_transaction ≡ true
+
+-- open, outside a transaction, and all is committed
+pub record IsCommitted (s : State) : Type 0 where
+  pub is_open : IsTrue s.is_open
+  pub ended : s.in_transaction ≡ false
+  pub same : s.committed ≡ s.now
+
+-- what a stop may leave beside what it could leave before
+abbrev pub MayBuild : State → Trees → Type 0
+MayBuild old trees = IsFree old.now.schema → LeftHolds trees new_store

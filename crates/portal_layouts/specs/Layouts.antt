@@ -1,0 +1,77 @@
+-- What stands of the product's tables in a store, by their names, and the layout that the head tells.
+use Rattle.std.specs.Prelude.{◌≡◌, ◌≤◌, ◌⊎◌, ℕ, Bool, ◌||◌, ◌&&◌, is_some, List, [], ◌∷◌, codes, Option, Some, None, Ok, Err, false, nat_eq, bytes_eq, slice_get, option_and_then}
+use Rattle.sqlite.specs.Order.{Row, column}
+use Rattle.std.specs.List.{list_any}
+use Rattle.sqlite.specs.Schema.{Schema}
+use Rattle.sqlite.specs.Table.{Table}
+use Rattle.sqlite_schema.specs.declared.schema.Index.{Index}
+use Rattle.sqlite.specs.Effect.{Database, Reads}
+use Rattle.sqlite.specs.Listing.{understood, reads_listing, IsSourceOf}
+use Rattle.sqlite_schema.specs.Names.{table_named, view_named, same_name}
+use Rattle.sqlite_resolve.specs.declared.compiled.Compiled.{Compiled}
+use Rattle.sqlite_resolve.specs.declared.error.CompileError.{CompileError}
+use Rattle.portal_sql.specs.Harmless.{are_harmless}
+use Rattle.portal_sql.specs.Stored.{number}
+use Rattle.portal_rows.specs.Layout.{head_name, plans_name, batches_name, vouchers_name, sessions_name, grants_name, counts_name, totals_name, requests_name}
+use Rattle.portal_rows.specs.Holds.{index_name}
+
+-- ---- names
+
+-- a table or a view has the name
+abbrev pub is_named : Schema → List ℕ → Bool
+is_named schema name = is_some (table_named schema name) || is_some (view_named schema name)
+
+-- a table or a view has one of the product's names
+abbrev pub is_any_named : Schema → Bool
+is_any_named schema =
+    is_named schema head_name
+    || (is_named schema plans_name || (is_named schema batches_name || (is_named schema vouchers_name || (is_named schema sessions_name || (is_named schema grants_name || (is_named schema counts_name || (is_named schema totals_name || (is_named schema requests_name))))))))
+
+-- the table stands, and no foreign key acts on it
+abbrev pub is_spared : Schema → List ℕ → Bool
+is_spared schema name = is_some (table_named schema name) && are_harmless name schema
+
+-- so does each of the product's tables
+abbrev pub is_whole : Schema → Bool
+is_whole schema =
+    is_spared schema head_name
+    && (is_spared schema plans_name && (is_spared schema batches_name && (is_spared schema vouchers_name && (is_spared schema sessions_name && (is_spared schema grants_name && (is_spared schema counts_name && (is_spared schema totals_name && (is_spared schema requests_name))))))))
+
+-- the index is that by which the last session of a device is found, on the sessions in the tree
+abbrev pub is_session_index : ℕ → Index → Bool
+is_session_index tree index = same_name index.name index_name && (nat_eq index.table tree && bytes_eq index.columns (2 ∷ 0 ∷ []))
+
+-- one of the indexes is that of the sessions in the table
+abbrev pub indexed_on : List Index → Option Table → Bool
+indexed_on indexes None = false
+indexed_on indexes (Some table) = list_any (is_session_index table.tree) indexes
+
+-- it has been made on the product's table of sessions
+abbrev pub is_indexed : Schema → Bool
+is_indexed schema = indexed_on schema.indexes (option_and_then (slice_get schema.tables) (table_named schema sessions_name))
+
+-- ---- the layout
+
+abbrev pub layout_text : List ℕ
+layout_text = codes "SELECT layout FROM portal_head"
+
+-- the text means nothing under the schema
+abbrev pub IsRefused : Schema → Type 0
+IsRefused schema = (fault : CompileError) × (understood schema layout_text ≡ Err fault)
+
+-- the text answers these rows
+pub record Answers (db : Database) (rows : List Row) : Type 0 where
+  pub compiled : Compiled
+  pub is : understood db.schema layout_text ≡ Ok compiled
+  pub source : Database
+  pub from : IsSourceOf (reads_listing db.schema layout_text) db source
+  pub reads : Reads compiled.command source [] rows
+
+-- the rows are one, which begins with a layout from 1 on
+abbrev pub IsOneRow : List Row → ℕ → Type 0
+IsOneRow rows layout = (row : Row) × (rows ≡ row ∷ []) × (column row 0 ≡ number layout) × (1 ≤ layout)
+
+-- The head is one row with this layout, by what the text answers. None: the text is refused, or answers something else.
+abbrev pub TellsLayout : Database → Option ℕ → Type 0
+TellsLayout db (Some layout) = (rows : List Row) × Answers db rows × IsOneRow rows layout
+TellsLayout db None = IsRefused db.schema ⊎ ((rows : List Row) × Answers db rows × ((layout : ℕ) → ¬ IsOneRow rows layout))

@@ -1,0 +1,3 @@
+pub mod Brings
+pub mod Creates
+pub mod Layouts

@@ -1,0 +1,133 @@
+//! What stands of the product's tables in a store, by their names, and the layout that the head tells.
+
+ghost use Rattle.std.specs.Prelude.{◌≡◌, ℕ, true, false, IsTrue, OnErr, IfOk, IfErr, IfSome, IfNone};
+ghost use Rattle.std.specs.List.{list_any};
+ghost use Rattle.sqlite.specs.Held.{state};
+ghost use Rattle.sqlite.specs.State.{HasCleanDisk, IsUnchanged, Survives};
+ghost use Rattle.sqlite.specs.declared.error.Error.TheVariants.{SqlInputError};
+ghost use Rattle.sqlite_resolve.specs.declared.error.CompileError.{CompileError};
+ghost use Rattle.portal_sql.specs.States.{IsUndone};
+ghost use Rattle.portal_rows.specs.Holds.{Places, Stand};
+ghost use Rattle.portal_layouts.specs.Layouts.{is_named, is_any_named, is_spared, is_whole, is_indexed, is_session_index, IsRefused, Answers, IsOneRow};
+
+use portal_sql::room::{has_table, spares_name};
+use sqlite::types::ValueRef;
+use sqlite::{Alter, Connection, Error, Row};
+use sqlite_schema::names::same_name;
+use sqlite_schema::schema::{Index, Schema};
+
+/// A layout from which a store is brought to this version's. The fourth is this version's own, which may lack the index of the sessions.
+#[derive(Clone, Copy, Debug, PartialEq, Eq)]
+pub enum OldLayout {
+    First,
+    Second,
+    Third,
+    Fourth,
+}
+
+/// Whether a table or a view has the name.
+fn is_named(schema: &Schema, name: &[u8]) -> bool
+    ensures { result ≡ is_named schema.now name.now }
+{
+    schema.table_named(name).is_some() || schema.view_named(name).is_some()
+}
+
+/// Whether a table or a view has one of the names of the product's tables.
+pub fn is_any_named(schema: &Schema) -> bool
+    ensures { result ≡ is_any_named schema.now }
+{
+    is_named(schema, b"portal_head")
+        || is_named(schema, b"portal_plans")
+        || is_named(schema, b"portal_batches")
+        || is_named(schema, b"portal_vouchers")
+        || is_named(schema, b"portal_sessions")
+        || is_named(schema, b"portal_grants")
+        || is_named(schema, b"portal_counts")
+        || is_named(schema, b"portal_totals")
+        || is_named(schema, b"portal_requests")
+}
+
+/// Whether a table has the name, and no foreign key acts on it.
+fn is_spared(schema: &Schema, name: &[u8]) -> bool
+    ensures { result ≡ is_spared schema.now name.now }
+{
+    has_table(schema, name) && spares_name(schema, name)
+}
+
+/// Whether each of the product's tables stands, and no foreign key acts on one of them.
+pub fn is_whole(schema: &Schema) -> bool
+    ensures { result ≡ is_whole schema.now }
+{
+    is_spared(schema, b"portal_head")
+        && is_spared(schema, b"portal_plans")
+        && is_spared(schema, b"portal_batches")
+        && is_spared(schema, b"portal_vouchers")
+        && is_spared(schema, b"portal_sessions")
+        && is_spared(schema, b"portal_grants")
+        && is_spared(schema, b"portal_counts")
+        && is_spared(schema, b"portal_totals")
+        && is_spared(schema, b"portal_requests")
+}
+
+/// Whether the index is that by which the last session of a device is found: of its name, and on the devices and then the numbers of the sessions in this tree.
+fn is_session_index(index: &Index, tree: u32) -> bool
+    ensures { result ≡ is_session_index tree index.now }
+{
+    same_name(index.name.as_slice(), b"portal_sessions_by_device")
+        && index.table == tree
+        && index.columns.as_slice() == [2usize, 0].as_slice()
+}
+
+/// Whether one of the indexes is that of the sessions in this tree.
+fn is_any_session_index(indexes: &[Index], tree: u32) -> bool
+    ensures { result ≡ list_any (is_session_index tree) indexes.now }
+{
+    indexes.iter().any(|index| is_session_index(index, tree))
+}
+
+/// Whether an index of the product's table of sessions is that by which the last session of a device is found.
+fn has_session_index(schema: &Schema) -> bool
+    ensures { result ≡ is_indexed schema.now }
+{
+    let Some(at) = schema.table_named(b"portal_sessions") else {
+        return false;
+    };
+    match schema.tables.as_slice().get(at) {
+        Some(table) => is_any_session_index(schema.indexes.as_slice(), table.tree),
+        None => false,
+    }
+}
+
+/// Whether the index by which the last session of a device is found has been made.
+pub fn is_indexed(schema: &Schema) -> bool
+    ensures test { result ≡ is_indexed schema.now }
+    ensures index { IsTrue result → (layout : ℕ) (places : Places) → Stand layout false schema.now places → Stand layout true schema.now places }
+{
+    let is_made = has_session_index(schema);
+    is_made
+}
+
+/// The rows of the head, whatever stands there under its name. An SQL fault is told only where nothing changed.
+pub fn layout_rows<S: Alter>(conn: &mut Connection<S>) -> Result<Vec<Row>, Error>
+    ensures answers { HasCleanDisk (state S.Store conn.new) → IfOk result (λ rows. Answers (state S.Store conn.old).now rows.items × IsUnchanged (state S.Store conn.old) (state S.Store conn.new)) }
+    ensures refused { HasCleanDisk (state S.Store conn.new) → IfErr result (λ e. (fault : CompileError) → e ≡ SqlInputError fault → IsRefused (state S.Store conn.old).now.schema × IsUnchanged (state S.Store conn.old) (state S.Store conn.new)) }
+    ensures mode { (state S.Store conn.old).in_transaction ≡ false → (state S.Store conn.new).in_transaction ≡ false }
+    ensures undone { HasCleanDisk (state S.Store conn.new) → (state S.Store conn.old).in_transaction ≡ false → (state S.Store conn.old).now ≡ (state S.Store conn.old).committed → OnErr result (IsUndone (state S.Store conn.old) (state S.Store conn.new)) }
+    ensures crash { Survives (state S.Store conn.old) (state S.Store conn.new) (λ _. ⊥) }
+{
+    conn.query_all("SELECT layout FROM portal_head", &[])
+}
+
+/// The layout, where the rows are one that begins with a whole number from 1 on.
+pub fn layout_in(rows: &[Row]) -> Option<u64>
+    ensures one { IfSome result (IsOneRow rows.now) }
+    ensures none { IfNone result ((layout : ℕ) → ¬ IsOneRow rows.now layout) }
+{
+    let [row] = rows else {
+        return None;
+    };
+    match row.get_ref(0) {
+        Ok(ValueRef::Int(layout)) if layout >= 1 => Some(layout as u64),
+        _ => None,
+    }
+}

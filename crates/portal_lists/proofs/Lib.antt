@@ -1,0 +1,12 @@
+pub mod AskLemmas
+pub mod Asking
+pub mod AuditLemmas
+pub mod HeldLemmas
+pub mod ListReading
+pub mod ListTexts
+pub mod Listing
+pub mod SameCode
+pub mod SumLemmas
+pub mod WholeReading
+pub mod WholeTables
+pub mod WholeTexts

@@ -1,0 +1,96 @@
+-- What each text that reads a list answers, by the rows that the tables hold.
+use Rattle.std.proofs.Common.{◌≡◌, ◌<◌, ℕ, List, [], ◌∷◌, ◌++◌, map, length, true, false, refl, sym, ap, ap₂, subst, ◌∙◌, lit<, bytes_eq, Ordering, lit≤}
+use Rattle.std.specs.Ordering.{ordering_then}
+use Rattle.sqlite_value.specs.declared.keys.Key.{Key}
+use Rattle.sqlite_value.proofs.OrderLemmas.{then-Equal, value_cmp-Text}
+use Rattle.sqlite.specs.declared.types.Value.TheVariants.{Text}
+use Rattle.sqlite.specs.Order.{Row, column, value_cmp}
+use Rattle.sqlite.specs.Query.{key_cmp}
+use Rattle.sqlite.specs.Schema.{Schema}
+use Rattle.sqlite.specs.Table.{Table}
+use Rattle.sqlite.specs.Term.{Term}
+use Rattle.sqlite.specs.Listing.{understood}
+use Rattle.sqlite.specs.State.{State, Shown}
+use Rattle.sqlite.proofs.Callers.{IsPlain}
+use Rattle.portal_sql.specs.Stored.{number}
+use Rattle.portal_sql.specs.Finds.{has_key, by_column, fields, IsSelection}
+use Rattle.portal_sql.proofs.Keys.{text_test}
+use Rattle.portal_sql.proofs.Lookup.{selected, field_at, orders_by, by}
+use Rattle.portal_sql.proofs.Scan.{passes, keys_of}
+use Rattle.portal_model.specs.Rows.{VoucherRow, TotalRow}
+use Rattle.portal_rows.specs.Layout.{vouchers, totals}
+use Rattle.portal_rows.specs.Contents.{Contents, voucher_cells, total_cells}
+use Rattle.portal_rows.specs.Holds.{Holds, HasTables}
+use Rattle.portal_lists.specs.Lists.{ListsAs, is_within, by_place, by_sale, by_refund, by_number}
+use Rattle.portal_rows.proofs.Cells.{vouchers_in, totals_in}
+use Rattle.portal_lists.proofs.Listing.{number_order, option_order, sql_within, within_is, cells_listed}
+use Rattle.portal_lists.proofs.ListTexts as texts
+
+-- ---- two columns
+
+abbrev by_columns : ℕ → ℕ → Row → Row → Ordering
+by_columns first second a b = ordering_then (by_column first a b) (by_column second a b)
+
+-- ORDER BY two columns
+orders_by_two : (table : Table) (first second : ℕ) (params : Row) → first < length table.columns → second < length table.columns → (a b : Row)
+    → key_cmp 0 (map (λ (k : Term × Key). k.1) (by table first false ++ by table second false)) (keys_of (by table first false ++ by table second false) params a) (keys_of (by table first false ++ by table second false) params b)
+    ≡ by_columns first second (fields table a) (fields table b)
+orders_by_two table first second params in_first in_second a b =
+    ap₂ ordering_then (ap₂ value_cmp (sym (field_at table first a in_first)) (sym (field_at table first b in_first)))
+    (then-Equal _ ∙ ap₂ value_cmp (sym (field_at table second a in_second)) (sym (field_at table second b in_second)))
+
+-- WHERE column >= ?1 AND column <= ?2
+within_tests : (table : Table) (at from to : ℕ) → at < length table.columns → (r : Row) → passes (texts.within_terms table at) (number from ∷ number to ∷ []) r ≡ sql_within (column (fields table r) at) (number from) (number to)
+within_tests table at from to within r = ap (λ v. sql_within v (number from) (number to)) (sym (field_at table at r within))
+
+-- ---- the vouchers of a batch
+
+pub batch_listed : (t : Contents) (batch : List ℕ) (rows : List Row) → IsSelection (has_key 1 (Text batch)) (by_column 2) (map voucher_cells t.vouchers) rows
+    → ListsAs voucher_cells (λ v. bytes_eq batch v.batch) by_place t.vouchers rows
+batch_listed t batch rows s =
+    cells_listed voucher_cells (λ (v : VoucherRow). bytes_eq batch v.batch) by_place t.vouchers (has_key 1 (Text batch)) (by_column 2) (λ v. text_test v.batch batch) (λ a b. number_order a.place b.place) rows s
+
+-- ---- the ends of all sessions
+
+pub totals_plain : (schema : Schema) → HasTables schema → IsPlain (understood schema texts.totals_text)
+totals_plain schema h = let place = h.0.totals in (texts.totals_means schema place.at place.tree (h.1.totals (lit≤ tt)).stands).plain
+
+pub totals_rows_are : (old new : State) (rows : List Row) → Shown texts.totals_text [] old new rows → (t : Contents) → Holds old.now t → ListsAs total_cells (λ _. true) by_number t.totals rows
+totals_rows_are old new rows shown t h =
+    let place = h.places.totals in
+    let table = totals place.tree in
+    let it = selected texts.totals_text table [] _ [] old new texts.totals_columns (λ _. true) (λ r. refl) (by_column 0) (orders_by table 0 [] (lit< tt)) (texts.totals_means old.now.schema place.at place.tree (h.stand.totals (lit≤ tt)).stands) rows shown in
+    let all = subst (λ xs. IsSelection (λ _. true) (by_column 0) xs rows) (totals_in old.now.trees place.tree t.totals (h.store.totals (lit≤ tt))) it in
+    cells_listed total_cells (λ (_ : TotalRow). true) by_number t.totals (λ _. true) (by_column 0) (λ m. refl) (λ a b. number_order a.number b.number) rows all
+
+-- ---- the vouchers with a moment within two
+
+module _ (old new : State) (from to : ℕ) (rows : List Row) (t : Contents) (h : Holds old.now t) where
+  abbrev params : Row
+  params = number from ∷ number to ∷ []
+
+  pub sold_rows_are : Shown texts.sold_text params old new rows → ListsAs voucher_cells (λ v. is_within from to v.sold) by_sale t.vouchers rows
+  sold_rows_are shown =
+      let place = h.places.vouchers in
+      let table = vouchers place.tree in
+      let it = selected texts.sold_text table (texts.within_terms table 3) _ params old new texts.voucher_columns (λ r. sql_within (column r 3) (number from) (number to)) (within_tests table 3 from to (lit< tt)) (by_columns 3 0)
+      (orders_by_two table 3 0 params (lit< tt) (lit< tt)) (texts.sold_means old.now.schema place.at place.tree h.stand.vouchers.stands) rows shown in
+      let all = subst (λ xs. IsSelection (λ r. sql_within (column r 3) (number from) (number to)) (by_columns 3 0) xs rows) (vouchers_in old.now.trees place.tree t.vouchers h.store.vouchers) it in
+      cells_listed voucher_cells (λ (v : VoucherRow). is_within from to v.sold) by_sale t.vouchers (λ r. sql_within (column r 3) (number from) (number to)) (by_columns 3 0) (λ v. within_is v.sold from to)
+      (λ a b. ap₂ ordering_then (option_order a.sold b.sold) (value_cmp-Text a.code b.code)) rows all
+
+  pub refunded_rows_are : Shown texts.refunded_text params old new rows → ListsAs voucher_cells (λ v. is_within from to v.refunded) by_refund t.vouchers rows
+  refunded_rows_are shown =
+      let place = h.places.vouchers in
+      let table = vouchers place.tree in
+      let it = selected texts.refunded_text table (texts.within_terms table 4) _ params old new texts.voucher_columns (λ r. sql_within (column r 4) (number from) (number to)) (within_tests table 4 from to (lit< tt)) (by_columns 4 0)
+      (orders_by_two table 4 0 params (lit< tt) (lit< tt)) (texts.refunded_means old.now.schema place.at place.tree h.stand.vouchers.stands) rows shown in
+      let all = subst (λ xs. IsSelection (λ r. sql_within (column r 4) (number from) (number to)) (by_columns 4 0) xs rows) (vouchers_in old.now.trees place.tree t.vouchers h.store.vouchers) it in
+      cells_listed voucher_cells (λ (v : VoucherRow). is_within from to v.refunded) by_refund t.vouchers (λ r. sql_within (column r 4) (number from) (number to)) (by_columns 4 0) (λ v. within_is v.refunded from to)
+      (λ a b. ap₂ ordering_then (option_order a.refunded b.refunded) (value_cmp-Text a.code b.code)) rows all
+
+pub sold_plain : (schema : Schema) → HasTables schema → IsPlain (understood schema texts.sold_text)
+sold_plain schema h = let place = h.0.vouchers in (texts.sold_means schema place.at place.tree h.1.vouchers.stands).plain
+
+pub refunded_plain : (schema : Schema) → HasTables schema → IsPlain (understood schema texts.refunded_text)
+refunded_plain schema h = let place = h.0.vouchers in (texts.refunded_means schema place.at place.tree h.1.vouchers.stands).plain

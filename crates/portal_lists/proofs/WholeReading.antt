@@ -1,0 +1,111 @@
+-- What each text that reads a whole table answers, by the rows that the tables hold.
+use Rattle.std.proofs.Common.{◌≡◌, ℕ, ◌<◌, ◌≤◌, Bool, true, false, List, [], map, sym, ◌∙◌, true≢false, arith, lit<, lit≤}
+use Rattle.sqlite.specs.Order.{Row}
+use Rattle.sqlite.specs.Schema.{Schema}
+use Rattle.sqlite.specs.Effect.{Database}
+use Rattle.sqlite.specs.Listing.{understood}
+use Rattle.sqlite.specs.State.{State, Shown}
+use Rattle.sqlite.proofs.Callers.{IsPlain}
+use Rattle.portal_rows.specs.Layout.{plans, vouchers, sessions, grants, counts, totals}
+use Rattle.portal_rows.specs.Contents.{Contents, plan_cells, voucher_cells, session_cells, grant_cells, count_cells, total_cells}
+use Rattle.portal_rows.specs.First.{HoldsFirst, HasFirst}
+use Rattle.portal_rows.specs.Holds.{Places, Stand, HoldsIn, Holds, HasTables, this_layout}
+use Rattle.portal_rows.proofs.Cells.{plans_in, vouchers_in, sessions_in, grants_in, counts_in, totals_in}
+use Rattle.portal_lists.proofs.WholeTables.{whole_table}
+use Rattle.portal_lists.proofs.WholeTexts as texts
+
+-- ---- each layout has the six tables of layout 1
+
+too_low : {X : Type 0} (k n : ℕ) → k < n → n ≤ k → X
+too_low k n low high = absurd (omega arith)
+
+first_stand : (layout : ℕ) (indexed : Bool) (schema : Schema) (places : Places) → Stand layout indexed schema places → Stand 1 false schema places
+first_stand layout indexed schema places s = record {
+  heads = s.heads;
+  plans = s.plans;
+  batches = s.batches;
+  vouchers = s.vouchers;
+  sessions = s.sessions;
+  grants = s.grants;
+  counts = λ on. too_low 1 2 (lit< tt) on;
+  totals = λ on. too_low 1 2 (lit< tt) on;
+  requests = λ on. too_low 1 3 (lit< tt) on;
+  index = λ on. absurd (true≢false (sym on));
+}
+
+pub first_held : (layout : ℕ) (indexed : Bool) (db : Database) (t : Contents) → HoldsIn layout indexed db t → HoldsFirst db t
+first_held layout indexed db t h = record {
+  places = h.places;
+  stand = first_stand layout indexed db.schema h.places h.stand;
+  store = record {
+    heads = h.store.heads;
+    plans = h.store.plans;
+    batches = h.store.batches;
+    vouchers = h.store.vouchers;
+    sessions = h.store.sessions;
+    grants = h.store.grants;
+    counts = λ on. too_low 1 2 (lit< tt) on;
+    totals = λ on. too_low 1 2 (lit< tt) on;
+    requests = λ on. too_low 1 3 (lit< tt) on;
+  };
+  sound = h.sound;
+}
+
+pub first_there : (schema : Schema) → HasTables schema → HasFirst schema
+first_there schema h = (h.0, first_stand this_layout true schema h.0 h.1)
+
+-- ---- each text
+
+pub all_plans_plain : (schema : Schema) → HasFirst schema → IsPlain (understood schema texts.all_plans_text)
+all_plans_plain schema h = let place = h.0.plans in (texts.all_plans_means schema place.at place.tree h.1.plans.stands).plain
+
+pub all_plans_are : (old new : State) (rows : List Row) → Shown texts.all_plans_text [] old new rows → (t : Contents) → HoldsFirst old.now t → rows ≡ map plan_cells t.plans
+all_plans_are old new rows shown t h =
+    let place = h.places.plans in
+    whole_table texts.all_plans_text (plans place.tree) texts.all_plans_columns old new (texts.all_plans_means old.now.schema place.at place.tree h.stand.plans.stands) h.store.plans.are.rise rows shown
+    ∙ plans_in old.now.trees place.tree t.plans h.store.plans
+
+pub all_vouchers_plain : (schema : Schema) → HasFirst schema → IsPlain (understood schema texts.all_vouchers_text)
+all_vouchers_plain schema h = let place = h.0.vouchers in (texts.all_vouchers_means schema place.at place.tree h.1.vouchers.stands).plain
+
+pub all_vouchers_are : (old new : State) (rows : List Row) → Shown texts.all_vouchers_text [] old new rows → (t : Contents) → HoldsFirst old.now t → rows ≡ map voucher_cells t.vouchers
+all_vouchers_are old new rows shown t h =
+    let place = h.places.vouchers in
+    whole_table texts.all_vouchers_text (vouchers place.tree) texts.all_vouchers_columns old new (texts.all_vouchers_means old.now.schema place.at place.tree h.stand.vouchers.stands) h.store.vouchers.are.rise rows shown
+    ∙ vouchers_in old.now.trees place.tree t.vouchers h.store.vouchers
+
+pub all_sessions_plain : (schema : Schema) → HasFirst schema → IsPlain (understood schema texts.all_sessions_text)
+all_sessions_plain schema h = let place = h.0.sessions in (texts.all_sessions_means schema place.at place.tree h.1.sessions.stands).plain
+
+pub all_sessions_are : (old new : State) (rows : List Row) → Shown texts.all_sessions_text [] old new rows → (t : Contents) → HoldsFirst old.now t → rows ≡ map session_cells t.sessions
+all_sessions_are old new rows shown t h =
+    let place = h.places.sessions in
+    whole_table texts.all_sessions_text (sessions place.tree) texts.all_sessions_columns old new (texts.all_sessions_means old.now.schema place.at place.tree h.stand.sessions.stands) h.store.sessions.are.rise rows shown
+    ∙ sessions_in old.now.trees place.tree t.sessions h.store.sessions
+
+pub all_grants_plain : (schema : Schema) → HasFirst schema → IsPlain (understood schema texts.all_grants_text)
+all_grants_plain schema h = let place = h.0.grants in (texts.all_grants_means schema place.at place.tree h.1.grants.stands).plain
+
+pub all_grants_are : (old new : State) (rows : List Row) → Shown texts.all_grants_text [] old new rows → (t : Contents) → HoldsFirst old.now t → rows ≡ map grant_cells t.grants
+all_grants_are old new rows shown t h =
+    let place = h.places.grants in
+    whole_table texts.all_grants_text (grants place.tree) texts.all_grants_columns old new (texts.all_grants_means old.now.schema place.at place.tree h.stand.grants.stands) h.store.grants.are.rise rows shown
+    ∙ grants_in old.now.trees place.tree t.grants h.store.grants
+
+pub all_counts_plain : (schema : Schema) → HasTables schema → IsPlain (understood schema texts.all_counts_text)
+all_counts_plain schema h = let place = h.0.counts in (texts.all_counts_means schema place.at place.tree (h.1.counts (lit≤ tt)).stands).plain
+
+pub all_counts_are : (old new : State) (rows : List Row) → Shown texts.all_counts_text [] old new rows → (t : Contents) → Holds old.now t → rows ≡ map count_cells t.counts
+all_counts_are old new rows shown t h =
+    let place = h.places.counts in
+    whole_table texts.all_counts_text (counts place.tree) texts.all_counts_columns old new (texts.all_counts_means old.now.schema place.at place.tree (h.stand.counts (lit≤ tt)).stands) (h.store.counts (lit≤ tt)).are.rise rows shown
+    ∙ counts_in old.now.trees place.tree t.counts (h.store.counts (lit≤ tt))
+
+pub all_totals_plain : (schema : Schema) → HasTables schema → IsPlain (understood schema texts.all_totals_text)
+all_totals_plain schema h = let place = h.0.totals in (texts.all_totals_means schema place.at place.tree (h.1.totals (lit≤ tt)).stands).plain
+
+pub all_totals_are : (old new : State) (rows : List Row) → Shown texts.all_totals_text [] old new rows → (t : Contents) → Holds old.now t → rows ≡ map total_cells t.totals
+all_totals_are old new rows shown t h =
+    let place = h.places.totals in
+    whole_table texts.all_totals_text (totals place.tree) texts.all_totals_columns old new (texts.all_totals_means old.now.schema place.at place.tree (h.stand.totals (lit≤ tt)).stands) (h.store.totals (lit≤ tt)).are.rise rows shown
+    ∙ totals_in old.now.trees place.tree t.totals (h.store.totals (lit≤ tt))

@@ -1,0 +1,27 @@
+use Rattle.std.proofs.Common.{All, map, take, ap, sym, subst, ◌∙◌, ◌∷◌, [], ◌+◌, rules}
+use Rattle.std.proofs.lemmas.List.{map-append}
+use Rattle.std.proofs.lemmas.List.Elements.{All-push}
+use Rattle.portal_codes.specs.Code.{IsCode, text_of}
+use Rattle.portal_model.specs.Rows.{VoucherRow}
+use Rattle.portal_rows.specs.Contents.{voucher_cells}
+use Rattle.portal_lists.specs.Lists.{AreReadAs}
+use Rattle.portal_lists.proofs.Listing.{read_none, read_more}
+use Rattle.portal_lists.proofs.lists.codes_in.Goals as goal
+
+pub loop-row-init : goal.loop-row-init
+loop-row-init c = record {
+  read = subst (λ items. AreReadAs voucher_cells 6 (λ (v : VoucherRow). v.code) [] (map text_of items)) (sym c.new-codes.ensures.items) (read_none voucher_cells 6 (λ (v : VoucherRow). v.code));
+  codes = search rules;
+}
+
+pub loop-row-preserved : goal.loop-row-preserved
+loop-row-preserved c =
+    let done = c.loop-row.codes.items in
+    let one = c.in_ok-code_of.field-0 in
+    let pushed = ap (map text_of) c.in_ok-push.ensures.items ∙ map-append text_of done (one ∷ []) in
+    record {
+      read =
+          subst (AreReadAs voucher_cells 6 (λ (v : VoucherRow). v.code) (take (c.loop-row.row-index + 1) c.args.rows.now)) (sym pushed)
+          (read_more voucher_cells 6 (λ (v : VoucherRow). v.code) c.args.rows.now c.loop-row.row-index c.row-item.result (map text_of done) (text_of one) c.loop-row-test.true c.row-item.is c.loop-row.invariant.read c.in_ok-code_of.ensures.read);
+      codes = subst (All IsCode) (sym c.in_ok-push.ensures.items) (All-push IsCode done one c.loop-row.invariant.codes c.in_ok-code_of.ensures.code);
+    }

@@ -1,0 +1,24 @@
+use Rattle.std.proofs.Common.{map, refl, subst, bytes_eq}
+use Rattle.portal_codes.specs.Code.{text_of}
+use Rattle.portal_sql.proofs.LooksLemmas.{looks_read}
+use Rattle.portal_model.specs.Rows.{VoucherRow}
+use Rattle.portal_rows.specs.Contents.{voucher_cells}
+use Rattle.portal_rows.specs.Holds.{HasTables}
+use Rattle.portal_lists.specs.Lists.{AreReadAs, by_place}
+use Rattle.portal_rows.proofs.Cells.{exact_voucher}
+use Rattle.portal_lists.proofs.Listing.{read_shown}
+use Rattle.portal_lists.proofs.ListReading.{batch_listed}
+use Rattle.portal_lists.proofs.lists.list_codes.Goals as goal
+
+pub returns-clause-found : goal.returns-clause-found
+returns-clause-found g c clean t h =
+    let rows = c.in_ok-rows.rows.items in
+    let answer = map text_of c.in_ok-codes_in.field-0.items in
+    read_shown voucher_cells (λ (v : VoucherRow). bytes_eq c.args.batch.now v.batch) by_place t.vouchers (λ (v : VoucherRow). v.code) 6 (λ v. refl) exact_voucher rows (batch_listed t c.args.batch.now rows (c.in_ok-rows.ensures.rows clean t h)) answer
+    (subst (λ rows. AreReadAs voucher_cells 6 (λ (v : VoucherRow). v.code) rows answer) c.deref.ensures.value c.in_ok-codes_in.ensures.read)
+
+pub returns-clause-looks : goal.returns-clause-looks
+returns-clause-looks g c = c.in_ok-rows.ensures.looks
+
+pub returns-in_err-codes_in-clause-looks : goal.returns-in_err-codes_in-clause-looks
+returns-in_err-codes_in-clause-looks g c = looks_read HasTables _ _ _ c.in_ok-rows.ensures.looks

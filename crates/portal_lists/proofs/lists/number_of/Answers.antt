@@ -1,0 +1,13 @@
+use Rattle.std.proofs.Common.{ap, sym, ◌∙◌, cond, Some, None}
+use Rattle.portal_rows.specs.Steps.{ends_row}
+use Rattle.portal_lists.proofs.lists.number_of.Goals as goal
+
+pub returns-then-may_be_open : goal.returns-then-may_be_open
+returns-then-may_be_open c =
+    let total = c.in_ok-total.total in
+    (ends_row total, c.in_ok-total.ensures, sym (ap (λ b. cond b (Some total.number) None) (sym c.may_be_open.ensures ∙ c.if-may_be_open.true)))
+
+pub returns-else-may_be_open : goal.returns-else-may_be_open
+returns-else-may_be_open c =
+    let total = c.in_ok-total.total in
+    (ends_row total, c.in_ok-total.ensures, sym (ap (λ b. cond b (Some total.number) None) (sym c.may_be_open.ensures ∙ c.if-may_be_open.false)))

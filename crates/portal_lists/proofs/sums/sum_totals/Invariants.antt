@@ -1,0 +1,9 @@
+use Rattle.std.proofs.Common.{◌≡◌, map, take}
+use Rattle.portal_model.specs.Rows.{total_from}
+use Rattle.portal_rows.specs.Read.{session_read}
+use Rattle.portal_rows.specs.Steps.{ends_row}
+use Rattle.portal_lists.specs.Sums.{grant_read, summed}
+use Rattle.portal_lists.proofs.sums.sum_totals.Given as goal
+
+abbrev pub invariant-loop-session : goal.invariant-loop-session
+invariant-loop-session l = map ends_row l.totals.items ≡ map (λ s. total_from (summed l.plans (map grant_read l.grants)) (session_read s)) (take l.session-index l.sessions)

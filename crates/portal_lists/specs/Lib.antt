@@ -1,0 +1,4 @@
+pub mod Asks
+pub mod Audit
+pub mod Lists
+pub mod Sums

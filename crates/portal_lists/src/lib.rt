@@ -1,0 +1,12 @@
+//! Lists of rows and whole tables, the counters that they come to, and whether a store's counters agree with its rows.
+#![tactic(auto)]
+
+mod asks;
+pub mod audits;
+pub mod counted;
+pub mod grants;
+pub mod lists;
+mod reads;
+mod scans;
+pub mod sums;
+pub mod whole;

@@ -1,0 +1,231 @@
+//! The rows of a table that pass a test, read as values in an order.
+
+ghost use Rattle.std.specs.Prelude.{◌≡◌, IfOk, List, map, true, bytes_eq, All, cond, Some, None};
+ghost use Rattle.sqlite.specs.Held.{state};
+ghost use Rattle.sqlite.specs.State.{HasCleanDisk};
+ghost use Rattle.portal_codes.specs.Code.{IsCode, text_of};
+ghost use Rattle.portal_model.specs.Rows.{VoucherRow, TotalRow};
+ghost use Rattle.portal_sql.specs.Finds.{columns};
+ghost use Rattle.portal_sql.specs.Looks.{Looks};
+ghost use Rattle.portal_rows.specs.Contents.{Contents, voucher_cells, total_cells};
+ghost use Rattle.portal_rows.specs.Holds.{Holds, HasTables};
+ghost use Rattle.portal_lists.specs.Lists.{Lists, ListsAs, IsReadAs, AreReadAs, is_within, may_be_open, numbers_open, by_place, by_sale, by_refund, by_number, sale_shown, sale_read, refund_shown, refund_read};
+ghost use Rattle.portal_rows.specs.Steps.{ends_row};
+
+use portal_codes::Code;
+use portal_model::moment::Moment;
+use portal_model::name::Id;
+use portal_rows::queries::batch_vouchers_rows;
+use portal_rows::rows::{Fault, total_of, voucher_of};
+use portal_rows::signs::Total;
+use portal_sql::query::read_all;
+use sqlite::{Alter, Connection, Error, Row, params};
+use std::alloc::Global;
+
+/// A sale of a voucher: the voucher's batch, and the moment.
+#[derive(Clone, Copy, Debug, PartialEq, Eq)]
+pub struct KeptSale {
+    pub batch: Id,
+    pub at: Moment,
+}
+
+/// The rows of the ends of all sessions, by number.
+fn totals_rows<S: Alter>(conn: &mut Connection<S>) -> Result<Vec<Row>, Error>
+    ensures rows { HasCleanDisk (state S.Store conn.new) → (t : Contents) → Holds (state S.Store conn.old).now t → IfOk result (λ rows. ListsAs total_cells (λ _. true) by_number t.totals rows.items) }
+    ensures looks { Looks HasTables result (state S.Store conn.old) (state S.Store conn.new) }
+{
+    read_all(
+        conn,
+        "SELECT number, ends, remaining FROM portal_totals ORDER BY number",
+        &[],
+    )
+}
+
+/// The rows of the vouchers that were sold within the two moments, both included, by moment and code.
+fn sold_rows<S: Alter>(
+    conn: &mut Connection<S>,
+    from: Moment,
+    to: Moment,
+) -> Result<Vec<Row>, Error>
+    ensures rows { HasCleanDisk (state S.Store conn.new) → (t : Contents) → Holds (state S.Store conn.old).now t → IfOk result (λ rows. ListsAs voucher_cells (λ v. is_within from to v.sold) by_sale t.vouchers rows.items) }
+    ensures looks { Looks HasTables result (state S.Store conn.old) (state S.Store conn.new) }
+{
+    read_all(
+        conn,
+        "SELECT code, batch_id, place, sold, refunded, amount FROM portal_vouchers WHERE sold >= ?1 AND sold <= ?2 ORDER BY sold, code",
+        params![from.get() as i64, to.get() as i64],
+    )
+}
+
+/// The rows of the vouchers that were refunded within the two moments, both included, by moment and code.
+fn refunded_rows<S: Alter>(
+    conn: &mut Connection<S>,
+    from: Moment,
+    to: Moment,
+) -> Result<Vec<Row>, Error>
+    ensures rows { HasCleanDisk (state S.Store conn.new) → (t : Contents) → Holds (state S.Store conn.old).now t → IfOk result (λ rows. ListsAs voucher_cells (λ v. is_within from to v.refunded) by_refund t.vouchers rows.items) }
+    ensures looks { Looks HasTables result (state S.Store conn.old) (state S.Store conn.new) }
+{
+    read_all(
+        conn,
+        "SELECT code, batch_id, place, sold, refunded, amount FROM portal_vouchers WHERE refunded >= ?1 AND refunded <= ?2 ORDER BY refunded, code",
+        params![from.get() as i64, to.get() as i64],
+    )
+}
+
+/// The code of a voucher's row.
+fn code_of(row: &Row) -> Result<Code, Fault>
+    ensures read { IfOk result (λ code. IsReadAs voucher_cells 6 (λ v. v.code) row.now (text_of code)) }
+    ensures code { IfOk result IsCode }
+{
+    let voucher = voucher_of(row)?;
+    // Its text tells that it is a code.
+    let _ = voucher.code.text();
+    Ok(voucher.code)
+}
+
+/// The codes of these rows of vouchers, in their order.
+fn codes_in(alloc: Global, rows: &[Row]) -> Result<Vec<Code>, Fault>
+    ensures read { IfOk result (λ codes. AreReadAs voucher_cells 6 (λ v. v.code) rows.now (map text_of codes.items)) }
+    ensures codes { IfOk result (λ codes. All IsCode codes.items) }
+{
+    let mut codes = Vec::new(alloc);
+    for row in rows {
+        codes.push(code_of(row)?)?;
+    }
+    Ok(codes)
+}
+
+/// Whether the session may be open at `at`: before its end, and with something left of its allowance.
+fn may_be_open(total: &Total, at: Moment) -> bool
+    ensures { result ≡ may_be_open at (ends_row total.now) }
+{
+    total.ends.is_none_or(|ends| at < ends) && total.remaining.is_none_or(|left| left > 0)
+}
+
+/// The number of the session of a row, where it may be open at `at`.
+fn number_of(row: &Row, at: Moment) -> Result<Option<u64>, Fault>
+    ensures { IfOk result (λ number. (m : TotalRow) × (total_cells m ≡ columns 3 row.now) × (number ≡ cond (may_be_open at m) (Some m.number) None)) }
+{
+    let total = total_of(row)?;
+    if may_be_open(&total, at) {
+        Ok(Some(total.number))
+    } else {
+        Ok(None)
+    }
+}
+
+/// The numbers of the sessions that may be open at `at`, of these rows and in their order.
+fn numbers_in(alloc: Global, rows: &[Row], at: Moment) -> Result<Vec<u64>, Fault>
+    ensures { IfOk result (λ numbers. (totals : List TotalRow) × (map total_cells totals ≡ map (columns 3) rows.now) × (numbers.items ≡ numbers_open at totals)) }
+{
+    let mut numbers = Vec::new(alloc);
+    for row in rows {
+        if let Some(number) = number_of(row, at)? {
+            numbers.push(number)?;
+        }
+    }
+    Ok(numbers)
+}
+
+/// The sale of a voucher's row.
+fn sale_of(row: &Row) -> Result<KeptSale, Fault>
+    ensures { IfOk result (λ sale. IsReadAs voucher_cells 6 sale_shown row.now (sale_read sale)) }
+{
+    let voucher = voucher_of(row)?;
+    match voucher.sold {
+        Some(at) => Ok(KeptSale {
+            batch: voucher.batch,
+            at,
+        }),
+        None => Err(Fault::ForeignRow),
+    }
+}
+
+/// The sales of these rows of vouchers, in their order.
+fn sales_in(alloc: Global, rows: &[Row]) -> Result<Vec<KeptSale>, Fault>
+    ensures { IfOk result (λ sales. AreReadAs voucher_cells 6 sale_shown rows.now (map sale_read sales.items)) }
+{
+    let mut sales = Vec::new(alloc);
+    for row in rows {
+        sales.push(sale_of(row)?)?;
+    }
+    Ok(sales)
+}
+
+/// The refund of a voucher's row: the moment, and the amount in hundredths.
+fn refund_of(row: &Row) -> Result<(Moment, u64), Fault>
+    ensures { IfOk result (λ refund. IsReadAs voucher_cells 6 refund_shown row.now (refund_read refund)) }
+{
+    let voucher = voucher_of(row)?;
+    match (voucher.refunded, voucher.amount) {
+        (Some(at), Some(amount)) => Ok((at, amount)),
+        _ => Err(Fault::ForeignRow),
+    }
+}
+
+/// The refunds of these rows of vouchers, in their order.
+fn refunds_in(alloc: Global, rows: &[Row]) -> Result<Vec<(Moment, u64)>, Fault>
+    ensures { IfOk result (λ refunds. AreReadAs voucher_cells 6 refund_shown rows.now (map refund_read refunds.items)) }
+{
+    let mut refunds = Vec::new(alloc);
+    for row in rows {
+        refunds.push(refund_of(row)?)?;
+    }
+    Ok(refunds)
+}
+
+/// The codes of the batch, by place.
+pub fn list_codes<S: Alter>(
+    alloc: Global,
+    conn: &mut Connection<S>,
+    batch: &Id,
+) -> Result<Vec<Code>, Fault>
+    ensures codes { IfOk result (λ codes. All IsCode codes.items) }
+    ensures found { HasCleanDisk (state S.Store conn.new) → (t : Contents) → Holds (state S.Store conn.old).now t → IfOk result (λ codes. ListsAs (λ v. v.code) (λ v. bytes_eq batch.now v.batch) by_place t.vouchers (map text_of codes.items)) }
+    ensures looks { Looks HasTables result (state S.Store conn.old) (state S.Store conn.new) }
+{
+    let rows = batch_vouchers_rows(conn, batch)?;
+    Ok(codes_in(alloc, &rows)?)
+}
+
+/// The numbers of the sessions that may be open at `at`, in rising order: a session that is not among them has ended by then, or has nothing left.
+pub fn list_numbers<S: Alter>(
+    alloc: Global,
+    conn: &mut Connection<S>,
+    at: Moment,
+) -> Result<Vec<u64>, Fault>
+    ensures found { HasCleanDisk (state S.Store conn.new) → (t : Contents) → Holds (state S.Store conn.old).now t → IfOk result (λ numbers. (totals : List TotalRow) × Lists (λ _. true) by_number t.totals totals × (numbers.items ≡ numbers_open at totals)) }
+    ensures looks { Looks HasTables result (state S.Store conn.old) (state S.Store conn.new) }
+{
+    let rows = totals_rows(conn)?;
+    Ok(numbers_in(alloc, &rows, at)?)
+}
+
+/// The sales within the two moments, both included: the earlier first, and of two at one moment the one of the voucher with the lesser printed code.
+pub fn list_sales<S: Alter>(
+    alloc: Global,
+    conn: &mut Connection<S>,
+    from: Moment,
+    to: Moment,
+) -> Result<Vec<KeptSale>, Fault>
+    ensures found { HasCleanDisk (state S.Store conn.new) → (t : Contents) → Holds (state S.Store conn.old).now t → IfOk result (λ sales. ListsAs sale_shown (λ v. is_within from to v.sold) by_sale t.vouchers (map sale_read sales.items)) }
+    ensures looks { Looks HasTables result (state S.Store conn.old) (state S.Store conn.new) }
+{
+    let rows = sold_rows(conn, from, to)?;
+    Ok(sales_in(alloc, &rows)?)
+}
+
+/// The refunds within the two moments, both included, each with its moment and its amount in hundredths: the earlier first, and of two at one moment the one of the voucher with the lesser printed code.
+pub fn list_refunds<S: Alter>(
+    alloc: Global,
+    conn: &mut Connection<S>,
+    from: Moment,
+    to: Moment,
+) -> Result<Vec<(Moment, u64)>, Fault>
+    ensures found { HasCleanDisk (state S.Store conn.new) → (t : Contents) → Holds (state S.Store conn.old).now t → IfOk result (λ refunds. ListsAs refund_shown (λ v. is_within from to v.refunded) by_refund t.vouchers (map refund_read refunds.items)) }
+    ensures looks { Looks HasTables result (state S.Store conn.old) (state S.Store conn.new) }
+{
+    let rows = refunded_rows(conn, from, to)?;
+    Ok(refunds_in(alloc, &rows)?)
+}

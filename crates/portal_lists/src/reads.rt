@@ -1,0 +1,100 @@
+//! Rows of an answer, read as values.
+
+ghost use Rattle.std.specs.Prelude.{◌≡◌, ℕ, IfOk, map};
+ghost use Rattle.sqlite.specs.Order.{Row as Cells};
+ghost use Rattle.portal_sql.specs.Finds.{columns};
+ghost use Rattle.portal_rows.specs.Contents.{plan_cells, voucher_cells, session_cells, grant_cells, count_cells, total_cells};
+ghost use Rattle.portal_rows.specs.Steps.{ends_row};
+ghost use Rattle.portal_rows.specs.Read.{voucher_read, session_read, count_read};
+ghost use Rattle.portal_lists.specs.Sums.{grant_read};
+
+use crate::grants::{KeptGrant, grant_of};
+use portal_model::plan::Plan;
+use portal_rows::rows::{
+    Fault, KeptCount, KeptSession, KeptVoucher, count_of, plan_of, session_of, total_of, voucher_of,
+};
+use portal_rows::signs::Total;
+use sqlite::Row;
+use std::alloc::Global;
+
+/// A value that keeps a row of one table.
+pub(crate) trait FromRow: Sized {
+    // The cells of the value, and how many columns of a row they are.
+    ghost cells: { Self → Cells };
+
+    ghost width: { ℕ };
+
+    fn from_row(row: &Row) -> Result<Self, Fault>
+        ensures { IfOk result (λ x. cells x ≡ columns width row.now) };
+}
+
+impl FromRow for Plan {
+    ghost cells = { plan_cells };
+
+    ghost width = { 7 };
+
+    fn from_row(row: &Row) -> Result<Plan, Fault> {
+        plan_of(row)
+    }
+}
+
+impl FromRow for KeptVoucher {
+    ghost cells = { λ voucher. voucher_cells (voucher_read voucher) };
+
+    ghost width = { 6 };
+
+    fn from_row(row: &Row) -> Result<KeptVoucher, Fault> {
+        voucher_of(row)
+    }
+}
+
+impl FromRow for KeptSession {
+    ghost cells = { λ session. session_cells (session_read session) };
+
+    ghost width = { 6 };
+
+    fn from_row(row: &Row) -> Result<KeptSession, Fault> {
+        session_of(row)
+    }
+}
+
+impl FromRow for KeptGrant {
+    ghost cells = { λ grant. grant_cells (grant_read grant) };
+
+    ghost width = { 6 };
+
+    fn from_row(row: &Row) -> Result<KeptGrant, Fault> {
+        grant_of(row)
+    }
+}
+
+impl FromRow for KeptCount {
+    ghost cells = { λ count. count_cells (count_read count) };
+
+    ghost width = { 2 };
+
+    fn from_row(row: &Row) -> Result<KeptCount, Fault> {
+        count_of(row)
+    }
+}
+
+impl FromRow for Total {
+    ghost cells = { λ total. total_cells (ends_row total) };
+
+    ghost width = { 3 };
+
+    fn from_row(row: &Row) -> Result<Total, Fault> {
+        total_of(row)
+    }
+}
+
+/// The rows, each read, in their order.
+pub(crate) fn read_each<T: FromRow + Drop>(alloc: Global, rows: &[Row]) -> Result<Vec<T>, Fault>
+    ensures { IfOk result (λ values. map T.cells values.items ≡ map (columns T.width) rows.now) }
+{
+    let mut values = Vec::new(alloc);
+    for row in rows {
+        values.push(T::from_row(row)?)?;
+    }
+    Ok(values)
+}

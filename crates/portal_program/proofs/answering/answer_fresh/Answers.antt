@@ -1,0 +1,19 @@
+use Rattle.std.proofs.Common.{[], inl, subst}
+use Rattle.portal_files.specs.SettingsFile.{SettingsValue}
+use Rattle.portal_ledger.specs.States.{running}
+use Rattle.portal_desk.specs.Calls.{is_over}
+use Rattle.portal_http.specs.Exchanges.{between}
+use Rattle.portal_http.specs.Runs.{Served}
+use Rattle.portal_program.specs.Answering.{EndsAnswering}
+use Rattle.portal_program.proofs.answering.answer_fresh.Goals as goal
+
+pub returns-in-Ok : goal.returns-in-Ok
+returns-in-Ok g c =
+    let call = c.answer_at-result in
+    let it = call.ensures.served (g.met.P.Place.is_fresh_honest call.new.desk) (running []) c.in-Ok.ensures.fresh in
+    let wire = between (g.R.Read.remaining c.args.input.now) (g.R.Read.remaining call.new.input) (g.W.Write.contents c.args.output.now) (g.W.Write.contents call.new.output) in
+    inl (
+      it.0,
+      subst (λ (s : SettingsValue). EndsAnswering wire c.args.moment c.args.seed (λ arrivals responses. Served s (running []) arrivals responses it.0) (is_over it.0) call.result)
+          c.in-Ok.ensures.told it.2,
+    )

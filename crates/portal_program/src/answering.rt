@@ -1,0 +1,228 @@
+//! The command `answer`.
+ghost use Rattle.std.specs.Prelude.{◌≡◌, ⊤, ℕ, List, Bool, IfErr, IfOk, MatchResult, Option, Result, Ok, None, Some};
+ghost use Rattle.hex.specs.Hex.{decode_of};
+ghost use Rattle.portal_ledger.specs.Ledger.{Ledger};
+ghost use Rattle.portal_ledger.specs.States.{State, running};
+ghost use Rattle.portal_desk.specs.Calls.{is_over};
+ghost use Rattle.portal_files.specs.Sample.{IsSample};
+ghost use Rattle.portal_http.specs.Exchanges.{between};
+ghost use Rattle.portal_http.specs.Headline.{Survives};
+ghost use Rattle.portal_http.specs.Runs.{Served};
+ghost use Rattle.portal_program.specs.Places.{IsOfSettings};
+ghost use Rattle.portal_program.specs.Answering.{status_for, EndsAnswering, IsInRange, IsAnswered, Outcome, EndsAnswer};
+
+use crate::place::{Place, settings_at};
+use crate::seed::read_seed;
+use portal_desk::Desk;
+use portal_ends::Fault;
+use portal_files::{Settings, sample_settings};
+use portal_http::exchanges::exchange;
+use portal_model::moment::Moment;
+use portal_route::Routes;
+use std::alloc::Global;
+use std::io::{Read, Write};
+
+/// What `answer` is asked for.
+#[derive(Clone, Copy, Debug)]
+pub struct Request<'a> {
+    /// The path of the database file. None: an empty store in memory.
+    pub db: Option<&'a str>,
+    /// The path of the settings file. None: the sample settings.
+    pub settings: Option<&'a str>,
+    /// The moment at which the request comes, in whole UTC seconds.
+    pub now: u64,
+    /// The seed of a batch, as 64 hexadecimal digits.
+    pub seed: &'a str,
+}
+
+/// The status with which the program ends after a response: 0 after 200, 3 after the 503 of a desk that has stopped, 1 after
+/// any other.
+fn status_for(status: u16, is_stopped: bool) -> u8
+    ensures { result ≡ status_for status is_stopped }
+{
+    if status == 200 {
+        0
+    } else if status == 503 && is_stopped {
+        3
+    } else {
+        1
+    }
+}
+
+/// Answers the request on `input` with a response on `output`, as `exchange` does, and gives the status with which the program
+/// ends: 0 after a response of status 200, 3 after a 503 where the desk has then stopped, 1 after any other. Fault: `Cut`.
+pub fn answer_at<D: Desk, R: Read, W: Write>(
+    desk: &mut D,
+    alloc: Global,
+    routes: &Routes,
+    moment: Moment,
+    seed: [u8; 32],
+    input: &mut R,
+    output: &mut W,
+) -> Result<u8, Fault>
+    ensures told { D.settings desk.new ≡ D.settings desk.old }
+    ensures honest { D.is_honest desk.new → D.is_honest desk.old }
+    ensures wire { (is_stopped : Bool) × EndsAnswering (between (R.remaining input.old) (R.remaining input.new) (W.contents output.old) (W.contents output.new))
+        moment seed (λ arrivals responses. ⊤) is_stopped result }
+    ensures served { D.is_honest desk.new → (old : State) → D.stands desk.old old → (new : State) × D.stands desk.new new
+        × EndsAnswering (between (R.remaining input.old) (R.remaining input.new) (W.contents output.old) (W.contents output.new))
+        moment seed (λ arrivals responses. Served (D.settings desk.old) old arrivals responses new) (is_over new) result }
+    ensures survives { D.is_honest desk.new → (L : Ledger) → D.stands desk.old (running L) → (is_stopped : Bool)
+        × EndsAnswering (between (R.remaining input.old) (R.remaining input.new) (W.contents output.old) (W.contents output.new))
+        moment seed (λ arrivals responses. Survives D.Files (D.may_leave desk.new) D.shows (D.settings desk.old) L arrivals responses) is_stopped result }
+{
+    match exchange(desk, alloc, routes, moment, seed, input, output) {
+        Ok(done) => Ok(status_for(done.status, desk.is_stopped())),
+        Err(_) => Err(Fault::Cut),
+    }
+}
+
+/// The moment and the seed that a command line gives. Fault: `Usage`.
+fn read_values(now: u64, seed: &str) -> Result<(Moment, [u8; 32]), Fault>
+    ensures { MatchResult result
+        (λ values. IsInRange now seed.now × (values.0 ≡ now) × (decode_of seed.now ≡ Ok values.1))
+        (λ fault. (fault ≡ Fault.Usage) × ¬ (IsInRange now seed.now)) }
+{
+    match Moment::new(now) {
+        None => Err(Fault::Usage),
+        Some(moment) => match read_seed(seed) {
+            None => Err(Fault::Usage),
+            Some(seed) => Ok((moment, seed)),
+        },
+    }
+}
+
+/// The settings in the file at a path, or the sample settings where none is named. Faults: those of `settings_at`.
+fn settings_of<P: Place>(place: &P, alloc: Global, path: Option<&str>) -> Result<Settings, Fault>
+    ensures sample { IfOk result (λ settings. path.entry ≡ None → IsSample settings) }
+    ensures why { IfErr result IsOfSettings }
+{
+    match path {
+        Some(path) => settings_at(place, alloc, path),
+        None => match sample_settings(alloc) {
+            Ok(settings) => Ok(settings),
+            Err(_) => Err(Fault::NoMemory),
+        },
+    }
+}
+
+/// The answer of a desk over an empty store in memory. Faults: those of the store before anything is read, and `Cut`.
+fn answer_fresh<P: Place, R: Read, W: Write>(
+    alloc: Global,
+    settings: Settings,
+    routes: &Routes,
+    moment: Moment,
+    seed: [u8; 32],
+    input: &mut R,
+    output: &mut W,
+) -> Result<u8, Fault>
+    ensures { IsAnswered (between (R.remaining input.old) (R.remaining input.new) (W.contents output.old) (W.contents output.new))
+        moment seed None settings result }
+{
+    match P::open_fresh(alloc, settings) {
+        Err(fault) => Err(fault),
+        Ok(mut desk) => {
+            let result = answer_at(&mut desk, alloc, routes, moment, seed, input, output);
+            P::close_fresh(desk);
+            result
+        }
+    }
+}
+
+/// The answer of a desk over a file. Faults: those of the file before anything is read, and `Cut`.
+fn answer_stored<P: Place, R: Read, W: Write>(
+    place: P,
+    alloc: Global,
+    path: &str,
+    settings: Settings,
+    routes: &Routes,
+    moment: Moment,
+    seed: [u8; 32],
+    input: &mut R,
+    output: &mut W,
+) -> Result<u8, Fault>
+    ensures { IsAnswered (between (R.remaining input.old) (R.remaining input.new) (W.contents output.old) (W.contents output.new))
+        moment seed (Some path.entry) settings result }
+{
+    match place.open(path, settings) {
+        Err(fault) => Err(fault),
+        Ok(mut desk) => {
+            let result = answer_at(&mut desk, alloc, routes, moment, seed, input, output);
+            P::close(desk);
+            result
+        }
+    }
+}
+
+/// The answer, once the moment, the seed and the settings are read.
+fn answer_by<P: Place, R: Read, W: Write>(
+    place: P,
+    alloc: Global,
+    db: Option<&str>,
+    settings: Settings,
+    moment: Moment,
+    seed: [u8; 32],
+    input: &mut R,
+    output: &mut W,
+) -> Result<u8, Fault>
+    ensures { IsAnswered (between (R.remaining input.old) (R.remaining input.new) (W.contents output.old) (W.contents output.new))
+        moment seed db.entry settings result }
+{
+    let Ok(routes) = Routes::new(alloc) else {
+        return Err(Fault::NoMemory);
+    };
+    match db {
+        None => answer_fresh::<P, R, W>(alloc, settings, &routes, moment, seed, input, output),
+        Some(path) => {
+            answer_stored(
+                place, alloc, path, settings, &routes, moment, seed, input, output,
+            )
+        }
+    }
+}
+
+/// The outcome of `answer`.
+fn outcome_of<P: Place, R: Read, W: Write>(
+    place: P,
+    alloc: Global,
+    request: &Request<'_>,
+    input: &mut R,
+    output: &mut W,
+) -> Result<u8, Fault>
+    ensures { Outcome (between (R.remaining input.old) (R.remaining input.new) (W.contents output.old) (W.contents output.new)) request.entry.now result }
+{
+    let (moment, seed) = match read_values(request.now, request.seed) {
+        Ok(values) => values,
+        Err(fault) => return Err(fault),
+    };
+    match settings_of(&place, alloc, request.settings) {
+        Err(fault) => Err(fault),
+        Ok(settings) => answer_by(
+            place, alloc, request.db, settings, moment, seed, input, output,
+        ),
+    }
+}
+
+/// Answers the request on `input` with a response on `output`, and gives the status with which the program ends: 0 where the
+/// response's status is 200, 3 where it is 503 and the desk has then stopped, 1 at any other.
+///
+/// A fault is printed on `errors`. The faults are found in this order, all but the last before anything is read: `usage`,
+/// status 2, where `now` is past the greatest moment, 253,370,764,799, or `seed` is not 64 hexadecimal digits; those of the
+/// settings file (`file`, `no_memory`, `settings`); those of the database file (`file`, `no_memory`, `not_ours`, `newer`);
+/// `cut`, where a read or a write fails or there is no memory for the request or for any response; each status 3.
+pub fn answer<P: Place, R: Read, W: Write, E: Write>(
+    place: P,
+    alloc: Global,
+    request: &Request<'_>,
+    input: &mut R,
+    output: &mut W,
+    errors: &mut E,
+) -> u8
+    ensures { EndsAnswer (between (R.remaining input.old) (R.remaining input.new) (W.contents output.old) (W.contents output.new))
+        (E.contents errors.old) (E.contents errors.new) request.entry.now result }
+{
+    match outcome_of(place, alloc, request, input, output) {
+        Ok(status) => status,
+        Err(fault) => fault.report(errors),
+    }
+}

@@ -1,0 +1,72 @@
+//! The command `check`.
+ghost use Rattle.std.specs.Prelude.{◌≡◌, Result};
+ghost use Rattle.portal_ledger.specs.States.{State};
+ghost use Rattle.portal_ends.specs.declared.fault.Fault.{Fault as Said};
+ghost use Rattle.portal_ends.specs.declared.ending.Told.{Told as Answered};
+ghost use Rattle.portal_ends.specs.Ends.{EndsWith};
+ghost use Rattle.portal_program.specs.Asking.{EndsAsking, IsOfDesk, ChecksCounters};
+
+use crate::place::{Files, Place, open_desk};
+use portal_desk::Desk;
+use portal_ends::{Fault, Told, end};
+use std::alloc::Global;
+use std::io::Write;
+
+/// What `check` tells.
+fn check_told<D: Desk>(desk: &mut D, alloc: Global) -> Result<Told, Fault>
+    ensures desk { IsOfDesk result }
+    ensures told { D.settings desk.new ≡ D.settings desk.old }
+    ensures honest { D.is_honest desk.new → D.is_honest desk.old }
+    ensures check { D.is_honest desk.new → (old : State) → D.stands desk.old old → (new : State) × D.stands desk.new new
+        × ChecksCounters old result new }
+{
+    match desk.audit(alloc) {
+        Ok(true) => Ok(Told::Agrees),
+        Ok(false) => Ok(Told::Differs),
+        Err(r) => Err(Fault::Refused(r)),
+    }
+}
+
+/// Prints `ok` on `output` where the counters of the file agree with its rows, else `differs`, and gives the status with which
+/// the program ends: 0 at `ok`, 1 at `differs` and where there is no memory, 3 where the desk has stopped or the word goes out
+/// in part alone. A fault's line is printed on `errors`.
+pub fn check_at<D: Desk, W: Write, E: Write>(
+    desk: &mut D,
+    alloc: Global,
+    output: &mut W,
+    errors: &mut E,
+) -> u8
+    ensures told { D.settings desk.new ≡ D.settings desk.old }
+    ensures honest { D.is_honest desk.new → D.is_honest desk.old }
+    ensures ends { (told : Result Answered Said) × IsOfDesk told × EndsWith told (record { output = W.contents output.old; output_after = W.contents output.new; errors = E.contents errors.old; errors_after = E.contents errors.new }) result }
+    ensures check { D.is_honest desk.new → (old : State) → D.stands desk.old old → (new : State) × D.stands desk.new new
+        × ((told : Result Answered Said) × ChecksCounters old told new
+        × EndsWith told (record { output = W.contents output.old; output_after = W.contents output.new; errors = E.contents errors.old; errors_after = E.contents errors.new }) result) }
+{
+    let told = check_told(desk, alloc);
+    end(&told, output, errors)
+}
+
+/// Prints whether the counters of the desk over a file agree with its rows on `output`, `ok` or `differs`, and gives the status
+/// with which the program ends.
+///
+/// The faults are found in this order: those of the settings file (`file`, `no_memory`, `settings`), those of the database file
+/// (`file`, `no_memory`, `not_ours`, `newer`), each status 3, and then those of `check_at`.
+pub fn check<P: Place, W: Write, E: Write>(
+    place: P,
+    alloc: Global,
+    files: Files<'_>,
+    output: &mut W,
+    errors: &mut E,
+) -> u8
+    ensures { EndsAsking (record { output = W.contents output.old; output_after = W.contents output.new; errors = E.contents errors.old; errors_after = E.contents errors.new }) result }
+{
+    match open_desk(place, alloc, files) {
+        Err(fault) => fault.report(errors),
+        Ok(mut desk) => {
+            let status = check_at(&mut desk, alloc, output, errors);
+            P::close(desk);
+            status
+        }
+    }
+}

@@ -1,0 +1,100 @@
+//! The command `print`.
+ghost use Rattle.std.specs.Prelude.{◌≡◌, MatchResult, Result};
+ghost use Rattle.portal_ledger.specs.Calls.{ReadsThat};
+ghost use Rattle.portal_ledger.specs.States.{State};
+ghost use Rattle.portal_desk.specs.Calls.{Misses};
+ghost use Rattle.portal_desk.specs.Sheets.{sheet_of};
+ghost use Rattle.portal_ends.specs.declared.fault.Fault.{Fault as Said};
+ghost use Rattle.portal_ends.specs.declared.ending.Told.{Told as Answered};
+ghost use Rattle.portal_ends.specs.Ends.{EndsWith};
+ghost use Rattle.portal_program.specs.Asking.{EndsAsking, IsOfDesk, IsBatchFile, PrintsBatch};
+
+use crate::place::{Files, Place, open_desk};
+use portal_desk::Desk;
+use portal_ends::{Fault, Told, end};
+use portal_model::name::Id;
+use portal_model::refusal::Refusal;
+use portal_print::print_batch;
+use std::alloc::Global;
+use std::io::Write;
+
+/// The print file of a batch. Refusals: `UnknownBatch`, `NoMemory`, `Stopped`.
+fn batch_file<D: Desk>(desk: &mut D, alloc: Global, id: &Id) -> Result<Vec<u8>, Refusal>
+    ensures told { D.settings desk.new ≡ D.settings desk.old }
+    ensures honest { D.is_honest desk.new → D.is_honest desk.old }
+    ensures file { D.is_honest desk.new → (old : State) → D.stands desk.old old → (new : State) × D.stands desk.new new
+        × MatchResult result (λ text. ReadsThat old (λ H. IsBatchFile (D.settings desk.old).zone id.now H text.items) new)
+        (λ r. Misses Refusal.UnknownBatch (λ H. sheet_of H id.now) old r new) }
+{
+    let sheet = match desk.batch(alloc, id) {
+        Ok(sheet) => sheet,
+        Err(r) => return Err(r),
+    };
+    match print_batch(alloc, desk.settings(), &sheet) {
+        Ok(text) => Ok(text),
+        Err(_) => Err(Refusal::NoMemory),
+    }
+}
+
+/// What `print` tells.
+fn print_told<D: Desk>(desk: &mut D, alloc: Global, batch: &str) -> Result<Told, Fault>
+    ensures desk { IsOfDesk result }
+    ensures told { D.settings desk.new ≡ D.settings desk.old }
+    ensures honest { D.is_honest desk.new → D.is_honest desk.old }
+    ensures print { D.is_honest desk.new → (old : State) → D.stands desk.old old → (new : State) × D.stands desk.new new
+        × PrintsBatch (D.settings desk.old).zone batch.now old result new }
+{
+    let Some(id) = Id::read(batch) else {
+        return Err(Fault::Refused(Refusal::UnknownBatch));
+    };
+    match batch_file(desk, alloc, &id) {
+        Ok(text) => Ok(Told::Text(text)),
+        Err(r) => Err(Fault::Refused(r)),
+    }
+}
+
+/// Prints the print file of a batch on `output`, and gives the status with which the program ends: 0; or 1 where there is no
+/// such batch, as where `batch` is no id, and where there is no memory; or 3 where the desk has stopped or the file goes out
+/// in part alone. A fault's line is printed on `errors`.
+pub fn print_at<D: Desk, W: Write, E: Write>(
+    desk: &mut D,
+    alloc: Global,
+    batch: &str,
+    output: &mut W,
+    errors: &mut E,
+) -> u8
+    ensures told { D.settings desk.new ≡ D.settings desk.old }
+    ensures honest { D.is_honest desk.new → D.is_honest desk.old }
+    ensures ends { (told : Result Answered Said) × IsOfDesk told × EndsWith told (record { output = W.contents output.old; output_after = W.contents output.new; errors = E.contents errors.old; errors_after = E.contents errors.new }) result }
+    ensures print { D.is_honest desk.new → (old : State) → D.stands desk.old old → (new : State) × D.stands desk.new new
+        × ((told : Result Answered Said) × PrintsBatch (D.settings desk.old).zone batch.now old told new
+        × EndsWith told (record { output = W.contents output.old; output_after = W.contents output.new; errors = E.contents errors.old; errors_after = E.contents errors.new }) result) }
+{
+    let told = print_told(desk, alloc, batch);
+    end(&told, output, errors)
+}
+
+/// Prints the print file of a batch of the desk over the file at `db` on `output`, and gives the status with which the program
+/// ends.
+///
+/// The faults are found in this order: those of the settings file (`file`, `no_memory`, `settings`), those of the database file
+/// (`file`, `no_memory`, `not_ours`, `newer`), each status 3, and then those of `print_at`.
+pub fn print<P: Place, W: Write, E: Write>(
+    place: P,
+    alloc: Global,
+    files: Files<'_>,
+    batch: &str,
+    output: &mut W,
+    errors: &mut E,
+) -> u8
+    ensures { EndsAsking (record { output = W.contents output.old; output_after = W.contents output.new; errors = E.contents errors.old; errors_after = E.contents errors.new }) result }
+{
+    match open_desk(place, alloc, files) {
+        Err(fault) => fault.report(errors),
+        Ok(mut desk) => {
+            let status = print_at(&mut desk, alloc, batch, output, errors);
+            P::close(desk);
+            status
+        }
+    }
+}

@@ -1,0 +1,88 @@
+//! The command `serve`.
+ghost use Rattle.std.specs.Prelude.{◌≡◌, IfErr};
+ghost use Rattle.portal_ledger.specs.States.{State};
+ghost use Rattle.portal_ends.specs.declared.fault.Fault.TheVariants.{Network as OfNetwork};
+ghost use Rattle.portal_http.specs.Runs.{Run};
+ghost use Rattle.portal_serve.specs.Serving.{Serves};
+ghost use Rattle.portal_program.specs.Serving.{IsServed, EndsServe};
+
+use crate::place::{Files, Place, open_desk};
+use portal_desk::Desk;
+use portal_ends::Fault;
+use portal_route::Routes;
+use portal_serve::{Host, serve as serve_bound};
+use std::alloc::Global;
+use std::io::Write;
+
+/// Where the program is reached: the loopback address of the host, or one of a test.
+pub trait Network: Drop {
+    /// A port that was taken.
+    type Bound: Host + Drop;
+
+    /// Takes a port of the loopback address: connections wait from then on. Fault: `Network`, where it cannot be had.
+    fn listen(&self, port: u16) -> Result<Self::Bound, Fault>
+        ensures { IfErr result (λ fault. fault ≡ OfNetwork) };
+}
+
+/// Where the program listens, and for how many connections.
+#[derive(Clone, Copy, Debug, PartialEq, Eq)]
+pub struct Listening {
+    /// The port, from 1 on.
+    pub port: u16,
+    /// The number of connections.
+    pub count: u64,
+}
+
+/// Takes the port and serves so many connections, as `portal_serve::serve` says, and gives the status with which the program
+/// ends.
+///
+/// A fault before anything is served is printed on `errors`, status 3: `no_memory`, and `network` where the port cannot be had.
+pub fn serve_at<D: Desk, N: Network, W: Write, E: Write>(
+    desk: &mut D,
+    network: &N,
+    alloc: Global,
+    at: Listening,
+    output: &mut W,
+    errors: &mut E,
+) -> u8
+    ensures told { D.settings desk.new ≡ D.settings desk.old }
+    ensures honest { D.is_honest desk.new → D.is_honest desk.old }
+    ensures printed { IsServed at (record { output = W.contents output.old; output_after = W.contents output.new; errors = E.contents errors.old; errors_after = E.contents errors.new }) result }
+    ensures served { D.is_honest desk.new → (old : State) → D.stands desk.old old → (new : State) × D.stands desk.new new
+        × Serves at.count (λ arrivals responses. Run (D.settings desk.old) old arrivals responses new) }
+{
+    let Ok(routes) = Routes::new(alloc) else {
+        return Fault::NoMemory.report(errors);
+    };
+    match network.listen(at.port) {
+        Err(fault) => fault.report(errors),
+        Ok(mut host) => serve_bound(
+            desk, alloc, &routes, &mut host, at.port, at.count, output, errors,
+        ),
+    }
+}
+
+/// Serves connections by the desk over a file, and gives the status with which the program ends.
+///
+/// The faults are found in this order: those of the settings file (`file`, `no_memory`, `settings`), those of the database file
+/// (`file`, `no_memory`, `not_ours`, `newer`), each status 3, and then those of `serve_at`.
+pub fn serve<P: Place, N: Network, W: Write, E: Write>(
+    place: P,
+    network: &N,
+    alloc: Global,
+    files: Files<'_>,
+    at: Listening,
+    output: &mut W,
+    errors: &mut E,
+) -> u8
+    ensures { EndsServe at (record { output = W.contents output.old; output_after = W.contents output.new; errors = E.contents errors.old; errors_after = E.contents errors.new }) result }
+{
+    match open_desk(place, alloc, files) {
+        Err(fault) => fault.report(errors),
+        Ok(mut desk) => {
+            let status = serve_at(&mut desk, network, alloc, at, output, errors);
+            P::close(desk);
+            status
+        }
+    }
+}

@@ -1,6 +1,0 @@
-use Rattle.std.proofs.Common.{map}
-use Rattle.portal_rows.specs.Sums.{grant_read}
-use Rattle.portal_rows.proofs.audits.counts_agree.Goals as goal
-
-pub returns : goal.returns
-returns c = c.are_counts_in.ensures (map grant_read c.args.grants.now) c.in_ok-uses.ensures

@@ -1,8 +1,0 @@
-use Rattle.std.proofs.Common.{◌≡◌, map, take}
-use Rattle.portal_model.specs.Rows.{count_from}
-use Rattle.portal_rows.specs.Read.{voucher_read, count_read}
-use Rattle.portal_rows.specs.Sums.{grant_read}
-use Rattle.portal_rows.proofs.sums.sum_counts.Given as goal
-
-abbrev pub invariant-loop-voucher : goal.invariant-loop-voucher
-invariant-loop-voucher l = map count_read l.counts.items ≡ map (λ v. count_from (map grant_read l.grants) (voucher_read v)) (take l.voucher-index l.vouchers)

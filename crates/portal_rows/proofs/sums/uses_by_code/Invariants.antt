@@ -1,6 +1,0 @@
-use Rattle.std.proofs.Common.{map, take}
-use Rattle.portal_rows.specs.Sums.{AreUses, grant_read}
-use Rattle.portal_rows.proofs.sums.uses_by_code.Given as goal
-
-abbrev pub invariant-loop-grant : goal.invariant-loop-grant
-invariant-loop-grant l = AreUses l.uses (map grant_read (take l.grant-index l.grants))

@@ -1,0 +1,84 @@
+-- What serving leaves of a desk: nothing, one request more, or one run after another.
+use Rattle.std.proofs.Common.{◌≡◌, inl, inr, Option, ℕ, ◌+◌, ◌≤◌, List, [], ◌∷◌, ◌++◌, length, take, refl, ap, subst, arith}
+use Rattle.std.specs.Prelude.{Result, Ok, Err}
+use Rattle.std.proofs.lemmas.List.{length-append}
+use Rattle.portal_files.specs.SettingsFile.{SettingsValue}
+use Rattle.portal_ledger.specs.Ledger.{Ledger, IsSound}
+use Rattle.portal_ledger.specs.States.{State, running, MayStand}
+use Rattle.portal_ends.specs.declared.fault.Fault.{Fault}
+use Rattle.portal_ends.specs.Faults.{status_of}
+use Rattle.portal_http.specs.Arrived.{Arrived}
+use Rattle.portal_http.specs.Runs.{Run, Served}
+use Rattle.portal_http.specs.Headline.{Survives}
+use Rattle.portal_http.proofs.HeadlineLemmas.{survives}
+use Rattle.portal_http.specs.Exchanges.{Wire, CutsOff, EndsExchange}
+use Rattle.portal_http.specs.declared.exchanges.Done.{Done}
+use Rattle.portal_http.specs.declared.exchanges.Cut.{Cut}
+use Rattle.portal_http.specs.declared.exchanges.Cause.{Cause}
+use Rattle.portal_http.specs.declared.exchanges.Cause.TheVariants.{Read, NoRoom, Write}
+use Rattle.portal_serve.specs.Serving.{Serves}
+use Rattle.portal_serve.specs.Command.{IsUntold}
+
+-- ---- one exchange
+
+module _ (settings : SettingsValue) (old new : State) (wire : Wire) (moment : ℕ) (seed : List ℕ) where
+  abbrev OneRun : List Arrived → List (List ℕ) → Type 0
+  OneRun xs rs = Served settings old xs rs new
+
+  cut_serves : (cause : Cause) (written whole : ℕ) → CutsOff wire moment seed OneRun cause written whole → Serves 1 (λ xs rs. Run settings old xs rs new)
+  cut_serves Read written whole (none, empty, broken, kept, run) = ([], [], omega arith, run)
+  cut_serves NoRoom written whole (none, empty, full, kept, run) = ([], [], omega arith, run)
+  cut_serves Write written whole (response, size, less, (received, reads, run, out)) =
+      (record { moment = moment; seed = seed; bytes = received.bytes } ∷ [], response ∷ [], omega arith, run)
+
+  pub exchange_serves : (result : Result Done Cut) → EndsExchange wire moment seed OneRun result → Serves 1 (λ xs rs. Run settings old xs rs new)
+  exchange_serves (Ok done) (response, status, size, (received, reads, run, out)) =
+      (record { moment = moment; seed = seed; bytes = received.bytes } ∷ [], response ∷ [], omega arith, run)
+  exchange_serves (Err cut) off = cut_serves cut.cause cut.written cut.whole off
+
+-- ---- one run after another
+
+Run-append : (settings : SettingsValue) (old mid new : State) (xs ys : List Arrived) (rs qs : List (List ℕ))
+    → Run settings old xs rs mid → Run settings mid ys qs new → Run settings old (xs ++ ys) (rs ++ qs) new
+Run-append settings old mid new [] ys [] qs h more = subst (λ (s : State). Run settings s ys qs new) h more
+Run-append settings old mid new [] ys (r ∷ rs) qs h more = absurd h
+Run-append settings old mid new (x ∷ xs) ys [] qs h more = absurd h
+Run-append settings old mid new (x ∷ xs) ys (r ∷ rs) qs h more = (h.0, h.1, Run-append settings h.0 mid new xs ys rs qs h.2 more)
+
+pub serves_none : (settings : SettingsValue) (count : ℕ) (s : State) → Serves count (λ xs rs. Run settings s xs rs s)
+serves_none settings count s = ([], [], omega arith, refl)
+
+pub serves_more : (settings : SettingsValue) (count : ℕ) (old mid new : State) → Serves count (λ xs rs. Run settings old xs rs mid)
+    → Serves 1 (λ xs rs. Run settings mid xs rs new) → Serves (count + 1) (λ xs rs. Run settings old xs rs new)
+serves_more settings count old mid new (xs, rs, few, run) (ys, qs, one, more) =
+    (xs ++ ys, rs ++ qs, omega (arith, length-append xs ys), Run-append settings old mid new xs ys rs qs run more)
+
+pub serves_fewer : (IsRun : List Arrived → List (List ℕ) → Type 0) (few count : ℕ) → few ≤ count → Serves few IsRun → Serves count IsRun
+serves_fewer IsRun few count less (xs, rs, bound, run) = (xs, rs, omega arith, run)
+
+-- ---- what a stop leaves
+
+-- each request of a run is answered
+all_answered : (settings : SettingsValue) (old new : State) (xs : List Arrived) (rs : List (List ℕ)) → Run settings old xs rs new → take (length rs) xs ≡ xs
+all_answered settings old new [] [] run = refl
+all_answered settings old new [] (r ∷ rs) run = absurd run
+all_answered settings old new (x ∷ xs) [] run = absurd run
+all_answered settings old new (x ∷ xs) (r ∷ rs) run = ap (λ (ys : List Arrived). x ∷ ys) (all_answered settings run.0 new xs rs run.2)
+
+pub run_served : (settings : SettingsValue) (old new : State) (xs : List Arrived) (rs : List (List ℕ)) → Run settings old xs rs new → Served settings old xs rs new
+run_served settings old new xs rs run = rw (all_answered settings old new xs rs run) run
+
+-- each set of files that a stop may leave shows what the requests and their responses lead to
+module _ (Files : Type 0) (may_leave : Files → Type 0) (shows : Files → Ledger → Type 0) (settings : SettingsValue) (L : Ledger) (new : State) where
+  pub serves_survives : (count : ℕ) → Serves count (λ xs rs. Run settings (running L) xs rs new)
+      → ((files : Files) → may_leave files → (found : Ledger) × MayStand new found × shows files found)
+      → ((files : Files) (found : Ledger) → shows files found → IsSound found)
+      → Serves count (λ xs rs. Survives Files may_leave shows settings L xs rs)
+  serves_survives count (xs, rs, few, run) left sound =
+      (xs, rs, few, survives settings Files may_leave shows L xs rs new (run_served settings (running L) new xs rs run) left sound)
+
+-- ---- the status
+
+pub untold_status : (fault : Fault) (old new : Option (List ℕ)) (line : List ℕ) → IsUntold fault old new line → status_of fault ≡ 3
+untold_status fault old new line (inl h) = ap status_of h.0
+untold_status fault old new line (inr h) = ap status_of h.0

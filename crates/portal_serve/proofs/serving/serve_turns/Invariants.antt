@@ -1,0 +1,16 @@
+use Rattle.std.proofs.Common.{◌≡◌, ℕ, List, Option, length}
+use Rattle.portal_ledger.specs.States.{State}
+use Rattle.portal_ends.specs.declared.fault.Fault.{Fault}
+use Rattle.portal_http.specs.Runs.{Run}
+use Rattle.portal_serve.specs.Serving.{Serves, SaysOfEach}
+use Rattle.portal_serve.proofs.serving.serve_turns.Given as goal
+
+-- at most one request a turn was carried out
+abbrev pub invariant-loop-turn : goal.invariant-loop-turn
+invariant-loop-turn g l = record {
+  told : g.D.Desk.settings l.desk ≡ g.D.Desk.settings l.fn.desk;
+  honest : g.D.Desk.is_honest l.desk → g.D.Desk.is_honest l.fn.desk;
+  said : (said : List (Option Fault)) × SaysOfEach said (g.E.Write.contents l.fn.errors) (g.E.Write.contents l.errors) × (length said ≡ l._turn);
+  served : g.D.Desk.is_honest l.desk → (old : State) → g.D.Desk.stands l.fn.desk old
+      → (new : State) × g.D.Desk.stands l.desk new × Serves l._turn (λ arrivals responses. Run (g.D.Desk.settings l.fn.desk) old arrivals responses new);
+}

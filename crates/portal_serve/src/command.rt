@@ -1,0 +1,97 @@
+//! The command `serve`, over a host whose port is bound.
+ghost use Rattle.std.specs.Prelude.{◌≡◌, Result, MatchResult, IfOk, string_bytes};
+ghost use Rattle.std.specs.Io.KnownBytes.{Appends};
+ghost use Rattle.portal_ledger.specs.Ledger.{Ledger};
+ghost use Rattle.portal_ledger.specs.States.{State, running};
+ghost use Rattle.portal_ends.specs.declared.fault.Fault.{Fault as Said};
+ghost use Rattle.portal_http.specs.Runs.{Run};
+ghost use Rattle.portal_http.specs.Headline.{Survives};
+ghost use Rattle.portal_serve.specs.Serving.{Serves};
+ghost use Rattle.portal_serve.specs.Command.{listening_line, status_at, IsUntold, Tells, TellsAll, EndsAt};
+
+use crate::host::Host;
+use crate::serving::serve_connections;
+use portal_desk::Desk;
+use portal_ends::Fault;
+use portal_head::write_response;
+use portal_route::Routes;
+use std::alloc::{AllocError, Global};
+use std::io::Write;
+
+/// The line that tells where the program listens.
+fn listening_line(alloc: Global, port: u16) -> Result<String, AllocError>
+    ensures { IfOk result (λ line. string_bytes line ≡ listening_line port) }
+{
+    format!(in alloc; "listening 127.0.0.1:{port}\n")
+}
+
+/// Prints where the program listens. Faults: `NoMemory`, and `Cut` where the line goes out in part alone.
+fn tell_port<W: Write>(alloc: Global, port: u16, output: &mut W) -> Result<(), Fault>
+    ensures { MatchResult result (λ _. Appends (W.contents output.old) (W.contents output.new) (listening_line port))
+        (λ fault. IsUntold fault (W.contents output.old) (W.contents output.new) (listening_line port)) }
+{
+    let Ok(line) = listening_line(alloc, port) else {
+        return Err(Fault::NoMemory);
+    };
+    match write_response(output, line.as_bytes()) {
+        Ok(()) => Ok(()),
+        Err(_) => Err(Fault::Cut),
+    }
+}
+
+/// Prints where the program listens, and then serves.
+fn tell_and_serve<D: Desk, H: Host, W: Write, E: Write>(
+    desk: &mut D,
+    alloc: Global,
+    routes: &Routes,
+    host: &mut H,
+    port: u16,
+    count: u64,
+    output: &mut W,
+    errors: &mut E,
+) -> Result<(), Fault>
+    ensures told { D.settings desk.new ≡ D.settings desk.old }
+    ensures honest { D.is_honest desk.new → D.is_honest desk.old }
+    ensures printed { Tells port count (record { output = W.contents output.old; output_after = W.contents output.new; errors = E.contents errors.old; errors_after = E.contents errors.new }) result }
+    ensures served { D.is_honest desk.new → (old : State) → D.stands desk.old old → (new : State) × D.stands desk.new new
+        × Serves count (λ arrivals responses. Run (D.settings desk.old) old arrivals responses new) × EndsAt new (status_at result) }
+{
+    match tell_port(alloc, port, output) {
+        Err(fault) => Err(fault),
+        Ok(()) => serve_connections(desk, alloc, routes, host, count, errors),
+    }
+}
+
+/// Serves `count` connections of a host on which `port` was bound, and gives the status with which the program ends.
+///
+/// `listening 127.0.0.1:` and the port are printed on `output` first. Then one connection after another is served: its
+/// request is carried out at the clock's moment with a fresh seed, as `exchange` says. On `errors` `portal: cut` is
+/// printed of a connection that breaks off, and `portal: network` of one that is not accepted.
+///
+/// Status 0: so many connections were served, and the desk works. Status 3, with the fault's line on `errors`: the desk
+/// has stopped (`portal: stopped`), at once; the clock or the source of seeds failed (`portal: file`,
+/// `portal: no_memory`); or the first line did not go out (`portal: cut`, `portal: no_memory`).
+pub fn serve<D: Desk, H: Host, W: Write, E: Write>(
+    desk: &mut D,
+    alloc: Global,
+    routes: &Routes,
+    host: &mut H,
+    port: u16,
+    count: u64,
+    output: &mut W,
+    errors: &mut E,
+) -> u8
+    ensures told { D.settings desk.new ≡ D.settings desk.old }
+    ensures honest { D.is_honest desk.new → D.is_honest desk.old }
+    ensures printed { (ended : Result (Unit {0}) Said) × (result ≡ status_at ended)
+        × TellsAll port count (record { output = W.contents output.old; output_after = W.contents output.new; errors = E.contents errors.old; errors_after = E.contents errors.new }) ended }
+    ensures served { D.is_honest desk.new → (old : State) → D.stands desk.old old → (new : State) × D.stands desk.new new
+        × Serves count (λ arrivals responses. Run (D.settings desk.old) old arrivals responses new) × EndsAt new result }
+    ensures survives { D.is_honest desk.new → (L : Ledger) → D.stands desk.old (running L)
+        → Serves count (λ arrivals responses. Survives D.Files (D.may_leave desk.new) D.shows (D.settings desk.old) L arrivals responses) }
+{
+    match tell_and_serve(desk, alloc, routes, host, port, count, output, errors) {
+        Ok(()) => 0,
+        Err(fault) => fault.report(errors),
+    }
+}

@@ -1,0 +1,95 @@
+//! A host that serves the machine itself: a port of its loopback address, its clock and its source of seeds.
+ghost use Rattle.std.specs.Prelude.{◌≡◌, ◌∷◌, [], IfErr};
+ghost use Rattle.std.specs.Net.Addr.{ipv4_octets};
+ghost use Rattle.std.specs.Net.Socket.{v4_ip, v4_port};
+ghost use Rattle.portal_ends.specs.declared.fault.Fault.TheVariants.{Network};
+
+use crate::clock::moment_now;
+use crate::host::Host;
+use crate::seeds::fresh_seed;
+use portal_ends::Fault;
+use portal_model::moment::Moment;
+use std::io::Read;
+use std::net::{Ipv4Addr, Net, Shutdown, SocketAddr, SocketAddrV4, TcpListener, TcpStream};
+use std::random::RandomSource;
+use std::rt::Clock;
+
+/// The address that is served: a port of 127.0.0.1, which no other machine reaches.
+pub fn loopback_address(port: u16) -> SocketAddrV4
+    ensures ip { ipv4_octets (v4_ip result) ≡ 127 ∷ 0 ∷ 0 ∷ 1 ∷ [] }
+    ensures port { v4_port result ≡ port }
+{
+    SocketAddrV4::new(Ipv4Addr::new(127, 0, 0, 1), port)
+}
+
+/// Takes a port of the loopback address; connections wait from then on. Fault: `Network`, where it cannot be had.
+pub fn bind_loopback<N: Net<Listener = TcpListener, Stream = TcpStream>>(
+    net: &N,
+    port: u16,
+) -> Result<TcpListener, Fault>
+    ensures { IfErr result (λ fault. fault ≡ Network) }
+{
+    match net.bind(SocketAddr::V4(loopback_address(port))) {
+        Ok(listener) => Ok(listener),
+        Err(_) => Err(Fault::Network),
+    }
+}
+
+/// A listener, with the clock and the source of seeds of its machine.
+#[derive(Drop)]
+pub struct Loopback<'h, H> {
+    host: &'h H,
+    listener: TcpListener,
+}
+
+impl<'h, H> Loopback<'h, H> {
+    pub fn new(host: &'h H, listener: TcpListener) -> Self {
+        Loopback { host, listener }
+    }
+}
+
+/// Ends the response, and takes what the peer has sent by now and nobody has read: closing over unread bytes would reset
+/// the connection, and the reset can overtake the response (RFC 9112 section 9.6). It waits for nothing.
+fn drain(mut reader: TcpStream, writer: &TcpStream) {
+    if writer.shutdown(Shutdown::Write).is_err() || reader.set_nonblocking(true).is_err() {
+        return;
+    }
+    let mut buffer = [0u8; 4096];
+    for _turn in 0..64 {
+        match reader.read(&mut buffer) {
+            Ok(0) | Err(_) => return,
+            Ok(_) => {}
+        }
+    }
+}
+
+impl<'h, H: Clock + RandomSource> Host for Loopback<'h, H> {
+    type Reader = TcpStream;
+
+    type Writer = TcpStream;
+
+    fn accept(&mut self) -> Option<(TcpStream, TcpStream)> {
+        let Ok(accepted) = self.listener.accept() else {
+            return None;
+        };
+        let (reader, _peer) = accepted;
+        match reader.try_clone() {
+            Ok(writer) => Some((reader, writer)),
+            Err(_) => None,
+        }
+    }
+
+    fn moment_and_seed(&mut self) -> Result<(Moment, [u8; 32]), Fault> {
+        match moment_now(self.host) {
+            Err(fault) => Err(fault),
+            Ok(moment) => match fresh_seed(self.host) {
+                Err(fault) => Err(fault),
+                Ok(seed) => Ok((moment, seed)),
+            },
+        }
+    }
+
+    fn close(&mut self, reader: TcpStream, writer: TcpStream) {
+        drain(reader, &writer);
+    }
+}

@@ -1,0 +1,4 @@
+pub mod ActLemmas
+pub mod JudgeLemmas
+pub mod ReadLemmas
+pub mod TakingLemmas

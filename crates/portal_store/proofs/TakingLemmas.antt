@@ -1,0 +1,247 @@
+-- Takings are added up from the payments within a window that has each moment of their days.
+use Rattle.std.proofs.Common.{◌≡◌, ◌⊎◌, inl, inr, ℕ, zero, suc, ◌+◌, ◌<◌, ◌≤◌, ℤ, pos, negsuc, ◌+ℤ◌, ◌-ℤ◌, ◌*ℤ◌, ◌≤ℤ◌, Bool, true, false, cond, List, [], ◌∷◌, ◌++◌, Option, Some, None, map, refl, ap, sym, subst, ◌∙◌, arith}
+use Rattle.std.specs.Prelude.{option_map, filter, length, sum_by, count_by, IsPermutation, ◌&&◌, nat_le, IfOk, IfErr, Result, Ok, Err}
+use Rattle.std.specs.Int.{int_div_euclid, int_gap}
+use Rattle.std.specs.List.{range_with_len, AllByRecursion}
+use Rattle.std.specs.Option.{option_to_list}
+use Rattle.std.specs.Ordering.{int_eq}
+use Rattle.std.proofs.lemmas.Int.{ints}
+use Rattle.std.proofs.lemmas.Bool.{le-leb}
+use Rattle.std.proofs.lemmas.Bool.Decides.{Decides-int_eq}
+use Rattle.std.proofs.lemmas.List.Sorted.{sum_by-IsPermutation, IsPermutation-map}
+use Rattle.std.proofs.lemmas.List.Sums.{sum_by-cons, length-filter}
+use Rattle.std.proofs.lemmas.Simd.{map-map}
+use Rattle.jiff_core.specs.Timestamp.{IsOffsetSeconds}
+use Rattle.jiff_tz.specs.Zone.{offset_at}
+use Rattle.jiff_tz.specs.PosixRule as PosixRule
+use Rattle.jiff_tz.specs.Tzif as Table
+use Rattle.jiff_tz.specs.declared.timezone.TimeZone.{TimeZone}
+use Rattle.jiff_tz.specs.declared.timezone.TimeZone.TheVariants.{UTC, Unknown, Fixed, Posix, Tzif}
+use Rattle.portal_days.specs.Span.{Span, day_count, days_of}
+use Rattle.portal_days.specs.Takings.{Pair, is_on, amount_on, takings_on}
+use Rattle.portal_days.specs.declared.takings.DayTakings.{DayTakings}
+use Rattle.portal_model.specs.declared.command.Command.TheVariants.{Load, Issue, Sell, Redeem, Report, Refund, Close}
+use Rattle.portal_model.specs.History.{History, Issued, entry, issued_of, uses_of, amount_left}
+use Rattle.portal_model.specs.Payments.{Payment, payment, sales_of, refunds_of, by_day}
+use Rattle.portal_model.specs.Verdict.{IsLegal, greatest_moment}
+use Rattle.portal_files.specs.LocalDay.{local_day_of}
+use Rattle.portal_files.specs.Takings.{paid_on, sum_of, takings_of, ArePaid}
+use Rattle.portal_desk.specs.Sheets.{takings_over}
+use Rattle.portal_tables.specs.Lists.{paid, is_paid_within, AreSales, AreRefunds}
+use Rattle.portal_model.specs.declared.refusal.Refusal.{Refusal}
+use Rattle.portal_model.specs.declared.refusal.Refusal.TheVariants.{NoMemory}
+use Rattle.portal_ledger.specs.Ledger.{history_of}
+use Rattle.portal_ledger.specs.States.{State}
+use Rattle.portal_ledger.specs.Calls.{ReadsOf}
+use Rattle.portal_desk.specs.Calls.{CannotAnswer}
+use Rattle.portal_store.specs.Paid.{paid_days}
+use Rattle.portal_store.specs.Steps.{Tells}
+use Rattle.portal_store.proofs.ReadLemmas.{no_room, so}
+
+-- ---- a zone's clock is less than two days off
+
+offset-within : (zone : TimeZone) (n : ℤ) → IsOffsetSeconds (offset_at zone n)
+unfolding offset_at
+offset-within UTC n = omega (arith, ints)
+offset-within Unknown n = omega (arith, ints)
+offset-within (Fixed o) n = o.in_range
+offset-within (Posix tz) n = (PosixRule.offset_at tz n).in_range
+offset-within (Tzif z) n = (Table.offset_at z.now n).in_range
+
+from_day : (z d : ℤ) → d ≤ℤ int_div_euclid z (pos 86400) → (d *ℤ pos 86400) ≤ℤ z
+from_day (pos a) d h = omega (arith, ints)
+from_day (negsuc a) d h = omega (arith, ints)
+
+to_day : (z d : ℤ) → int_div_euclid z (pos 86400) ≤ℤ d → z ≤ℤ (d *ℤ pos 86400 +ℤ pos 86399)
+to_day (pos a) d h = omega (arith, ints)
+to_day (negsuc a) d h = omega (arith, ints)
+
+pub not_before : (zone : TimeZone) (t : ℕ) (day : ℤ) → day ≤ℤ local_day_of zone t → ((day -ℤ pos 2) *ℤ pos 86400) ≤ℤ pos t
+not_before zone t day h =
+    let off = offset_at zone (pos t *ℤ pos 1000000000) in
+    let within : IsOffsetSeconds off = offset-within zone (pos t *ℤ pos 1000000000) in
+    let low : (day *ℤ pos 86400) ≤ℤ (pos t +ℤ off) = from_day (pos t +ℤ off) day h in
+    omega (arith, ints)
+
+pub not_after : (zone : TimeZone) (t : ℕ) (day : ℤ) → local_day_of zone t ≤ℤ day → pos t ≤ℤ ((day +ℤ pos 3) *ℤ pos 86400)
+not_after zone t day h =
+    let off = offset_at zone (pos t *ℤ pos 1000000000) in
+    let within : IsOffsetSeconds off = offset-within zone (pos t *ℤ pos 1000000000) in
+    let high : (pos t +ℤ off) ≤ℤ (day *ℤ pos 86400 +ℤ pos 86399) = to_day (pos t +ℤ off) day h in
+    omega (arith, ints)
+
+-- ---- each payment's moment is in range
+
+abbrev InRange : Payment → Type 0
+InRange p = p.at ≤ greatest_moment
+
+more_in_range : (ps : List Payment) (found : Option Payment) → AllByRecursion InRange ps → AllByRecursion InRange (option_to_list found)
+    → AllByRecursion InRange (ps ++ option_to_list found)
+more_in_range [] found all one = one
+more_in_range (p ∷ ps) found all one = (all.0, more_in_range ps found all.1 one)
+
+sold_in_range : (H : History) → IsLegal H → AllByRecursion InRange (sales_of H)
+sold_in_range [] legal = tt
+sold_in_range (entry t (Load plans) ∷ H) legal = sold_in_range H legal.1
+sold_in_range (entry t (Issue b p codes) ∷ H) legal = sold_in_range H legal.1
+sold_in_range (entry t (Sell c) ∷ H) legal = more_in_range (sales_of H) (option_map (λ (v : Issued). payment t v.plan.price) (issued_of H c)) (sold_in_range H legal.1) (one (issued_of H c))
+  where
+    one : (found : Option Issued) → AllByRecursion InRange (option_to_list (option_map (λ v. payment t v.plan.price) found))
+    one None = tt
+    one (Some v) = (legal.0.in_range, tt)
+sold_in_range (entry t (Redeem d c) ∷ H) legal = sold_in_range H legal.1
+sold_in_range (entry t (Report n bytes) ∷ H) legal = sold_in_range H legal.1
+sold_in_range (entry t (Refund c) ∷ H) legal = sold_in_range H legal.1
+sold_in_range (entry t (Close n) ∷ H) legal = sold_in_range H legal.1
+
+refunded_in_range : (H : History) → IsLegal H → AllByRecursion InRange (refunds_of H)
+refunded_in_range [] legal = tt
+refunded_in_range (entry t (Load plans) ∷ H) legal = refunded_in_range H legal.1
+refunded_in_range (entry t (Issue b p codes) ∷ H) legal = refunded_in_range H legal.1
+refunded_in_range (entry t (Sell c) ∷ H) legal = refunded_in_range H legal.1
+refunded_in_range (entry t (Redeem d c) ∷ H) legal = refunded_in_range H legal.1
+refunded_in_range (entry t (Report n bytes) ∷ H) legal = refunded_in_range H legal.1
+refunded_in_range (entry t (Refund c) ∷ H) legal = more_in_range (refunds_of H) (option_map (λ (v : Issued). payment t (amount_left v.plan (uses_of H c))) (issued_of H c)) (refunded_in_range H legal.1) (one (issued_of H c))
+  where
+    one : (found : Option Issued) → AllByRecursion InRange (option_to_list (option_map (λ v. payment t (amount_left v.plan (uses_of H c))) found))
+    one None = tt
+    one (Some v) = (legal.0.in_range, tt)
+refunded_in_range (entry t (Close n) ∷ H) legal = refunded_in_range H legal.1
+
+-- the test tells that two days are one
+int_eq-true : (x y : ℤ) → int_eq x y ≡ true → x ≡ y
+int_eq-true x y is = grind (arith, ints, Decides-int_eq x y)
+
+-- ---- what a second test leaves, where the first passes nothing that it refuses
+
+filter-narrower : (f g : Payment → Bool) (ps : List Payment) → AllByRecursion (λ p. f p ≡ true → g p ≡ true) ps → filter f (filter g ps) ≡ filter f ps
+filter-narrower f g [] all = refl
+filter-narrower f g (p ∷ ps) all = by_test (filter-narrower f g ps all.1) (g p) refl
+  where
+    unkept : (passes : Bool) → f p ≡ passes → g p ≡ false → filter f ps ≡ cond passes (p ∷ filter f ps) (filter f ps)
+    unkept true is refused = absurd (cc (all.0 is))
+    unkept false is refused = refl
+
+    by_test : filter f (filter g ps) ≡ filter f ps → (within : Bool) → g p ≡ within → filter f (cond within (p ∷ filter g ps) (filter g ps)) ≡ cond (f p) (p ∷ filter f ps) (filter f ps)
+    by_test rest true is = ap (λ (ys : List Payment). cond (f p) (p ∷ ys) ys) rest
+    by_test rest false is = rest ∙ unkept (f p) refl is
+
+-- ---- adding up
+
+sum_by-by_day : (day_of : ℕ → ℤ) (f : Pair → ℕ) (payments : List Payment) → sum_by f (by_day day_of payments) ≡ sum_by (λ p. f (day_of p.at, p.amount)) payments
+sum_by-by_day day_of f [] = refl
+sum_by-by_day day_of f (p ∷ ps) =
+    let g : Payment → Pair = λ q. (day_of q.at, q.amount) in
+    sum_by-cons f (g p) (map g ps) ∙ ap (λ n. f (g p) + n) (sum_by-by_day day_of f ps) ∙ sym (sum_by-cons (λ q. f (g q)) p ps)
+
+sum_by-filtered : (test : Payment → Bool) (f : Payment → ℕ) (payments : List Payment) → sum_by (λ p. cond (test p) (f p) 0) payments ≡ sum_by f (filter test payments)
+sum_by-filtered test f [] = refl
+sum_by-filtered test f (p ∷ ps) = sum_by-cons (λ q. cond (test q) (f q) 0) p ps ∙ ap (λ n. cond (test p) (f p) 0 + n) (sum_by-filtered test f ps) ∙ kept (test p)
+  where
+    kept : (passes : Bool) → cond passes (f p) 0 + sum_by f (filter test ps) ≡ sum_by f (cond passes (p ∷ filter test ps) (filter test ps))
+    kept true = sym (sum_by-cons f p (filter test ps))
+    kept false = omega arith
+
+counted : (zone : TimeZone) (payments : List Payment) (pairs : List Pair) (day : ℤ) → ArePaid zone payments pairs → count_by (is_on day) pairs ≡ length (paid_on zone day payments)
+counted zone payments pairs day same =
+    sum_by-IsPermutation (λ p. cond (is_on day p) 1 0) (by_day (local_day_of zone) payments) pairs same
+    ∙ sum_by-by_day (local_day_of zone) (λ p. cond (is_on day p) 1 0) payments
+    ∙ sym (length-filter (λ p. int_eq (local_day_of zone p.at) day) payments)
+
+summed : (zone : TimeZone) (payments : List Payment) (pairs : List Pair) (day : ℤ) → ArePaid zone payments pairs → sum_by (amount_on day) pairs ≡ sum_of (paid_on zone day payments)
+summed zone payments pairs day same =
+    sum_by-IsPermutation (amount_on day) (by_day (local_day_of zone) payments) pairs same
+    ∙ sum_by-by_day (local_day_of zone) (amount_on day) payments
+    ∙ sum_by-filtered (λ p. int_eq (local_day_of zone p.at) day) (λ p. p.amount) payments
+
+abbrev day_takings : ℤ → ℕ → ℕ → ℕ → ℕ → DayTakings
+day_takings day sold sales refunded refunds = record { day = day; sold = sold; sales = sales; refunded = refunded; refunds = refunds }
+
+-- the days of payments that were read
+with_days : (zone : TimeZone) (payments : List Payment) (answer : List (ℕ × ℕ)) → IsPermutation payments (map paid answer) → ArePaid zone payments (paid_days zone answer)
+with_days zone payments answer same =
+    let g : Payment → Pair = λ q. (local_day_of zone q.at, q.amount) in
+    subst (λ (pairs : List Pair). IsPermutation (by_day (local_day_of zone) payments) pairs) (map-map g paid answer) (IsPermutation-map g payments (map paid answer) same)
+
+-- the same of each of the days
+alike : (range : Span) (f g : ℤ → DayTakings) (a n : ℕ) → ((k : ℕ) → k < a + n → f (range.first +ℤ pos k) ≡ g (range.first +ℤ pos k))
+    → map f (map (λ k. range.first +ℤ pos k) (range_with_len a n)) ≡ map g (map (λ k. range.first +ℤ pos k) (range_with_len a n))
+alike range f g a zero same = refl
+alike range f g a (suc n) same = ap (λ (d : DayTakings). d ∷ map f (map (λ k. range.first +ℤ pos k) (range_with_len (a + 1) n))) (same a (omega arith))
+    ∙ ap (λ (ds : List DayTakings). g (range.first +ℤ pos a) ∷ ds) (alike range f g (a + 1) n (λ k below. same k (omega arith)))
+
+-- a day of a range is not past both of its ends
+pub at_most : (a b : ℤ) (k : ℕ) → k < int_gap a b + 1 → ((a +ℤ pos k) ≤ℤ a) ⊎ ((a +ℤ pos k) ≤ℤ b)
+at_most a b zero below = inl (omega (arith, ints))
+at_most (pos a) (pos b) (suc k) below = inr (omega (arith, ints))
+at_most (pos a) (negsuc b) (suc k) below = absurd (omega arith)
+at_most (negsuc a) (pos b) (suc k) below = inr (omega (arith, ints))
+at_most (negsuc a) (negsuc b) (suc k) below = inr (omega (arith, ints))
+
+-- the window has each moment of the days
+abbrev pub Holds : Span → ℕ → ℕ → Type 0
+Holds range from to = (zone : TimeZone) (t k : ℕ) → t ≤ greatest_moment → k < day_count range
+    → local_day_of zone t ≡ range.first +ℤ pos k → (from ≤ t) × (t ≤ to)
+
+module _ (zone : TimeZone) (range : Span) (from to : ℕ) (holds : Holds range from to) where
+  -- a payment of one of the days was read
+  is_read : (k : ℕ) → k < day_count range → (p : Payment) → InRange p → int_eq (local_day_of zone p.at) (range.first +ℤ pos k) ≡ true → is_paid_within from to p ≡ true
+  is_read k below p limit on =
+      let it = holds zone p.at k limit below (int_eq-true (local_day_of zone p.at) (range.first +ℤ pos k) on) in
+      let one : nat_le from p.at ≡ true = le-leb from p.at it.0 in
+      let two : nat_le p.at to ≡ true = le-leb p.at to it.1 in
+      ap (λ b. b && nat_le p.at to) one ∙ two
+
+  each_read : (k : ℕ) → k < day_count range → (ps : List Payment) → AllByRecursion InRange ps
+      → AllByRecursion (λ p. int_eq (local_day_of zone p.at) (range.first +ℤ pos k) ≡ true → is_paid_within from to p ≡ true) ps
+  each_read k below [] all = tt
+  each_read k below (p ∷ ps) all = (is_read k below p all.0, each_read k below ps all.1)
+
+  on_day : (k : ℕ) → k < day_count range → (ps : List Payment) → AllByRecursion InRange ps
+      → paid_on zone (range.first +ℤ pos k) (filter (is_paid_within from to) ps) ≡ paid_on zone (range.first +ℤ pos k) ps
+  on_day k below ps all = filter-narrower (λ p. int_eq (local_day_of zone p.at) (range.first +ℤ pos k)) (is_paid_within from to) ps (each_read k below ps all)
+
+  one_day : (H : History) → IsLegal H → (sales refunds : List (ℕ × ℕ)) → AreSales H from to sales → AreRefunds H from to refunds
+      → (k : ℕ) → k < day_count range → takings_on (paid_days zone sales) (paid_days zone refunds) (range.first +ℤ pos k) ≡ takings_of zone H (range.first +ℤ pos k)
+  one_day H legal sales refunds sold refunded k below =
+      let day = range.first +ℤ pos k in
+      let S = filter (is_paid_within from to) (sales_of H) in
+      let R = filter (is_paid_within from to) (refunds_of H) in
+      let sp = with_days zone S sales sold.payments in
+      let rp = with_days zone R refunds refunded.payments in
+      let so : paid_on zone day S ≡ paid_on zone day (sales_of H) = on_day k below (sales_of H) (sold_in_range H legal) in
+      let ro : paid_on zone day R ≡ paid_on zone day (refunds_of H) = on_day k below (refunds_of H) (refunded_in_range H legal) in
+      let a : count_by (is_on day) (paid_days zone sales) ≡ length (paid_on zone day (sales_of H)) = counted zone S (paid_days zone sales) day sp ∙ ap length so in
+      let b : sum_by (amount_on day) (paid_days zone sales) ≡ sum_of (paid_on zone day (sales_of H)) = summed zone S (paid_days zone sales) day sp ∙ ap sum_of so in
+      let c : count_by (is_on day) (paid_days zone refunds) ≡ length (paid_on zone day (refunds_of H)) = counted zone R (paid_days zone refunds) day rp ∙ ap length ro in
+      let d : sum_by (amount_on day) (paid_days zone refunds) ≡ sum_of (paid_on zone day (refunds_of H)) = summed zone R (paid_days zone refunds) day rp ∙ ap sum_of ro in
+      λ i. day_takings day (a i) (b i) (c i) (d i)
+
+  -- the takings of all days
+  pub taken : (H : History) → IsLegal H → (sales refunds : List (ℕ × ℕ)) → AreSales H from to sales → AreRefunds H from to refunds
+      → map (takings_on (paid_days zone sales) (paid_days zone refunds)) (days_of range) ≡ takings_over zone H range
+  taken H legal sales refunds sold refunded = alike range (takings_on (paid_days zone sales) (paid_days zone refunds)) (takings_of zone H) 0 (day_count range)
+      (λ k below. one_day H legal sales refunds sold refunded k (omega (arith, below)))
+
+-- the answer over what was read
+pub added_up : (zone : TimeZone) (range : Span) (from to : ℕ) → Holds range from to → (sales refunds : List (ℕ × ℕ)) (sold refunded : List Pair)
+    → sold ≡ paid_days zone sales → refunded ≡ paid_days zone refunds → (H : History) → IsLegal H → AreSales H from to sales → AreRefunds H from to refunds
+    → map (takings_on sold refunded) (days_of range) ≡ takings_over zone H range
+added_up zone range from to holds sales refunds sold refunded one two H legal some others =
+    ap (λ (ps : List Pair). map (takings_on ps refunded) (days_of range)) one
+    ∙ ap (λ (ps : List Pair). map (takings_on (paid_days zone sales) ps) (days_of range)) two
+    ∙ taken zone range from to holds H legal sales refunds some others
+
+-- the call's answer
+pub adds : {V : Type 0} (Done : State → Type 0) (result : Result V Refusal) (items : V → List DayTakings) (zone : TimeZone) (range : Span) (from to : ℕ) → Holds range from to
+    → (sales refunds : List (ℕ × ℕ)) (sold refunded : List Pair) → sold ≡ paid_days zone sales → refunded ≡ paid_days zone refunds
+    → IfOk result (λ v. items v ≡ map (takings_on sold refunded) (days_of range)) → IfErr result (λ r. r ≡ NoMemory) → (old : State)
+    → ((x : State) × Done x × ReadsOf old (λ L. IsLegal (history_of L) × (AreSales (history_of L) from to sales × AreRefunds (history_of L) from to refunds)) x)
+    → (x : State) × Done x × Tells result (λ v H. items v ≡ takings_over zone H range) old x
+adds Done (Ok v) items zone range from to holds sales refunds sold refunded one two made memory old got =
+    so Done (λ L. IsLegal (history_of L) × (AreSales (history_of L) from to sales × AreRefunds (history_of L) from to refunds))
+    (λ L. items v ≡ takings_over zone (history_of L) range)
+    (λ L is. made ∙ added_up zone range from to holds sales refunds sold refunded one two (history_of L) is.0 is.1.0 is.1.1) old got
+adds Done (Err r) items zone range from to holds sales refunds sold refunded one two made memory old got =
+    let it = no_room Done (λ L. IsLegal (history_of L) × (AreSales (history_of L) from to sales × AreRefunds (history_of L) from to refunds)) old got in
+    (it.0, it.1, subst (λ (e : Refusal). CannotAnswer old e it.0) (sym memory) it.2)

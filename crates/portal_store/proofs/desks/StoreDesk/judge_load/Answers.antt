@@ -1,0 +1,22 @@
+use Rattle.std.proofs.Common.{List, ◌++◌, ap, subst, ◌∙◌}
+use Rattle.portal_model.specs.declared.command.Command.TheVariants.{Load}
+use Rattle.portal_model.specs.declared.plan.Plan.{Plan}
+use Rattle.portal_model.specs.Rows.{plans_of}
+use Rattle.portal_laws.specs.FromRows.{held_among}
+use Rattle.portal_ledger.specs.Ledger.{history_of}
+use Rattle.portal_ledger.specs.States.{State}
+use Rattle.portal_tables.specs.TablesAt.{TablesAt}
+use Rattle.portal_store.proofs.JudgeLemmas.{loads, unread}
+use Rattle.portal_store.proofs.desks.StoreDesk.judge_load.Goals as goal
+
+pub returns-in-Ok-clause-judge : goal.returns-in-Ok-clause-judge
+returns-in-Ok-clause-judge g c = λ honest L at.
+    let Stands : State → Type 0 = λ s. TablesAt g.S.Store c.hold.new.self.tables s in
+    let got = c.in-Ok.ensures.held honest L at in
+    loads L c.args.t c.args.plans.now c.as_slice.result.now Stands (subst Stands got.2.1 got.1) c.decide_plans.result
+    (c.as_slice.ensures.value ∙ got.2.0 ∙ ap (λ (ps : List Plan). ps ++ held_among (plans_of (history_of L)) c.args.plans.now) c.new-held.ensures.items)
+    c.decide_plans.ensures.accepted c.decide_plans.ensures.refused c.decide_plans.ensures.change
+
+pub returns-clause-judge : goal.returns-clause-judge
+returns-clause-judge g c = λ honest L at.
+    unread L (Load c.args.plans.now) c.args.t (λ s. TablesAt g.S.Store c.hold.new.self.tables s) c.in-Err.r (c.in-Err.ensures.held honest L at)

@@ -1,0 +1,6 @@
+use Rattle.std.proofs.Common.{◌≡◌, take}
+use Rattle.portal_store.specs.Paid.{paid_days}
+use Rattle.portal_store.proofs.lists.with_days.Given as goal
+
+abbrev pub invariant-loop-at : goal.invariant-loop-at
+invariant-loop-at l = l.pairs.items ≡ paid_days l.settings.zone (take l.at-index l.payments)

@@ -1,0 +1,22 @@
+use Rattle.std.proofs.Common.{◌≡◌, ◌≤◌, inl, inr, ◌≤ℤ◌, arith, rules, subst, sym}
+use Rattle.std.specs.Prelude.{max}
+use Rattle.std.proofs.lemmas.Int.{ints}
+use Rattle.portal_files.specs.LocalDay.{local_day_of}
+use Rattle.portal_store.proofs.TakingLemmas.{at_most}
+use Rattle.portal_store.proofs.takings.window.Goals as goal
+
+pub returns : goal.returns
+returns c = λ zone t k limit below is.
+    let greater : c.max.result ≡ max c.latest.result c.latest-2.result = search rules in
+    let first = c.first-first.ensures in
+    let last = c.last-last.ensures in
+    let low : c.first-first.result ≤ℤ local_day_of zone t = omega (arith, ints) in
+    let high : t ≤ max c.latest.result c.latest-2.result = elim (at_most c.args.range.first c.args.range.last k below) [
+      | inl one ↦
+          let day : local_day_of zone t ≤ℤ c.first-first.result = omega (arith, ints) in
+          let is_before = c.latest.ensures zone t limit day in omega arith
+      | inr two ↦
+          let day : local_day_of zone t ≤ℤ c.last-last.result = omega (arith, ints) in
+          let is_before = c.latest-2.ensures zone t limit day in omega arith
+    ] in
+    (c.earliest.ensures zone t low, subst (λ n. t ≤ n) (sym greater) high)

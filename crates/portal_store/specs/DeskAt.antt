@@ -1,0 +1,23 @@
+-- How a desk over a store stands, and what a stop may leave of it. The layers above cite these words and none of SQL.
+use Rattle.sqlite_trees.specs.declared.store.Store.{Ghosts}
+use Rattle.portal_files.specs.SettingsFile.{SettingsValue}
+use Rattle.portal_ledger.specs.States.{State}
+use Rattle.portal_tables.specs.TablesAt.{Files, IsHonest, MayLeave, TablesAt}
+use Rattle.portal_store.specs.declared.desks.StoreDesk.{StoreDesk}
+
+module _ {S : Type 0} (g : Ghosts S) where
+  -- the desk stands so: as its tables do
+  abbrev pub DeskAt : StoreDesk S → State → Type 0
+  DeskAt desk s = TablesAt g desk.tables s
+
+  -- the disk has returned what was written
+  abbrev pub DeskIsHonest : StoreDesk S → Type 0
+  DeskIsHonest desk = IsHonest g desk.tables
+
+  -- a stop at this moment may leave these files
+  abbrev pub DeskMayLeave : StoreDesk S → Files → Type 0
+  DeskMayLeave desk files = MayLeave g desk.tables files
+
+-- the settings that it was made with
+abbrev pub settings_of : {S : Type 0} → StoreDesk S → SettingsValue
+settings_of desk = desk.settings

@@ -1,0 +1,12 @@
+//! A desk over the tables of a store. It knows neither HTTP nor SQL.
+#![tactic(auto)]
+
+mod acting;
+mod adopting;
+mod desks;
+mod judging;
+mod lists;
+mod reading;
+mod takings;
+
+pub use desks::StoreDesk;

@@ -1,0 +1,135 @@
+//! A place of one settings file, with the faults that it is to answer.
+use portal_desk::memory::MemoryDesk;
+use portal_ends::Fault;
+use portal_files::Settings;
+use portal_model::moment::Moment;
+use portal_program::place::Place;
+use portal_program::serving::Network;
+use portal_serve::Host;
+use std::alloc::Global;
+use std::io::{self, Read, Write};
+
+/// A settings file in UTC, with the tokens of the sample settings.
+pub const SETTINGS: &str = "zone = \"UTC0\"\n\
+    portal_url = \"https://wifi.example/portal\"\n\
+    desk_token = \"desk-token\"\n\
+    gateway_token = \"gate-token\"\n";
+
+/// What stands for the files of a machine: a text, and the faults of reading and of opening.
+#[derive(Clone, Copy)]
+pub struct Shelf {
+    pub alloc: Global,
+    pub text: &'static str,
+    pub reading: Option<Fault>,
+    pub opening: Option<Fault>,
+}
+
+/// A place at which all goes well.
+pub fn good_shelf(alloc: Global) -> Shelf {
+    Shelf {
+        alloc,
+        text: SETTINGS,
+        reading: None,
+        opening: None,
+    }
+}
+
+impl Place for Shelf {
+    type Stored = MemoryDesk;
+
+    type Fresh = MemoryDesk;
+
+    ghost is_fresh_honest = { λ desk. tt };
+
+    fn read(&self, alloc: Global, _path: &str) -> Result<Vec<u8>, Fault> {
+        match self.reading {
+            Some(Fault::NoMemory) => return Err(Fault::NoMemory),
+            Some(_) => return Err(Fault::File),
+            None => {}
+        }
+        match self.text.as_bytes().to_vec(alloc) {
+            Ok(bytes) => Ok(bytes),
+            Err(_) => Err(Fault::NoMemory),
+        }
+    }
+
+    fn open(self, _path: &str, settings: Settings) -> Result<MemoryDesk, Fault> {
+        match self.opening {
+            None => Ok(MemoryDesk::new(self.alloc, settings)),
+            Some(Fault::NotOurs) => Err(Fault::NotOurs),
+            Some(Fault::Newer) => Err(Fault::Newer),
+            Some(Fault::NoMemory) => Err(Fault::NoMemory),
+            Some(_) => Err(Fault::File),
+        }
+    }
+
+    fn close(desk: MemoryDesk) {
+        drop(desk);
+    }
+
+    fn open_fresh(alloc: Global, settings: Settings) -> Result<MemoryDesk, Fault> {
+        Ok(MemoryDesk::new(alloc, settings))
+    }
+
+    fn close_fresh(desk: MemoryDesk) {
+        drop(desk);
+    }
+}
+
+/// A loopback address of which a port can be had, or not. Each connection breaks before it is accepted.
+#[derive(Clone, Copy)]
+pub struct Line {
+    pub is_free: bool,
+}
+
+/// A port at which every connection breaks.
+#[derive(Clone, Copy)]
+pub struct Broken;
+
+/// What no peer sends or takes.
+#[derive(Clone, Copy)]
+pub struct Nothing;
+
+impl Read for Nothing {
+    fn read(&mut self, _buf: &mut [u8]) -> io::Result<usize> {
+        Ok(0)
+    }
+}
+
+impl Write for Nothing {
+    fn write(&mut self, _buf: &[u8]) -> io::Result<usize> {
+        Ok(0)
+    }
+
+    fn flush(&mut self) -> io::Result<()> {
+        Ok(())
+    }
+}
+
+impl Host for Broken {
+    type Reader = Nothing;
+
+    type Writer = Nothing;
+
+    fn accept(&mut self) -> Option<(Nothing, Nothing)> {
+        None
+    }
+
+    fn moment_and_seed(&mut self) -> Result<(Moment, [u8; 32]), Fault> {
+        Err(Fault::File)
+    }
+
+    fn close(&mut self, _reader: Nothing, _writer: Nothing) {}
+}
+
+impl Network for Line {
+    type Bound = Broken;
+
+    fn listen(&self, _port: u16) -> Result<Broken, Fault> {
+        if self.is_free {
+            Ok(Broken)
+        } else {
+            Err(Fault::Network)
+        }
+    }
+}
