@@ -178,12 +178,25 @@ def hundred_codes(program):
     store.tell(1000, "GET", "/captive", guest(1), "", open_for(360000))
 
 
+def examples(program):
+    """The settings and the plans of the folder examples are read, and each plan of a file is loaded."""
+    folder = os.path.join(os.path.dirname(os.path.abspath(__file__)), "../../examples")
+    settings = os.path.join(folder, "settings.toml")
+    field = "Portal-Token: change-me-desk"
+    for name in sorted(set(os.listdir(folder)) - {"settings.toml"}):
+        with open(os.path.join(folder, name), encoding="utf-8") as file:
+            plans = file.read()
+        words = [program, "answer", "--settings", settings, "--now", "0", "--seed", SEED]
+        done = subprocess.run(words, input=request("POST", "/desk/plans", field, plans), capture_output=True, check=False)
+        assert done.stdout.endswith(b'{"plans":%d}' % plans.count("[[plan]]")), (name, done)
+
+
 def main():
-    cases = [issue_sell_redeem, extended_before_end, new_session_at_end, bytes_counted, refund_of_unused_uses, desk_refusals, close_session,
+    cases = [examples, issue_sell_redeem, extended_before_end, new_session_at_end, bytes_counted, refund_of_unused_uses, desk_refusals, close_session,
              numbered, hundred_codes]
     for case in cases:
         case(sys.argv[1])
-    print(f"outside: {len(cases)} worked cases over HTTP, each response as it is worked out")
+    print(f"outside: {len(cases)} cases over HTTP, each response as it is worked out")
 
 
 main()
