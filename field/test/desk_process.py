@@ -31,7 +31,8 @@ def free_port() -> int:
 
 
 class DeskProcess:
-    def __init__(self, book: pathlib.Path | None = None) -> None:
+    def __init__(self, book: pathlib.Path | None = None, portal: str = PORTAL) -> None:
+        self.portal = shlex.split(portal)
         self.place = tempfile.TemporaryDirectory()
         self.folder = pathlib.Path(self.place.name)
         self.book = book or self.folder / "book.db"
@@ -41,7 +42,7 @@ class DeskProcess:
         self.desk, self.gateway = Desk(self.port, "desk-token"), Desk(self.port, "gate-token")
 
     def __enter__(self) -> DeskProcess:
-        words = [*shlex.split(PORTAL), "serve", "--port", str(self.port), "--db", str(self.book),
+        words = [*self.portal, "serve", "--port", str(self.port), "--db", str(self.book),
                  "--settings", str(self.settings)]
         self.job = subprocess.Popen(words, stdout=subprocess.DEVNULL)
         for _ in range(600):

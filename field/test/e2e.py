@@ -22,6 +22,8 @@ from house import API, CLERK, PEER, PORTAL, House
 from lab import COUNTER, MACS, NAME, OUTSIDE, PYTHON, STAND_IN
 
 REDEEM = f"https://{NAME}/portal/redeem"
+INSIDE = "192.168.9.9"      # an address that is no guest's business
+CANNOT_CONNECT = 7          # curl's status
 
 
 class Checks:
@@ -52,17 +54,26 @@ def captured(house: House, check: Checks) -> None:
     check("not one packet came out of the house", house.arrived() == out, house.arrived() - out)
     status, _, head = house.curl(guest, "http://outside.example/x")
     check("plain HTTP to anywhere leads to the portal", status == 302 and PORTAL in head, status)
+    house.start("shell", PYTHON, PEER, "door", "0.0.0.0", 22)     # as one who looks after the machine would have it
+    house.until(lambda: house.listening(22), what="port 22")
     for host, port in (("10.77.0.1", 8080), ("10.77.0.1", 22), ("10.88.0.1", 443), ("10.88.0.2", 443),
                        ("127.0.0.1", 8080), ("203.0.113.1", 443)):
         url = f"http{'s' * (port == 443)}://{host}:{port}/"
         done = house.within(guest, "curl", "-sk", "--max-time", "2", "-o", "/dev/null", url, check=False)
-        check(f"a guest does not reach {host}:{port}", done.returncode != 0, done.returncode)
+        check(f"a guest does not reach {host}:{port}", done.returncode == CANNOT_CONNECT, done.returncode)
+    house.stop("shell")
     got = int(house.within(guest, PYTHON, PEER, "names", "10.77.0.1", 500).stdout)
     check("of 500 names asked in a second few are answered", 20 <= got <= 120, got)
+    done = house.within(guest, PYTHON, PEER, "knock", "10.77.0.1", 53, check=False)
+    check("nor is a name told by TCP", done.returncode == 1, done.returncode)
     status, body, head = house.curl(guest, API)
     check("GET /captive over TLS says captive",
           status == 200 and json.loads(body)["captive"] and "application/captive+json" in head, body)
     check("HEAD /captive is no fault", house.curl(guest, API, "-I")[0] == 200)
+    pages = house.curl(guest, PORTAL), house.curl("clerk", f"https://{COUNTER}/", *CLERK)
+    good = all("content-security-policy: default-src 'none'; style-src 'self';" in head.lower() and status == 200
+               and "<script" not in body for status, body, head in pages)
+    check("the pages have no script, and forbid any", good)
 
 
 def first_voucher(house: House, check: Checks) -> None:
@@ -82,14 +93,15 @@ def first_voucher(house: House, check: Checks) -> None:
           and "GET /voucher 200" in log and codes[0] not in log)
     status, body, _ = house.redeem("guest1", "2222-2222-2222-2222")
     check("an unknown code is told in plain words", status == 404 and "We do not know this code" in body, status)
-    watch = house.first("guest1", 5)
+    number, watch = house.number("guest1"), house.first("guest1", 5)
     time.sleep(0.3)
-    number, start = house.number("guest1"), time.time()
+    house.polled()      # the worst moment: without a knock at the agent a whole poll goes by
+    start = time.time()
     status = house.send_form("guest1", codes[0].lower().replace("-", " "), number)[0]
     told = (time.time() - start) * 1e3
     check("a code typed in lower case with spaces is redeemed", status == 303, status)
     first = (float(watch.communicate()[0] or "nan") - start) * 1e3
-    check("packets pass", first < 1500, f"{first:.0f} ms after the form was sent, its answer took {told:.0f} ms")
+    check("packets pass at once", first < 600, f"{first:.0f} ms after the form was sent, its answer took {told:.0f} ms")
     now = house.captive("guest1")
     check("the API says so, with the time that is left",
           now.get("captive") is False and 3590 <= now["seconds-remaining"] <= 3600, now)
@@ -148,13 +160,15 @@ def in_doubt(house: House, check: Checks) -> None:
 def bytes_are_counted(house: House, check: Checks) -> None:
     """The guest's own device counts the frames that it sends and gets; the desk's number is held against it."""
     guest, session = "guest1", house.online("guest1")
+    house.neighbours("permanent")       # frames that are no IP's would be in the device's count
     house.tcp(guest, "send", 100)
     before, first = house.counted(guest), house.frames(guest)
     took = house.tcp(guest, "take", 20_000_000), house.tcp(guest, "send", 30_000_000)
     house.within(guest, "ping", "-q", "-c", "20", "-i", "0.01", "-s", "1000", OUTSIDE)
     mine = house.frames(guest) - first
     theirs = house.counted(guest) - before
-    check("bytes of both directions are counted as the guest's device counts them", abs(theirs - mine) <= 500,
+    house.neighbours("reachable")
+    check("bytes of both directions are counted as the guest's device counts them", theirs == mine > 50_000_000,
           f"gateway {theirs}, guest {mine}, difference {theirs - mine}; {took} s")
     house.until(lambda: house.held(session) >= before + theirs, 35, "the report")
     check("and reported to the desk", house.held(session) == before + theirs)
@@ -176,8 +190,10 @@ def forged(house: House, check: Checks) -> None:
                "-d", '{"code":"2222-2222-2222"}')
     status, body, _ = house.curl("guest2", REDEEM, *chunked)
     check("a chunked request comes to the desk as any other", status == 404 and "unknown_code" in body, status)
-    query, field = ("-G", "-d", "from=a%0d%0aPortal-Device:x"), ("-H", "Portal-Token: x")
-    for what, words in (("a query", query), ("the desk's field", field)):
+    query, long = ("-G", "-d", "from=a%0d%0aPortal-Device:x"), ("-G", "-d", "from=" + "a" * 8140)
+    many = [word for i in range(40) for word in ("-H", f"A{i}: x")]
+    for what, words in (("a query", query), ("a query of 8,140 signs", long), ("40 fields", many),
+                        ("the desk's field", ("-H", "Portal-Token: x"))):
         status = house.curl("guest2", API, *words)[0]
         check(f"a request with {what} comes to the desk as any other", status == 200, status)
     raw = (f"POST /portal/redeem HTTP/1.1\r\nHost: {NAME}\r\nContent-Length: 4\r\nTransfer-Encoding: chunked\r\n\r\n"
@@ -190,6 +206,17 @@ def forged(house: House, check: Checks) -> None:
                  "/captive/%2e%2e/gateway/sessions"):
         status = house.curl("guest2", f"https://{NAME}{path}", "--path-as-is")[0]
         check("a guest does not reach " + path.replace(code, "CODE"), status in (302, 400, 403, 404), status)
+
+
+def own_networks(house: House, check: Checks) -> None:
+    """A guest with a session reaches the outside, and no network of the house's own that stands behind it."""
+    house.online("guest1")
+    house.within("outside", "ip", "addr", "replace", INSIDE + "/32", "dev", "lo")
+    house.within("gw", "ip", "route", "replace", INSIDE, "via", OUTSIDE)
+    check("the gateway itself reaches a network of the house's own", house.reaches("gw", host=INSIDE))
+    out = house.arrived()
+    check("a guest with a session sends nothing there", not house.reaches("guest1", host=INSIDE)
+          and house.arrived() == out, house.arrived() - out)
 
 
 def closed(house: House, check: Checks) -> None:
@@ -240,6 +267,11 @@ def desk_dies(house: House, check: Checks) -> None:
     house.desk()
     house.until(lambda: house.reaches("guest1"), 4, "packets")
     check("the desk started again over its file, packets pass", house.session_of("guest1") == session)
+    os.kill(house.jobs["desk"].pid, signal.SIGSTOP)
+    took = house.shut_after("guest1", 12)
+    os.kill(house.jobs["desk"].pid, signal.SIGCONT)
+    check("with a silent desk the gate shuts by itself", took is not None and took <= 6, took)
+    house.until(lambda: house.reaches("guest1"), 4, "packets")
     house.stop("desk")
     house.start("stopped", PYTHON, PEER, "stopped")
     took = house.shut_after("guest1", 9)
@@ -291,7 +323,8 @@ def slow(house: House, check: Checks) -> None:
     held.communicate()
     done = house.within("gw", "setpriv", "--reuid=65534", "--clear-groups", "curl", "-s", "--max-time", "2",
                         "http://127.0.0.1:8080/captive", check=False)
-    check("another user of the machine cannot connect to the desk", done.returncode == 7, done.returncode)
+    good = done.returncode == CANNOT_CONNECT
+    check("another user of the machine cannot connect to the desk", good, done.returncode)
 
 
 def guessed(house: House, check: Checks) -> None:
@@ -301,6 +334,9 @@ def guessed(house: House, check: Checks) -> None:
           {status: statuses.count(status) for status in sorted(set(statuses))})
     page = house.curl("guest2", PORTAL)
     check("and the page is shown all the same", page[0] == 200, page[0])
+    body = ("-d", json.dumps({"code": "2222-2222-2222-2222"}))
+    statuses = [house.curl("guest2", REDEEM, *body)[0] for _ in range(8)]
+    check("a program's guesses are counted with them", statuses.count(429) >= 6, statuses)
     logs = "".join(log.read_text() for log in house.root.glob("*.log") if log.stem in ("nginx-error", "portal-guests"))
     check("no guest's address stands in nginx's logs", house.address("guest2") not in logs, logs[:200])
 
@@ -356,15 +392,17 @@ def spoofed(house: House, check: Checks) -> None:
     address = house.address("guest1") + "/22"
     house.within("guest2", "ip", "addr", "add", address, "dev", "eth0")
     house.within("guest2", "ip", "route", "replace", "default", "via", "10.77.0.1", "src", address.partition("/")[0])
-    check("a guest with the first guest's IP address sends nothing", not house.reaches("guest2", 1.0))
+    out = house.arrived()
+    check("a guest with the first guest's IP address sends nothing", not house.reaches("guest2", 1.0)
+          and house.arrived() == out, house.arrived() - out)
     told = house.captive("guest2")
     check("and is not told to be it", told.get("captive") is not False, told)
     house.within("guest2", "ip", "addr", "del", address, "dev", "eth0")
 
 
 STEPS = {step.__name__: step for step in (
-    network, captured, first_voucher, numbered, in_doubt, bytes_are_counted, forged, closed, volume, agent_dies,
-    desk_dies, rules_vanish, counts_are_lost, guessed, slow, ipv6, spoofed)}
+    network, captured, first_voucher, numbered, in_doubt, bytes_are_counted, forged, own_networks, closed, volume,
+    agent_dies, desk_dies, rules_vanish, counts_are_lost, guessed, slow, ipv6, spoofed)}
 
 
 def main() -> int:

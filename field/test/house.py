@@ -38,10 +38,11 @@ class House(Lab):
 
     # The desk, asked from the gateway itself
 
-    def ask_desk(self, token: str, method: str, path: str, *words: object) -> dict[str, Any]:
-        secret = (self.root / "etc/portal/credentials" / token).read_text().strip()
-        done = self.within("gw", "curl", "-s", "--max-time", "5", "-X", method, "-H", "Portal-Token: " + secret,
-                           *words, "http://127.0.0.1:8080" + path)
+    def ask_desk(self, token: str | None, method: str, path: str, *words: object) -> dict[str, Any]:
+        if token:
+            secret = (self.root / "etc/portal/credentials" / token).read_text().strip()
+            words = ("-H", "Portal-Token: " + secret, *words)
+        done = self.within("gw", "curl", "-s", "--max-time", "5", "-X", method, *words, "http://127.0.0.1:8080" + path)
         return json.loads(done.stdout)
 
     def held(self, session: int) -> int:
@@ -120,8 +121,8 @@ class House(Lab):
 
     # Packets
 
-    def reaches(self, guest: str, seconds: float = 0.3) -> bool:
-        return self.within(guest, PYTHON, PEER, "first", OUTSIDE, seconds, check=False).returncode == 0
+    def reaches(self, guest: str, seconds: float = 0.3, host: str = OUTSIDE) -> bool:
+        return self.within(guest, PYTHON, PEER, "first", host, seconds, check=False).returncode == 0
 
     def arrived(self, family: str = "ip") -> int:
         """Packets that came out of the house so far: what a guest sends must not get out even unanswered."""
@@ -155,10 +156,20 @@ class House(Lab):
             return int(self.within(guest, "cat", "/sys/class/net/eth0/statistics/" + name).stdout)
         return sum(read(way + "_bytes") - 14 * read(way + "_packets") for way in ("tx", "rx"))
 
-    def counted(self, guest: str) -> int:
-        """The gateway's own count after one more poll."""
+    def neighbours(self, state: str) -> None:
+        """The gateway and the first guest know each other: `permanent`, so that neither asks, or `reachable`."""
+        hard = self.within("gw", "cat", "/sys/class/net/lan0/address").stdout.strip()
+        for space, device, address, mac in (("gw", "lan0", self.address("guest1"), MACS["guest1"]),
+                                            ("guest1", "eth0", "10.77.0.1", hard)):
+            self.within(space, "ip", "neigh", "replace", address, "lladdr", mac, "dev", device, "nud", state)
+
+    def polled(self) -> list[dict[str, Any]]:
+        """The gateway's own list after one more poll."""
         path = self.root / "run/portal-gateway/sessions.json"
         before = path.stat().st_mtime_ns
         self.until(lambda: path.stat().st_mtime_ns != before, 5, "a poll")
-        rows = json.loads(path.read_text())["sessions"]
-        return next(row["used"] for row in rows if row["device"] == MACS[guest])
+        return json.loads(path.read_text())["sessions"]
+
+    def counted(self, guest: str) -> int:
+        """The gateway's own count after one more poll."""
+        return next(row["used"] for row in self.polled() if row["device"] == MACS[guest])

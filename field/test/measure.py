@@ -1,12 +1,15 @@
 #!/usr/bin/python3
-"""Measures the kit; root for all but `sessions`.
+"""Measures the kit; root for all but `sessions` and `copies`. The machine's load stands beside each number.
 
-    measure.py first|agent|offload|sessions [--portal "CMD .."] [--rounds N] [--sessions N]
+    measure.py all|first|agent|shut|late|offload|sessions|copies [--portal "CMD .."] [--rounds N] [--sessions N]
 
 first       a form sent: to its answer, and to the first packet's answer from outside; and a program's JSON
-agent       the agent's processor time with 10, 200 and 1,000 sessions, over a desk of a few lines
+agent       the agent's processor time with N open sessions (200), at rest and each with packets every second
+shut        the gate after a kill of the agent and of the desk, a desk held still, one that stopped, flushed rules
+late        bytes beyond a session's limit until nothing passes any more
 offload     bytes counted against the guest's device, with merged packets (offloading) off and on
-sessions    GET /gateway/sessions with 200 open among N; each round one question
+sessions    GET /gateway/sessions with 200 open among N (100,000), at 10 questions a round
+copies      copies of the book while the desk sells: how long it is held still, and what a sale waits
 """
 
 from __future__ import annotations
@@ -15,39 +18,34 @@ import argparse
 import json
 import os
 import pathlib
+import signal
 import statistics
 import subprocess
+import threading
 import time
+from collections.abc import Callable
 
 from desk_process import DeskProcess, Routes
-from house import House
-from lab import NAME, PYTHON, STAND_IN
+from house import PEER, House
+from lab import FIELD, NAME, OUTSIDE, PYTHON, STAND_IN
 
-BRIEF = "[[plan]]\nid = '{}'\nprice = 0\nuses = 100000\nseconds = {}\nbytes = 0\nshelf_days = 9\nextend = true\n"
-FEW_LINES = '''
-import http.server, json
-class Many(http.server.BaseHTTPRequestHandler):
-    def send(self, value):
-        data = json.dumps(value).encode()
-        self.send_response(200)
-        self.send_header("Content-Length", str(len(data)))
-        self.end_headers()
-        self.wfile.write(data)
-    def do_GET(self):
-        self.send({"sessions": [{"device": "02:bb:00:00:%%02x:%%02x" %% divmod(i, 256), "session": i + 1,
-                                 "bytes-remaining": 10**9} for i in range(%d)]})
-    def do_POST(self):
-        body = json.loads(self.rfile.read(int(self.headers["Content-Length"])))
-        self.send({"open": True, "session": body["session"], "used": body["bytes"]})
-    def log_message(self, *_):
-        print(self.command, flush=True)
-http.server.HTTPServer(("127.0.0.1", 8080), Many).serve_forever()
-'''
+MANY = "[[plan]]\nid = '{}'\nprice = 0\nuses = 100000\nseconds = {}\nbytes = 0\nshelf_days = 9\nextend = true\n"
+OPEN = 200
 
 
 def told(what: str, numbers: list[float], unit: str = "ms") -> None:
     print(f"{what}: median {statistics.median(numbers):.1f} {unit}, {min(numbers):.1f} to {max(numbers):.1f}, "
-          f"{len(numbers)} times", flush=True)
+          f"{len(numbers)} times, load {os.getloadavg()[0]:.0f}", flush=True)
+
+
+def spent(pid: int) -> float:
+    """Seconds of the processor that a process took so far."""
+    fields = pathlib.Path(f"/proc/{pid}/stat").read_text().rpartition(")")[2].split()
+    return (int(fields[11]) + int(fields[12])) / os.sysconf("SC_CLK_TCK")
+
+
+def mac(number: int) -> str:
+    return "02:" + ":".join(f"{byte:02x}" for byte in number.to_bytes(5, "big"))
 
 
 def first(args: argparse.Namespace) -> None:
@@ -74,26 +72,96 @@ def first(args: argparse.Namespace) -> None:
             told(f"{way}: to the first packet's answer", packets)
 
 
-def spent(job: subprocess.Popen[bytes]) -> float:
-    fields = pathlib.Path(f"/proc/{job.pid}/stat").read_text().rpartition(")")[2].split()
-    return (int(fields[11]) + int(fields[12])) / os.sysconf("SC_CLK_TCK")
-
-
 def agent(args: argparse.Namespace) -> None:
-    seconds = 20
-    for many in (10, 200, 1000):
-        with House(args.portal) as house:
-            (house.root / "many.py").write_text(FEW_LINES % many)
-            house.start("many", PYTHON, house.root / "many.py")
-            house.until(lambda: house.listening(8080), what="the desk of a few lines")
-            house.service("gateway")
-            log = house.root / "many.log"
-            house.until(lambda: log.read_text().count("POST") >= many, 60, "the first reports")
-            before, polls = spent(house.jobs["gateway"]), log.read_text().count("GET")
+    """Each session's packets are one a second, from a device of its own; reports come by themselves."""
+    seconds, many = 30, args.sessions or OPEN
+    with House(args.portal) as house:
+        with open(house.root / "etc/portal/plans.toml", "a") as plans:
+            plans.write(MANY.format("many", 86400))
+        house.open_house()
+        house.lease("guest1")
+        code, = house.codes("many", 1)
+        for i in range(many):
+            words = ("-H", "Portal-Device: " + mac(i), "-d", json.dumps({"code": code}))
+            house.ask_desk(None, "POST", "/portal/redeem", *words)
+        for what in ("at rest", "each with a packet a second"):
+            if what != "at rest":
+                hard = house.within("gw", "cat", "/sys/class/net/lan0/address").stdout.strip()
+                house.start("many", PYTHON, PEER, "many", OUTSIDE, hard, many, house.address("guest1"), space="guest1")
+            house.until(lambda: len(house.polled()) == many, 60, "the first reports")
+            time.sleep(3)
+            jobs = {name: house.jobs[name].pid for name in ("gateway", "desk")}
+            before, out = {name: spent(pid) for name, pid in jobs.items()}, house.arrived()
             time.sleep(seconds)
-            polls, used = log.read_text().count("GET") - polls, spent(house.jobs["gateway"]) - before
-            print(f"{many} sessions: {100 * used / seconds:.2f} % of one core, {1e3 * used / polls:.1f} ms a poll, "
-                  f"{polls} polls in {seconds} s", flush=True)
+            used = {name: 100 * (spent(pid) - before[name]) / seconds for name, pid in jobs.items()}
+            print(f"{many} sessions {what}: agent {used['gateway']:.2f} % of one core, desk {used['desk']:.2f} %, "
+                  f"{(house.arrived() - out) / seconds:.0f} packets a second came out; {seconds} s, "
+                  f"load {os.getloadavg()[0]:.0f}", flush=True)
+
+
+def shut(args: argparse.Namespace) -> None:
+    with House(args.portal) as house:
+        house.open_house()
+        house.lease("guest1")
+
+        def stop_desk() -> None:
+            house.stop("desk")
+            house.start("stopped", PYTHON, PEER, "stopped")
+
+        def desk_back() -> None:
+            house.stop("stopped")
+            house.desk()
+
+        def flush() -> None:
+            house.within("gw", "nft", "flush", "ruleset")
+
+        cases: tuple[tuple[str, Callable[[], object], Callable[[], object]], ...] = (
+            ("the agent killed", lambda: house.stop("gateway", kill=True), lambda: house.service("gateway")),
+            ("the desk killed", lambda: house.stop("desk", kill=True), house.desk),
+            ("the desk held still", lambda: os.kill(house.jobs["desk"].pid, signal.SIGSTOP),
+             lambda: os.kill(house.jobs["desk"].pid, signal.SIGCONT)),
+            ("a desk that says stopped", stop_desk, desk_back),
+            ("rules flushed", flush, house.rules))
+        for what, harm, mend in cases:
+            times = []
+            for i in range(args.rounds):
+                house.online("guest1")
+                time.sleep(0.3 + 0.17 * (i % 6))        # at another moment of the poll each time
+                start = time.time()
+                harm()
+                took = house.shut_after("guest1", 12)
+                times.append((time.time() - start) if took is not None else 99.0)
+                mend()
+                house.until(lambda: house.reaches("guest1"), 10, "packets")
+            told(f"shut after {what}", times, "s")
+
+
+def settled(house: House, session: int) -> int:
+    """What the desk holds for a session that has ended, once it grows no more."""
+    held = -1
+    while held != (now := house.held(session)):
+        held = now
+        time.sleep(1.5)
+    return held
+
+
+def late(args: argparse.Namespace) -> None:
+    limit = 3_000_000
+    with House(args.portal) as house:
+        house.open_house()
+        house.lease("guest1")
+        codes, over, seconds = house.codes("small", args.rounds), [], []
+        for code in codes:
+            house.redeem("guest1", code)
+            session = house.session_of("guest1") or 0
+            arrivals = [float(word) for word in house.stream("guest1", 8).communicate()[0].split()]
+            rate = 1000 * (len(arrivals) - 1) / (arrivals[-1] - arrivals[0])
+            held = settled(house, session)
+            over.append((held - limit) / 1e3)
+            seconds.append((held - limit) / rate)
+            time.sleep(5)
+        told(f"a session of {limit} bytes at some {rate * 8 / 1e6:.0f} Mbit/s: more than its limit", over, "kB")
+        told("the same in seconds of that stream", seconds, "s")
 
 
 def offload(args: argparse.Namespace) -> None:
@@ -102,49 +170,92 @@ def offload(args: argparse.Namespace) -> None:
             house.open_house()
             house.lease("guest1")
             house.online("guest1")
-            for verb in ("take", "send"):
-                before, frames = house.counted("guest1"), house.frames("guest1")
-                took = house.tcp("guest1", verb, 40_000_000) or 0.0
-                mine, theirs = house.frames("guest1") - frames, house.counted("guest1") - before
-                way = "sends" if verb == "take" else "gets"
-                more, speed = theirs / 4e5 - 100, 320 / took if took else 0
-                print(f"offloading {'on' if on else 'off'}, guest {way} 40,000,000 bytes: gateway {theirs} "
-                      f"(payload + {more:.2f} %), device {mine}, {speed:.0f} Mbit/s", flush=True)
+            house.neighbours("permanent")
+            for verb, way in (("take", "sends"), ("send", "gets")):
+                counts, devices = [], []
+                for _ in range(args.rounds):
+                    before, frames = house.counted("guest1"), house.frames("guest1")
+                    house.tcp("guest1", verb, 40_000_000)
+                    devices.append(house.frames("guest1") - frames)
+                    counts.append(house.counted("guest1") - before)
+                same = sum(a == b for a, b in zip(counts, devices))
+                more = [count / 4e5 - 100 for count in counts]
+                print(f"offloading {'on' if on else 'off'}, guest {way} 40,000,000 bytes {args.rounds} times: gateway "
+                      f"payload + {min(more):.2f} to {max(more):.2f} %, the device's count {same} times", flush=True)
 
 
 def sessions(args: argparse.Namespace) -> None:
-    os.environ["FIELD_PORTAL"] = args.portal
-    with DeskProcess() as desk:
-        desk.desk.tell(Routes.PLANS, body=(BRIEF.format("brief", 1) + BRIEF.format("long", 86400)).encode())
+    many = args.sessions or 100_000
+    with DeskProcess(portal=args.portal) as desk:
+        desk.desk.tell(Routes.PLANS, body=(MANY.format("brief", 1) + MANY.format("long", 86400)).encode())
         brief, long = desk.sold("brief", "b1")[0], desk.sold("long", "b2")[0]
         start = time.monotonic()
-        for i in range(args.sessions):
-            mac = "02:" + ":".join(f"{byte:02x}" for byte in i.to_bytes(5, "big"))
-            code = long if i % (args.sessions // 200) == 0 else brief
-            desk.desk.tell(Routes.REDEEM, body={"code": code}, device=mac)
-        print(f"{args.sessions} sessions in {time.monotonic() - start:.0f} s")
+        for i in range(many):
+            code = long if i % (many // OPEN) == 0 else brief
+            desk.desk.tell(Routes.REDEEM, body={"code": code}, device=mac(i))
+        print(f"{many} redemptions, one after another, in {time.monotonic() - start:.0f} s")
         time.sleep(2)
-        times, rows = [], 0
-        for _ in range(args.rounds * 10):
+        times, rows, before, rounds = [], 0, spent(desk.job.pid), args.rounds * 10
+        for _ in range(rounds):
             start = time.perf_counter()
             rows = len(desk.gateway.tell(Routes.SESSIONS)["sessions"])
             times.append((time.perf_counter() - start) * 1e3)
-        told(f"GET /gateway/sessions, {rows} open among {args.sessions}", times)
+        used = (spent(desk.job.pid) - before) / rounds * 1e3
+        told(f"GET /gateway/sessions, {rows} open among {many}", times)
+        print(f"of the desk's processor {used:.1f} ms each")
 
 
-MEASURES = {work.__name__: work for work in (first, agent, offload, sessions)}
+def copies(args: argparse.Namespace) -> None:
+    many = args.sessions or 20_000
+    with DeskProcess(portal=args.portal) as desk:
+        desk.load()
+        for i in range(many // 500):
+            desk.issued("hour", f"book-{i}", 500)
+        waits: list[float] = []
+        stop = threading.Event()
+
+        def sells() -> None:
+            while not stop.is_set():
+                start = time.perf_counter()
+                desk.desk.tell(Routes.ISSUE, body={"batch": f"b{len(waits)}", "plan": "hour", "count": 1})
+                waits.append((time.perf_counter() - start) * 1e3)
+
+        worker = threading.Thread(target=sells)
+        worker.start()
+        time.sleep(2)
+        calm, wholes, longest = list(waits), [], []
+        words = [PYTHON, str(FIELD / "backup/portal-backup"), "--pid", str(desk.job.pid), "--portal", args.portal,
+                 "--check", str(desk.settings), str(desk.book), str(desk.folder / "copies")]
+        try:
+            for _ in range(args.rounds):
+                count, start = len(waits), time.perf_counter()
+                subprocess.run(words, check=True, capture_output=True)
+                wholes.append((time.perf_counter() - start) * 1e3)
+                time.sleep(0.3)
+                longest.append(max(waits[count:]))
+        finally:
+            stop.set()
+            worker.join()
+        size = sum(path.stat().st_size for path in desk.folder.glob("book.db*")) / 1e6
+        told("a batch of one code, no copy being made", calm)
+        told(f"a copy of a book of {many} vouchers ({size:.0f} MB), made and checked", wholes)
+        told("the longest wait of a batch of one code meanwhile", longest)
+
+
+MEASURES = {work.__name__: work for work in (first, agent, shut, late, offload, sessions, copies)}
 
 
 def main() -> None:
     words = argparse.ArgumentParser(description="Measures the kit.")
-    words.add_argument("what", choices=MEASURES)
+    words.add_argument("what", choices=("all", *MEASURES))
     words.add_argument("--portal", default=STAND_IN, help="the program, as a command line; else the stand-in")
     words.add_argument("--rounds", type=int, default=12)
-    words.add_argument("--sessions", type=int, default=10_000)
+    words.add_argument("--sessions", type=int, default=0, help="else what the measure says in brackets")
     args = words.parse_args()
-    if args.portal == STAND_IN and args.what != "agent":
+    if args.portal == STAND_IN:
         print("the desk is the stand-in for tests, not the program")
-    MEASURES[args.what](args)
+    for name in MEASURES if args.what == "all" else (args.what,):
+        MEASURES[name](args)
 
 
 if __name__ == "__main__":

@@ -3,12 +3,13 @@
     peer.py serve                   TCP 7000: `send N` or `take N`; UDP 7001: echo; UDP 7002: a stream of as many
                                     packets of 1,000 bytes as asked for, about 1,000 a second
     peer.py stopped                 answers 503 stopped at 127.0.0.1:8080
-    peer.py door ADDRESS            takes TCP connections at [ADDRESS]:443 by IPv6 alone
-    peer.py knock ADDRESS           connects there; status 1 where it cannot within a second
+    peer.py door ADDRESS [PORT]     takes TCP connections there, or at port 443
+    peer.py knock ADDRESS [PORT]    connects there, or to port 443; status 1 where it cannot within a second
     peer.py names HOST N            asks N questions of a name server within a second; prints the number of answers
     peer.py tcp HOST send|take N    moves N bytes of payload; prints seconds
     peer.py first HOST SECONDS      tries UDP echo every 5 ms; prints the time of the first answer
     peer.py stream HOST SECONDS     asks for the stream, sends nothing more; prints the time of each packet's arrival
+    peer.py many HOST MAC N ADDRESS sends, until it is ended, a packet a second from each of N devices, by frames to MAC
     peer.py slow HOST N SECONDS     N guests that send part of a head or body over TLS and wait; prints how many may
 """
 
@@ -16,6 +17,7 @@ from __future__ import annotations
 
 import socket
 import ssl
+import struct
 import sys
 import threading
 import time
@@ -135,17 +137,38 @@ def stopped() -> None:
                 link.sendall(STOPPED)
 
 
-def door(address: str) -> None:
-    with socket.create_server((address, 443), family=socket.AF_INET6) as place:
+def door(address: str, port: str = "443") -> None:
+    family = socket.AF_INET6 if ":" in address else socket.AF_INET
+    with socket.create_server((address, int(port)), family=family) as place:
         while True:
             place.accept()[0].close()
 
 
-def knock(address: str) -> None:
+def knock(address: str, port: str = "443") -> None:
     try:
-        socket.create_connection((address, 443), timeout=1).close()
+        socket.create_connection((address, int(port)), timeout=1).close()
     except OSError:
         sys.exit(1)
+
+
+def packet(host: str, address: str) -> bytes:
+    """IPv4 and UDP with 100 bytes, to a port that nobody has."""
+    ends = socket.inet_aton(address) + socket.inet_aton(host)
+    head = struct.pack(">BBHHHBBH", 0x45, 0, 128, 0, 0x4000, 64, 17, 0) + ends
+    total = sum(struct.unpack(">10H", head))
+    while total >> 16:
+        total = (total & 0xffff) + (total >> 16)
+    return head[:10] + struct.pack(">H", ~total & 0xffff) + head[12:] + struct.pack(">HHHH", 9, 9, 108, 0) + b"m" * 100
+
+
+def many(host: str, mac: str, count: str, address: str) -> None:
+    goal, data = bytes.fromhex(mac.replace(":", "")), packet(host, address)
+    with socket.socket(socket.AF_PACKET, socket.SOCK_RAW) as s:
+        s.bind(("eth0", 0))
+        while True:
+            for i in range(int(count)):
+                s.send(goal + b"\2" + i.to_bytes(5, "big") + b"\x08\0" + data)
+                time.sleep(1 / int(count))
 
 
 def waits(link: ssl.SSLSocket) -> bool:
@@ -170,7 +193,7 @@ def slow(host: str, count: str, seconds: str) -> None:
     time.sleep(float(seconds))
 
 
-WORK = {work.__name__: work for work in (serve, stopped, door, knock, names, tcp, first, stream, slow)}
+WORK = {work.__name__: work for work in (serve, stopped, door, knock, names, tcp, first, stream, many, slow)}
 
 if __name__ == "__main__":
     WORK[sys.argv[1]](*sys.argv[2:])

@@ -5,6 +5,7 @@ from __future__ import annotations
 import os
 import socket
 import threading
+import time
 import unittest
 
 from desk_process import Desk, DeskProcess, NoAnswer, Refused, Routes
@@ -47,8 +48,11 @@ class Answers(unittest.TestCase):
             self.assertIsInstance(self.told(answer), NoAnswer, answer)
 
     def test_silence_has_an_end(self) -> None:
-        self.assertIsInstance(self.told(b"", wait=2), NoAnswer)
-        self.assertIsInstance(self.told(b"HTTP/1.1 200 OK\r\n", wait=2), NoAnswer)
+        start = time.monotonic()
+        for answer in (b"", b"HTTP/1.1 200 OK\r\n"):
+            self.assertIsInstance(self.told(answer, wait=3), NoAnswer)
+        self.assertLess(time.monotonic() - start, 2.5)
+        self.assertEqual(Desk().timeout, 5)     # what README.md says of the parts
 
     def test_a_parameter_is_one_segment(self) -> None:
         with DeskProcess() as desk:

@@ -24,8 +24,10 @@ class MemoryDesk:
         self.asked: list[tuple[int, int]] = []
         self.fault: Exception | None = None
         self.deaf = False
+        self.more: list[str] = []       # what else a request carried
 
-    def tell(self, route: Routes, body: dict[str, int] | None = None) -> dict[str, Any]:
+    def tell(self, route: Routes, body: dict[str, int] | None = None, **more: str) -> dict[str, Any]:
+        self.more += more
         if route is Routes.SESSIONS:
             return self.sessions()
         assert body
@@ -169,6 +171,12 @@ class Polls(unittest.TestCase):
             self.gate.now[A].counted = counted
             self.poll()
             self.assertEqual(len(self.desk.asked), reports, counted)
+
+    def test_reports_carry_no_number(self) -> None:
+        """The desk keeps the greatest report, and numbers for good."""
+        self.opened(counted=777)
+        self.poll(31)
+        self.assertEqual((self.desk.used[1], self.desk.more), (777, []))
 
     def test_a_number_given_anew_to_another_device_is_not_reported_to(self) -> None:
         self.opened(counted=900)

@@ -118,6 +118,20 @@ class Made(unittest.TestCase):
             if name != "portal":
                 self.assertTrue((FIELD / program.removeprefix("/usr/share/portal/field/")).is_file(), program)
 
+    def test_packets_are_forwarded_while_the_rules_stand(self) -> None:
+        text = (self.root / "etc/systemd/system/portal-rules@.service").read_text()
+        orders = [line for line in text.splitlines() if line.startswith("Exec")]
+        forward = "/usr/sbin/sysctl -q -w net.ipv4.ip_forward="
+        self.assertEqual(orders, ["ExecStart=/usr/sbin/nft -f /etc/portal/rules.nft", f"ExecStart={forward}1",
+                                  "ExecReload=/usr/sbin/nft -f /etc/portal/rules.nft", f"ExecStop={forward}0"])
+        self.assertIn("\nBindsTo=sys-subsystem-net-devices-%i.device\n", text)
+
+    def test_a_copy_is_made_each_night_and_checked(self) -> None:
+        self.assertEqual(self.unit("portal-backup.timer")["Timer"]["OnCalendar"], "*-*-* 03:30:00")
+        order = self.unit("portal-backup.service")["Service"]["ExecStart"].replace("\\\n", "").split()
+        self.assertEqual(order[1:], ["--check", "/etc/portal/portal.toml", "--keep", "60", "/var/lib/portal/book.db",
+                                     "/var/backups/portal"])
+
     @unittest.skipUnless(shutil.which("systemd-analyze"), "systemd-analyze is not installed")
     def test_systemd_reads_the_units(self) -> None:
         """`verify` without a running systemd; what it says of programs that are not installed here is left out."""
