@@ -128,7 +128,7 @@ class Counter:
     def takings(self, form: Form) -> str:
         text = self.desk.ask(Routes.TAKINGS, query={"from": form.word("from"), "to": form.word("to")}).decode()
         head, *rows, net = (tuple(html.escape(word) for word in line.split()) for line in text.splitlines())
-        return f"<h2>Takings</h2>{table('rows', head, rows)}<p><b>{' '.join(net)}</b></p>"
+        return f"<h2>Takings</h2>{table('rows sums', head, rows)}<p><b>{' '.join(net)}</b></p>"
 
     def first_page(self) -> str:
         if self.plans_notice:
@@ -161,8 +161,8 @@ class Counter:
     def again(self, action: str, form: Form) -> str:
         """The same form once more, number and all: sent again it acts once."""
         hidden = {name: value for name, value in form.items() if name != "request"}
-        words = ", ".join(f"{name} {value}" for name, value in hidden.items())
-        title = html.escape(f"{action.strip('/').capitalize()}: {words}")
+        words = ", ".join(f"{html.escape(name)} <span>{html.escape(value)}</span>" for name, value in hidden.items())
+        title = f"{action.strip('/').capitalize()}: {words}"
         return (f'<div class="desk"><section><h2>{title}</h2>{form_of(action, form["request"], **hidden)}'
                 "<button>Send it again</button></form></section></div>")
 

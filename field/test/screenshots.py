@@ -68,7 +68,8 @@ def counter(house: House, camera: Camera, hours: list[str]) -> None:
         camera.take("clerk", f"{base}sheet?batch=hour-1", f"sheet-{kind}", (size[0], 1000))
         camera.take("clerk", f"{base}voucher?code=2222", f"counter-refusal-{kind}", (size[0], 700))
     day = time.strftime("%Y-%m-%d", time.gmtime())
-    camera.take("clerk", f"{base}takings?from={day}&to={day}", "takings-phone", (390, 500))
+    for size, kind in (((390, 560), "phone"), ((1280, 560), "screen")):
+        camera.take("clerk", f"{base}takings?from={day}&to={day}", f"takings-{kind}", size)
     house.stop("desk")
     body = house.curl("clerk", base + "sell", *CLERK, "-d", f"code={hours[1]}&request=r1")[1]
     page = house.root / "doubt.html"

@@ -109,7 +109,9 @@ class Pages(unittest.TestCase):
 
     def test_what_was_typed_is_shown_as_words(self) -> None:
         self.relay.drops = True
-        self.assertNotIn("<script>", self.ask("/sell", code='"><script>', request="s1")[1])
+        text = self.ask("/sell", code='"><script>', request="s1", **{"<script>": "x"})[1]
+        self.assertNotIn("<script>", text)
+        self.assertEqual(text.count("&lt;script&gt;"), 4)
 
     def test_open_sessions_come_from_the_gateways_list(self) -> None:
         self.assertIn("There is no list from the gateway", self.ask("/")[1])
