@@ -187,7 +187,7 @@ UNITS = (
     Edit("forwarding_outlives_the_rules", "units/portal-rules@.service",
          "ExecStop=/usr/sbin/sysctl -q -w net.ipv4.ip_forward=0\n", "", "test_setup.Made",
          "test_packets_are_forwarded_while_the_rules_stand"),
-    Edit("copies_by_day_are_not_checked", "units/portal-backup.service", " --check /etc/portal/portal.toml", "",
+    Edit("nightly_copies_are_not_checked", "units/portal-backup.service", " --check /etc/portal/portal.toml", "",
          "test_setup.Made", "test_a_copy_is_made_each_night_and_checked"),
     Edit("a_copy_that_does_not_check", BACKUP, "text=True).stdout == \"ok\\n\"", "text=True) is not None",
          "backup_test.Copies", "test_a_copy_that_does_not_check_is_not_kept"),

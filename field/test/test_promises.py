@@ -1,0 +1,29 @@
+"""docs/PROMISES.md against the wrong kits."""
+
+from __future__ import annotations
+
+import re
+import unittest
+
+from desk_process import FIELD
+from must_fail import PACKETS, UNITS
+
+
+class Promises(unittest.TestCase):
+    def test_each_promise_has_a_wrong_kit_and_each_wrong_kit_a_promise(self) -> None:
+        rows = re.findall(r"^\| (.*) \| (`.*`) \|$", (FIELD / "docs/PROMISES.md").read_text(), re.M)
+        lines = (FIELD / "docs/PROMISES.md").read_text().count("\n| ") - 1
+        self.assertEqual(len(rows), lines, "a promise without a wrong kit")
+        named = [name for _, kits in rows for name in re.findall(r"`([a-z0-9_]+)`", kits)]
+        self.assertEqual(sorted(named), sorted(edit.name for edit in (*UNITS, *PACKETS)))
+
+    def test_each_edit_fits(self) -> None:
+        for edit in (*UNITS, *PACKETS):
+            text = (FIELD / edit.file).read_text()
+            for old, new in ((edit.old, edit.new), *((edit.also,) if edit.also else ())):
+                self.assertIn(old, text, edit.name)
+                text = text.replace(old, new)
+
+
+if __name__ == "__main__":
+    unittest.main()
