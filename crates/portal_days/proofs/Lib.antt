@@ -1,2 +1,3 @@
 pub mod DayLists
+pub mod DaySumLemmas
 pub mod Totals

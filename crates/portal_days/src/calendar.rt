@@ -1,4 +1,5 @@
-ghost use Rattle.std.specs.Prelude.{◌≡◌, ◌↔◌, ◌<◌, pos, ◌+ℤ◌, IsSome, IfSome};
+ghost use Rattle.std.specs.Prelude.{◌≡◌, ◌↔◌, ◌<◌, ℕ, pos, ◌+ℤ◌, IsSome, IfSome, IfNone, false};
+ghost use Rattle.std.specs.Ordering.{int_eq};
 ghost use Rattle.portal_days.specs.Span.{Span, IsSpan, day_count};
 
 use std::marker::Model;
@@ -99,6 +100,18 @@ impl DayRange {
         ensures { result ≡ day_count self.now }
     {
         (self.last.get() - self.first.get() + 1) as u32
+    }
+
+    /// How many days after the first the day is; `None` where it is not of the range.
+    pub(crate) fn place(&self, day: Day) -> Option<u32>
+        ensures within { IfSome result (λ k. k < day_count self.now) }
+        ensures day { IfSome result (λ k. self.now.first +ℤ pos k ≡ day) }
+        ensures outside { IfNone result ((k : ℕ) → k < day_count self.now → int_eq day (self.now.first +ℤ pos k) ≡ false) }
+    {
+        if day.get() < self.first.get() || day.get() > self.last.get() {
+            return None;
+        }
+        Some((day.get() - self.first.get()) as u32)
     }
 
     /// The day that is so many after the first.

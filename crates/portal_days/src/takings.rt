@@ -1,6 +1,7 @@
-ghost use Rattle.std.specs.Prelude.{◌≡◌, ◌^◌, ◌<◌, All, IfOk, count_by, length, map, sum_by};
-ghost use Rattle.portal_days.specs.Span.{days_of};
-ghost use Rattle.portal_days.specs.Takings.{is_on, amount_on, takings_on, AreAmounts, TotalsFit};
+ghost use Rattle.std.specs.Prelude.{◌≡◌, ◌^◌, ◌<◌, ◌+ℤ◌, ℕ, pos, IfOk, OnOk, length, map, slice_index_or};
+ghost use Rattle.portal_days.specs.Span.{day_count, days_of};
+ghost use Rattle.portal_days.specs.Takings.{takings_on, AreAmounts, TotalsFit};
+ghost use Rattle.portal_days.specs.Private.DaySums.{day_sum, nothing, with_pair, HasRoom};
 
 use crate::calendar::{Day, DayRange};
 use std::alloc::{AllocError, Global};
@@ -15,54 +16,46 @@ pub struct DayTakings {
     pub refunds: u128,
 }
 
-/// How many of the pairs are of the day.
-fn count_on(pairs: &[(Day, u64)], day: Day) -> u64
-    ensures count { result ≡ count_by (is_on day) pairs.now }
-    ensures few { length pairs.now < 2 ^ 64 }
-{
-    let mut count = 0u64;
-    for &(on, _) in pairs {
-        if on == day {
-            count += 1;
-        }
-    }
-    count
+/// What pairs of a day come to: how many there are, and the sum of their amounts.
+#[derive(Clone, Copy)]
+struct DaySum {
+    count: u64,
+    amount: u128,
 }
 
-/// The amount of the pair, or 0 where it is of another day.
-fn amount_on(pair: &(Day, u64), day: Day) -> u64
-    ensures value { result ≡ amount_on day pair.now }
-    ensures small { pair.now.1 < 2 ^ 64 }
+/// Adds a pair to the sum of its day. A pair of another day is left out.
+fn add_pair(sums: &mut [DaySum], range: DayRange, day: Day, amount: u64)
+    requires days { length sums.old ≡ day_count range }
+    requires room { (k : ℕ) → k < day_count range → HasRoom (slice_index_or sums.old k nothing) }
+    ensures days { length sums.new ≡ day_count range }
+    ensures small { amount < 2 ^ 64 }
+    ensures added { (k : ℕ) → k < day_count range → slice_index_or sums.new k nothing ≡ with_pair (range.first +ℤ pos k) (day, amount) (slice_index_or sums.old k nothing) }
 {
-    let (on, amount) = *pair;
-    if on == day { amount } else { 0 }
+    if let Some(place) = range.place(day) {
+        let sum = &mut sums[place as usize];
+        sum.count += 1;
+        sum.amount += u128::from(amount);
+    }
 }
 
-/// The sum of the amounts of the pairs of the day.
-fn sum_on(pairs: &[(Day, u64)], day: Day) -> u128
-    ensures sum { result ≡ sum_by (amount_on day) pairs.now }
-    ensures small { All (λ p. p.1 < 2 ^ 64) pairs.now }
+/// What the pairs of each day of the range come to, in order, in one pass over the pairs.
+fn sums_by_day(
+    alloc: Global,
+    range: DayRange,
+    pairs: &[(Day, u64)],
+) -> Result<Vec<DaySum>, AllocError>
+    ensures sums { IfOk result (λ v. v.items ≡ map (day_sum pairs.now) (days_of range)) }
+    ensures pairs { OnOk result (AreAmounts pairs.now) }
 {
-    let mut sum = 0u128;
-    for pair in pairs {
-        sum += u128::from(amount_on(pair, day));
+    let none = DaySum {
+        count: 0,
+        amount: 0,
+    };
+    let mut sums = vec![in alloc; none; range.count() as usize]?;
+    for &(day, amount) in pairs {
+        add_pair(&mut sums, range, day, amount);
     }
-    sum
-}
-
-/// What the sales and refunds of the day come to.
-fn takings_on(sales: &[(Day, u64)], refunds: &[(Day, u64)], day: Day) -> DayTakings
-    ensures value { result ≡ takings_on sales.now refunds.now day }
-    ensures sales { AreAmounts sales.now }
-    ensures refunds { AreAmounts refunds.now }
-{
-    DayTakings {
-        day,
-        sold: count_on(sales, day),
-        sales: sum_on(sales, day),
-        refunded: count_on(refunds, day),
-        refunds: sum_on(refunds, day),
-    }
+    Ok(sums)
 }
 
 /// The takings of each day of the range, in order, from sales and refunds that each have a day and an
@@ -76,9 +69,18 @@ pub fn add_takings(
     ensures days { IfOk result (λ v. v.items ≡ map (takings_on sales.now refunds.now) (days_of range)) }
     ensures totals { IfOk result (λ v. TotalsFit v.items) }
 {
+    let sold = sums_by_day(alloc, range, sales)?;
+    let refunded = sums_by_day(alloc, range, refunds)?;
     let mut all = Vec::new(alloc);
     for after in 0..range.count() {
-        all.push(takings_on(sales, refunds, range.day(after)))?;
+        let (sales, refunds) = (sold[after as usize], refunded[after as usize]);
+        all.push(DayTakings {
+            day: range.day(after),
+            sold: sales.count,
+            sales: sales.amount,
+            refunded: refunds.count,
+            refunds: refunds.amount,
+        })?;
     }
     Ok(all)
 }

@@ -1,0 +1,12 @@
+use Rattle.std.proofs.Common.{◌≡◌, ◌<◌, ◌^◌, ◌+ℤ◌, ℕ, pos, length, get_or, take}
+use Rattle.std.specs.Prelude.{All}
+use Rattle.portal_days.specs.Span.{day_count}
+use Rattle.portal_days.specs.Private.DaySums.{day_sum, nothing}
+use Rattle.portal_days.proofs.takings.sums_by_day.Given as goal
+
+abbrev pub invariant-loop-day : goal.invariant-loop-day
+invariant-loop-day l = record {
+  days : length l.sums.items ≡ day_count l.range;
+  each : (k : ℕ) → k < day_count l.range → get_or l.sums.items k nothing ≡ day_sum (take l.day-index l.pairs) (l.range.first +ℤ pos k);
+  small : All (λ p. p.1 < 2 ^ 64) (take l.day-index l.pairs);
+}
