@@ -1,0 +1,8 @@
+use Rattle.std.proofs.Common.{◌≡◌, map, take}
+use Rattle.std.specs.Prelude.{filter}
+use Rattle.portal_model.specs.Captive.{open_session}
+use Rattle.portal_model.specs.History.{is_open_at}
+use Rattle.portal_open.proofs.OpenSessions.told.Given as goal
+
+abbrev pub invariant-loop-session : goal.invariant-loop-session
+invariant-loop-session l = l.told.items ≡ map (open_session l.t) (filter (is_open_at l.t) (take l.session-index l.session-items))
