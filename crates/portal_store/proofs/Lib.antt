@@ -1,3 +1,4 @@
+pub mod KeptLemmas
 pub mod ActLemmas
 pub mod JudgeLemmas
 pub mod ReadLemmas

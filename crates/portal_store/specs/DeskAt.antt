@@ -4,11 +4,12 @@ use Rattle.portal_files.specs.SettingsFile.{SettingsValue}
 use Rattle.portal_ledger.specs.States.{State}
 use Rattle.portal_tables.specs.TablesAt.{Files, IsHonest, MayLeave, TablesAt}
 use Rattle.portal_store.specs.declared.desks.StoreDesk.{StoreDesk}
+use Rattle.portal_store.specs.OpenIs.{OpenIs}
 
 module _ {S : Type 0} (g : Ghosts S) where
-  -- the desk stands so: as its tables do
+  -- the desk stands so: as its tables do, and it keeps what is open there
   abbrev pub DeskAt : StoreDesk S → State → Type 0
-  DeskAt desk s = TablesAt g desk.tables s
+  DeskAt desk s = TablesAt g desk.tables s × OpenIs desk.open s
 
   -- the disk has returned what was written
   abbrev pub DeskIsHonest : StoreDesk S → Type 0

@@ -25,7 +25,11 @@ impl<S: Alter> StoreDesk<S> {
         ensures told { IfOk result (λ desk. settings_of desk ≡ settings) }
     {
         match Tables::adopt(conn) {
-            Ok(tables) => Ok(StoreDesk { tables, settings }),
+            Ok(tables) => Ok(StoreDesk {
+                tables,
+                settings,
+                open: None,
+            }),
             Err(refused) => Err(refused),
         }
     }
@@ -37,6 +41,7 @@ impl<S: Alter> StoreDesk<S> {
         let StoreDesk {
             tables,
             settings: _,
+            open: _,
         } = self;
         tables.release()
     }

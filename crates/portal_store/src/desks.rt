@@ -2,8 +2,10 @@
 ghost use Rattle.std.specs.Prelude.{◌≡◌};
 ghost use Rattle.portal_tables.specs.TablesAt.{Files, FilesShow, IsHonest, MayLeave, TablesAt};
 ghost use Rattle.portal_store.specs.Laws.{left_by, shown_sound};
+ghost use Rattle.portal_store.specs.OpenIs.{OpenIs};
 
-use crate::lists::{listed, told_open};
+use crate::keeping::followed;
+use crate::lists::listed;
 use crate::reading::refused;
 use portal_codes::Code;
 use portal_core::{captive_of, effective};
@@ -19,14 +21,18 @@ use portal_model::moment::Moment;
 use portal_model::name::{Device, Id};
 use portal_model::record::Voucher;
 use portal_model::refusal::Refusal;
+use portal_open::OpenSessions;
 use portal_tables::tables::Tables;
 use sqlite::Alter;
 use std::alloc::Global;
 
-/// A desk over the tables of a store. It keeps the settings, and nothing else of its own.
+/// A desk over the tables of a store. Of its own it keeps the settings, and the sessions that are open at the last
+/// moment, so that their list reads no table. It finds these by the tables when they are first listed, and again where
+/// there was no room to follow them.
 pub struct StoreDesk<S: Alter> {
     pub(crate) tables: Tables<S>,
     pub(crate) settings: Settings,
+    pub(crate) open: Option<OpenSessions>,
 }
 
 impl<S: Alter> Desk for StoreDesk<S> {
@@ -38,11 +44,11 @@ impl<S: Alter> Desk for StoreDesk<S> {
 
     ghost shows = { FilesShow };
 
-    ghost leaves = { λ d s stands files may. left_by _ d.tables s stands files may };
+    ghost leaves = { λ d s stands files may. left_by _ d.tables s stands.0 files may };
 
     ghost sound = { shown_sound };
 
-    ghost stands = { λ d s. TablesAt S.Store d.tables s };
+    ghost stands = { λ d s. TablesAt S.Store d.tables s × OpenIs d.open s };
 
     ghost settings = { λ d. d.settings };
 
@@ -95,17 +101,15 @@ impl<S: Alter> Desk for StoreDesk<S> {
     }
 
     fn open_now(&mut self, alloc: Global, moment: Moment) -> Result<Vec<OpenSession>, Refusal> {
-        let head = match self.find_head() {
-            Ok(head) => head,
+        let list = match self.take_open(alloc) {
+            Ok(list) => list,
             Err(r) => return Err(r),
         };
-        let t = effective(moment, head.last);
-        match self.find_open(alloc, t) {
-            Ok(open) => match told_open(alloc, open.as_slice(), t) {
-                Ok(told) => Ok(told),
-                Err(_) => Err(Refusal::NoMemory),
-            },
-            Err(r) => Err(r),
+        let told = list.told(alloc, moment);
+        self.open = Some(list);
+        match told {
+            Ok(told) => Ok(told),
+            Err(_) => Err(Refusal::NoMemory),
         }
     }
 
@@ -153,8 +157,12 @@ impl<S: Alter> Desk for StoreDesk<S> {
     }
 
     fn finish(&mut self, prepared: Prepared) -> Result<(), Refusal> {
-        match self.tables.commit(&prepared.into_changes()) {
-            Ok(()) => Ok(()),
+        let marked = prepared.into_changes();
+        match self.tables.commit(&marked) {
+            Ok(()) => {
+                self.open = followed(self.open.take(), &marked.changes);
+                Ok(())
+            }
             Err(fault) => Err(refused(fault)),
         }
     }

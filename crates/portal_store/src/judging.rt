@@ -11,6 +11,7 @@ ghost use Rattle.portal_ledger.specs.States.{State, running};
 ghost use Rattle.portal_desk.specs.Calls.{CannotAnswer};
 ghost use Rattle.portal_tables.specs.TablesAt.{IsHonest, TablesAt};
 ghost use Rattle.portal_store.specs.Judging.{Decides, Judges};
+ghost use Rattle.portal_store.specs.Rest.{KeepsRest};
 ghost use Rattle.portal_store.specs.Steps.{Leads, LeadsFrom};
 
 use crate::desks::StoreDesk;
@@ -52,7 +53,7 @@ impl<S: Alter> StoreDesk<S> {
         command: &Command,
     ) -> Result<Changes, Refusal>
         requires { IsWellFormed command.now }
-        ensures told { self.new.settings ≡ self.old.settings }
+        ensures rest { KeepsRest self.old self.new }
         ensures honest { IsHonest S.Store self.new.tables → IsHonest S.Store self.old.tables }
         ensures decide { Leads S.Store self.old.tables self.new.tables
             (λ old new. Decides result command.now moment old new) }
@@ -73,7 +74,7 @@ impl<S: Alter> StoreDesk<S> {
         command: &Command,
         t: Moment,
     ) -> Result<Changes, Refusal>
-        ensures told { self.new.settings ≡ self.old.settings }
+        ensures rest { KeepsRest self.old self.new }
         ensures honest { IsHonest S.Store self.new.tables → IsHonest S.Store self.old.tables }
         ensures judge { LeadsFrom S.Store self.old.tables self.new.tables
             (λ L new. head.now ≡ head_of (history_of L) → Judges result command.now t L new) }
@@ -92,7 +93,7 @@ impl<S: Alter> StoreDesk<S> {
     }
 
     fn judge_sell(&mut self, code: &Code, t: Moment) -> Result<Changes, Refusal>
-        ensures told { self.new.settings ≡ self.old.settings }
+        ensures rest { KeepsRest self.old self.new }
         ensures honest { IsHonest S.Store self.new.tables → IsHonest S.Store self.old.tables }
         ensures judge { LeadsFrom S.Store self.old.tables self.new.tables
             (λ L new. Judges result (Sell code.now) t L new) }
@@ -104,7 +105,7 @@ impl<S: Alter> StoreDesk<S> {
     }
 
     fn judge_report(&mut self, session: u64, bytes: u64, t: Moment) -> Result<Changes, Refusal>
-        ensures told { self.new.settings ≡ self.old.settings }
+        ensures rest { KeepsRest self.old self.new }
         ensures honest { IsHonest S.Store self.new.tables → IsHonest S.Store self.old.tables }
         ensures judge { LeadsFrom S.Store self.old.tables self.new.tables
             (λ L new. Judges result (Report session bytes) t L new) }
@@ -116,7 +117,7 @@ impl<S: Alter> StoreDesk<S> {
     }
 
     fn judge_refund(&mut self, code: &Code, t: Moment) -> Result<Changes, Refusal>
-        ensures told { self.new.settings ≡ self.old.settings }
+        ensures rest { KeepsRest self.old self.new }
         ensures honest { IsHonest S.Store self.new.tables → IsHonest S.Store self.old.tables }
         ensures judge { LeadsFrom S.Store self.old.tables self.new.tables
             (λ L new. Judges result (Refund code.now) t L new) }
@@ -128,7 +129,7 @@ impl<S: Alter> StoreDesk<S> {
     }
 
     fn judge_close(&mut self, session: u64, t: Moment) -> Result<Changes, Refusal>
-        ensures told { self.new.settings ≡ self.old.settings }
+        ensures rest { KeepsRest self.old self.new }
         ensures honest { IsHonest S.Store self.new.tables → IsHonest S.Store self.old.tables }
         ensures judge { LeadsFrom S.Store self.old.tables self.new.tables
             (λ L new. Judges result (Close session) t L new) }
@@ -146,7 +147,7 @@ impl<S: Alter> StoreDesk<S> {
         code: &Code,
         t: Moment,
     ) -> Result<Changes, Refusal>
-        ensures told { self.new.settings ≡ self.old.settings }
+        ensures rest { KeepsRest self.old self.new }
         ensures honest { IsHonest S.Store self.new.tables → IsHonest S.Store self.old.tables }
         ensures judge { LeadsFrom S.Store self.old.tables self.new.tables
             (λ L new. head.now ≡ head_of (history_of L) → Judges result (Redeem device.now code.now) t L new) }
@@ -162,7 +163,7 @@ impl<S: Alter> StoreDesk<S> {
     }
 
     fn judge_load(&mut self, alloc: Global, plans: &[Plan], t: Moment) -> Result<Changes, Refusal>
-        ensures told { self.new.settings ≡ self.old.settings }
+        ensures rest { KeepsRest self.old self.new }
         ensures honest { IsHonest S.Store self.new.tables → IsHonest S.Store self.old.tables }
         ensures judge { LeadsFrom S.Store self.old.tables self.new.tables
             (λ L new. Judges result (Load plans.now) t L new) }
@@ -182,7 +183,7 @@ impl<S: Alter> StoreDesk<S> {
         codes: &[Code],
         t: Moment,
     ) -> Result<Changes, Refusal>
-        ensures told { self.new.settings ≡ self.old.settings }
+        ensures rest { KeepsRest self.old self.new }
         ensures honest { IsHonest S.Store self.new.tables → IsHonest S.Store self.old.tables }
         ensures judge { LeadsFrom S.Store self.old.tables self.new.tables
             (λ L new. Judges result (Issue batch.now plan.now codes.now) t L new) }
@@ -203,7 +204,7 @@ impl<S: Alter> StoreDesk<S> {
 
     /// Adds the plans that are held of the listed ids.
     fn hold(&mut self, listed: &[Plan], held: &mut Vec<Plan>) -> Result<(), Refusal>
-        ensures told { self.new.settings ≡ self.old.settings }
+        ensures rest { KeepsRest self.old self.new }
         ensures honest { IsHonest S.Store self.new.tables → IsHonest S.Store self.old.tables }
         ensures held { LeadsFrom S.Store self.old.tables self.new.tables (λ L new. MatchResult result
             (λ _. (held.new.items ≡ held.old.items ++ held_among (plans_of (history_of L)) listed.now) × (new ≡ running L))
@@ -218,7 +219,7 @@ impl<S: Alter> StoreDesk<S> {
 
     /// Whether one of the codes was issued.
     fn is_any_held(&mut self, codes: &[Code]) -> Result<bool, Refusal>
-        ensures told { self.new.settings ≡ self.old.settings }
+        ensures rest { KeepsRest self.old self.new }
         ensures honest { IsHonest S.Store self.new.tables → IsHonest S.Store self.old.tables }
         ensures held { LeadsFrom S.Store self.old.tables self.new.tables (λ L new. MatchResult result
             (λ taken. (taken ≡ any_held (history_of L) codes.now) × (new ≡ running L))

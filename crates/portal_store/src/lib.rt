@@ -5,6 +5,7 @@ mod acting;
 mod adopting;
 mod desks;
 mod judging;
+mod keeping;
 mod lists;
 mod reading;
 mod takings;

@@ -1,19 +1,18 @@
 //! The lists of the tables, in the words of a desk.
 ghost use Rattle.std.specs.Prelude.{◌≡◌, ◌++◌, ◌≤◌, true, IfOk, filter, map};
-ghost use Rattle.portal_model.specs.Captive.{all_sessions, open_session};
+ghost use Rattle.portal_model.specs.Captive.{all_sessions};
 ghost use Rattle.portal_model.specs.History.{codes_of, is_open_at};
 ghost use Rattle.portal_tables.specs.Lists.{AreSales, AreRefunds};
 ghost use Rattle.portal_tables.specs.TablesAt.{IsHonest};
 ghost use Rattle.portal_store.specs.Paid.{paid_days};
+ghost use Rattle.portal_store.specs.Rest.{KeepsRest};
 ghost use Rattle.portal_store.specs.Steps.{Leads, Tells};
 
 use crate::desks::StoreDesk;
 use crate::reading::refused;
 use portal_codes::Code;
-use portal_core::open_session;
 use portal_days::{Day, DayRange};
 use portal_files::{Settings, local_day};
-use portal_model::captive::OpenSession;
 use portal_model::lists::Codes;
 use portal_model::moment::Moment;
 use portal_model::name::Id;
@@ -28,7 +27,7 @@ pub(crate) type Paid = (Moment, u64);
 impl<S: Alter> StoreDesk<S> {
     /// The codes of the batch, by place.
     pub(crate) fn find_codes(&mut self, alloc: Global, id: &Id) -> Result<Vec<Code>, Refusal>
-        ensures told { self.new.settings ≡ self.old.settings }
+        ensures rest { KeepsRest self.old self.new }
         ensures honest { IsHonest S.Store self.new.tables → IsHonest S.Store self.old.tables }
         ensures read { Leads S.Store self.old.tables self.new.tables
             (λ old new. Tells result (λ found H. found.items ≡ codes_of H id.now) old new) }
@@ -41,7 +40,7 @@ impl<S: Alter> StoreDesk<S> {
 
     /// The sessions that are open at `t`, by number.
     pub(crate) fn find_open(&mut self, alloc: Global, t: Moment) -> Result<Vec<Session>, Refusal>
-        ensures told { self.new.settings ≡ self.old.settings }
+        ensures rest { KeepsRest self.old self.new }
         ensures honest { IsHonest S.Store self.new.tables → IsHonest S.Store self.old.tables }
         ensures read { Leads S.Store self.old.tables self.new.tables
             (λ old new. Tells result (λ found H. found.items ≡ filter (is_open_at t) (all_sessions H)) old new) }
@@ -59,7 +58,7 @@ impl<S: Alter> StoreDesk<S> {
         from: Moment,
         to: Moment,
     ) -> Result<Vec<(Moment, u64)>, Refusal>
-        ensures told { self.new.settings ≡ self.old.settings }
+        ensures rest { KeepsRest self.old self.new }
         ensures honest { IsHonest S.Store self.new.tables → IsHonest S.Store self.old.tables }
         ensures read { Leads S.Store self.old.tables self.new.tables
             (λ old new. Tells result (λ found H. AreSales H from to found.items) old new) }
@@ -77,7 +76,7 @@ impl<S: Alter> StoreDesk<S> {
         from: Moment,
         to: Moment,
     ) -> Result<Vec<(Moment, u64)>, Refusal>
-        ensures told { self.new.settings ≡ self.old.settings }
+        ensures rest { KeepsRest self.old self.new }
         ensures honest { IsHonest S.Store self.new.tables → IsHonest S.Store self.old.tables }
         ensures read { Leads S.Store self.old.tables self.new.tables
             (λ old new. Tells result (λ found H. AreRefunds H from to found.items) old new) }
@@ -90,7 +89,7 @@ impl<S: Alter> StoreDesk<S> {
 
     /// Whether the counters agree with what they count.
     pub(crate) fn check_counters(&mut self) -> Result<bool, Refusal>
-        ensures told { self.new.settings ≡ self.old.settings }
+        ensures rest { KeepsRest self.old self.new }
         ensures honest { IsHonest S.Store self.new.tables → IsHonest S.Store self.old.tables }
         ensures read { Leads S.Store self.old.tables self.new.tables
             (λ old new. Tells result (λ agrees H. agrees ≡ true) old new) }
@@ -111,21 +110,6 @@ pub(crate) fn listed(alloc: Global, codes: &[Code]) -> Result<Codes, AllocError>
         list.push(*code)?;
     }
     Ok(list)
-}
-
-/// What the gateway is told of the sessions at `t`. Only want of memory is an error.
-pub(crate) fn told_open(
-    alloc: Global,
-    sessions: &[Session],
-    t: Moment,
-) -> Result<Vec<OpenSession>, AllocError>
-    ensures { IfOk result (λ told. told.items ≡ map (open_session t) sessions.now) }
-{
-    let mut told = Vec::new(alloc);
-    for session in sessions {
-        told.push(open_session(session, t))?;
-    }
-    Ok(told)
 }
 
 /// The payments with their civil days in the settings' zone. Only want of memory is an error.

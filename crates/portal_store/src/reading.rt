@@ -6,6 +6,7 @@ ghost use Rattle.portal_ledger.specs.Calls.{ReadsOf};
 ghost use Rattle.portal_desk.specs.Calls.{CannotAnswer};
 ghost use Rattle.portal_tables.specs.declared.fault.StoreFault.TheVariants.{Memory, Stopped};
 ghost use Rattle.portal_tables.specs.TablesAt.{IsHonest};
+ghost use Rattle.portal_store.specs.Rest.{KeepsRest};
 ghost use Rattle.portal_store.specs.Steps.{Leads, Tells};
 
 use crate::desks::StoreDesk;
@@ -35,7 +36,7 @@ pub(crate) fn refused(fault: StoreFault) -> Refusal
 impl<S: Alter> StoreDesk<S> {
     /// The head.
     pub(crate) fn find_head(&mut self) -> Result<Head, Refusal>
-        ensures told { self.new.settings ≡ self.old.settings }
+        ensures rest { KeepsRest self.old self.new }
         ensures honest { IsHonest S.Store self.new.tables → IsHonest S.Store self.old.tables }
         ensures read { Leads S.Store self.old.tables self.new.tables
             (λ old new. Tells result (λ found H. found ≡ head_of H) old new) }
@@ -48,7 +49,7 @@ impl<S: Alter> StoreDesk<S> {
 
     /// The plan of the id.
     pub(crate) fn find_plan(&mut self, id: &Id) -> Result<Option<Plan>, Refusal>
-        ensures told { self.new.settings ≡ self.old.settings }
+        ensures rest { KeepsRest self.old self.new }
         ensures honest { IsHonest S.Store self.new.tables → IsHonest S.Store self.old.tables }
         ensures read { Leads S.Store self.old.tables self.new.tables
             (λ old new. Tells result (λ found H. found ≡ plan_of H id.now) old new) }
@@ -61,7 +62,7 @@ impl<S: Alter> StoreDesk<S> {
 
     /// The batch of the id.
     pub(crate) fn find_batch(&mut self, id: &Id) -> Result<Option<Batch>, Refusal>
-        ensures told { self.new.settings ≡ self.old.settings }
+        ensures rest { KeepsRest self.old self.new }
         ensures honest { IsHonest S.Store self.new.tables → IsHonest S.Store self.old.tables }
         ensures read { Leads S.Store self.old.tables self.new.tables
             (λ old new. Tells result (λ found H. found ≡ batch_of H id.now) old new) }
@@ -74,7 +75,7 @@ impl<S: Alter> StoreDesk<S> {
 
     /// The voucher of the code.
     pub(crate) fn find_voucher(&mut self, code: &Code) -> Result<Option<Voucher>, Refusal>
-        ensures told { self.new.settings ≡ self.old.settings }
+        ensures rest { KeepsRest self.old self.new }
         ensures honest { IsHonest S.Store self.new.tables → IsHonest S.Store self.old.tables }
         ensures read { Leads S.Store self.old.tables self.new.tables
             (λ old new. Tells result (λ found H. found ≡ voucher_of H code.now) old new) }
@@ -87,7 +88,7 @@ impl<S: Alter> StoreDesk<S> {
 
     /// Whether a voucher of the code was issued.
     pub(crate) fn is_held(&mut self, code: &Code) -> Result<bool, Refusal>
-        ensures told { self.new.settings ≡ self.old.settings }
+        ensures rest { KeepsRest self.old self.new }
         ensures honest { IsHonest S.Store self.new.tables → IsHonest S.Store self.old.tables }
         ensures read { Leads S.Store self.old.tables self.new.tables
             (λ old new. Tells result (λ held H. held ≡ is_some (issued_of H code.now)) old new) }
@@ -100,7 +101,7 @@ impl<S: Alter> StoreDesk<S> {
 
     /// The session of the number.
     pub(crate) fn find_session(&mut self, number: u64) -> Result<Option<Session>, Refusal>
-        ensures told { self.new.settings ≡ self.old.settings }
+        ensures rest { KeepsRest self.old self.new }
         ensures honest { IsHonest S.Store self.new.tables → IsHonest S.Store self.old.tables }
         ensures read { Leads S.Store self.old.tables self.new.tables
             (λ old new. Tells result (λ found H. found ≡ session_of H number) old new) }
@@ -113,7 +114,7 @@ impl<S: Alter> StoreDesk<S> {
 
     /// The last session of the device.
     pub(crate) fn find_last(&mut self, device: &Device) -> Result<Option<Session>, Refusal>
-        ensures told { self.new.settings ≡ self.old.settings }
+        ensures rest { KeepsRest self.old self.new }
         ensures honest { IsHonest S.Store self.new.tables → IsHonest S.Store self.old.tables }
         ensures read { Leads S.Store self.old.tables self.new.tables
             (λ old new. Tells result (λ found H. found ≡ last_session_of H device.now) old new) }
@@ -132,7 +133,7 @@ impl<S: Alter> StoreDesk<S> {
         alloc: Global,
         mark: &RequestMark,
     ) -> Result<Option<Answer>, Refusal>
-        ensures told { self.new.settings ≡ self.old.settings }
+        ensures rest { KeepsRest self.old self.new }
         ensures honest { IsHonest S.Store self.new.tables → IsHonest S.Store self.old.tables }
         ensures read { Leads S.Store self.old.tables self.new.tables (λ old new. MatchResult result
             (λ found. ReadsOf old (λ L. repeat_in L (Some mark.now) ≡ Ok found) new)

@@ -7,6 +7,7 @@ ghost use Rattle.portal_desk.specs.Sheets.{takings_over};
 ghost use Rattle.portal_files.specs.LocalDay.{local_day_of};
 ghost use Rattle.portal_model.specs.Verdict.{greatest_moment};
 ghost use Rattle.portal_tables.specs.TablesAt.{IsHonest};
+ghost use Rattle.portal_store.specs.Rest.{KeepsRest};
 ghost use Rattle.portal_store.specs.Steps.{Leads, Tells};
 
 use crate::desks::StoreDesk;
@@ -68,7 +69,7 @@ impl<S: Alter> StoreDesk<S> {
         alloc: Global,
         range: DayRange,
     ) -> Result<Vec<DayTakings>, Refusal>
-        ensures told { self.new.settings ≡ self.old.settings }
+        ensures rest { KeepsRest self.old self.new }
         ensures honest { IsHonest S.Store self.new.tables → IsHonest S.Store self.old.tables }
         ensures totals { IfOk result (λ days. TotalsFit days.items) }
         ensures takings { Leads S.Store self.old.tables self.new.tables

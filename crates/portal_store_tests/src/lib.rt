@@ -5,6 +5,8 @@
 #[cfg(test)]
 mod cases;
 #[cfg(test)]
+mod kept;
+#[cfg(test)]
 mod orders;
 #[cfg(test)]
 mod place;

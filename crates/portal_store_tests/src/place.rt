@@ -23,6 +23,20 @@ pub fn in_memory(
     Ok(())
 }
 
+/// The same, with a desk of its own for each step.
+pub fn in_memory_anew(
+    rt: &impl Abort,
+    alloc: Global,
+    settings: &str,
+    steps: &[Step],
+) -> Result<(), Fail> {
+    let mut conn = Connection::open_in_memory(alloc)?;
+    for step in steps {
+        conn = run(rt, alloc, conn, settings, &[*step])?;
+    }
+    Ok(())
+}
+
 /// The files after a desk over them took the steps.
 fn visited(
     rt: &impl Abort,

@@ -2,14 +2,14 @@ use Rattle.std.proofs.Common.{Some, subst}
 use Rattle.portal_ledger.specs.States.{State}
 use Rattle.portal_desk.specs.Calls.{PreparesMarked}
 use Rattle.portal_desk.specs.declared.prepared.Marked.{Marked}
-use Rattle.portal_tables.specs.TablesAt.{TablesAt}
+use Rattle.portal_store.specs.DeskAt.{DeskAt}
 use Rattle.portal_store.proofs.ActLemmas.{acts, fails}
 use Rattle.portal_store.proofs.desks.StoreDesk.act_marked.Goals as goal
 
 pub returns-in-Ok-clause-act : goal.returns-in-Ok-clause-act
 returns-in-Ok-clause-act g c = λ honest old at.
-    let Mid : State → Type 0 = λ s. TablesAt g.S.Store c.prepare_marked.new.self.tables s in
-    let Done : State → Type 0 = λ s. TablesAt g.S.Store c.finish.new.self.tables s in
+    let Mid : State → Type 0 = λ s. DeskAt g.S.Store c.prepare_marked.new.self s in
+    let Done : State → Type 0 = λ s. DeskAt g.S.Store c.finish.new.self s in
     let fresh = subst (λ (m : Marked). (x : State) × Mid x × PreparesMarked old c.args.command c.args.moment c.args.mark.now m x) c.in-Ok-Fresh.field-0-is
     (c.in-Ok-Fresh.ensures.prepare (c.finish.ensures.honest honest) old at) in
     acts c.args.command c.args.moment (Some c.args.mark.now) Mid Done c.in-Ok-Fresh.fresh old fresh
@@ -17,8 +17,8 @@ returns-in-Ok-clause-act g c = λ honest old at.
 
 pub returns-in-Err-finish-clause-act : goal.returns-in-Err-finish-clause-act
 returns-in-Err-finish-clause-act g c = λ honest old at.
-    let Mid : State → Type 0 = λ s. TablesAt g.S.Store c.prepare_marked.new.self.tables s in
-    let Done : State → Type 0 = λ s. TablesAt g.S.Store c.finish.new.self.tables s in
+    let Mid : State → Type 0 = λ s. DeskAt g.S.Store c.prepare_marked.new.self s in
+    let Done : State → Type 0 = λ s. DeskAt g.S.Store c.finish.new.self s in
     let fresh = subst (λ (m : Marked). (x : State) × Mid x × PreparesMarked old c.args.command c.args.moment c.args.mark.now m x) c.in-Ok-Fresh.field-0-is
     (c.in-Ok-Fresh.ensures.prepare (c.finish.ensures.honest honest) old at) in
     fails c.args.command c.args.moment (Some c.args.mark.now) Mid Done c.in-Ok-Fresh.fresh old fresh

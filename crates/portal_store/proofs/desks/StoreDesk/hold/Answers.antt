@@ -12,7 +12,7 @@ use Rattle.portal_store.proofs.desks.StoreDesk.hold.Goals as goal
 
 pub loop-plan-preserved : goal.loop-plan-preserved
 loop-plan-preserved g c = record {
-  told = c.find_plan.ensures.told ∙ c.loop-plan.invariant.told;
+  rest = (c.find_plan.ensures.rest.0 ∙ c.loop-plan.invariant.rest.0, c.find_plan.ensures.rest.1 ∙ c.loop-plan.invariant.rest.1);
   honest = λ honest. c.loop-plan.invariant.honest (c.find_plan.ensures.honest honest);
   some = λ honest L at.
       let Mid : State → Type 0 = λ s. TablesAt g.S.Store c.find_plan.new.self.tables s in

@@ -4,11 +4,12 @@ use Rattle.portal_laws.specs.FromRows.{held_among}
 use Rattle.portal_ledger.specs.Ledger.{Ledger, history_of}
 use Rattle.portal_ledger.specs.States.{running}
 use Rattle.portal_tables.specs.TablesAt.{IsHonest, TablesAt}
+use Rattle.portal_store.specs.Rest.{KeepsRest}
 use Rattle.portal_store.proofs.desks.StoreDesk.hold.Given as goal
 
 abbrev pub invariant-loop-plan : goal.invariant-loop-plan
 invariant-loop-plan g l = record {
-  told : l.self.settings ≡ l.fn.self.settings;
+  rest : KeepsRest l.fn.self l.self;
   honest : IsHonest g.S.Store l.self.tables → IsHonest g.S.Store l.fn.self.tables;
   some : IsHonest g.S.Store l.self.tables → (L : Ledger) → TablesAt g.S.Store l.fn.self.tables (running L)
       → TablesAt g.S.Store l.self.tables (running L) × (l.held.items ≡ l.fn.held.items ++ held_among (plans_of (history_of L)) (take l.plan-index l.listed));

@@ -9,7 +9,7 @@ use Rattle.portal_store.proofs.desks.StoreDesk.is_any_held.Goals as goal
 
 pub loop-code-preserved : goal.loop-code-preserved
 loop-code-preserved g c = record {
-  told = c.is_held.ensures.told ∙ c.loop-code.invariant.told;
+  rest = (c.is_held.ensures.rest.0 ∙ c.loop-code.invariant.rest.0, c.is_held.ensures.rest.1 ∙ c.loop-code.invariant.rest.1);
   honest = λ honest. c.loop-code.invariant.honest (c.is_held.ensures.honest honest);
   none = λ honest L at.
       let Mid : State → Type 0 = λ s. TablesAt g.S.Store c.is_held.new.self.tables s in

@@ -3,11 +3,12 @@ use Rattle.portal_model.specs.Verdict.{any_held}
 use Rattle.portal_ledger.specs.Ledger.{Ledger, history_of}
 use Rattle.portal_ledger.specs.States.{running}
 use Rattle.portal_tables.specs.TablesAt.{IsHonest, TablesAt}
+use Rattle.portal_store.specs.Rest.{KeepsRest}
 use Rattle.portal_store.proofs.desks.StoreDesk.is_any_held.Given as goal
 
 abbrev pub invariant-loop-code : goal.invariant-loop-code
 invariant-loop-code g l = record {
-  told : l.self.settings ≡ l.fn.self.settings;
+  rest : KeepsRest l.fn.self l.self;
   honest : IsHonest g.S.Store l.self.tables → IsHonest g.S.Store l.fn.self.tables;
   none : IsHonest g.S.Store l.self.tables → (L : Ledger) → TablesAt g.S.Store l.fn.self.tables (running L)
       → TablesAt g.S.Store l.self.tables (running L) × (any_held (history_of L) (take l.code-index l.codes) ≡ false);

@@ -1,0 +1,45 @@
+-- The sessions that a desk keeps stay those of its ledger where a command is kept, and where it is not.
+use Rattle.std.proofs.Common.{◌≡◌, inl, inr, ℕ, ◌∷◌, Option, Some, sym, subst}
+use Rattle.std.specs.Prelude.{IfSome}
+use Rattle.sqlite_trees.specs.declared.store.Store.{Ghosts}
+use Rattle.portal_model.specs.declared.command.Command.{Command}
+use Rattle.portal_model.specs.declared.change.Changes.{Changes}
+use Rattle.portal_model.specs.declared.refusal.Refusal.{Refusal}
+use Rattle.portal_model.specs.Change.{changes_of}
+use Rattle.portal_model.specs.History.{entry, History}
+use Rattle.portal_model.specs.Verdict.{Follows, IsLegal}
+use Rattle.portal_ledger.specs.declared.marked.MarkedChanges.{MarkedChanges}
+use Rattle.portal_ledger.specs.Ledger.{Accepted, history_of}
+use Rattle.portal_ledger.specs.States.{State, running, stopped}
+use Rattle.portal_ledger.specs.Calls.{Fits, Keeps}
+use Rattle.portal_desk.specs.Calls.{CannotKeep}
+use Rattle.portal_open.specs.Open.{OpenAt, open_at_last}
+use Rattle.portal_tables.specs.declared.tables.Tables.{Tables}
+use Rattle.portal_tables.specs.TablesAt.{TablesAt}
+use Rattle.portal_store.specs.OpenIs.{OpenIs}
+use Rattle.portal_store.proofs.ReadLemmas.{legal_at}
+
+-- the list follows an accepted command with these changes
+abbrev pub FollowsOn : Option OpenAt → Option OpenAt → Changes → Type 0
+FollowsOn kept now changes = (H : History) → IsLegal H → (command : Command) (t : ℕ) → Follows H t command → changes_of H command t ≡ Some changes
+    → IfSome kept (λ list. list ≡ open_at_last H) → IfSome now (λ list. list ≡ open_at_last (entry t command ∷ H))
+
+-- it is kept
+pub keeps_on : {S : Type 0} (g : Ghosts S) (before after : Tables S) (kept now : Option OpenAt) (marked : MarkedChanges) (a : Accepted)
+    → FollowsOn kept now marked.changes → (old : State) → TablesAt g before old → OpenIs kept old → Fits old marked a
+    → ((x : State) × TablesAt g after x × Keeps old a x) → (x : State) × (TablesAt g after x × OpenIs now x) × Keeps old a x
+keeps_on g before after kept now marked a follows (running L) at is fits got =
+    let led : OpenIs now (running (a ∷ L)) = follows (history_of L) (legal_at g L before at) a.command a.at fits.0.follows fits.1 is in
+    (got.0, (got.1, subst (λ (s : State). OpenIs now s) (sym got.2) led), got.2)
+keeps_on g before after kept now marked a follows (stopped L doubt) at is fits got = absurd got.2
+
+-- a command is not kept, or it is in doubt
+pub keeps_all : {S : Type 0} (g : Ghosts S) (after : Tables S) (kept : Option OpenAt) (a : Accepted) (r : Refusal) (old : State) → OpenIs kept old
+    → ((x : State) × TablesAt g after x × CannotKeep old a r x) → (x : State) × (TablesAt g after x × OpenIs kept x) × CannotKeep old a r x
+keeps_all g after kept a r (running L) is got =
+    let still : OpenIs kept got.0 = elim got.2 [
+      | inl memory ↦ subst (λ (s : State). OpenIs kept s) (sym memory.1) is
+      | inr over ↦ subst (λ (s : State). OpenIs kept s) (sym over.1) tt
+    ] in
+    (got.0, (got.1, still), got.2)
+keeps_all g after kept a r (stopped L doubt) is got = (got.0, (got.1, subst (λ (s : State). OpenIs kept s) (sym got.2.1) tt), got.2)

@@ -1,0 +1,21 @@
+use Rattle.std.proofs.Common.{Option, sym, subst}
+use Rattle.portal_ledger.specs.declared.marked.MarkedChanges.{MarkedChanges}
+use Rattle.portal_ledger.specs.Calls.{Fits}
+use Rattle.portal_open.specs.Open.{OpenAt}
+use Rattle.portal_store.proofs.KeptLemmas.{FollowsOn, keeps_all, keeps_on}
+use Rattle.portal_store.proofs.ReadLemmas.{cannot_keep}
+use Rattle.portal_store.proofs.desks.StoreDeskDesk.finish.Goals as goal
+
+pub returns-in-Ok-clause-finish : goal.returns-in-Ok-clause-finish
+returns-in-Ok-clause-finish g c = λ honest old at a fits.
+    let same = c.into_changes-marked.ensures in
+    let fits' = subst (λ (m : MarkedChanges). Fits old m a) (sym same) fits in
+    keeps_on g.S.Store c.args.self.now.tables c.commit.new.self c.args.self.now.open c.followed.result c.into_changes-marked.result a
+    (subst (λ (o : Option OpenAt). FollowsOn o c.followed.result c.into_changes-marked.result.changes) c.take.ensures.value c.followed.ensures)
+    old at.0 at.1 fits' (c.in-Ok.ensures.commit honest old at.0 a fits')
+
+pub returns-clause-finish : goal.returns-clause-finish
+returns-clause-finish g c = λ honest old at a fits.
+    let fits' = subst (λ (m : MarkedChanges). Fits old m a) (sym c.into_changes-marked.ensures) fits in
+    keeps_all g.S.Store c.commit.new.self c.args.self.now.open a c.refused.result old at.1
+    (cannot_keep g.S.Store c.commit.new.self a c.in-Err.fault c.refused.result old (c.in-Err.ensures.commit honest old at.0 a fits') c.refused.ensures.memory c.refused.ensures.stopped)
