@@ -1,5 +1,5 @@
 -- What each text that reads a list answers, by the rows that the tables hold.
-use Rattle.std.proofs.Common.{◌≡◌, ◌<◌, ℕ, List, [], ◌∷◌, ◌++◌, map, length, true, false, refl, sym, ap, ap₂, subst, ◌∙◌, lit<, bytes_eq, Ordering, lit≤}
+use Rattle.std.proofs.Common.{◌≡◌, ◌<◌, ℕ, List, [], ◌∷◌, ◌++◌, Bool, map, filter, length, true, false, refl, sym, ap, ap₂, subst, ◌∙◌, lit<, bytes_eq, Ordering, lit≤}
 use Rattle.std.specs.Ordering.{ordering_then}
 use Rattle.sqlite_value.specs.declared.keys.Key.{Key}
 use Rattle.sqlite_value.proofs.OrderLemmas.{then-Equal, value_cmp-Text}
@@ -12,6 +12,7 @@ use Rattle.sqlite.specs.Term.{Term}
 use Rattle.sqlite.specs.Listing.{understood}
 use Rattle.sqlite.specs.State.{State, Shown}
 use Rattle.sqlite.proofs.Callers.{IsPlain}
+use Rattle.sqlite_trees.proofs.ListLemmas.{map-map, filter-map}
 use Rattle.portal_sql.specs.Stored.{number}
 use Rattle.portal_sql.specs.Finds.{has_key, by_column, fields, IsSelection}
 use Rattle.portal_sql.proofs.Keys.{text_test}
@@ -21,9 +22,10 @@ use Rattle.portal_model.specs.Rows.{VoucherRow, TotalRow}
 use Rattle.portal_rows.specs.Layout.{vouchers, totals}
 use Rattle.portal_rows.specs.Contents.{Contents, voucher_cells, total_cells}
 use Rattle.portal_rows.specs.Holds.{Holds, HasTables}
-use Rattle.portal_lists.specs.Lists.{ListsAs, is_within, by_place, by_sale, by_refund, by_number}
+use Rattle.portal_lists.specs.Lists.{ListsAs, is_within, by_place, by_refund, by_number, sale_shown, sale_cells}
 use Rattle.portal_rows.proofs.Cells.{vouchers_in, totals_in}
 use Rattle.portal_lists.proofs.Listing.{number_order, option_order, sql_within, within_is, cells_listed}
+use Rattle.portal_lists.proofs.WholeTables.{some_columns}
 use Rattle.portal_lists.proofs.ListTexts as texts
 
 -- ---- two columns
@@ -69,15 +71,20 @@ module _ (old new : State) (from to : ℕ) (rows : List Row) (t : Contents) (h :
   abbrev params : Row
   params = number from ∷ number to ∷ []
 
-  pub sold_rows_are : Shown texts.sold_text params old new rows → ListsAs voucher_cells (λ v. is_within from to v.sold) by_sale t.vouchers rows
+  pub sold_rows_are : Shown texts.sold_text params old new rows → rows ≡ map sale_cells (map sale_shown (filter (λ v. is_within from to v.sold) t.vouchers))
   sold_rows_are shown =
       let place = h.places.vouchers in
       let table = vouchers place.tree in
-      let it = selected texts.sold_text table (texts.within_terms table 3) _ params old new texts.voucher_columns (λ r. sql_within (column r 3) (number from) (number to)) (within_tests table 3 from to (lit< tt)) (by_columns 3 0)
-      (orders_by_two table 3 0 params (lit< tt) (lit< tt)) (texts.sold_means old.now.schema place.at place.tree h.stand.vouchers.stands) rows shown in
-      let all = subst (λ xs. IsSelection (λ r. sql_within (column r 3) (number from) (number to)) (by_columns 3 0) xs rows) (vouchers_in old.now.trees place.tree t.vouchers h.store.vouchers) it in
-      cells_listed voucher_cells (λ (v : VoucherRow). is_within from to v.sold) by_sale t.vouchers (λ r. sql_within (column r 3) (number from) (number to)) (by_columns 3 0) (λ v. within_is v.sold from to)
-      (λ a b. ap₂ ordering_then (option_order a.sold b.sold) (value_cmp-Text a.code b.code)) rows all
+      let sold : Row → Bool = λ r. sql_within (column r 3) (number from) (number to) in
+      let two : Row → Row = λ r. column r 1 ∷ column r 3 ∷ [] in
+      let listed = filter (λ (v : VoucherRow). is_within from to v.sold) t.vouchers in
+      some_columns texts.sold_text table (texts.within_terms table 3) (texts.sold_terms table) params texts.sold_columns old new sold (within_tests table 3 from to (lit< tt)) two
+      (λ r. ap₂ (λ a b. a ∷ b ∷ []) (sym (field_at table 1 r (lit< tt))) (sym (field_at table 3 r (lit< tt))))
+      (texts.sold_means old.now.schema place.at place.tree h.stand.vouchers.stands) h.store.vouchers.are.rise rows shown
+      ∙ ap (λ xs. map two (filter sold xs)) (vouchers_in old.now.trees place.tree t.vouchers h.store.vouchers)
+      ∙ ap (map two) (filter-map sold voucher_cells t.vouchers ∙ (λ i. map voucher_cells (filter (λ (v : VoucherRow). within_is v.sold from to i) t.vouchers)))
+      ∙ map-map two voucher_cells listed
+      ∙ sym (map-map sale_cells sale_shown listed)
 
   pub refunded_rows_are : Shown texts.refunded_text params old new rows → ListsAs voucher_cells (λ v. is_within from to v.refunded) by_refund t.vouchers rows
   refunded_rows_are shown =

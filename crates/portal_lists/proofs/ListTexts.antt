@@ -19,6 +19,7 @@ use Rattle.portal_sql.proofs.Texts.{IsText}
 use Rattle.portal_sql.proofs.Lookup.{IsSelect, all_columns, by}
 use Rattle.portal_sql.proofs.Selects.{select_of, select_means, up}
 use Rattle.portal_rows.specs.Layout.{vouchers, totals, vouchers_name, totals_name}
+use Rattle.portal_lists.proofs.WholeTables.{by_rowid, has_rowids, IsSelectOf}
 
 -- ---- the ends of all sessions
 
@@ -53,20 +54,27 @@ abbrev pub voucher_columns : List (List ℕ)
 voucher_columns = codes "code" ∷ codes "batch_id" ∷ codes "place" ∷ codes "sold" ∷ codes "refunded" ∷ codes "amount" ∷ []
 
 abbrev pub sold_text : List ℕ
-sold_text = codes "SELECT code, batch_id, place, sold, refunded, amount FROM portal_vouchers WHERE sold >= ?1 AND sold <= ?2 ORDER BY sold, code"
+sold_text = codes "SELECT batch_id, sold FROM portal_vouchers WHERE sold >= ?1 AND sold <= ?2 ORDER BY rowid"
 
-sold_is_text : IsText sold_text (written.Select (select_of vouchers_name voucher_columns (where_within (codes "sold")) (up (codes "sold") ++ up (codes "code")) None)) 2
+abbrev pub sold_columns : List (List ℕ)
+sold_columns = codes "batch_id" ∷ codes "sold" ∷ []
+
+-- the same two as the terms that are shown
+abbrev pub sold_terms : Table → List Term
+sold_terms table = col 1 (place_of table 1) ∷ col 1 (place_of table 3) ∷ []
+
+sold_is_text : IsText sold_text (written.Select (select_of vouchers_name sold_columns (where_within (codes "sold")) (up (codes "rowid")) None)) 2
 unfolding everything
 sold_is_text = record { parsed = _; read = refl; is = refl; timeless = refl; counted = refl }
 
 pub sold_means : (schema : Schema) (at tree : ℕ) → Stands schema at (vouchers tree)
-    → IsSelect schema sold_text (vouchers tree) (within_terms (vouchers tree) 3) (by (vouchers tree) 3 false ++ by (vouchers tree) 0 false) unlimited voucher_columns
+    → IsSelectOf schema sold_text (vouchers tree) (within_terms (vouchers tree) 3) (sold_terms (vouchers tree)) sold_columns
 unfolding everything
 sold_means schema at tree stands =
-    select_means schema sold_text vouchers_name voucher_columns (where_within (codes "sold")) (up (codes "sold") ++ up (codes "code")) None 2 (lit (Int (negsuc 0)), lit (Int (pos 0)))
-    (drafted tree (within_terms (vouchers tree) 3) (all_columns (vouchers tree)) (by (vouchers tree) 3 false ++ by (vouchers tree) 0 false) unlimited)
-    (Some Binary ∷ Some Binary ∷ Some Binary ∷ Some Binary ∷ Some Binary ∷ Some Binary ∷ []) sold_is_text refl refl
-    (simp (stands.named, stands.there) refl) (simp (stands.low, stands.typed) refl) refl (λ base. refl)
+    select_means schema sold_text vouchers_name sold_columns (where_within (codes "sold")) (up (codes "rowid")) None 2 (lit (Int (negsuc 0)), lit (Int (pos 0)))
+    (drafted tree (within_terms (vouchers tree) 3) (sold_terms (vouchers tree)) by_rowid unlimited)
+    (Some Binary ∷ Some Binary ∷ []) sold_is_text refl refl
+    (simp (stands.named, stands.there, has_rowids tree stands.low) refl) (simp (stands.low, stands.typed) refl) refl (λ base. refl)
 
 abbrev pub refunded_text : List ℕ
 refunded_text = codes "SELECT code, batch_id, place, sold, refunded, amount FROM portal_vouchers WHERE refunded >= ?1 AND refunded <= ?2 ORDER BY refunded, code"

@@ -18,7 +18,7 @@ use Rattle.sqlite_trees.proofs.ListLemmas.{map-map, filter-map, pull_back}
 use Rattle.portal_sql.specs.Stored.{number, or_null}
 use Rattle.portal_sql.specs.Finds.{IsSelection, columns}
 use Rattle.portal_model.specs.Rows.{TotalRow}
-use Rattle.portal_lists.specs.Lists.{Lists, ListsAs, IsReadAs, AreReadAs, is_within, may_be_open, numbers_open}
+use Rattle.portal_lists.specs.Lists.{Lists, ListsAs, IsReadAs, AreReadAs, is_within, may_be_open, numbers_open, sale_cells}
 
 -- ---- the order of SQL, at numbers, at texts, and where a number may be missing
 
@@ -57,6 +57,18 @@ within_is (Some at) from to =
     ap₂ ◌&&◌ (truth_back _ ∙ ap is_ge (number_order at from) ∙ not_below at from) (and_true _ ∙ truth_back _ ∙ ap is_le (number_order at to) ∙ not_above at to)
 
 -- ---- rows and values
+
+or_null_exact : (a b : Option ℕ) → or_null a ≡ or_null b → a ≡ b
+or_null_exact None None e = refl
+or_null_exact None (Some b) e = absurd (cc)
+or_null_exact (Some a) None e = absurd (cc)
+or_null_exact (Some a) (Some b) e = cc
+
+pub exact_sale : (a b : List ℕ × Option ℕ) → sale_cells a ≡ sale_cells b → a ≡ b
+exact_sale a b e =
+    let first : a.0 ≡ b.0 = cc in
+    let second : or_null a.1 ≡ or_null b.1 = cc in
+    ap₂ (λ x y. (x, y)) first (or_null_exact a.1 b.1 second)
 
 pub sorted_from_map : {A B : Type 0} (f : A → B) (cmp : B → B → Ordering) (xs : List A) → IsSorted cmp (map f xs) → IsSorted (λ a b. cmp (f a) (f b)) xs
 sorted_from_map f cmp xs h k d low within =

@@ -6,11 +6,11 @@ use Rattle.sqlite.specs.Effect.{Database}
 use Rattle.sqlite.specs.Listing.{understood}
 use Rattle.sqlite.specs.State.{State, Shown}
 use Rattle.sqlite.proofs.Callers.{IsPlain}
-use Rattle.portal_rows.specs.Layout.{plans, vouchers, sessions, grants, counts, totals}
-use Rattle.portal_rows.specs.Contents.{Contents, plan_cells, voucher_cells, session_cells, grant_cells, count_cells, total_cells}
+use Rattle.portal_rows.specs.Layout.{plans, batches, vouchers, sessions, grants, counts, totals}
+use Rattle.portal_rows.specs.Contents.{Contents, plan_cells, batch_cells, voucher_cells, session_cells, grant_cells, count_cells, total_cells}
 use Rattle.portal_rows.specs.First.{HoldsFirst, HasFirst}
 use Rattle.portal_rows.specs.Holds.{Places, Stand, HoldsIn, Holds, HasTables, this_layout}
-use Rattle.portal_rows.proofs.Cells.{plans_in, vouchers_in, sessions_in, grants_in, counts_in, totals_in}
+use Rattle.portal_rows.proofs.Cells.{plans_in, batches_in, vouchers_in, sessions_in, grants_in, counts_in, totals_in}
 use Rattle.portal_lists.proofs.WholeTables.{whole_table}
 use Rattle.portal_lists.proofs.WholeTexts as texts
 
@@ -64,6 +64,15 @@ all_plans_are old new rows shown t h =
     let place = h.places.plans in
     whole_table texts.all_plans_text (plans place.tree) texts.all_plans_columns old new (texts.all_plans_means old.now.schema place.at place.tree h.stand.plans.stands) h.store.plans.are.rise rows shown
     ∙ plans_in old.now.trees place.tree t.plans h.store.plans
+
+pub all_batches_plain : (schema : Schema) → HasTables schema → IsPlain (understood schema texts.all_batches_text)
+all_batches_plain schema h = let place = h.0.batches in (texts.all_batches_means schema place.at place.tree h.1.batches.stands).plain
+
+pub all_batches_are : (old new : State) (rows : List Row) → Shown texts.all_batches_text [] old new rows → (t : Contents) → Holds old.now t → rows ≡ map batch_cells t.batches
+all_batches_are old new rows shown t h =
+    let place = h.places.batches in
+    whole_table texts.all_batches_text (batches place.tree) texts.all_batches_columns old new (texts.all_batches_means old.now.schema place.at place.tree h.stand.batches.stands) h.store.batches.are.rise rows shown
+    ∙ batches_in old.now.trees place.tree t.batches h.store.batches
 
 pub all_vouchers_plain : (schema : Schema) → HasFirst schema → IsPlain (understood schema texts.all_vouchers_text)
 all_vouchers_plain schema h = let place = h.0.vouchers in (texts.all_vouchers_means schema place.at place.tree h.1.vouchers.stands).plain

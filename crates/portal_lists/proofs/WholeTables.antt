@@ -1,6 +1,7 @@
 -- A query for all rows of a table answers them in the order of their rowids.
-use Rattle.std.proofs.Common.{◌≡◌, ℕ, List, [], ◌∷◌, map, filter, Bool, true, false, Ordering, Less, Equal, Greater, ◌+◌, refl, sym, ap, subst, ◌∙◌, arith, add-one, get_or, true≢false, nat_le, nat_lt, ◌^◌, ◌-◌, cond, unwrap_or, slice_get, None, length, is_lt, is_eq}
+use Rattle.std.proofs.Common.{◌≡◌, ℕ, List, [], ◌∷◌, map, filter, Bool, true, false, Ordering, Less, Equal, Greater, ◌+◌, refl, sym, ap, subst, ◌∙◌, arith, add-one, get_or, true≢false, nat_le, nat_lt, ◌^◌, ◌-◌, cond, unwrap_or, slice_get, None, length, is_lt, is_eq, inl, inr}
 use Rattle.std.specs.List.{IsDistinct, range_with_len}
+use Rattle.std.proofs.lemmas.Bool.{cases_Bool}
 use Rattle.std.proofs.lemmas.Bool.Decides.{nat_tests}
 use Rattle.std.specs.Ordering.{ordering_reverse}
 use Rattle.std.specs.List.Sorted.{IsPermutation, IsSorted}
@@ -15,17 +16,20 @@ use Rattle.sqlite.specs.Table.{Table}
 use Rattle.sqlite.specs.Tree.{Trees, rowid, IsTable}
 use Rattle.sqlite.specs.Term.{Term, col, eval}
 use Rattle.sqlite.specs.Program.{overlay}
-use Rattle.sqlite.specs.Query.{IsAnswer}
+use Rattle.sqlite.specs.Query.{IsAnswer, inner, end}
+use Rattle.sqlite.specs.Command.TheVariants.{Select}
+use Rattle.sqlite.specs.Schema.{Schema}
 use Rattle.sqlite.specs.State.{State, Shown}
 use Rattle.sqlite.proofs.Callers.{reads_as}
 use Rattle.sqlite_schema.specs.Names.{place_of}
-use Rattle.sqlite_trees.proofs.ListLemmas.{map-map}
-use Rattle.sqlite_rules.proofs.ListLemmas.{all_has, all_from, contains_had}
+use Rattle.sqlite_trees.proofs.ListLemmas.{map-map, filter-map}
+use Rattle.sqlite_rules.proofs.ListLemmas.{all_has, all_from, contains_had, has_filtered}
 use Rattle.portal_sql.specs.Finds.{rows_in, fields}
 use Rattle.portal_sql.proofs.FindLemmas.{has_along}
-use Rattle.portal_sql.proofs.Queries.{unlimited}
+use Rattle.portal_sql.proofs.Queries.{simple, unlimited}
 use Rattle.portal_sql.proofs.RowLemmas.{same_rows}
-use Rattle.portal_sql.proofs.Scan.{env, shown_of, scan_all}
+use Rattle.portal_sql.proofs.Scan.{env, passes, shown_of, scan_all}
+use Rattle.portal_sql.proofs.Texts.{Means}
 use Rattle.portal_sql.proofs.Lookup.{IsSelect, all_columns, select_from}
 
 -- ORDER BY the rowid
@@ -103,3 +107,31 @@ module _ (sql : List ℕ) (table : Table) (names : List (List ℕ)) (old new : S
       let kept = subst (λ xs. IsPermutation xs scan.ordered) (all_pass _ ∙ no_tables old.now.trees table.tree) scan.same in
       let sorted : IsSorted (λ a b. value_cmp (rowid a) (rowid b)) scan.ordered = λ k d low within. ap is_lt (sym (then-Equal _)) ∙ scan.sorted k d low within in
       scan.shown ∙ ap (map (shown_of (all_columns table) [])) (in_order (old.now.trees table.tree) scan.ordered up kept sorted) ∙ (λ i. map (λ r. shows table [] r i) (old.now.trees table.tree))
+
+-- ---- some columns of the rows that pass, in the order of the rowids
+
+-- what such a text means
+abbrev pub IsSelectOf : Schema → List ℕ → Table → List Term → List Term → List (List ℕ) → Type 0
+IsSelectOf schema sql table terms shows names = Means schema sql (Select (record { lets = []; body = simple (inner table.tree end) terms shows by_rowid unlimited }) names)
+
+kept_table : (p : Row → Bool) (rows : List Row) → IsTable rows → IsTable (filter p rows)
+kept_table p [] up = tt
+kept_table p (r ∷ rows) up = elim (cases_Bool (p r)) [
+  | inl e ↦ rw e (all_from _ (filter p rows) (λ y h. all_has _ rows y up.0 (has_filtered p rows y h).0), kept_table p rows up.1)
+  | inr e ↦ rw e (kept_table p rows up.1)
+]
+
+module _ (sql : List ℕ) (table : Table) (terms shows : List Term) (params : Row) (names : List (List ℕ)) (old new : State)
+    (p : Row → Bool) (tests : (r : Row) → passes terms params r ≡ p (fields table r)) (f : Row → Row) (shown : (r : Row) → shown_of shows params r ≡ f (fields table r)) where
+  pub some_columns : IsSelectOf old.now.schema sql table terms shows names → IsTable (old.now.trees table.tree) → (rows : List Row) → Shown sql params old new rows → rows ≡ map f (filter p (rows_in table old.now.trees))
+  some_columns s up rows h =
+      let read = reads_as sql params old new old.now.schema refl _ s.is s.plain s.unlisted rows h in
+      let a : IsAnswer (simple (inner table.tree end) terms shows by_rowid unlimited) (overlay old.now.trees []) params rows = read.answer Null in
+      let scan = scan_all table.tree terms shows by_rowid (overlay old.now.trees []) params rows a in
+      let passing = filter (passes terms params) (old.now.trees table.tree) in
+      let kept : IsPermutation passing scan.ordered = subst (λ xs. IsPermutation (filter (passes terms params) xs) scan.ordered) (no_tables old.now.trees table.tree) scan.same in
+      let sorted : IsSorted (λ a b. value_cmp (rowid a) (rowid b)) scan.ordered = λ k d low within. ap is_lt (sym (then-Equal _)) ∙ scan.sorted k d low within in
+      let ordered = in_order passing scan.ordered (kept_table (passes terms params) (old.now.trees table.tree) up) kept sorted in
+      let alike : passing ≡ filter (λ r. p (fields table r)) (old.now.trees table.tree) = λ i. filter (λ r. tests r i) (old.now.trees table.tree) in
+      scan.shown ∙ ap (map (shown_of shows params)) (ordered ∙ alike) ∙ (λ i. map (λ r. shown r i) (filter (λ r. p (fields table r)) (old.now.trees table.tree)))
+      ∙ sym (map-map f (fields table) (filter (λ r. p (fields table r)) (old.now.trees table.tree))) ∙ ap (map f) (sym (filter-map p (fields table) (old.now.trees table.tree)))

@@ -11,7 +11,7 @@ use Rattle.portal_sql.proofs.Queries.{drafted, unlimited}
 use Rattle.portal_sql.proofs.Texts.{IsText}
 use Rattle.portal_sql.proofs.Lookup.{IsSelect, all_columns}
 use Rattle.portal_sql.proofs.Selects.{select_of, select_means, up}
-use Rattle.portal_rows.specs.Layout.{plans, vouchers, sessions, grants, counts, totals, plans_name, vouchers_name, sessions_name, grants_name, counts_name, totals_name}
+use Rattle.portal_rows.specs.Layout.{plans, batches, vouchers, sessions, grants, counts, totals, plans_name, batches_name, vouchers_name, sessions_name, grants_name, counts_name, totals_name}
 use Rattle.portal_lists.proofs.WholeTables.{by_rowid, has_rowids}
 
 abbrev pub all_plans_text : List ℕ
@@ -29,6 +29,23 @@ unfolding everything
 all_plans_means schema at tree stands =
     select_means schema all_plans_text plans_name all_plans_columns None (up (codes "rowid")) None 0 (lit (Int (negsuc 0)), lit (Int (pos 0)))
     (drafted tree [] (all_columns (plans tree)) by_rowid unlimited) (Some Binary ∷ Some Binary ∷ Some Binary ∷ Some Binary ∷ Some Binary ∷ Some Binary ∷ Some Binary ∷ []) all_plans_is_text refl refl
+    (simp (stands.named, stands.there, has_rowids tree stands.low) refl) (simp (stands.low, stands.typed) refl) refl (λ base. refl)
+
+abbrev pub all_batches_text : List ℕ
+all_batches_text = codes "SELECT id, plan_id, issued, expires, size FROM portal_batches ORDER BY rowid"
+
+abbrev pub all_batches_columns : List (List ℕ)
+all_batches_columns = codes "id" ∷ codes "plan_id" ∷ codes "issued" ∷ codes "expires" ∷ codes "size" ∷ []
+
+all_batches_is_text : IsText all_batches_text (written.Select (select_of batches_name all_batches_columns None (up (codes "rowid")) None)) 0
+unfolding everything
+all_batches_is_text = record { parsed = _; read = refl; is = refl; timeless = refl; counted = refl }
+
+pub all_batches_means : (schema : Schema) (at tree : ℕ) → Stands schema at (batches tree) → IsSelect schema all_batches_text (batches tree) [] by_rowid unlimited all_batches_columns
+unfolding everything
+all_batches_means schema at tree stands =
+    select_means schema all_batches_text batches_name all_batches_columns None (up (codes "rowid")) None 0 (lit (Int (negsuc 0)), lit (Int (pos 0)))
+    (drafted tree [] (all_columns (batches tree)) by_rowid unlimited) (Some Binary ∷ Some Binary ∷ Some Binary ∷ Some Binary ∷ Some Binary ∷ []) all_batches_is_text refl refl
     (simp (stands.named, stands.there, has_rowids tree stands.low) refl) (simp (stands.low, stands.typed) refl) refl (λ base. refl)
 
 abbrev pub all_vouchers_text : List ℕ

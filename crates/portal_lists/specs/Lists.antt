@@ -1,11 +1,13 @@
 -- What a reader lists of the values of a table.
-use Rattle.std.specs.Prelude.{◌≡◌, ℕ, ℤ, pos, Bool, true, false, ◌&&◌, nat_le, int_lt, List, map, filter, Option, Some, None, IsPermutation}
+use Rattle.std.specs.Prelude.{◌≡◌, ℕ, ℤ, pos, Bool, true, false, ◌&&◌, nat_le, int_lt, List, [], ◌∷◌, map, filter, Option, Some, None, IsPermutation}
 use Rattle.std.specs.List.Sorted.{IsSorted}
 use Rattle.std.specs.Option.{option_cmp}
 use Rattle.std.specs.Ordering.{ordering_then, nat_cmp}
 use Rattle.std.specs.Cmp.Lexicographic.{slice_cmp}
 use Rattle.std.specs.declared.cmp.Ordering.{Ordering}
+use Rattle.sqlite.specs.declared.types.Value.TheVariants.{Text}
 use Rattle.sqlite.specs.Order.{Row}
+use Rattle.portal_sql.specs.Stored.{or_null}
 use Rattle.portal_sql.specs.Finds.{columns}
 use Rattle.portal_model.specs.History.{is_below}
 use Rattle.portal_model.specs.Rows.{VoucherRow, TotalRow}
@@ -63,10 +65,6 @@ numbers_open at totals = map (λ m. m.number) (filter (may_be_open at) totals)
 abbrev pub by_place : VoucherRow → VoucherRow → Ordering
 by_place a b = nat_cmp a.place b.place
 
--- the earlier sale first, and of two at one moment the lesser code
-abbrev pub by_sale : VoucherRow → VoucherRow → Ordering
-by_sale a b = ordering_then (option_cmp nat_cmp a.sold b.sold) (slice_cmp nat_cmp a.code b.code)
-
 -- the earlier refund first, and of two at one moment the lesser code
 abbrev pub by_refund : VoucherRow → VoucherRow → Ordering
 by_refund a b = ordering_then (option_cmp nat_cmp a.refunded b.refunded) (slice_cmp nat_cmp a.code b.code)
@@ -83,6 +81,10 @@ sale_shown v = (v.batch, v.sold)
 
 abbrev pub sale_read : KeptSale → List ℕ × Option ℕ
 sale_read s = (s.batch, Some s.at)
+
+-- the same as the two columns of an answer
+abbrev pub sale_cells : List ℕ × Option ℕ → Row
+sale_cells sale = Text sale.0 ∷ or_null sale.1 ∷ []
 
 -- of a refund: the moment, and the amount
 abbrev pub refund_shown : VoucherRow → Option ℕ × Option ℕ

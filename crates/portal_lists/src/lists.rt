@@ -1,6 +1,6 @@
 //! The rows of a table that pass a test, read as values in an order.
 
-ghost use Rattle.std.specs.Prelude.{◌≡◌, IfOk, List, map, true, bytes_eq, All, cond, Some, None};
+ghost use Rattle.std.specs.Prelude.{◌≡◌, IfOk, List, map, filter, true, bytes_eq, All, cond, Some, None};
 ghost use Rattle.sqlite.specs.Held.{state};
 ghost use Rattle.sqlite.specs.State.{HasCleanDisk};
 ghost use Rattle.portal_codes.specs.Code.{IsCode, text_of};
@@ -9,9 +9,10 @@ ghost use Rattle.portal_sql.specs.Finds.{columns};
 ghost use Rattle.portal_sql.specs.Looks.{Looks};
 ghost use Rattle.portal_rows.specs.Contents.{Contents, voucher_cells, total_cells};
 ghost use Rattle.portal_rows.specs.Holds.{Holds, HasTables};
-ghost use Rattle.portal_lists.specs.Lists.{Lists, ListsAs, IsReadAs, AreReadAs, is_within, may_be_open, numbers_open, by_place, by_sale, by_refund, by_number, sale_shown, sale_read, refund_shown, refund_read};
+ghost use Rattle.portal_lists.specs.Lists.{Lists, ListsAs, IsReadAs, AreReadAs, is_within, may_be_open, numbers_open, by_place, by_refund, by_number, sale_cells, sale_shown, sale_read, refund_shown, refund_read};
 ghost use Rattle.portal_rows.specs.Steps.{ends_row};
 
+use crate::reads::read_each;
 use portal_codes::Code;
 use portal_model::moment::Moment;
 use portal_model::name::Id;
@@ -41,18 +42,18 @@ fn totals_rows<S: Alter>(conn: &mut Connection<S>) -> Result<Vec<Row>, Error>
     )
 }
 
-/// The rows of the vouchers that were sold within the two moments, both included, by moment and code.
+/// The batch and the moment of each voucher that was sold within the two moments, both included, in order of issue.
 fn sold_rows<S: Alter>(
     conn: &mut Connection<S>,
     from: Moment,
     to: Moment,
 ) -> Result<Vec<Row>, Error>
-    ensures rows { HasCleanDisk (state S.Store conn.new) → (t : Contents) → Holds (state S.Store conn.old).now t → IfOk result (λ rows. ListsAs voucher_cells (λ v. is_within from to v.sold) by_sale t.vouchers rows.items) }
+    ensures rows { HasCleanDisk (state S.Store conn.new) → (t : Contents) → Holds (state S.Store conn.old).now t → IfOk result (λ rows. rows.items ≡ map sale_cells (map sale_shown (filter (λ v. is_within from to v.sold) t.vouchers))) }
     ensures looks { Looks HasTables result (state S.Store conn.old) (state S.Store conn.new) }
 {
     read_all(
         conn,
-        "SELECT code, batch_id, place, sold, refunded, amount FROM portal_vouchers WHERE sold >= ?1 AND sold <= ?2 ORDER BY sold, code",
+        "SELECT batch_id, sold FROM portal_vouchers WHERE sold >= ?1 AND sold <= ?2 ORDER BY rowid",
         params![from.get() as i64, to.get() as i64],
     )
 }
@@ -128,31 +129,6 @@ fn numbers_in(alloc: Global, rows: &[Row], at: Moment) -> Result<Vec<u64>, Fault
     Ok(numbers)
 }
 
-/// The sale of a voucher's row.
-fn sale_of(row: &Row) -> Result<KeptSale, Fault>
-    ensures { IfOk result (λ sale. IsReadAs voucher_cells 6 sale_shown row.now (sale_read sale)) }
-{
-    let voucher = voucher_of(row)?;
-    match voucher.sold {
-        Some(at) => Ok(KeptSale {
-            batch: voucher.batch,
-            at,
-        }),
-        None => Err(Fault::ForeignRow),
-    }
-}
-
-/// The sales of these rows of vouchers, in their order.
-fn sales_in(alloc: Global, rows: &[Row]) -> Result<Vec<KeptSale>, Fault>
-    ensures { IfOk result (λ sales. AreReadAs voucher_cells 6 sale_shown rows.now (map sale_read sales.items)) }
-{
-    let mut sales = Vec::new(alloc);
-    for row in rows {
-        sales.push(sale_of(row)?)?;
-    }
-    Ok(sales)
-}
-
 /// The refund of a voucher's row: the moment, and the amount in hundredths.
 fn refund_of(row: &Row) -> Result<(Moment, u64), Fault>
     ensures { IfOk result (λ refund. IsReadAs voucher_cells 6 refund_shown row.now (refund_read refund)) }
@@ -202,18 +178,18 @@ pub fn list_numbers<S: Alter>(
     Ok(numbers_in(alloc, &rows, at)?)
 }
 
-/// The sales within the two moments, both included: the earlier first, and of two at one moment the one of the voucher with the lesser printed code.
+/// The sales within the two moments, both included, in the order in which their vouchers were issued.
 pub fn list_sales<S: Alter>(
     alloc: Global,
     conn: &mut Connection<S>,
     from: Moment,
     to: Moment,
 ) -> Result<Vec<KeptSale>, Fault>
-    ensures found { HasCleanDisk (state S.Store conn.new) → (t : Contents) → Holds (state S.Store conn.old).now t → IfOk result (λ sales. ListsAs sale_shown (λ v. is_within from to v.sold) by_sale t.vouchers (map sale_read sales.items)) }
+    ensures found { HasCleanDisk (state S.Store conn.new) → (t : Contents) → Holds (state S.Store conn.old).now t → IfOk result (λ sales. map sale_read sales.items ≡ map sale_shown (filter (λ v. is_within from to v.sold) t.vouchers)) }
     ensures looks { Looks HasTables result (state S.Store conn.old) (state S.Store conn.new) }
 {
     let rows = sold_rows(conn, from, to)?;
-    Ok(sales_in(alloc, &rows)?)
+    Ok(read_each(alloc, &rows)?)
 }
 
 /// The refunds within the two moments, both included, each with its moment and its amount in hundredths: the earlier first, and of two at one moment the one of the voucher with the lesser printed code.

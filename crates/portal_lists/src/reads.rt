@@ -3,15 +3,19 @@
 ghost use Rattle.std.specs.Prelude.{◌≡◌, ℕ, IfOk, map};
 ghost use Rattle.sqlite.specs.Order.{Row as Cells};
 ghost use Rattle.portal_sql.specs.Finds.{columns};
-ghost use Rattle.portal_rows.specs.Contents.{plan_cells, voucher_cells, session_cells, grant_cells, count_cells, total_cells};
+ghost use Rattle.portal_rows.specs.Contents.{plan_cells, batch_cells, voucher_cells, session_cells, grant_cells, count_cells, total_cells};
 ghost use Rattle.portal_rows.specs.Steps.{ends_row};
 ghost use Rattle.portal_rows.specs.Read.{voucher_read, session_read, count_read};
+ghost use Rattle.portal_lists.specs.Lists.{sale_cells, sale_read};
 ghost use Rattle.portal_lists.specs.Sums.{grant_read};
 
 use crate::grants::{KeptGrant, grant_of};
+use crate::lists::KeptSale;
 use portal_model::plan::Plan;
+use portal_model::record::Batch;
 use portal_rows::rows::{
-    Fault, KeptCount, KeptSession, KeptVoucher, count_of, plan_of, session_of, total_of, voucher_of,
+    Fault, KeptCount, KeptSession, KeptVoucher, batch_of, count_of, id_in, moment_in, plan_of,
+    session_of, total_of, voucher_of,
 };
 use portal_rows::signs::Total;
 use sqlite::Row;
@@ -35,6 +39,29 @@ impl FromRow for Plan {
 
     fn from_row(row: &Row) -> Result<Plan, Fault> {
         plan_of(row)
+    }
+}
+
+impl FromRow for Batch {
+    ghost cells = { batch_cells };
+
+    ghost width = { 5 };
+
+    fn from_row(row: &Row) -> Result<Batch, Fault> {
+        batch_of(row)
+    }
+}
+
+impl FromRow for KeptSale {
+    ghost cells = { λ sale. sale_cells (sale_read sale) };
+
+    ghost width = { 2 };
+
+    fn from_row(row: &Row) -> Result<KeptSale, Fault> {
+        Ok(KeptSale {
+            batch: id_in(row, 0)?,
+            at: moment_in(row, 1)?,
+        })
     }
 }
 

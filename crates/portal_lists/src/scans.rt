@@ -5,7 +5,7 @@ ghost use Rattle.sqlite.specs.Held.{state};
 ghost use Rattle.sqlite.specs.State.{HasCleanDisk};
 ghost use Rattle.portal_sql.specs.Looks.{Looks};
 ghost use Rattle.portal_lists.specs.Asks.{Anything};
-ghost use Rattle.portal_rows.specs.Contents.{Contents, plan_cells, voucher_cells, session_cells, grant_cells, count_cells, total_cells};
+ghost use Rattle.portal_rows.specs.Contents.{Contents, plan_cells, batch_cells, voucher_cells, session_cells, grant_cells, count_cells, total_cells};
 ghost use Rattle.portal_rows.specs.First.{HoldsFirst, HasFirst};
 ghost use Rattle.portal_rows.specs.Holds.{Holds, HasTables};
 
@@ -22,6 +22,18 @@ pub(crate) fn all_plan_rows<S: Alter>(conn: &mut Connection<S>) -> Result<Vec<Ro
     ask(
         conn,
         "SELECT id, price, uses, seconds, bytes, shelf_days, extend FROM portal_plans ORDER BY rowid",
+        &[],
+    )
+}
+
+/// The rows of all batches.
+pub(crate) fn all_batch_rows<S: Alter>(conn: &mut Connection<S>) -> Result<Vec<Row>, Error>
+    ensures rows { HasCleanDisk (state S.Store conn.new) → (t : Contents) → Holds (state S.Store conn.old).now t → IfOk result (λ rows. rows.items ≡ map batch_cells t.batches) }
+    ensures looks { Looks HasTables result (state S.Store conn.old) (state S.Store conn.new) }
+{
+    read_all(
+        conn,
+        "SELECT id, plan_id, issued, expires, size FROM portal_batches ORDER BY rowid",
         &[],
     )
 }

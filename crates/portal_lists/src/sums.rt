@@ -110,7 +110,7 @@ fn given_in(given: &HashMap<u64, Given>, session: u64) -> Given
 }
 
 /// The first plan with the id.
-fn plan_among<'a>(plans: &'a [Plan], id: &Id) -> Option<&'a Plan>
+pub fn plan_among<'a>(plans: &'a [Plan], id: &Id) -> Option<&'a Plan>
     ensures { option_map (λ p. p.now) result ≡ plan_among plans.now id.now }
 {
     plans.iter().find(|plan| plan.id.is(id))

@@ -15,10 +15,11 @@ ghost use Rattle.portal_lists.specs.Sums.{grant_read};
 use crate::grants::KeptGrant;
 use crate::reads::read_each;
 use crate::scans::{
-    all_count_rows, all_grant_rows, all_plan_rows, all_session_rows, all_total_rows,
-    all_voucher_rows,
+    all_batch_rows, all_count_rows, all_grant_rows, all_plan_rows, all_session_rows,
+    all_total_rows, all_voucher_rows,
 };
 use portal_model::plan::Plan;
+use portal_model::record::Batch;
 use portal_rows::rows::{Fault, KeptCount, KeptSession, KeptVoucher};
 use portal_rows::signs::Total;
 use sqlite::{Alter, Connection};
@@ -30,6 +31,15 @@ pub fn all_plans<S: Alter>(conn: &mut Connection<S>) -> Result<Vec<Plan>, Fault>
     ensures always { Looks Anything result (state S.Store conn.old) (state S.Store conn.new) }
 {
     let rows = all_plan_rows(conn)?;
+    Ok(read_each(*rows.allocator(), &rows)?)
+}
+
+/// All batches.
+pub fn all_batches<S: Alter>(conn: &mut Connection<S>) -> Result<Vec<Batch>, Fault>
+    ensures read { HasCleanDisk (state S.Store conn.new) → (t : Contents) → Holds (state S.Store conn.old).now t → IfOk result (λ batches. batches.items ≡ t.batches) }
+    ensures looks { Looks HasTables result (state S.Store conn.old) (state S.Store conn.new) }
+{
+    let rows = all_batch_rows(conn)?;
     Ok(read_each(*rows.allocator(), &rows)?)
 }
 

@@ -86,7 +86,7 @@ pub struct KeptCount {
 }
 
 /// The id in a column.
-fn id_in(row: &Row, at: usize) -> Result<Id, Fault>
+pub fn id_in(row: &Row, at: usize) -> Result<Id, Fault>
     ensures { IfOk result (λ id. column row.now at ≡ Text id) }
 {
     let text: String = row.get(at)?;
@@ -197,7 +197,7 @@ pub fn plan_of(row: &Row) -> Result<Plan, Fault>
     }
 }
 
-pub(crate) fn batch_of(row: &Row) -> Result<Batch, Fault>
+pub fn batch_of(row: &Row) -> Result<Batch, Fault>
     ensures { IfOk result (λ batch. batch_cells batch ≡ columns 5 row.now) }
 {
     Ok(Batch {

@@ -10,6 +10,7 @@ pub mod ListSteps
 pub mod Lookups
 pub mod OpeningLemmas
 pub mod PaymentLists
+pub mod PriceLemmas
 pub mod ShownLemmas
 pub mod Spelled
 pub mod StandingLemmas

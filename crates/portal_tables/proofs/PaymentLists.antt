@@ -7,17 +7,17 @@ use Rattle.sqlite_trees.proofs.ListLemmas.{IsPermutation-filter, along_permutati
 use Rattle.portal_model.specs.declared.plan.Plan.{Plan}
 use Rattle.portal_model.specs.declared.record.Batch.{Batch}
 use Rattle.portal_model.specs.Change.{plan_among}
-use Rattle.portal_model.specs.History.{History, batch_of, plan_of}
+use Rattle.portal_model.specs.History.{History}
 use Rattle.portal_model.specs.Payments.{Payment, payment, sales_of, sale_from, refunds_of, refund_from, plan_of_row}
 use Rattle.portal_model.specs.Rows.{VoucherRow, rows_of, vouchers_of, batches_of, plans_of, batch_among}
 use Rattle.portal_model.specs.Verdict.{IsLegal}
 use Rattle.portal_laws.proofs.Basics.{map-map, filter-map}
-use Rattle.portal_laws.proofs.Keys.{batch_is_row}
 use Rattle.portal_laws.proofs.Paid.{sales_are_rows, refunds_are_rows}
-use Rattle.portal_laws.proofs.Plans.{plan_is_row}
-use Rattle.portal_lists.specs.Lists.{Lists, ListsAs, is_within, by_sale, by_refund, sale_shown, refund_shown, refund_read}
+use Rattle.portal_lists.specs.Lists.{Lists, ListsAs, is_within, by_refund, sale_shown, sale_read, refund_shown, refund_read}
+use Rattle.portal_lists.specs.declared.lists.KeptSale.{KeptSale}
 use Rattle.portal_lists.proofs.Listing.{sorted_from_map}
-use Rattle.portal_tables.specs.Lists.{AreSales, AreRefunds, paid, is_paid_within, sale_of_shown}
+use Rattle.portal_tables.specs.Lists.{AreSales, AreRefunds, paid, is_paid_within}
+use Rattle.portal_tables.specs.Prices.{price_among, is_priced}
 use Rattle.portal_tables.specs.Shown.{voucher_kept}
 
 -- ---- lists
@@ -82,14 +82,20 @@ payments_are f after before agree payments values vouchers law same answer each 
 
 -- ---- sales
 
--- the price of a voucher that was sold is that of its batch's plan
-pub sale_priced : (h : History) → IsLegal h → (id : List ℕ) (at : ℕ) (batch : Batch) (plan : Plan) → batch_of h id ≡ Some batch → plan_of h batch.plan ≡ Some plan → sale_of_shown (rows_of h) (id, Some at) ≡ Some (payment at plan.price)
-sale_priced h legal id at batch plan b p =
-    let b2 : batch_among (batches_of h) id ≡ Some batch = sym (batch_is_row h legal id) ∙ b in
-    let p2 : plan_among (plans_of h) batch.plan ≡ Some plan = sym (plan_is_row h batch.plan) ∙ p in
-    rw (b2, p2) refl
-
 module _ (h : History) (legal : IsLegal h) (from to : ℕ) where
+  sale_is : (v : VoucherRow) → sale_from (rows_of h) v ≡ is_priced (price_among (plans_of h) (batches_of h) v.batch) (sale_shown v)
+  sale_is v = go v.sold (batch_among (batches_of h) v.batch)
+    where
+      under : (at : ℕ) (q : Option Plan) → option_map (λ plan. payment at plan.price) q ≡ option_map (payment at) (option_map (λ plan. plan.price) q)
+      under at None = refl
+      under at (Some plan) = refl
+
+      go : (o : Option ℕ) (q : Option Batch) → option_and_then (λ at. option_map (λ plan. payment at plan.price) (option_and_then (λ batch. plan_among (plans_of h) batch.plan) q)) o
+          ≡ option_and_then (λ at. option_map (payment at) (option_and_then (λ batch. option_map (λ plan. plan.price) (plan_among (plans_of h) batch.plan)) q)) o
+      go None q = refl
+      go (Some at) None = refl
+      go (Some at) (Some batch) = under at (plan_among (plans_of h) batch.plan)
+
   sale_within : (v : VoucherRow) (p : Payment) → sale_from (rows_of h) v ≡ Some p → is_paid_within from to p ≡ is_within from to v.sold
   sale_within v p is = go v.sold (plan_of_row (rows_of h) v) is
     where
@@ -98,22 +104,23 @@ module _ (h : History) (legal : IsLegal h) (from to : ℕ) where
       go (Some at) None e = absurd (cc)
       go (Some at) (Some plan) e = let same : payment at plan.price ≡ p = cc in ap (is_paid_within from to) (sym same)
 
-  pub sales_listed : (shown : List (List ℕ × Option ℕ)) → ListsAs sale_shown (λ (v : VoucherRow). is_within from to v.sold) by_sale (map voucher_kept (vouchers_of h)) shown → (answer : List (ℕ × ℕ))
-      → map (sale_of_shown (rows_of h)) shown ≡ map (λ p. Some (paid p)) answer → AreSales h from to answer
-  sales_listed shown l answer priced =
+  -- the sales of the vouchers that were listed, priced by their batches and plans
+  pub sales_priced : (sales : List KeptSale) → map sale_read sales ≡ map sale_shown (filter (λ v. is_within from to v.sold) (map voucher_kept (vouchers_of h))) → (price_of : List ℕ → Option ℕ)
+      → ((id : List ℕ) → price_of id ≡ price_among (plans_of h) (batches_of h) id) → (answer : List (ℕ × ℕ)) → map (λ s. is_priced (price_of s.batch) (sale_read s)) sales ≡ map (λ p. Some (paid p)) answer
+      → AreSales h from to answer
+  sales_priced sales listed price_of prices answer priced =
       let sold : VoucherRow → Bool = λ (v : VoucherRow). is_within from to v.sold in
-      let it = behind sold by_sale (λ v. refl) (vouchers_of h) l.listed l.lists in
-      let each : map (sale_from (rows_of h)) it.vouchers ≡ map (λ p. Some (paid p)) answer =
-      sym (map-map voucher_kept (λ (v : VoucherRow). sale_of_shown (rows_of h) (sale_shown v)) it.vouchers)
-      ∙ ap (map (λ (v : VoucherRow). sale_of_shown (rows_of h) (sale_shown v))) (sym it.kept)
-      ∙ sym (map-map sale_shown (sale_of_shown (rows_of h)) l.listed)
-      ∙ ap (map (sale_of_shown (rows_of h))) (sym l.shows)
+      let vouchers = filter sold (vouchers_of h) in
+      let tell : List ℕ × Option ℕ → Option Payment = λ (s : List ℕ × Option ℕ). is_priced (price_among (plans_of h) (batches_of h) s.0) s in
+      let each : map (sale_from (rows_of h)) vouchers ≡ map (λ p. Some (paid p)) answer =
+      (λ i. map (λ v. sale_is v i) vouchers)
+      ∙ sym (map-map sale_shown tell vouchers)
+      ∙ ap (map tell) (sym (map-map voucher_kept sale_shown vouchers) ∙ ap (map sale_shown) (sym (filter-map voucher_kept sold (vouchers_of h))) ∙ sym listed)
+      ∙ map-map sale_read tell sales
+      ∙ sym (λ i. map (λ (s : KeptSale). is_priced (prices s.batch i) (sale_read s)) sales)
       ∙ priced in
       record {
-        payments = payments_are (sale_from (rows_of h)) (is_paid_within from to) sold sale_within (sales_of h) (vouchers_of h) it.vouchers (sales_are_rows h legal) it.same answer each;
-        vouchers = it.vouchers;
-        same = it.same;
-        sorted = it.sorted;
+        payments = payments_are (sale_from (rows_of h)) (is_paid_within from to) sold sale_within (sales_of h) (vouchers_of h) vouchers (sales_are_rows h legal) (IsPermutation-refl vouchers) answer each;
         each = each;
       }
 

@@ -1,6 +1,7 @@
 pub mod Adopting
 pub mod Lists
 pub mod Older
+pub mod Prices
 pub mod Shown
 pub mod Stores
 pub mod TablesAt

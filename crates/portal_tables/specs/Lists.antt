@@ -1,13 +1,12 @@
 -- The sales and the refunds within two moments, in their order.
-use Rattle.std.specs.Prelude.{◌≡◌, ℕ, Bool, ◌&&◌, nat_le, List, map, filter, Option, Some, option_map, option_and_then, IsPermutation}
+use Rattle.std.specs.Prelude.{◌≡◌, ℕ, Bool, ◌&&◌, nat_le, List, map, filter, Option, Some, IsPermutation}
 use Rattle.std.specs.List.Sorted.{IsSorted}
 use Rattle.std.specs.declared.cmp.Ordering.{Ordering}
 use Rattle.portal_model.specs.History.{History, kept_if, is_open_at, session_of}
 use Rattle.portal_model.specs.Payments.{Payment, payment, sales_of, sale_from, refunds_of, refund_from}
-use Rattle.portal_model.specs.Change.{plan_among}
-use Rattle.portal_model.specs.Rows.{Rows, VoucherRow, rows_of, vouchers_of, batch_among}
+use Rattle.portal_model.specs.Rows.{VoucherRow, rows_of, vouchers_of}
 use Rattle.portal_model.specs.declared.record.Session.{Session}
-use Rattle.portal_lists.specs.Lists.{is_within, by_sale, by_refund}
+use Rattle.portal_lists.specs.Lists.{is_within, by_refund}
 use Rattle.portal_tables.specs.Shown.{voucher_kept}
 
 -- an answer's moment and amount
@@ -18,33 +17,22 @@ paid p = payment p.0 p.1
 abbrev pub is_paid_within : ℕ → ℕ → Payment → Bool
 is_paid_within from to p = nat_le from p.at && nat_le p.at to
 
--- the earlier sale first, and of two at one moment the one of the lesser printed code
-abbrev pub by_printed_sale : VoucherRow → VoucherRow → Ordering
-by_printed_sale a b = by_sale (voucher_kept a) (voucher_kept b)
-
--- the same of refunds
+-- the earlier refund first, and of two at one moment the one of the lesser printed code
 abbrev pub by_printed_refund : VoucherRow → VoucherRow → Ordering
 by_printed_refund a b = by_refund (voucher_kept a) (voucher_kept b)
 
--- The answer has the sales of the history within the two moments, in the order of the vouchers. No two vouchers have one code, so there is one such answer.
+-- The answer has the sales of the history within the two moments, in the order in which their vouchers were issued. So there is one such answer.
 pub record AreSales (h : History) (from to : ℕ) (answer : List (ℕ × ℕ)) : Type 0 where
   pub payments : IsPermutation (filter (is_paid_within from to) (sales_of h)) (map paid answer)
-  pub vouchers : List VoucherRow
-  pub same : IsPermutation (filter (λ v. is_within from to v.sold) (vouchers_of h)) vouchers
-  pub sorted : IsSorted by_printed_sale vouchers
-  pub each : map (sale_from (rows_of h)) vouchers ≡ map (λ p. Some (paid p)) answer
+  pub each : map (sale_from (rows_of h)) (filter (λ v. is_within from to v.sold) (vouchers_of h)) ≡ map (λ p. Some (paid p)) answer
 
--- so with the refunds
+-- The answer has the refunds of the history within the two moments, in the order of the vouchers. No two vouchers have one code, so there is one such answer.
 pub record AreRefunds (h : History) (from to : ℕ) (answer : List (ℕ × ℕ)) : Type 0 where
   pub payments : IsPermutation (filter (is_paid_within from to) (refunds_of h)) (map paid answer)
   pub vouchers : List VoucherRow
   pub same : IsPermutation (filter (λ v. is_within from to v.refunded) (vouchers_of h)) vouchers
   pub sorted : IsSorted by_printed_refund vouchers
   pub each : map refund_from vouchers ≡ map (λ p. Some (paid p)) answer
-
--- the sale of a voucher, by its batch and the moment
-abbrev pub sale_of_shown : Rows → List ℕ × Option ℕ → Option Payment
-sale_of_shown r shown = option_and_then (λ at. option_map (λ plan. payment at plan.price) (option_and_then (λ batch. plan_among r.plans batch.plan) (batch_among r.batches shown.0))) shown.1
 
 -- the session of the number, where it is open at the moment
 abbrev pub open_numbered : History → ℕ → ℕ → Option Session

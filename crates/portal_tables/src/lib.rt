@@ -7,6 +7,7 @@ pub mod fault;
 pub mod laws;
 mod lists;
 pub mod opening;
+mod prices;
 mod records;
 pub mod tables;
 mod upgrade;

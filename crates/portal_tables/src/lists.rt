@@ -1,19 +1,19 @@
 //! Lists of a history, each entry of which is read from several tables.
 
-ghost use Rattle.std.specs.Prelude.{◌≡◌, ◌<◌, ◌^◌, IfOk, Some, map, filter};
+ghost use Rattle.std.specs.Prelude.{◌≡◌, IfOk, filter};
 ghost use Rattle.std.specs.List.{filter_map};
 ghost use Rattle.sqlite.specs.Held.{state};
 ghost use Rattle.portal_model.specs.Captive.{all_sessions};
 ghost use Rattle.portal_model.specs.History.{is_open_at};
-ghost use Rattle.portal_model.specs.Rows.{rows_of};
 ghost use Rattle.portal_sql.specs.Looks.{Looks};
 ghost use Rattle.portal_rows.specs.Holds.{HasTables};
-ghost use Rattle.portal_lists.specs.Lists.{sale_read};
-ghost use Rattle.portal_tables.specs.Lists.{AreSales, open_numbered, paid, sale_of_shown};
+ghost use Rattle.portal_tables.specs.Lists.{AreSales, open_numbered};
 ghost use Rattle.portal_tables.specs.Shown.{OfShown};
 
-use crate::records::{read_session, read_terms};
-use portal_lists::lists::{KeptSale, list_numbers, list_sales};
+use crate::prices::{priced_sales, prices_by_batch};
+use crate::records::read_session;
+use portal_lists::lists::{list_numbers, list_sales};
+use portal_lists::whole::{all_batches, all_plans};
 use portal_model::moment::Moment;
 use portal_model::record::{Session, is_open};
 use portal_rows::rows::Fault;
@@ -72,32 +72,7 @@ pub(crate) fn read_open_sessions<S: Alter>(
     Ok(sessions)
 }
 
-/// A sale: the moment, and the price in hundredths.
-fn read_sale<S: Alter>(conn: &mut Connection<S>, sale: &KeptSale) -> Result<(Moment, u64), Fault>
-    ensures found { OfShown (state S.Store conn.old) (state S.Store conn.new) (λ h. IfOk result (λ payment. sale_of_shown (rows_of h) (sale_read sale.now) ≡ Some (paid payment))) }
-    ensures looks { Looks HasTables result (state S.Store conn.old) (state S.Store conn.new) }
-{
-    let (_, plan) = read_terms(conn, &sale.batch)?;
-    Ok((sale.at, u64::from(plan.price)))
-}
-
-/// These sales, in their order: of each the moment, and the price in hundredths.
-fn read_priced<S: Alter>(
-    alloc: Global,
-    conn: &mut Connection<S>,
-    sales: &[KeptSale],
-) -> Result<Vec<(Moment, u64)>, Fault>
-    ensures found { OfShown (state S.Store conn.old) (state S.Store conn.new) (λ h. IfOk result (λ payments. map (λ s. sale_of_shown (rows_of h) (sale_read s)) sales.now ≡ map (λ p. Some (paid p)) payments.items)) }
-    ensures looks { Looks HasTables result (state S.Store conn.old) (state S.Store conn.new) }
-{
-    let mut payments = Vec::new(alloc);
-    for sale in sales {
-        payments.push(read_sale(conn, sale)?)?;
-    }
-    Ok(payments)
-}
-
-/// The sales within the two moments, both included: of each the moment, and the price in hundredths. They are ordered by moment, and at one moment by the voucher's printed code.
+/// The sales within the two moments, both included: of each the moment, and the price in hundredths. They are ordered as their vouchers were issued. The plans and the batches are read once, however many sales there are.
 pub(crate) fn read_sales<S: Alter>(
     alloc: Global,
     conn: &mut Connection<S>,
@@ -107,7 +82,9 @@ pub(crate) fn read_sales<S: Alter>(
     ensures found { OfShown (state S.Store conn.old) (state S.Store conn.new) (λ h. IfOk result (λ payments. AreSales h from to payments.items)) }
     ensures looks { Looks HasTables result (state S.Store conn.old) (state S.Store conn.new) }
 {
+    let plans = all_plans(conn)?;
+    let batches = all_batches(conn)?;
+    let prices = prices_by_batch(alloc, &plans, &batches)?;
     let sales = list_sales(alloc, conn, from, to)?;
-    let payments = read_priced(alloc, conn, &sales)?;
-    Ok(payments)
+    Ok(priced_sales(alloc, &prices, &sales)?)
 }

@@ -53,7 +53,7 @@ impl<S: Alter> Tables<S> {
         }
     }
 
-    /// The sales within the two moments, both included: of each the moment, and the price in hundredths. They are ordered by moment, and at one moment by the voucher's printed code.
+    /// The sales within the two moments, both included: of each the moment, and the price in hundredths. They are ordered as their vouchers were issued.
     pub fn sales_between(
         &mut self,
         alloc: Global,
