@@ -1,6 +1,6 @@
 //! A store of an older layout is brought to this version's.
 
-ghost use Rattle.std.specs.Prelude.{◌≡◌, ◌<◌, ◌^◌, OnOk, OnErr, IfOk, IsTrue, All, false, map};
+ghost use Rattle.std.specs.Prelude.{◌≡◌, ◌<◌, ◌^◌, ◌↔◌, OnOk, OnErr, IfOk, IsTrue, All, false, map};
 ghost use Rattle.sqlite.specs.Held.{state};
 ghost use Rattle.sqlite.specs.State.{HasCleanDisk, Survives};
 ghost use Rattle.portal_sql.specs.States.{IsUndone};
@@ -54,14 +54,16 @@ fn total_sessions<S: Alter>(
     )?)
 }
 
+/// Whether a column of integers keeps each count.
 fn counts_fit(counts: &[KeptCount]) -> bool
-    ensures { IsTrue result → All (λ k. k.redeemed < 2 ^ 63) counts.now }
+    ensures { IsTrue result ↔ All (λ k. k.redeemed < 2 ^ 63) counts.now }
 {
     counts.iter().all(|count| count.redeemed < LIMIT)
 }
 
+/// Whether a column of integers keeps the number of each session.
 fn totals_fit(totals: &[Total]) -> bool
-    ensures { IsTrue result → All (λ m. m.number < 2 ^ 63) totals.now }
+    ensures { IsTrue result ↔ All (λ m. m.number < 2 ^ 63) totals.now }
 {
     totals.iter().all(|total| total.number < LIMIT)
 }
