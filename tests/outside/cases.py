@@ -199,4 +199,5 @@ def main():
     print(f"outside: {len(cases)} cases over HTTP, each response as it is worked out")
 
 
-main()
+if __name__ == "__main__":
+    main()

@@ -1,21 +1,39 @@
-"""Each word and each status of the program, on files that are made for it: settings, database files of others, counters that differ."""
+"""Each word and each status of the program, on files that are made for it: settings, database files of others, counters
+that differ, a disk that is full, little memory. At the end each word of the README's table must have been seen.
+
+    faults.py PROGRAM [--list]      --list: a line for each word and status, with a call that ended so
+"""
 
 import os
+import re
+import resource
 import socket
 import sqlite3
 import subprocess
 import sys
 import tempfile
 
-from desk import DESK, PLANS, SETTINGS, request
+from desk import DESK, PLANS, SETTINGS, guest, request
 
 SEED = "0" * 64
+README = os.path.join(os.path.dirname(os.path.abspath(__file__)), "../../README.md")
+MEBIBYTE = 1 << 20
 
 
-def run(program, folder, *words, data=b"", output=subprocess.PIPE):
-    how = {"cwd": folder, "input": data, "stdout": output, "stderr": subprocess.PIPE, "check": False, "timeout": 60}
+def run(program, folder, *words, data=b"", source=None, output=subprocess.PIPE, limit=None):
+    """The status, standard output and standard error. `limit`: a resource and how much of it the program may have."""
+    how = {"cwd": folder, "stdout": output, "stderr": subprocess.PIPE, "check": False, "timeout": 60}
+    how |= {"stdin": source} if source else {"input": data}
+    if limit:       # the signal of a file that grows too long stays ignored, as it is in this process
+        how |= {"restore_signals": False, "preexec_fn": lambda: resource.setrlimit(limit[0], (limit[1], limit[1]))}
     done = subprocess.run([program, *words], **how)
     return done.returncode, (done.stdout or b"").decode(), done.stderr.decode()
+
+
+def free_port():
+    with socket.socket() as free:
+        free.bind(("127.0.0.1", 0))
+        return str(free.getsockname()[1])
 
 
 def files(folder):
@@ -59,12 +77,17 @@ def cases():
     yield ("serve", *at(), "--port", "0"), (2, "", None)
     yield ("answer", "--now", "253370764800", "--seed", SEED), (2, "", "portal: usage\n")
     yield ("answer", "--now", "0", "--seed", SEED[1:]), (2, "", "portal: usage\n")
+    yield ("answer", "--now", "0", "--seed", SEED[1:] + "g"), (2, "", "portal: usage\n")
+    yield ("print", b"b\xff", *at()), (2, "", "portal: usage\n")
     yield ("takings", "2020-02-30", "2020-03-01", *at(settings="none")), (2, "", "portal: usage\n")
     yield ("takings", "2020-03-02", "2020-03-01", *at(settings="none")), (2, "", "portal: usage\n")
     yield ("takings", "2020-03-01", "2021-03-02", *at(settings="none")), (2, "", "portal: usage\n")
+    yield ("takings", "2020-03-01", "2021-03-01", *at()), (0, None, "")
     yield ("check", *at(settings="none")), (3, "", "portal: file\n")
+    yield ("check", *at(settings="folder")), (3, "", "portal: file\n")
     yield ("check", *at(db="text", settings="open")), (3, "", "portal: settings\n")
-    for db, word in (("text", "file"), ("folder", "file"), ("other.db", "not_ours"), ("later.db", "newer")):
+    for db, word in (("text", "file"), ("folder", "file"), ("none/portal.db", "file"), ("other.db", "not_ours"),
+                     ("later.db", "newer")):
         yield ("check", *at(db=db)), (3, "", f"portal: {word}\n")
         yield ("print", "b1", *at(db=db)), (3, "", f"portal: {word}\n")
         yield ("takings", "2020-03-01", "2020-03-01", *at(db=db)), (3, "", f"portal: {word}\n")
@@ -76,32 +99,151 @@ def cases():
     yield ("check", *at()), (0, "ok\n", "")
     yield ("check", *at(db="off.db")), (1, "differs\n", "")
     yield ("answer", *moment), (1, None, "")
+    yield ("answer", "--now", "253370764799", "--seed", SEED), (1, None, "")
 
 
 def is_as(said, wanted):
     return all(want is None or want == got for got, want in zip(said, wanted))
 
 
-def main():
-    program, count = sys.argv[1], 0
-    with tempfile.TemporaryDirectory() as folder:
-        files(folder)
-        filled(program, folder)
-        before = [open(os.path.join(folder, name), "rb").read() for name in ("other.db", "later.db", "text")]
-        for words, wanted in cases():
-            said = run(program, folder, *words)
-            assert is_as(said, wanted), (words, said, wanted)
-            count += 1
-        assert before == [open(os.path.join(folder, name), "rb").read() for name in ("other.db", "later.db", "text")]
+class Shown:
+    """The calls that were made, and the words that they ended with, each with its status."""
+
+    def __init__(self, program, folder):
+        self.program, self.folder, self.count, self.words = program, folder, 0, {}
+
+    def call(self, words, wanted, **more):
+        said = run(self.program, self.folder, *words, **more)
+        assert is_as(said, wanted), (words, said, wanted)
+        self.note(words, said)
+        return said
+
+    def note(self, words, said):
+        self.count += 1
+        status, output, errors = said
+        last = (errors.splitlines() or [""])[-1]
+        told = last.removeprefix("portal: ") if last.startswith("portal: ") else ""
+        if output == "differs\n":
+            told = "differs"
+        if '"error":' in output:
+            told = output.split('"')[-2]
+        self.words.setdefault((status, told), " ".join(str(word) for word in words))
+
+
+def everything(shown):
+    for words, wanted in cases():
+        shown.call(words, wanted)
+
+
+def answered(shown):
+    """The status of `answer` is 0 with a 200 and 1 with a refusal."""
+    words = ("answer", "--now", "1000", "--seed", SEED, *at())
+    for body, status in (('{"code":"3N55-WA4S-KH5V-JR49"}', 0), ('{"code":"2222-2222-2222"}', 1)):
+        shown.call(words, (status, None, ""), data=request("POST", "/desk/sales", DESK, body))
+
+
+def cut(shown):
+    """What is printed goes nowhere, and what is read is a folder."""
+    answer = ("answer", "--now", "1", "--seed", SEED)
+    day = ("takings", "2020-03-01", "2020-03-01", *at())
+    for words in (("check", *at()), ("check", *at(db="off.db")), ("print", "b1", *at()), day, answer,
+                  ("serve", *at(), "--port", free_port())):
         with open("/dev/full", "wb") as full:
-            said = run(program, folder, "check", *at(), output=full)
-            assert is_as(said, (3, "", "portal: cut\n")), said
-        with socket.socket() as taken:
-            taken.bind(("127.0.0.1", 0))
-            taken.listen()
-            said = run(program, folder, "serve", *at(), "--port", str(taken.getsockname()[1]))
-            assert is_as(said, (3, "", "portal: network\n")), said
-        print(f"outside: {count + 2} calls, each with its words and its status, and the files of others unchanged")
+            shown.call(words, (3, "", "portal: cut\n"), output=full, data=request("GET", "/captive", guest(1)))
+    folder = os.open(shown.folder, os.O_RDONLY)
+    shown.call(answer, (3, "", "portal: cut\n"), source=folder)
+    os.close(folder)
+
+
+def taken(shown):
+    """A port that another program holds, and a file that another process holds."""
+    with socket.socket() as other:
+        other.bind(("127.0.0.1", 0))
+        other.listen()
+        shown.call(("serve", *at(), "--port", str(other.getsockname()[1])), (3, "", "portal: network\n"))
+    how = {"cwd": shown.folder, "stdout": subprocess.PIPE, "stderr": subprocess.DEVNULL}
+    with subprocess.Popen([shown.program, "serve", *at(), "--port", free_port()], **how) as holds:
+        holds.stdout.readline()
+        for words in (("check", *at()), ("print", "b1", *at()), ("takings", "2020-03-01", "2020-03-01", *at()),
+                      ("answer", "--now", "1", "--seed", SEED, *at()), ("serve", *at(), "--port", free_port())):
+            shown.call(words, (3, "", "portal: file\n"))
+        holds.kill()
+
+
+def length_of(shown, name):
+    return max(os.path.getsize(os.path.join(shown.folder, name + end)) for end in ("", "-wal")
+               if os.path.exists(os.path.join(shown.folder, name + end)))
+
+
+def stopped(shown):
+    """A full disk, here a limit to the length of files: the desk stops and says so, and its file is good afterwards."""
+    seed = ("--now", "1000", "--seed", "1" * 64, *at("full.db"))
+    order = request("POST", "/desk/batches", DESK, '{"batch":"b1","plan":"hour","count":500}')
+    shown.call(("answer", *seed), (3, "", "portal: file\n"), limit=(resource.RLIMIT_FSIZE, 0))
+    shown.call(("answer", *seed), (0, None, ""), data=request("POST", "/desk/plans", DESK, PLANS))
+    limit = (resource.RLIMIT_FSIZE, length_of(shown, "full.db") + 4096)
+    said = shown.call(("answer", *seed), (3, None, ""), data=order, limit=limit)
+    assert said[1].startswith("HTTP/1.1 503 ") and said[1].endswith('{"error":"stopped"}'), said
+    shown.call(("check", *at("full.db")), (0, "ok\n", ""))
+    serves_until_it_stops(shown, order, limit)
+    shown.call(("check", *at("full.db")), (0, "ok\n", ""))
+    shown.call(("answer", *seed), (0, None, ""), data=order)
+
+
+def serves_until_it_stops(shown, order, limit):
+    port = free_port()
+    words = ("serve", *at("full.db"), "--port", port)
+    how = {"cwd": shown.folder, "stdout": subprocess.PIPE, "stderr": subprocess.PIPE, "restore_signals": False,
+           "preexec_fn": lambda: resource.setrlimit(limit[0], (limit[1], limit[1]))}
+    with subprocess.Popen([shown.program, *words], **how) as desk:
+        desk.stdout.readline()
+        with socket.create_connection(("127.0.0.1", int(port)), timeout=10) as peer:
+            peer.sendall(order)
+            got = b"".join(iter(lambda: peer.recv(65536), b""))
+        assert got.endswith(b'{"error":"stopped"}'), got
+        said = desk.wait(timeout=10), "", desk.stderr.read().decode()
+    assert said == (3, "", "portal: stopped\n"), said
+    shown.note(words, said)
+
+
+def little_memory(shown):
+    """With ever less memory a call does what it does with enough, or says `no_memory`, or `cut` once it has begun."""
+    words = ("answer", "--now", "1000", "--seed", SEED, *at())
+    ends = [(0, ""), (3, "portal: no_memory\n"), (3, "portal: cut\n")]
+    for size in range(4, 160, 2):
+        limit = (resource.RLIMIT_AS, size * MEBIBYTE)
+        said = run(shown.program, shown.folder, *words, data=request("GET", "/captive", guest(1)), limit=limit)
+        if said[0] != 127:      # with too little even the machine's loader gives up
+            assert (said[0], said[2]) in ends and (said[0] == 0 or said[1] == ""), (size, said)
+            shown.note(words, said)
+    assert said[0] == 0, said
+
+
+def wanted_words():
+    """The words of the README's table of statuses, each with its status; a refusal's own word stands for all."""
+    with open(README, encoding="utf-8") as file:
+        rows = re.findall(r"^\| ([0-3]) \| (.*) \|$", file.read(), re.M)
+    assert [status for status, _ in rows] == list("0123"), rows
+    words = {(3, word) for word in re.findall(r"`([a-z_]+)`", rows[3][1]) if word not in ("portal",)}
+    return words | {(2, "usage"), (1, "differs"), (1, "unknown_batch"), (1, "unknown_code"), (0, "")}
+
+
+def main():
+    with tempfile.TemporaryDirectory() as folder:
+        shown = Shown(sys.argv[1], folder)
+        files(folder)
+        filled(shown.program, folder)
+        before = [open(os.path.join(folder, name), "rb").read() for name in ("other.db", "later.db", "text")]
+        for part in (everything, answered, cut, taken, stopped, little_memory):
+            part(shown)
+        assert before == [open(os.path.join(folder, name), "rb").read() for name in ("other.db", "later.db", "text")]
+    if "--list" in sys.argv:
+        for (status, word), call in sorted(shown.words.items()):
+            print(status, word or "-", ":", call)
+    missing = wanted_words() - set(shown.words)
+    assert not missing, missing
+    print(f"outside: {shown.count} calls, each with its words and its status, and the files of others unchanged; "
+          f"each of the README's {len(wanted_words())} words was seen")
 
 
 main()
