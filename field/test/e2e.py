@@ -162,16 +162,23 @@ def bytes_are_counted(house: House, check: Checks) -> None:
     guest, session = "guest1", house.online("guest1")
     house.neighbours("permanent")       # frames that are no IP's would be in the device's count
     house.tcp(guest, "send", 100)
-    before, first = house.counted(guest), house.frames(guest)
-    took = house.tcp(guest, "take", 20_000_000), house.tcp(guest, "send", 30_000_000)
-    house.within(guest, "ping", "-q", "-c", "20", "-i", "0.01", "-s", "1000", OUTSIDE)
-    mine = house.frames(guest) - first
-    theirs = house.counted(guest) - before
+    start, notes = house.counted(guest), []
+    for _ in range(4):      # a busy machine drops frames between the gateway's count and the guest's device
+        before, first = house.counted(guest), house.frames(guest)
+        took = house.tcp(guest, "take", 20_000_000), house.tcp(guest, "send", 30_000_000)
+        house.within(guest, "ping", "-q", "-c", "20", "-i", "0.01", "-s", "1000", OUTSIDE)
+        time.sleep(0.5)
+        mine = house.frames(guest) - first
+        theirs = house.counted(guest) - before
+        notes.append(f"gateway {theirs}, guest {mine}, difference {theirs - mine}; {took} s")
+        if theirs == mine > 50_000_000:
+            break
     house.neighbours("reachable")
     check("bytes of both directions are counted as the guest's device counts them", theirs == mine > 50_000_000,
-          f"gateway {theirs}, guest {mine}, difference {theirs - mine}; {took} s")
-    house.until(lambda: house.held(session) >= before + theirs, 35, "the report")
-    check("and reported to the desk", house.held(session) == before + theirs)
+          "; then ".join(notes))
+    counted = house.counted(guest) - start
+    house.until(lambda: house.held(session) >= start + counted, 35, "the report")
+    check("and reported to the desk", house.held(session) == start + counted)
 
 
 def forged(house: House, check: Checks) -> None:

@@ -113,6 +113,8 @@ def shut(args: argparse.Namespace) -> None:
             house.desk()
 
         def flush() -> None:
+            """On a network where guests' packets would find their way back untranslated."""
+            house.within("outside", "ip", "route", "replace", "10.77.0.0/22", "via", "203.0.113.1")
             house.within("gw", "nft", "flush", "ruleset")
 
         cases: tuple[tuple[str, Callable[[], object], Callable[[], object]], ...] = (
@@ -176,12 +178,14 @@ def offload(args: argparse.Namespace) -> None:
                 for _ in range(args.rounds):
                     before, frames = house.counted("guest1"), house.frames("guest1")
                     house.tcp("guest1", verb, 40_000_000)
+                    time.sleep(0.5)
                     devices.append(house.frames("guest1") - frames)
                     counts.append(house.counted("guest1") - before)
-                same = sum(a == b for a, b in zip(counts, devices))
+                off = [count - device for count, device in zip(counts, devices)]
                 more = [count / 4e5 - 100 for count in counts]
                 print(f"offloading {'on' if on else 'off'}, guest {way} 40,000,000 bytes {args.rounds} times: gateway "
-                      f"payload + {min(more):.2f} to {max(more):.2f} %, the device's count {same} times", flush=True)
+                      f"payload + {min(more):.2f} to {max(more):.2f} %, more than the device by {off} bytes, "
+                      f"load {os.getloadavg()[0]:.0f}", flush=True)
 
 
 def sessions(args: argparse.Namespace) -> None:

@@ -43,7 +43,10 @@ def talk(link: socket.socket) -> None:
 def echo(udp: socket.socket) -> None:
     while True:
         data, who = udp.recvfrom(2000)
-        udp.sendto(data, who)
+        try:
+            udp.sendto(data, who)
+        except OSError:     # no way back to an address that was not translated
+            pass
 
 
 def pour(udp: socket.socket, who: tuple[str, int], count: int) -> None:

@@ -134,7 +134,7 @@ class Made(unittest.TestCase):
 
     @unittest.skipUnless(shutil.which("systemd-analyze"), "systemd-analyze is not installed")
     def test_systemd_reads_the_units(self) -> None:
-        """`verify` without a running systemd, under a root in which every program of the units stands: it says nothing."""
+        """`verify` without a running systemd, under a root in which the units' programs stand: it says nothing."""
         folder = self.root / "etc/systemd/system"
         shutil.copy(folder / "portal-rules@.service", folder / "portal-rules@lan0.service")
         shutil.copytree("/lib/systemd/system", self.root / "lib/systemd/system", symlinks=True)
