@@ -1,5 +1,5 @@
 -- How an upgrade goes from the rows that were read to the tables that it leaves.
-use Rattle.std.proofs.Common.{◌≡◌, false, IsTrue, ℕ, suc, zero, ◌+◌, ◌<◌, get_or, map, List, [], ◌∷◌, refl, sym, ap, subst, ◌∙◌, arith, Less}
+use Rattle.std.proofs.Common.{◌≡◌, false, IsTrue, ℕ, suc, zero, ◌+◌, ◌<◌, get_or, map, List, [], ◌∷◌, refl, sym, ap, subst, ◌∙◌, arith, Less, All, ◌^◌}
 use Rattle.std.proofs.lemmas.Bool.Decides.{nat_tests}
 use Rattle.std.proofs.lemmas.Int.{ints}
 use Rattle.std.specs.List.Sorted.{IsStrictlyIncreasing}
@@ -14,22 +14,23 @@ use Rattle.portal_sql.proofs.LooksLemmas.{reads_then, same_now, still_open}
 use Rattle.sqlite_value.proofs.OrderLemmas.{value_cmp-Int}
 use Rattle.portal_sql.specs.Stored.{number}
 use Rattle.portal_model.specs.declared.plan.Plan.{Plan}
-use Rattle.portal_model.specs.Rows.{SessionRow, TotalRow, count_from, total_from}
+use Rattle.portal_model.specs.Rows.{SessionRow, TotalRow, count_from, total_from, CountRow}
 use Rattle.portal_rows.specs.declared.signs.Total.{Total}
 use Rattle.portal_rows.specs.Contents.{Contents, session_stored}
 use Rattle.portal_lists.specs.Sums.{summed, grant_read}
 use Rattle.portal_lists.specs.Asks.{Anything}
 use Rattle.portal_rows.specs.First.{HoldsFirst}
 use Rattle.portal_rows.specs.Holds.{Holds, LeftHolds, this_layout}
-use Rattle.portal_rows.specs.Steps.{with_layout}
+use Rattle.portal_rows.specs.Steps.{with_layout, ends_row}
 use Rattle.portal_rows.specs.declared.rows.KeptCount.{KeptCount}
 use Rattle.portal_rows.specs.declared.rows.KeptVoucher.{KeptVoucher}
 use Rattle.portal_rows.specs.declared.rows.KeptSession.{KeptSession}
 use Rattle.portal_lists.specs.declared.grants.KeptGrant.{KeptGrant}
-use Rattle.portal_rows.specs.Read.{voucher_read, session_read}
+use Rattle.portal_rows.specs.Read.{voucher_read, session_read, count_read}
 use Rattle.portal_layouts.specs.declared.layouts.OldLayout.{OldLayout}
 use Rattle.portal_layouts.specs.declared.layouts.OldLayout.TheVariants.{First}
-use Rattle.portal_layouts.specs.Brings.{Rise, LeadsFrom, MayLeadFrom, HasUpgraded, MayUpgrade, brought, upgraded, counts_read, totals_read, counts_summed, totals_summed, number_of}
+use Rattle.portal_layouts.specs.Brings.{Rise, LeadsFrom, MayLeadFrom, HasUpgraded, MayUpgrade, brought, upgraded, counts_read, totals_read, counts_summed, totals_summed, number_of, CountersFit}
+use Rattle.std.proofs.lemmas.List.{get_or-map, length-map}
 use Rattle.portal_layouts.proofs.MigrateLemmas.{brought_first}
 
 -- ---- numbers that rise, since they are rowids
@@ -94,6 +95,9 @@ module _ (a b : State) (read : Reads Anything a b) (clean : HasCleanDisk b) (liv
   pub open_after : IsTrue b.is_open
   open_after = still_open Anything a b read clean live tt
 
+all_back : {X Y : Type 0} (P : Y → Type 0) (f : X → Y) (xs : List X) → All P (map f xs) → All (λ x. P (f x)) xs
+all_back P f xs h k d within = rw (get_or-map f xs k d (f d) within) at (h k (f d) (rw (length-map) within))
+
 -- what is known of the counters when they are written
 record Knows (db : Database) (ks : List KeptCount) (ms : List Total) (t : Contents) : Type 0 where
   first : HoldsFirst db t
@@ -124,6 +128,14 @@ module _ (a b c d e : State) (one : Reads Anything a b) (two : Reads Anything b 
         counts = ap counts_read same3 ∙ counts clean2 t first1 (ap (map grant_read) same1 ∙ read);
         totals = ap totals_read same4 ∙ totals clean live2 t first2 (ap (map grant_read) same2 ∙ read);
       }
+
+  -- where the counters that the rows come to can be kept, so can those that are written
+  pub upgrade_fits : HasCleanDisk d → IsTrue a.is_open → (t : Contents) → HoldsFirst a.now t → CountersFit t → All (λ (k : KeptCount). k.redeemed < 2 ^ 63) ks1 × All (λ (m : Total). m.number < 2 ^ 63) ms1
+  upgrade_fits clean live t first fits =
+      let k = knows clean live t first in
+      let counted = subst (All (λ (x : CountRow). x.redeemed < 2 ^ 63)) (sym k.counts) fits.counts in
+      let ended = subst (All (λ (x : TotalRow). x.number < 2 ^ 63)) (sym k.totals) fits.totals in
+      (all_back (λ (x : CountRow). x.redeemed < 2 ^ 63) count_read ks1 counted, all_back (λ (x : TotalRow). x.number < 2 ^ 63) ends_row ms1 ended)
 
   pub upgrade_done : HasCleanDisk d → IsTrue a.is_open → LeadsFrom 1 false Anything (brought First ks1 ms1) d e → HasUpgraded First a e
   upgrade_done clean live gained = record {

@@ -1,5 +1,5 @@
 -- What brings a store of an older layout to this version's, in one transaction.
-use Rattle.std.specs.Prelude.{◌≡◌, ℕ, Bool, true, false, IsTrue, not, is_some, ◌&&◌, ◌||◌, List, [], map, fold}
+use Rattle.std.specs.Prelude.{◌≡◌, ◌<◌, ◌^◌, ℕ, Bool, true, false, IsTrue, not, is_some, ◌&&◌, ◌||◌, List, [], map, fold, All}
 use Rattle.std.specs.List.Sorted.{IsStrictlyIncreasing}
 use Rattle.sqlite.specs.Schema.{Schema}
 use Rattle.sqlite.specs.Tree.{Trees}
@@ -14,10 +14,11 @@ use Rattle.portal_rows.specs.declared.rows.KeptCount.{KeptCount}
 use Rattle.portal_rows.specs.declared.signs.Total.{Total}
 use Rattle.portal_rows.specs.Layout.{counts_name, totals_name, requests_name}
 use Rattle.portal_rows.specs.Contents.{Contents}
+use Rattle.portal_rows.specs.Foreign.{AreOwnRows}
 use Rattle.portal_rows.specs.Read.{count_read}
 use Rattle.portal_rows.specs.Steps.{ends_row, with_counts, with_layout}
 use Rattle.portal_rows.specs.Holds.{HoldsIn, Holds, LeftHolds, this_layout}
-use Rattle.portal_lists.specs.Sums.{summed}
+use Rattle.portal_lists.specs.Sums.{SumsFit, summed}
 use Rattle.portal_layouts.specs.declared.layouts.OldLayout.{OldLayout}
 use Rattle.portal_layouts.specs.declared.layouts.OldLayout.TheVariants.{First, Second, Third, Fourth}
 
@@ -74,6 +75,19 @@ abbrev pub has_room : Schema → Bool
 has_room schema =
     (not (any_counts schema) || is_some (sequence schema))
     && (are_harmless counts_name schema && (are_harmless totals_name schema && are_harmless requests_name schema))
+
+-- ---- counters that can be kept
+
+-- a column of integers keeps each of the counters that the rows come to
+pub record CountersFit (t : Contents) : Type 0 where
+  pub sums : SumsFit t.plans t.sessions t.grants
+  pub counts : All (λ (k : CountRow). k.redeemed < 2 ^ 63) (counts_summed t)
+  pub totals : All (λ (m : TotalRow). m.number < 2 ^ 63) (totals_summed t)
+
+-- nothing in the rows keeps them from being brought to this version's layout: of layout 1 each is one that this product writes, and their counters can be kept
+abbrev pub CanBring : OldLayout → Contents → Type 0
+CanBring First t = AreOwnRows t × CountersFit t
+CanBring _ t = Unit {0}
 
 -- ---- the steps
 

@@ -1,6 +1,6 @@
 //! A store of an older layout is brought to this version's.
 
-ghost use Rattle.std.specs.Prelude.{◌≡◌, ◌<◌, ◌^◌, ◌↔◌, OnOk, OnErr, IfOk, IsTrue, All, false, map};
+ghost use Rattle.std.specs.Prelude.{◌≡◌, ◌<◌, ◌^◌, ◌↔◌, OnOk, OnErr, IfOk, IsTrue, All, true, false, map};
 ghost use Rattle.sqlite.specs.Held.{state};
 ghost use Rattle.sqlite.specs.State.{HasCleanDisk, Survives};
 ghost use Rattle.portal_sql.specs.States.{IsUndone};
@@ -8,9 +8,12 @@ ghost use Rattle.portal_sql.specs.Looks.{Looks};
 ghost use Rattle.portal_lists.specs.Asks.{Anything};
 ghost use Rattle.portal_rows.specs.Contents.{Contents};
 ghost use Rattle.portal_rows.specs.First.{HoldsFirst};
+ghost use Rattle.portal_rows.specs.Foreign.{AreOwn, AreOwnRows, IsOwnVoucher, NotForeign, TellsForeign};
+ghost use Rattle.portal_rows.specs.Holds.{HoldsIn};
+ghost use Rattle.portal_lists.specs.Audit.{OfFirst};
 ghost use Rattle.portal_layouts.specs.declared.layouts.OldLayout.TheVariants.{First};
-ghost use Rattle.portal_layouts.specs.Brings.{LeadsFrom, MayLeadFrom, HasUpgraded, MayUpgrade, brought, counts_read, totals_read, counts_summed, totals_summed, number_of};
-ghost use Rattle.portal_lists.specs.Sums.{grant_read};
+ghost use Rattle.portal_layouts.specs.Brings.{CanBring, LeadsFrom, MayLeadFrom, HasUpgraded, MayUpgrade, brought, counts_read, totals_read, counts_summed, totals_summed, has_room, number_of};
+ghost use Rattle.portal_lists.specs.Sums.{SumsFit, grant_read};
 
 use crate::layouts::{OldLayout, is_indexed};
 use crate::migrates::{bring, is_room_for_later};
@@ -31,6 +34,7 @@ fn count_vouchers<S: Alter>(
 ) -> Result<Vec<KeptCount>, Fault>
     ensures summed { HasCleanDisk (state S.Store conn.new) → (t : Contents) → HoldsFirst (state S.Store conn.old).now t → map grant_read grants.now ≡ t.grants → IfOk result (λ counts. counts_read counts.items ≡ counts_summed t) }
     ensures looks { Looks Anything result (state S.Store conn.old) (state S.Store conn.new) }
+    ensures foreign { TellsForeign HoldsFirst (λ t. AreOwn IsOwnVoucher t.vouchers) (state S.Store conn.old) (state S.Store conn.new) result }
 {
     let vouchers = all_vouchers(conn)?;
     Ok(sum_counts(*vouchers.allocator(), vouchers.as_slice(), grants)?)
@@ -43,6 +47,7 @@ fn total_sessions<S: Alter>(
 ) -> Result<Vec<Total>, Fault>
     ensures summed { HasCleanDisk (state S.Store conn.new) → IsTrue (state S.Store conn.old).is_open → (t : Contents) → HoldsFirst (state S.Store conn.old).now t → map grant_read grants.now ≡ t.grants → IfOk result (λ totals. totals_read totals.items ≡ totals_summed t) }
     ensures looks { Looks Anything result (state S.Store conn.old) (state S.Store conn.new) }
+    ensures foreign { OfFirst (state S.Store conn.old) (state S.Store conn.new) (λ t. map grant_read grants.now ≡ t.grants → AreOwnRows t → SumsFit t.plans t.sessions t.grants → NotForeign result) }
 {
     let plans = all_plans(conn)?;
     let sessions = all_sessions(conn)?;
@@ -79,6 +84,7 @@ fn gain<S: Alter>(
     ensures done { HasCleanDisk (state S.Store conn.new) → OnOk result (LeadsFrom (number_of from) false Anything (brought from counts.now totals.now) (state S.Store conn.old) (state S.Store conn.new)) }
     ensures undone { HasCleanDisk (state S.Store conn.new) → conn.old.in_transaction ≡ false → OnErr result (IsUndone (state S.Store conn.old) (state S.Store conn.new)) }
     ensures crash { Survives (state S.Store conn.old) (state S.Store conn.new) (MayLeadFrom (number_of from) false Anything (brought from counts.now totals.now) (state S.Store conn.old)) }
+    ensures foreign { has_room (state S.Store conn.old).now.schema ≡ true → All (λ k. k.redeemed < 2 ^ 63) counts.now → All (λ m. m.number < 2 ^ 63) totals.now → NotForeign result }
 {
     if !conn.is_autocommit() {
         return Err(Fault::Sql(Error::SqliteFailure(ErrorCode::TransactionState)));
@@ -96,6 +102,7 @@ fn upgrade_first<S: Alter>(conn: &mut Connection<S>) -> Result<(), Fault>
     ensures done { HasCleanDisk (state S.Store conn.new) → IsTrue (state S.Store conn.old).is_open → OnOk result (HasUpgraded First (state S.Store conn.old) (state S.Store conn.new)) }
     ensures undone { HasCleanDisk (state S.Store conn.new) → IsTrue (state S.Store conn.old).is_open → (state S.Store conn.old).in_transaction ≡ false → (state S.Store conn.old).now ≡ (state S.Store conn.old).committed → OnErr result (IsUndone (state S.Store conn.old) (state S.Store conn.new)) }
     ensures crash { Survives (state S.Store conn.old) (state S.Store conn.new) (MayUpgrade First (state S.Store conn.old)) }
+    ensures foreign { OfFirst (state S.Store conn.old) (state S.Store conn.new) (λ t. has_room (state S.Store conn.old).now.schema ≡ true → CanBring First t → NotForeign result) }
 {
     let grants = all_grants(conn)?;
     let counts = count_vouchers(conn, grants.as_slice())?;
@@ -109,6 +116,7 @@ pub fn upgrade<S: Alter>(conn: &mut Connection<S>, from: OldLayout) -> Result<()
     ensures done { HasCleanDisk (state S.Store conn.new) → IsTrue (state S.Store conn.old).is_open → OnOk result (HasUpgraded from (state S.Store conn.old) (state S.Store conn.new)) }
     ensures undone { HasCleanDisk (state S.Store conn.new) → IsTrue (state S.Store conn.old).is_open → (state S.Store conn.old).in_transaction ≡ false → (state S.Store conn.old).now ≡ (state S.Store conn.old).committed → OnErr result (IsUndone (state S.Store conn.old) (state S.Store conn.new)) }
     ensures crash { Survives (state S.Store conn.old) (state S.Store conn.new) (MayUpgrade from (state S.Store conn.old)) }
+    ensures foreign { HasCleanDisk (state S.Store conn.new) → IsTrue (state S.Store conn.old).is_open → has_room (state S.Store conn.old).now.schema ≡ true → (t : Contents) → HoldsIn (number_of from) false (state S.Store conn.old).now t → CanBring from t → NotForeign result }
 {
     match from {
         OldLayout::First => upgrade_first(conn)?,

@@ -5,6 +5,7 @@ pub mod HeldLemmas
 pub mod ListReading
 pub mod ListTexts
 pub mod Listing
+pub mod OwnRows
 pub mod SameCode
 pub mod SumLemmas
 pub mod WholeReading

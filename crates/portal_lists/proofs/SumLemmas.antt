@@ -1,8 +1,9 @@
 -- Sums over the redemptions so far, with one redemption more.
-use Rattle.std.proofs.Common.{◌≡◌, inl, inr, ℕ, ◌+◌, ◌<◌, ◌≤◌, length-take, Bool, true, false, cond, List, [], ◌∷◌, ◌++◌, map, filter, take, length, get_or, Option, Some, unwrap_or, count_by, sum_by, refl, sym, ap, ap₂, ◌∙◌, arith, zero-add, add-zero}
+use Rattle.std.proofs.Common.{◌≡◌, inl, inr, ℕ, ◌+◌, ◌^◌, ◌<◌, ◌≤◌, length-take, Bool, true, false, cond, List, [], ◌∷◌, ◌++◌, map, filter, take, drop, length, get_or, Option, Some, unwrap_or, count_by, sum_by, refl, sym, ap, ap₂, ◌∙◌, arith, zero-add, add-zero}
 use Rattle.std.specs.Prelude.{bytes_eq, nat_eq}
 use Rattle.std.proofs.lemmas.Bool.{cases_Bool, eqb-true}
-use Rattle.std.proofs.lemmas.List.{length-map, map-append}
+use Rattle.std.proofs.lemmas.Bool.Decides.{Decides-eqb}
+use Rattle.std.proofs.lemmas.List.{length-map, map-append, take-append-drop}
 use Rattle.std.proofs.lemmas.List.Sums.{sum_by_push, sum_by-append, count_by-le-length}
 use Rattle.std.proofs.lemmas.List.Elements.{filter-append}
 use Rattle.std.proofs.lemmas.Slice.Eq.{bytes_eq-Decides}
@@ -11,7 +12,7 @@ use Rattle.portal_sql.specs.Finds.{columns}
 use Rattle.portal_codes.specs.Code.{IsCode, text_of}
 use Rattle.portal_model.specs.Rows.{GrantRow}
 use Rattle.portal_lists.specs.declared.grants.KeptGrant.{KeptGrant}
-use Rattle.portal_lists.specs.Sums.{grant_read, given_to, nothing_given}
+use Rattle.portal_lists.specs.Sums.{IsKeptSum, grant_read, given_to, nothing_given}
 use Rattle.portal_lists.specs.declared.sums.Given.{Given}
 use Rattle.portal_rows.proofs.Compose.{more_mapped}
 use Rattle.portal_lists.proofs.SameCode.{code_test}
@@ -66,6 +67,17 @@ module _ (f : GrantRow → ℕ) (number : ℕ) where
       one : (b : Bool) → sum_by f (cond b (grant_read g ∷ []) []) ≡ cond b (f (grant_read g)) 0
       one true = zero-add (f (grant_read g))
       one false = refl
+
+-- so far no more than in all
+module _ (f : GrantRow → ℕ) (number : ℕ) where
+  pub sum_few : (grants : List KeptGrant) (i : ℕ) → sum_so_far f number grants i ≤ sum_by f (filter (λ (g : GrantRow). nat_eq g.session number) (map grant_read grants))
+  sum_few grants i =
+      let own : GrantRow → Bool = λ (x : GrantRow). nat_eq x.session number in
+      let so_far = map grant_read (take i grants) in
+      let rest = map grant_read (drop i grants) in
+      let all : map grant_read grants ≡ so_far ++ rest = ap (map grant_read) (sym (take-append-drop i grants)) ∙ map-append grant_read (take i grants) (drop i grants) in
+      let sum : sum_by f (filter own (map grant_read grants)) ≡ sum_by f (filter own so_far) + sum_by f (filter own rest) = ap (λ gs. sum_by f (filter own gs)) all ∙ ap (sum_by f) (filter-append own so_far rest) ∙ sum_by-append f (filter own so_far) (filter own rest) in
+      omega (arith, sum)
 
 abbrev pub given_so_far : List KeptGrant → ℕ → ℕ → Given
 given_so_far grants i number = given_to (map grant_read (take i grants)) number
@@ -133,3 +145,15 @@ map_same f g each (p ∷ ps) = ap₂ ◌∷◌ (each p) (map_same f g each ps)
 pub rows_exact : {P : Type 0} (cells : P → Row) (n : ℕ) → ((p : P) → columns n (cells p) ≡ cells p) → ((a b : P) → cells a ≡ cells b → a ≡ b)
     → (read ps : List P) (rows : List Row) → map cells read ≡ map (columns n) rows → rows ≡ map cells ps → read ≡ ps
 rows_exact cells n each exact read ps rows as_read held = map_exact cells exact read ps (as_read ∙ ap (map (columns n)) held ∙ map_same (columns n) cells each ps)
+
+-- ---- sums that can be kept
+
+-- where what is given in all can be kept, so can what was given so far, with one redemption more
+pub given_kept : (grants : List KeptGrant) (i : ℕ) (g : KeptGrant) (before : Given) → i < length grants → g ≡ get_or grants i g → before ≡ given_so_far grants i g.session → ((number : ℕ) → IsKeptSum (given_to (map grant_read grants) number))
+    → (before.seconds + g.seconds < 2 ^ 63) × (before.bytes + g.bytes < 2 ^ 63)
+given_kept grants i g before within is so_far fits =
+    let next : given_so_far grants (i + 1) g.session ≡ given_more (given_so_far grants i g.session) g =
+    given_then grants i g g.session within is ∙ ap (λ b. cond b (given_more (given_so_far grants i g.session) g) (given_so_far grants i g.session)) ((Decides-eqb g.session g.session).1 refl) in
+    let seconds : before.seconds + g.seconds ≡ (given_so_far grants (i + 1) g.session).seconds = ap (λ (x : Given). x.seconds + g.seconds) so_far ∙ sym (ap (λ (x : Given). x.seconds) next) in
+    let bytes : before.bytes + g.bytes ≡ (given_so_far grants (i + 1) g.session).bytes = ap (λ (x : Given). x.bytes + g.bytes) so_far ∙ sym (ap (λ (x : Given). x.bytes) next) in
+    (omega (arith, seconds, sum_few (λ x. x.seconds) g.session grants (i + 1), (fits g.session).0), omega (arith, bytes, sum_few (λ x. x.bytes) g.session grants (i + 1), (fits g.session).1))

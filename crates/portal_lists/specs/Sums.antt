@@ -1,9 +1,11 @@
 -- The counters as sums over the rows of the other tables.
-use Rattle.std.specs.Prelude.{◌≡◌, ℕ, nat_eq, bytes_eq, List, [], filter, sum_by, count_by, unwrap_or}
+use Rattle.std.specs.Prelude.{◌≡◌, ℕ, ◌<◌, ◌^◌, nat_eq, bytes_eq, List, [], filter, sum_by, count_by, unwrap_or}
 use Rattle.std.specs.HashMap.{HashMap, get}
+use Rattle.sqlite_rules.specs.Lists.{Has}
 use Rattle.portal_codes.specs.Code.{IsCode, text_of}
 use Rattle.portal_model.specs.declared.plan.Plan.{Plan}
-use Rattle.portal_model.specs.Rows.{Rows, GrantRow}
+use Rattle.portal_model.specs.Rows.{Rows, SessionRow, GrantRow, total_from}
+use Rattle.portal_rows.specs.Foreign.{IsMomentIfSome}
 use Rattle.portal_lists.specs.declared.grants.KeptGrant.{KeptGrant}
 use Rattle.portal_lists.specs.declared.sums.Given.{Given}
 
@@ -40,3 +42,15 @@ uses_in grants code = count_by (λ g. bytes_eq g.code code) grants
 -- the map has the number of the redemptions of each code: none of a code that is not in it
 abbrev pub AreUses : {S : Type 0} → HashMap (List ℕ) ℕ S → List GrantRow → Type 0
 AreUses uses grants = (code : List ℕ) → IsCode code → unwrap_or (get bytes_eq uses code) 0 ≡ uses_in grants (text_of code)
+
+-- ---- sums that can be kept
+
+-- a column of integers keeps what was given in all
+abbrev pub IsKeptSum : Given → Type 0
+IsKeptSum given = (given.seconds < 2 ^ 63) × (given.bytes < 2 ^ 63)
+
+-- the sums over the redemptions can be kept: what those of each session give in all, and the session's end
+pub record SumsFit (plans : List Plan) (sessions : List SessionRow) (grants : List GrantRow) : Type 0 where
+  pub given : (number : ℕ) → IsKeptSum (given_to grants number)
+  pub used : (s : SessionRow) → Has sessions s → s.used < 2 ^ 63
+  pub ends : (s : SessionRow) → Has sessions s → IsMomentIfSome (total_from (summed plans grants) s).ends

@@ -6,10 +6,11 @@ ghost use Rattle.sqlite.specs.Held.{state};
 ghost use Rattle.portal_model.specs.Rows.{CountRow, GrantRow};
 ghost use Rattle.portal_sql.specs.Looks.{Looks};
 ghost use Rattle.portal_rows.specs.Contents.{Contents};
+ghost use Rattle.portal_rows.specs.Foreign.{AreOwnRows, NotForeign};
 ghost use Rattle.portal_rows.specs.Holds.{HasTables};
 ghost use Rattle.portal_rows.specs.Steps.{ends_row};
 ghost use Rattle.portal_rows.specs.Read.{head_read, voucher_read, count_read};
-ghost use Rattle.portal_lists.specs.Sums.{AreUses, grant_read};
+ghost use Rattle.portal_lists.specs.Sums.{AreUses, SumsFit, grant_read};
 ghost use Rattle.portal_lists.specs.Audit.{Agrees, AreCounted, AreRead, IsAudited, OfHeld, is_counted, has_count};
 
 use crate::counted::{CountedRows, read_counted};
@@ -40,7 +41,8 @@ fn are_counts_in(uses: &HashMap<Code, u64>, counts: &[KeptCount]) -> bool
 
 /// Whether each count is the number of the redemptions with its code.
 fn counts_agree(alloc: Global, grants: &[KeptGrant], counts: &[KeptCount]) -> Result<bool, Fault>
-    ensures { IfOk result (λ agree. agree ≡ list_all (is_counted (map grant_read grants.now)) (map count_read counts.now)) }
+    ensures agree { IfOk result (λ agree. agree ≡ list_all (is_counted (map grant_read grants.now)) (map count_read counts.now)) }
+    ensures memory { NotForeign result }
 {
     let uses = uses_by_code(alloc, grants)?;
     Ok(are_counts_in(&uses, counts))
@@ -48,7 +50,8 @@ fn counts_agree(alloc: Global, grants: &[KeptGrant], counts: &[KeptCount]) -> Re
 
 /// The codes that have a count.
 fn counted_codes(alloc: Global, counts: &[KeptCount]) -> Result<HashSet<Code>, Fault>
-    ensures { IfOk result (λ codes. AreCounted codes (map count_read counts.now)) }
+    ensures codes { IfOk result (λ codes. AreCounted codes (map count_read counts.now)) }
+    ensures memory { NotForeign result }
 {
     let mut codes = HashSet::new(alloc);
     for count in counts {
@@ -81,7 +84,8 @@ fn vouchers_agree(
     vouchers: &[KeptVoucher],
     counts: &[KeptCount],
 ) -> Result<bool, Fault>
-    ensures { IfOk result (λ agree. agree ≡ list_all (has_count (map count_read counts.now)) (map voucher_read vouchers.now)) }
+    ensures agree { IfOk result (λ agree. agree ≡ list_all (has_count (map count_read counts.now)) (map voucher_read vouchers.now)) }
+    ensures memory { NotForeign result }
 {
     let codes = counted_codes(alloc, counts)?;
     Ok(are_among(&codes, vouchers))
@@ -108,7 +112,8 @@ fn agree(
     counts: &[KeptCount],
     totals: &[Total],
 ) -> Result<bool, Fault>
-    ensures { IfOk result (λ agree. (t : Contents) → AreRead rows.now t → map count_read counts.now ≡ t.counts → map ends_row totals.now ≡ t.totals → IsTrue agree ↔ Agrees (head_read head.now) t) }
+    ensures agree { IfOk result (λ agree. (t : Contents) → AreRead rows.now t → map count_read counts.now ≡ t.counts → map ends_row totals.now ≡ t.totals → IsTrue agree ↔ Agrees (head_read head.now) t) }
+    ensures kept { (t : Contents) → AreRead rows.now t → SumsFit t.plans t.sessions t.grants → NotForeign result }
 {
     let alloc = *rows.grants.allocator();
     if !numbers_agree(head, rows) {
@@ -129,6 +134,7 @@ fn agree(
 pub fn audit<S: Alter>(conn: &mut Connection<S>) -> Result<bool, Fault>
     ensures audited { OfHeld (state S.Store conn.old) (state S.Store conn.new) (λ t. IfOk result (λ audited. IsTrue audited ↔ IsAudited t)) }
     ensures looks { Looks HasTables result (state S.Store conn.old) (state S.Store conn.new) }
+    ensures foreign { OfHeld (state S.Store conn.old) (state S.Store conn.new) (λ t. AreOwnRows t → SumsFit t.plans t.sessions t.grants → NotForeign result) }
 {
     let Some(head) = find_head(conn)? else {
         return Ok(false);

@@ -4,6 +4,7 @@ ghost use Rattle.std.specs.Prelude.{IfOk};
 ghost use Rattle.sqlite.specs.Held.{state};
 ghost use Rattle.portal_sql.specs.Looks.{Looks};
 ghost use Rattle.portal_lists.specs.Audit.{AreRead, OfFirst};
+ghost use Rattle.portal_rows.specs.Foreign.{AreOwnRows, NotForeign};
 ghost use Rattle.portal_rows.specs.First.{HasFirst};
 
 use crate::grants::KeptGrant;
@@ -25,6 +26,7 @@ pub struct CountedRows {
 pub fn read_counted<S: Alter>(conn: &mut Connection<S>) -> Result<CountedRows, Fault>
     ensures read { OfFirst (state S.Store conn.old) (state S.Store conn.new) (λ t. IfOk result (λ rows. AreRead rows t)) }
     ensures looks { Looks HasFirst result (state S.Store conn.old) (state S.Store conn.new) }
+    ensures foreign { OfFirst (state S.Store conn.old) (state S.Store conn.new) (λ t. AreOwnRows t → NotForeign result) }
 {
     Ok(CountedRows {
         plans: all_plans(conn)?,

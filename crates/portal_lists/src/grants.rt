@@ -3,6 +3,7 @@
 ghost use Rattle.std.specs.Prelude.{◌≡◌, IfOk};
 ghost use Rattle.portal_sql.specs.Finds.{columns};
 ghost use Rattle.portal_rows.specs.Contents.{grant_cells};
+ghost use Rattle.portal_rows.specs.Foreign.{IsOwnGrant, SparesOwn};
 ghost use Rattle.portal_lists.specs.Sums.{grant_read};
 
 use portal_codes::Code;
@@ -22,7 +23,8 @@ pub struct KeptGrant {
 }
 
 pub(crate) fn grant_of(row: &Row) -> Result<KeptGrant, Fault>
-    ensures { IfOk result (λ grant. grant_cells (grant_read grant) ≡ columns 6 row.now) }
+    ensures cells { IfOk result (λ grant. grant_cells (grant_read grant) ≡ columns 6 row.now) }
+    ensures own { SparesOwn grant_cells IsOwnGrant (columns 6 row.now) result }
 {
     Ok(KeptGrant {
         number: row.get(0)?,

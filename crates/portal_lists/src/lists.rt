@@ -8,6 +8,7 @@ ghost use Rattle.portal_model.specs.Rows.{VoucherRow, TotalRow};
 ghost use Rattle.portal_sql.specs.Finds.{columns};
 ghost use Rattle.portal_sql.specs.Looks.{Looks};
 ghost use Rattle.portal_rows.specs.Contents.{Contents, voucher_cells, total_cells};
+ghost use Rattle.portal_rows.specs.Foreign.{AreOwn, IsOwnRefund, IsOwnTotal, IsOwnVoucher, NotForeign, AreOfOwn, SparesOwn, TellsForeign};
 ghost use Rattle.portal_rows.specs.Holds.{Holds, HasTables};
 ghost use Rattle.portal_lists.specs.Lists.{Lists, ListsAs, IsReadAs, AreReadAs, is_within, may_be_open, numbers_open, by_place, by_refund, by_number, sale_cells, sale_shown, sale_read, refund_shown, refund_read};
 ghost use Rattle.portal_rows.specs.Steps.{ends_row};
@@ -78,6 +79,7 @@ fn refunded_rows<S: Alter>(
 fn code_of(row: &Row) -> Result<Code, Fault>
     ensures read { IfOk result (λ code. IsReadAs voucher_cells 6 (λ v. v.code) row.now (text_of code)) }
     ensures code { IfOk result IsCode }
+    ensures own { SparesOwn voucher_cells IsOwnVoucher (columns 6 row.now) result }
 {
     let voucher = voucher_of(row)?;
     // Its text tells that it is a code.
@@ -89,6 +91,7 @@ fn code_of(row: &Row) -> Result<Code, Fault>
 fn codes_in(alloc: Global, rows: &[Row]) -> Result<Vec<Code>, Fault>
     ensures read { IfOk result (λ codes. AreReadAs voucher_cells 6 (λ v. v.code) rows.now (map text_of codes.items)) }
     ensures codes { IfOk result (λ codes. All IsCode codes.items) }
+    ensures own { AreOfOwn voucher_cells 6 IsOwnVoucher rows.now → NotForeign result }
 {
     let mut codes = Vec::new(alloc);
     for row in rows {
@@ -106,7 +109,8 @@ fn may_be_open(total: &Total, at: Moment) -> bool
 
 /// The number of the session of a row, where it may be open at `at`.
 fn number_of(row: &Row, at: Moment) -> Result<Option<u64>, Fault>
-    ensures { IfOk result (λ number. (m : TotalRow) × (total_cells m ≡ columns 3 row.now) × (number ≡ cond (may_be_open at m) (Some m.number) None)) }
+    ensures read { IfOk result (λ number. (m : TotalRow) × (total_cells m ≡ columns 3 row.now) × (number ≡ cond (may_be_open at m) (Some m.number) None)) }
+    ensures own { SparesOwn total_cells IsOwnTotal (columns 3 row.now) result }
 {
     let total = total_of(row)?;
     if may_be_open(&total, at) {
@@ -118,7 +122,8 @@ fn number_of(row: &Row, at: Moment) -> Result<Option<u64>, Fault>
 
 /// The numbers of the sessions that may be open at `at`, of these rows and in their order.
 fn numbers_in(alloc: Global, rows: &[Row], at: Moment) -> Result<Vec<u64>, Fault>
-    ensures { IfOk result (λ numbers. (totals : List TotalRow) × (map total_cells totals ≡ map (columns 3) rows.now) × (numbers.items ≡ numbers_open at totals)) }
+    ensures read { IfOk result (λ numbers. (totals : List TotalRow) × (map total_cells totals ≡ map (columns 3) rows.now) × (numbers.items ≡ numbers_open at totals)) }
+    ensures own { AreOfOwn total_cells 3 IsOwnTotal rows.now → NotForeign result }
 {
     let mut numbers = Vec::new(alloc);
     for row in rows {
@@ -131,7 +136,8 @@ fn numbers_in(alloc: Global, rows: &[Row], at: Moment) -> Result<Vec<u64>, Fault
 
 /// The refund of a voucher's row: the moment, and the amount in hundredths.
 fn refund_of(row: &Row) -> Result<(Moment, u64), Fault>
-    ensures { IfOk result (λ refund. IsReadAs voucher_cells 6 refund_shown row.now (refund_read refund)) }
+    ensures read { IfOk result (λ refund. IsReadAs voucher_cells 6 refund_shown row.now (refund_read refund)) }
+    ensures own { SparesOwn voucher_cells IsOwnRefund (columns 6 row.now) result }
 {
     let voucher = voucher_of(row)?;
     match (voucher.refunded, voucher.amount) {
@@ -142,7 +148,8 @@ fn refund_of(row: &Row) -> Result<(Moment, u64), Fault>
 
 /// The refunds of these rows of vouchers, in their order.
 fn refunds_in(alloc: Global, rows: &[Row]) -> Result<Vec<(Moment, u64)>, Fault>
-    ensures { IfOk result (λ refunds. AreReadAs voucher_cells 6 refund_shown rows.now (map refund_read refunds.items)) }
+    ensures read { IfOk result (λ refunds. AreReadAs voucher_cells 6 refund_shown rows.now (map refund_read refunds.items)) }
+    ensures own { AreOfOwn voucher_cells 6 IsOwnRefund rows.now → NotForeign result }
 {
     let mut refunds = Vec::new(alloc);
     for row in rows {
@@ -160,6 +167,7 @@ pub fn list_codes<S: Alter>(
     ensures codes { IfOk result (λ codes. All IsCode codes.items) }
     ensures found { HasCleanDisk (state S.Store conn.new) → (t : Contents) → Holds (state S.Store conn.old).now t → IfOk result (λ codes. ListsAs (λ v. v.code) (λ v. bytes_eq batch.now v.batch) by_place t.vouchers (map text_of codes.items)) }
     ensures looks { Looks HasTables result (state S.Store conn.old) (state S.Store conn.new) }
+    ensures foreign { TellsForeign Holds (λ t. AreOwn IsOwnVoucher t.vouchers) (state S.Store conn.old) (state S.Store conn.new) result }
 {
     let rows = batch_vouchers_rows(conn, batch)?;
     Ok(codes_in(alloc, &rows)?)
@@ -173,6 +181,7 @@ pub fn list_numbers<S: Alter>(
 ) -> Result<Vec<u64>, Fault>
     ensures found { HasCleanDisk (state S.Store conn.new) → (t : Contents) → Holds (state S.Store conn.old).now t → IfOk result (λ numbers. (totals : List TotalRow) × Lists (λ _. true) by_number t.totals totals × (numbers.items ≡ numbers_open at totals)) }
     ensures looks { Looks HasTables result (state S.Store conn.old) (state S.Store conn.new) }
+    ensures foreign { TellsForeign Holds (λ t. AreOwn IsOwnTotal t.totals) (state S.Store conn.old) (state S.Store conn.new) result }
 {
     let rows = totals_rows(conn)?;
     Ok(numbers_in(alloc, &rows, at)?)
@@ -201,6 +210,7 @@ pub fn list_refunds<S: Alter>(
 ) -> Result<Vec<(Moment, u64)>, Fault>
     ensures found { HasCleanDisk (state S.Store conn.new) → (t : Contents) → Holds (state S.Store conn.old).now t → IfOk result (λ refunds. ListsAs refund_shown (λ v. is_within from to v.refunded) by_refund t.vouchers (map refund_read refunds.items)) }
     ensures looks { Looks HasTables result (state S.Store conn.old) (state S.Store conn.new) }
+    ensures foreign { TellsForeign Holds (λ t. AreOwn IsOwnVoucher t.vouchers) (state S.Store conn.old) (state S.Store conn.new) result }
 {
     let rows = refunded_rows(conn, from, to)?;
     Ok(refunds_in(alloc, &rows)?)

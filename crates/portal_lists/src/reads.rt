@@ -4,6 +4,7 @@ ghost use Rattle.std.specs.Prelude.{◌≡◌, ℕ, IfOk, map};
 ghost use Rattle.sqlite.specs.Order.{Row as Cells};
 ghost use Rattle.portal_sql.specs.Finds.{columns};
 ghost use Rattle.portal_rows.specs.Contents.{plan_cells, batch_cells, voucher_cells, session_cells, grant_cells, count_cells, total_cells};
+ghost use Rattle.portal_rows.specs.Foreign.{AreOwn, IsOwnCount, IsOwnGrant, IsOwnPlan, IsOwnSession, IsOwnTotal, IsOwnVoucher, NotForeign, IsOfOwn};
 ghost use Rattle.portal_rows.specs.Steps.{ends_row};
 ghost use Rattle.portal_rows.specs.Read.{voucher_read, session_read, count_read};
 ghost use Rattle.portal_lists.specs.Lists.{sale_cells, sale_read};
@@ -28,14 +29,20 @@ pub(crate) trait FromRow: Sized {
 
     ghost width: { ℕ };
 
+    // Which cells are those of a row that this product writes.
+    ghost own: { Cells → Type 0 };
+
     fn from_row(row: &Row) -> Result<Self, Fault>
-        ensures { IfOk result (λ x. cells x ≡ columns width row.now) };
+        ensures cells { IfOk result (λ x. cells x ≡ columns width row.now) }
+        ensures own { own (columns width row.now) → NotForeign result };
 }
 
 impl FromRow for Plan {
     ghost cells = { plan_cells };
 
     ghost width = { 7 };
+
+    ghost own = { IsOfOwn plan_cells IsOwnPlan };
 
     fn from_row(row: &Row) -> Result<Plan, Fault> {
         plan_of(row)
@@ -70,6 +77,8 @@ impl FromRow for KeptVoucher {
 
     ghost width = { 6 };
 
+    ghost own = { IsOfOwn voucher_cells IsOwnVoucher };
+
     fn from_row(row: &Row) -> Result<KeptVoucher, Fault> {
         voucher_of(row)
     }
@@ -79,6 +88,8 @@ impl FromRow for KeptSession {
     ghost cells = { λ session. session_cells (session_read session) };
 
     ghost width = { 6 };
+
+    ghost own = { IsOfOwn session_cells IsOwnSession };
 
     fn from_row(row: &Row) -> Result<KeptSession, Fault> {
         session_of(row)
@@ -90,6 +101,8 @@ impl FromRow for KeptGrant {
 
     ghost width = { 6 };
 
+    ghost own = { IsOfOwn grant_cells IsOwnGrant };
+
     fn from_row(row: &Row) -> Result<KeptGrant, Fault> {
         grant_of(row)
     }
@@ -99,6 +112,8 @@ impl FromRow for KeptCount {
     ghost cells = { λ count. count_cells (count_read count) };
 
     ghost width = { 2 };
+
+    ghost own = { IsOfOwn count_cells IsOwnCount };
 
     fn from_row(row: &Row) -> Result<KeptCount, Fault> {
         count_of(row)
@@ -110,6 +125,8 @@ impl FromRow for Total {
 
     ghost width = { 3 };
 
+    ghost own = { IsOfOwn total_cells IsOwnTotal };
+
     fn from_row(row: &Row) -> Result<Total, Fault> {
         total_of(row)
     }
@@ -117,7 +134,8 @@ impl FromRow for Total {
 
 /// The rows, each read, in their order.
 pub(crate) fn read_each<T: FromRow + Drop>(alloc: Global, rows: &[Row]) -> Result<Vec<T>, Fault>
-    ensures { IfOk result (λ values. map T.cells values.items ≡ map (columns T.width) rows.now) }
+    ensures cells { IfOk result (λ values. map T.cells values.items ≡ map (columns T.width) rows.now) }
+    ensures own { AreOwn (λ row. T.own (columns T.width row)) rows.now → NotForeign result }
 {
     let mut values = Vec::new(alloc);
     for row in rows {

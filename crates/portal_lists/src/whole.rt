@@ -7,6 +7,7 @@ ghost use Rattle.portal_sql.specs.Looks.{Looks};
 ghost use Rattle.portal_lists.specs.Asks.{Anything};
 ghost use Rattle.portal_rows.specs.Contents.{Contents};
 ghost use Rattle.portal_rows.specs.First.{HoldsFirst, HasFirst};
+ghost use Rattle.portal_rows.specs.Foreign.{AreOwn, IsOwnCount, IsOwnGrant, IsOwnPlan, IsOwnSession, IsOwnTotal, IsOwnVoucher, TellsForeign};
 ghost use Rattle.portal_rows.specs.Holds.{Holds, HasTables};
 ghost use Rattle.portal_rows.specs.Steps.{ends_row};
 ghost use Rattle.portal_rows.specs.Read.{voucher_read, session_read, count_read};
@@ -29,6 +30,7 @@ pub fn all_plans<S: Alter>(conn: &mut Connection<S>) -> Result<Vec<Plan>, Fault>
     ensures read { HasCleanDisk (state S.Store conn.new) → (t : Contents) → HoldsFirst (state S.Store conn.old).now t → IfOk result (λ plans. plans.items ≡ t.plans) }
     ensures looks { Looks HasFirst result (state S.Store conn.old) (state S.Store conn.new) }
     ensures always { Looks Anything result (state S.Store conn.old) (state S.Store conn.new) }
+    ensures foreign { TellsForeign HoldsFirst (λ t. AreOwn IsOwnPlan t.plans) (state S.Store conn.old) (state S.Store conn.new) result }
 {
     let rows = all_plan_rows(conn)?;
     Ok(read_each(*rows.allocator(), &rows)?)
@@ -48,6 +50,7 @@ pub fn all_vouchers<S: Alter>(conn: &mut Connection<S>) -> Result<Vec<KeptVouche
     ensures read { HasCleanDisk (state S.Store conn.new) → (t : Contents) → HoldsFirst (state S.Store conn.old).now t → IfOk result (λ vouchers. map voucher_read vouchers.items ≡ t.vouchers) }
     ensures looks { Looks HasFirst result (state S.Store conn.old) (state S.Store conn.new) }
     ensures always { Looks Anything result (state S.Store conn.old) (state S.Store conn.new) }
+    ensures foreign { TellsForeign HoldsFirst (λ t. AreOwn IsOwnVoucher t.vouchers) (state S.Store conn.old) (state S.Store conn.new) result }
 {
     let rows = all_voucher_rows(conn)?;
     Ok(read_each(*rows.allocator(), &rows)?)
@@ -58,6 +61,7 @@ pub fn all_sessions<S: Alter>(conn: &mut Connection<S>) -> Result<Vec<KeptSessio
     ensures read { HasCleanDisk (state S.Store conn.new) → (t : Contents) → HoldsFirst (state S.Store conn.old).now t → IfOk result (λ sessions. map session_read sessions.items ≡ t.sessions) }
     ensures looks { Looks HasFirst result (state S.Store conn.old) (state S.Store conn.new) }
     ensures always { Looks Anything result (state S.Store conn.old) (state S.Store conn.new) }
+    ensures foreign { TellsForeign HoldsFirst (λ t. AreOwn IsOwnSession t.sessions) (state S.Store conn.old) (state S.Store conn.new) result }
 {
     let rows = all_session_rows(conn)?;
     Ok(read_each(*rows.allocator(), &rows)?)
@@ -68,6 +72,7 @@ pub fn all_grants<S: Alter>(conn: &mut Connection<S>) -> Result<Vec<KeptGrant>, 
     ensures read { HasCleanDisk (state S.Store conn.new) → (t : Contents) → HoldsFirst (state S.Store conn.old).now t → IfOk result (λ grants. map grant_read grants.items ≡ t.grants) }
     ensures looks { Looks HasFirst result (state S.Store conn.old) (state S.Store conn.new) }
     ensures always { Looks Anything result (state S.Store conn.old) (state S.Store conn.new) }
+    ensures foreign { TellsForeign HoldsFirst (λ t. AreOwn IsOwnGrant t.grants) (state S.Store conn.old) (state S.Store conn.new) result }
 {
     let rows = all_grant_rows(conn)?;
     Ok(read_each(*rows.allocator(), &rows)?)
@@ -77,6 +82,7 @@ pub fn all_grants<S: Alter>(conn: &mut Connection<S>) -> Result<Vec<KeptGrant>, 
 pub fn all_counts<S: Alter>(conn: &mut Connection<S>) -> Result<Vec<KeptCount>, Fault>
     ensures read { HasCleanDisk (state S.Store conn.new) → (t : Contents) → Holds (state S.Store conn.old).now t → IfOk result (λ counts. map count_read counts.items ≡ t.counts) }
     ensures looks { Looks HasTables result (state S.Store conn.old) (state S.Store conn.new) }
+    ensures foreign { TellsForeign Holds (λ t. AreOwn IsOwnCount t.counts) (state S.Store conn.old) (state S.Store conn.new) result }
 {
     let rows = all_count_rows(conn)?;
     Ok(read_each(*rows.allocator(), &rows)?)
@@ -86,6 +92,7 @@ pub fn all_counts<S: Alter>(conn: &mut Connection<S>) -> Result<Vec<KeptCount>, 
 pub fn all_totals<S: Alter>(conn: &mut Connection<S>) -> Result<Vec<Total>, Fault>
     ensures read { HasCleanDisk (state S.Store conn.new) → (t : Contents) → Holds (state S.Store conn.old).now t → IfOk result (λ totals. map ends_row totals.items ≡ t.totals) }
     ensures looks { Looks HasTables result (state S.Store conn.old) (state S.Store conn.new) }
+    ensures foreign { TellsForeign Holds (λ t. AreOwn IsOwnTotal t.totals) (state S.Store conn.old) (state S.Store conn.new) result }
 {
     let rows = all_total_rows(conn)?;
     Ok(read_each(*rows.allocator(), &rows)?)

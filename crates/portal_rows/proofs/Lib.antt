@@ -1,9 +1,11 @@
 pub mod Cells
 pub mod Compose
+pub mod Foreign
 pub mod HoldsLemmas
 pub mod InsertSteps
 pub mod InsertTexts
 pub mod Pairs
+pub mod Printed
 pub mod Reading
 pub mod RequestCells
 pub mod RequestReading

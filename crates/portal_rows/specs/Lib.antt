@@ -1,6 +1,7 @@
 pub mod Commands
 pub mod Contents
 pub mod First
+pub mod Foreign
 pub mod Holds
 pub mod Keyed
 pub mod Layout

@@ -9,6 +9,7 @@ ghost use Rattle.portal_model.specs.Rows.{VoucherRow, SessionRow, CountRow, Tota
 ghost use Rattle.portal_sql.specs.Finds.{Finds, FindsLast};
 ghost use Rattle.portal_sql.specs.Looks.{Looks};
 ghost use Rattle.portal_rows.specs.Contents.{Contents, HeadRow};
+ghost use Rattle.portal_rows.specs.Foreign.{AreOwn, IsOwnBatch, IsOwnCount, IsOwnHead, IsOwnPlan, IsOwnSession, IsOwnTotal, IsOwnVoucher, TellsForeign};
 ghost use Rattle.portal_rows.specs.Holds.{Holds, HasTables};
 ghost use Rattle.portal_rows.specs.Steps.{ends_row};
 ghost use Rattle.portal_rows.specs.Read.{head_read, voucher_read, session_read, count_read};
@@ -32,6 +33,7 @@ use sqlite::{Alter, Connection};
 pub fn find_head<S: Alter>(conn: &mut Connection<S>) -> Result<Option<KeptHead>, Fault>
     ensures found { HasCleanDisk (state S.Store conn.new) → (t : Contents) → Holds (state S.Store conn.old).now t → IfOk result (λ found. Finds (λ (x : HeadRow). x.id) 1 t.heads (option_map head_read found)) }
     ensures looks { Looks HasTables result (state S.Store conn.old) (state S.Store conn.new) }
+    ensures foreign { TellsForeign Holds (λ t. AreOwn IsOwnHead t.heads) (state S.Store conn.old) (state S.Store conn.new) result }
 {
     let rows = head_rows(conn)?;
     match rows.first() {
@@ -44,6 +46,7 @@ pub fn find_head<S: Alter>(conn: &mut Connection<S>) -> Result<Option<KeptHead>,
 pub fn find_plan<S: Alter>(conn: &mut Connection<S>, id: &Id) -> Result<Option<Plan>, Fault>
     ensures found { HasCleanDisk (state S.Store conn.new) → (t : Contents) → Holds (state S.Store conn.old).now t → IfOk result (λ found. Finds (λ (x : Plan). x.id) id.now t.plans found) }
     ensures looks { Looks HasTables result (state S.Store conn.old) (state S.Store conn.new) }
+    ensures foreign { TellsForeign Holds (λ t. AreOwn IsOwnPlan t.plans) (state S.Store conn.old) (state S.Store conn.new) result }
 {
     let rows = plan_rows(conn, id)?;
     match rows.first() {
@@ -56,6 +59,7 @@ pub fn find_plan<S: Alter>(conn: &mut Connection<S>, id: &Id) -> Result<Option<P
 pub fn find_batch<S: Alter>(conn: &mut Connection<S>, id: &Id) -> Result<Option<Batch>, Fault>
     ensures found { HasCleanDisk (state S.Store conn.new) → (t : Contents) → Holds (state S.Store conn.old).now t → IfOk result (λ found. Finds (λ (x : Batch). x.id) id.now t.batches found) }
     ensures looks { Looks HasTables result (state S.Store conn.old) (state S.Store conn.new) }
+    ensures foreign { TellsForeign Holds (λ t. AreOwn IsOwnBatch t.batches) (state S.Store conn.old) (state S.Store conn.new) result }
 {
     let rows = batch_rows(conn, id)?;
     match rows.first() {
@@ -72,6 +76,7 @@ pub fn find_voucher<S: Alter>(
     ensures code { IsCode code.now }
     ensures found { HasCleanDisk (state S.Store conn.new) → (t : Contents) → Holds (state S.Store conn.old).now t → IfOk result (λ found. Finds (λ (x : VoucherRow). x.code) (text_of code.now) t.vouchers (option_map voucher_read found)) }
     ensures looks { Looks HasTables result (state S.Store conn.old) (state S.Store conn.new) }
+    ensures foreign { TellsForeign Holds (λ t. AreOwn IsOwnVoucher t.vouchers) (state S.Store conn.old) (state S.Store conn.new) result }
 {
     let rows = voucher_rows(conn, code)?;
     match rows.first() {
@@ -89,6 +94,7 @@ pub fn find_session<S: Alter>(
     ensures of_row { IfOk result (λ found. IfSome found (λ row. IsDevice row.device)) }
     ensures found { HasCleanDisk (state S.Store conn.new) → (t : Contents) → Holds (state S.Store conn.old).now t → IfOk result (λ found. Finds (λ (x : SessionRow). x.number) number t.sessions (option_map session_read found)) }
     ensures looks { Looks HasTables result (state S.Store conn.old) (state S.Store conn.new) }
+    ensures foreign { TellsForeign Holds (λ t. AreOwn IsOwnSession t.sessions) (state S.Store conn.old) (state S.Store conn.new) result }
 {
     let rows = session_rows(conn, number)?;
     match rows.first() {
@@ -104,6 +110,7 @@ pub fn find_count<S: Alter>(
 ) -> Result<Option<KeptCount>, Fault>
     ensures found { HasCleanDisk (state S.Store conn.new) → (t : Contents) → Holds (state S.Store conn.old).now t → IfOk result (λ found. Finds (λ (x : CountRow). x.code) (text_of code.now) t.counts (option_map count_read found)) }
     ensures looks { Looks HasTables result (state S.Store conn.old) (state S.Store conn.new) }
+    ensures foreign { TellsForeign Holds (λ t. AreOwn IsOwnCount t.counts) (state S.Store conn.old) (state S.Store conn.new) result }
 {
     let rows = count_rows(conn, code)?;
     match rows.first() {
@@ -117,6 +124,7 @@ pub fn find_total<S: Alter>(conn: &mut Connection<S>, number: u64) -> Result<Opt
     requires { number < 2 ^ 63 }
     ensures found { HasCleanDisk (state S.Store conn.new) → (t : Contents) → Holds (state S.Store conn.old).now t → IfOk result (λ found. Finds (λ (x : TotalRow). x.number) number t.totals (option_map ends_row found)) }
     ensures looks { Looks HasTables result (state S.Store conn.old) (state S.Store conn.new) }
+    ensures foreign { TellsForeign Holds (λ t. AreOwn IsOwnTotal t.totals) (state S.Store conn.old) (state S.Store conn.new) result }
 {
     let rows = total_rows(conn, number)?;
     match rows.first() {
@@ -134,6 +142,7 @@ pub fn find_last_session<S: Alter>(
     ensures of_row { IfOk result (λ found. IfSome found (λ row. IsDevice row.device)) }
     ensures found { HasCleanDisk (state S.Store conn.new) → (t : Contents) → Holds (state S.Store conn.old).now t → IfOk result (λ found. FindsLast (λ (x : SessionRow). x.device) (text_of_device device.now) (λ (x : SessionRow). x.number) t.sessions (option_map session_read found)) }
     ensures looks { Looks HasTables result (state S.Store conn.old) (state S.Store conn.new) }
+    ensures foreign { TellsForeign Holds (λ t. AreOwn IsOwnSession t.sessions) (state S.Store conn.old) (state S.Store conn.new) result }
 {
     let rows = last_session_rows(conn, device)?;
     match rows.first() {

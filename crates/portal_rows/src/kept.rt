@@ -6,6 +6,8 @@ ghost use Rattle.portal_ledger.specs.Mark.{IsCaller};
 ghost use Rattle.portal_ledger.specs.RequestRow.{IsAnswerTyped, IsKeptTyped, cells, cells_of, row_of_request, text_of_caller, truth};
 ghost use Rattle.portal_sql.specs.Finds.{columns};
 ghost use Rattle.portal_rows.specs.Contents.{request_cells};
+ghost use Rattle.portal_model.specs.IdText.{IsIdText};
+ghost use Rattle.portal_rows.specs.Foreign.{IsMoment, IsOwnAnswer, IsOwnRequest, IsPrintedCode, NotForeign, SparesOwn};
 ghost use Rattle.portal_rows.specs.Requests.{request_read};
 
 use crate::rows::Fault;
@@ -34,7 +36,8 @@ pub struct StoredRequest {
 }
 
 pub(crate) fn request_of(row: &Row) -> Result<StoredRequest, Fault>
-    ensures { IfOk result (λ request. request_cells (request_read request) ≡ columns 10 row.now) }
+    ensures cells { IfOk result (λ request. request_cells (request_read request) ≡ columns 10 row.now) }
+    ensures own { NotForeign result }
 {
     Ok(StoredRequest {
         caller: row.get(0)?,
@@ -54,6 +57,7 @@ pub(crate) fn request_of(row: &Row) -> Result<StoredRequest, Fault>
 fn printed_code(text: &str) -> Result<Code, Fault>
     ensures text { IfOk result (λ code. text_of code ≡ text.now) }
     ensures code { IfOk result IsCode }
+    ensures own { IsPrintedCode text.now → NotForeign result }
 {
     let Ok(code) = Code::read(text) else {
         return Err(Fault::ForeignRow);
@@ -70,6 +74,7 @@ fn printed_code(text: &str) -> Result<Code, Fault>
 fn caller_in(text: &str) -> Result<Caller, Fault>
     ensures text { IfOk result (λ caller. text_of_caller caller ≡ text.now) }
     ensures caller { IfOk result IsCaller }
+    ensures own { SparesOwn text_of_caller IsCaller text.now result }
 {
     if text.as_bytes() == b"desk".as_slice() {
         return Ok(Caller::Desk);
@@ -90,7 +95,8 @@ fn caller_in(text: &str) -> Result<Caller, Fault>
 
 /// The flag that a number is: 0 or 1.
 fn truth_in(number: u64) -> Result<bool, Fault>
-    ensures { IfOk result (λ b. truth b ≡ number) }
+    ensures truth { IfOk result (λ b. truth b ≡ number) }
+    ensures own { SparesOwn truth (λ _. Unit {0}) number result }
 {
     match number {
         0 => Ok(false),
@@ -103,6 +109,7 @@ fn truth_in(number: u64) -> Result<bool, Fault>
 fn issued_in(word: &str, count: u64, expires: u64) -> Result<Answer, Fault>
     ensures cells { IfOk result (λ answer. cells_of answer ≡ cells 2 (Some word.now) count (Some expires) None) }
     ensures typed { IfOk result IsAnswerTyped }
+    ensures own { IsIdText word.now → IsMoment expires → NotForeign result }
 {
     let Some(batch) = Id::read(word) else {
         return Err(Fault::ForeignRow);
@@ -121,6 +128,7 @@ fn issued_in(word: &str, count: u64, expires: u64) -> Result<Answer, Fault>
 fn answer_in(row: &StoredRequest) -> Result<Answer, Fault>
     ensures cells { IfOk result (λ answer. cells_of answer ≡ (request_read row.now).answer) }
     ensures typed { IfOk result IsAnswerTyped }
+    ensures own { SparesOwn cells_of IsOwnAnswer (request_read row.now).answer result }
 {
     match (row.kind, &row.word, row.n2, row.n3) {
         (1, None, None, None) => Ok(Answer::Plans { plans: row.n1 }),
@@ -152,6 +160,7 @@ fn answer_in(row: &StoredRequest) -> Result<Answer, Fault>
 pub fn read_request(alloc: Global, row: &StoredRequest) -> Result<KeptRequest, Fault>
     ensures row { IfOk result (λ kept. row_of_request kept ≡ request_read row.now) }
     ensures typed { IfOk result IsKeptTyped }
+    ensures own { IsOwnRequest (request_read row.now) → NotForeign result }
 {
     let caller = caller_in(row.caller.as_str())?;
     let Some(number) = RequestNumber::read(row.number.as_str()) else {

@@ -12,6 +12,7 @@ ghost use Rattle.portal_rows.specs.Keyed.{has_keys};
 ghost use Rattle.portal_sql.specs.Looks.{Looks};
 ghost use Rattle.portal_rows.specs.Commands.{FitsAnswer};
 ghost use Rattle.portal_rows.specs.Contents.{Contents, request_cells};
+ghost use Rattle.portal_rows.specs.Foreign.{AreOwn, IsOwnRequest, NotForeign, TellsForeign};
 ghost use Rattle.portal_rows.specs.Holds.{HasTables, Holds};
 ghost use Rattle.portal_rows.specs.Requests.{key_of, request_read};
 ghost use Rattle.portal_rows.specs.Steps.{Steps, with_request};
@@ -98,6 +99,7 @@ fn find_request<S: Alter>(
 ) -> Result<Option<StoredRequest>, Fault>
     ensures found { HasCleanDisk (state S.Store conn.new) → (t : Contents) → Holds (state S.Store conn.old).now t → IfOk result (λ found. Finds key_of (caller.now, number.now) t.requests (option_map request_read found)) }
     ensures looks { Looks HasTables result (state S.Store conn.old) (state S.Store conn.new) }
+    ensures foreign { NotForeign result }
 {
     let rows = request_rows(conn, caller, number)?;
     match rows.first() {
@@ -117,6 +119,7 @@ pub fn find_kept<S: Alter>(
     ensures typed { IfOk result (λ found. IfSome found IsKeptTyped) }
     ensures found { HasCleanDisk (state S.Store conn.new) → (t : Contents) → Holds (state S.Store conn.old).now t → IfOk result (λ found. Finds key_of (text_of_caller caller.now, number.now) t.requests (option_map row_of_request found)) }
     ensures looks { Looks HasTables result (state S.Store conn.old) (state S.Store conn.new) }
+    ensures foreign { TellsForeign Holds (λ t. AreOwn IsOwnRequest t.requests) (state S.Store conn.old) (state S.Store conn.new) result }
 {
     let text = CallerText::of(caller);
     let found = find_request(conn, text.as_bytes(), number.text())?;

@@ -8,6 +8,11 @@ ghost use Rattle.portal_model.specs.Device.{IsDevice, text_of_device};
 ghost use Rattle.portal_sql.specs.Stored.{number, or_null};
 ghost use Rattle.portal_sql.specs.Finds.{columns};
 ghost use Rattle.portal_rows.specs.Contents.{flag, head_cells, plan_cells, batch_cells, voucher_cells, session_cells, count_cells, total_cells};
+ghost use Rattle.sqlite.specs.declared.error.Error.TheVariants.{SqliteFailure};
+ghost use Rattle.sqlite.specs.declared.error.ErrorCode.TheVariants.{OutOfMemory};
+ghost use Rattle.portal_model.specs.IdText.{IsIdText};
+ghost use Rattle.portal_rows.specs.declared.rows.Fault.TheVariants.{Sql};
+ghost use Rattle.portal_rows.specs.Foreign.{IsMoment, IsMomentIfSome, IsOwnBatch, IsOwnCount, IsOwnHead, IsOwnPlan, IsOwnSession, IsOwnTotal, IsOwnVoucher, IsPrintedCode, IsPrintedDevice, SparesOwn};
 ghost use Rattle.portal_rows.specs.Steps.{ends_row};
 ghost use Rattle.portal_rows.specs.Read.{head_read, voucher_read, session_read, count_read};
 
@@ -30,18 +35,24 @@ pub enum Fault {
 }
 
 impl From<Error> for Fault {
+    ghost from_gives = { λ e f. f ≡ Sql e };
+
     fn from(error: Error) -> Fault {
         Fault::Sql(error)
     }
 }
 
 impl<T: Drop> From<AllocFailed<T>> for Fault {
+    ghost from_gives = { λ _ f. f ≡ Sql (SqliteFailure OutOfMemory) };
+
     fn from(failed: AllocFailed<T>) -> Fault {
         Fault::Sql(Error::from(failed))
     }
 }
 
 impl From<AllocError> for Fault {
+    ghost from_gives = { λ _ f. f ≡ Sql (SqliteFailure OutOfMemory) };
+
     fn from(error: AllocError) -> Fault {
         Fault::Sql(Error::from(error))
     }
@@ -87,7 +98,8 @@ pub struct KeptCount {
 
 /// The id in a column.
 pub fn id_in(row: &Row, at: usize) -> Result<Id, Fault>
-    ensures { IfOk result (λ id. column row.now at ≡ Text id) }
+    ensures column { IfOk result (λ id. column row.now at ≡ Text id) }
+    ensures own { SparesOwn Text IsIdText (column row.now at) result }
 {
     let text: String = row.get(at)?;
     match Id::read(&text) {
@@ -98,7 +110,8 @@ pub fn id_in(row: &Row, at: usize) -> Result<Id, Fault>
 
 /// The code in a column, where it stands as it is printed.
 pub fn code_in(row: &Row, at: usize) -> Result<Code, Fault>
-    ensures { IfOk result (λ code. column row.now at ≡ Text (text_of code)) }
+    ensures column { IfOk result (λ code. column row.now at ≡ Text (text_of code)) }
+    ensures own { SparesOwn Text IsPrintedCode (column row.now at) result }
 {
     let text: String = row.get(at)?;
     let Ok(code) = Code::read(&text) else {
@@ -116,6 +129,7 @@ pub fn code_in(row: &Row, at: usize) -> Result<Code, Fault>
 fn device_in(row: &Row, at: usize) -> Result<Device, Fault>
     ensures column { IfOk result (λ device. column row.now at ≡ Text (text_of_device device)) }
     ensures device { IfOk result IsDevice }
+    ensures own { SparesOwn Text IsPrintedDevice (column row.now at) result }
 {
     let text: String = row.get(at)?;
     let Ok(device) = Device::read(&text) else {
@@ -131,7 +145,8 @@ fn device_in(row: &Row, at: usize) -> Result<Device, Fault>
 
 /// The moment in a column.
 pub fn moment_in(row: &Row, at: usize) -> Result<Moment, Fault>
-    ensures { IfOk result (λ moment. column row.now at ≡ number moment) }
+    ensures column { IfOk result (λ moment. column row.now at ≡ number moment) }
+    ensures own { SparesOwn number IsMoment (column row.now at) result }
 {
     let seconds: u64 = row.get(at)?;
     match Moment::new(seconds) {
@@ -142,7 +157,8 @@ pub fn moment_in(row: &Row, at: usize) -> Result<Moment, Fault>
 
 /// The moment in a column, where there is one.
 fn moment_or_null_in(row: &Row, at: usize) -> Result<Option<Moment>, Fault>
-    ensures { IfOk result (λ moment. column row.now at ≡ or_null moment) }
+    ensures column { IfOk result (λ moment. column row.now at ≡ or_null moment) }
+    ensures own { SparesOwn or_null IsMomentIfSome (column row.now at) result }
 {
     let seconds: Option<u64> = row.get(at)?;
     match seconds {
@@ -156,7 +172,8 @@ fn moment_or_null_in(row: &Row, at: usize) -> Result<Option<Moment>, Fault>
 
 /// The flag in a column: 0 or 1.
 fn flag_in(row: &Row, at: usize) -> Result<bool, Fault>
-    ensures { IfOk result (λ b. column row.now at ≡ flag b) }
+    ensures column { IfOk result (λ b. column row.now at ≡ flag b) }
+    ensures own { SparesOwn flag (λ _. Unit {0}) (column row.now at) result }
 {
     let number: u64 = row.get(at)?;
     match number {
@@ -167,7 +184,8 @@ fn flag_in(row: &Row, at: usize) -> Result<bool, Fault>
 }
 
 pub(crate) fn head_of(row: &Row) -> Result<KeptHead, Fault>
-    ensures { IfOk result (λ head. head_cells (head_read head) ≡ columns 5 row.now) }
+    ensures cells { IfOk result (λ head. head_cells (head_read head) ≡ columns 5 row.now) }
+    ensures own { SparesOwn head_cells IsOwnHead (columns 5 row.now) result }
 {
     let id: u64 = row.get(0)?;
     if id != 1 {
@@ -182,7 +200,8 @@ pub(crate) fn head_of(row: &Row) -> Result<KeptHead, Fault>
 }
 
 pub fn plan_of(row: &Row) -> Result<Plan, Fault>
-    ensures { IfOk result (λ plan. plan_cells plan ≡ columns 7 row.now) }
+    ensures cells { IfOk result (λ plan. plan_cells plan ≡ columns 7 row.now) }
+    ensures own { SparesOwn plan_cells IsOwnPlan (columns 7 row.now) result }
 {
     let id = id_in(row, 0)?;
     let price = row.get(1)?;
@@ -198,7 +217,8 @@ pub fn plan_of(row: &Row) -> Result<Plan, Fault>
 }
 
 pub fn batch_of(row: &Row) -> Result<Batch, Fault>
-    ensures { IfOk result (λ batch. batch_cells batch ≡ columns 5 row.now) }
+    ensures cells { IfOk result (λ batch. batch_cells batch ≡ columns 5 row.now) }
+    ensures own { SparesOwn batch_cells IsOwnBatch (columns 5 row.now) result }
 {
     Ok(Batch {
         id: id_in(row, 0)?,
@@ -210,7 +230,8 @@ pub fn batch_of(row: &Row) -> Result<Batch, Fault>
 }
 
 pub fn voucher_of(row: &Row) -> Result<KeptVoucher, Fault>
-    ensures { IfOk result (λ voucher. voucher_cells (voucher_read voucher) ≡ columns 6 row.now) }
+    ensures cells { IfOk result (λ voucher. voucher_cells (voucher_read voucher) ≡ columns 6 row.now) }
+    ensures own { SparesOwn voucher_cells IsOwnVoucher (columns 6 row.now) result }
 {
     Ok(KeptVoucher {
         code: code_in(row, 0)?,
@@ -225,6 +246,7 @@ pub fn voucher_of(row: &Row) -> Result<KeptVoucher, Fault>
 pub fn session_of(row: &Row) -> Result<KeptSession, Fault>
     ensures cells { IfOk result (λ session. session_cells (session_read session) ≡ columns 6 row.now) }
     ensures device { IfOk result (λ session. IsDevice session.device) }
+    ensures own { SparesOwn session_cells IsOwnSession (columns 6 row.now) result }
 {
     Ok(KeptSession {
         number: row.get(0)?,
@@ -237,7 +259,8 @@ pub fn session_of(row: &Row) -> Result<KeptSession, Fault>
 }
 
 pub fn count_of(row: &Row) -> Result<KeptCount, Fault>
-    ensures { IfOk result (λ count. count_cells (count_read count) ≡ columns 2 row.now) }
+    ensures cells { IfOk result (λ count. count_cells (count_read count) ≡ columns 2 row.now) }
+    ensures own { SparesOwn count_cells IsOwnCount (columns 2 row.now) result }
 {
     Ok(KeptCount {
         code: code_in(row, 0)?,
@@ -246,7 +269,8 @@ pub fn count_of(row: &Row) -> Result<KeptCount, Fault>
 }
 
 pub fn total_of(row: &Row) -> Result<Total, Fault>
-    ensures { IfOk result (λ total. total_cells (ends_row total) ≡ columns 3 row.now) }
+    ensures cells { IfOk result (λ total. total_cells (ends_row total) ≡ columns 3 row.now) }
+    ensures own { SparesOwn total_cells IsOwnTotal (columns 3 row.now) result }
 {
     Ok(Total {
         number: row.get(0)?,

@@ -1,10 +1,13 @@
-use Rattle.std.proofs.Common.{arith, ◌∙◌}
+use Rattle.std.proofs.Common.{arith, ◌∙◌, ◌≡◌, true, sym, subst}
 use Rattle.sqlite.specs.Held.{state}
 use Rattle.sqlite.specs.State.{HasCleanDisk}
 use Rattle.portal_sql.proofs.Frame.{on_err}
-use Rattle.portal_sql.proofs.LooksLemmas.{reads_then, fails_then}
+use Rattle.portal_sql.proofs.LooksLemmas.{reads_then, fails_then, same_now}
 use Rattle.portal_lists.specs.Asks.{Anything}
-use Rattle.portal_layouts.proofs.UpgradeLemmas.{upgrade_done, upgrade_crash, fails_crash, undone_after}
+use Rattle.std.proofs.lemmas.Result.{err_from_is_err_and}
+use Rattle.sqlite.specs.Effect.{Database}
+use Rattle.portal_layouts.specs.Brings.{has_room}
+use Rattle.portal_layouts.proofs.UpgradeLemmas.{upgrade_done, upgrade_crash, fails_crash, undone_after, upgrade_fits, first_after}
 use Rattle.portal_layouts.proofs.upgrades.upgrade_first.Goals as goal
 
 pub returns-clause-done : goal.returns-clause-done
@@ -49,3 +52,31 @@ returns-in_err-gain-clause-undone g c clean live outside settled =
     let read = reads_then Anything _ _ _ c.in_ok-grants.ensures.always (reads_then Anything _ _ _ c.in_ok-counts.ensures.looks c.in_ok-totals.ensures.looks) in
     let same = read.same clean3 live tt in
     on_err _ (undone_after (state g.S.Store c.args.conn.now) d (state g.S.Store c.gain.new.conn) read clean3 live (c.in_err-gain.ensures.undone clean (same.0.mode ∙ outside)))
+
+pub returns-in_err-grants-clause-foreign : goal.returns-in_err-grants-clause-foreign
+returns-in_err-grants-clause-foreign g c clean live t first room can =
+    let told = err_from_is_err_and c.from_residual.result c.from_residual.ensures.1 in
+    rw (told.1, told.2) (c.in_err-grants.ensures.foreign clean t first can.0.grants)
+
+pub returns-in_err-counts-clause-foreign : goal.returns-in_err-counts-clause-foreign
+returns-in_err-counts-clause-foreign g c clean live t first room can =
+    let told = err_from_is_err_and c.from_residual-in_err-counts.result c.from_residual-in_err-counts.ensures.1 in
+    let a = state g.S.Store c.args.conn.now in
+    let b = state g.S.Store c.all_grants.new.conn in
+    let clean1 : HasCleanDisk b = omega (arith, c.in_err-counts.ensures.looks.crash.clean) in
+    let first1 = first_after a b c.in_ok-grants.ensures.always clean1 live t first in
+    rw (told.1, told.2) (c.in_err-counts.ensures.foreign clean t first1 can.0.vouchers)
+
+pub returns-in_err-gain-clause-foreign : goal.returns-in_err-gain-clause-foreign
+returns-in_err-gain-clause-foreign g c clean live t first room can =
+    let told = err_from_is_err_and c.from_residual-in_err-gain.result c.from_residual-in_err-gain.ensures.1 in
+    let a = state g.S.Store c.args.conn.now in
+    let d = state g.S.Store c.total_sessions.new.conn in
+    let clean3 : HasCleanDisk d = omega (arith, c.gain.ensures.crash.clean) in
+    let read = reads_then Anything _ _ _ c.in_ok-grants.ensures.always (reads_then Anything _ _ _ c.in_ok-counts.ensures.looks c.in_ok-totals.ensures.looks) in
+    let still = subst (λ (db : Database). has_room db.schema ≡ true) (sym (same_now Anything a d read clean3 live tt)) room in
+    let fits =
+    upgrade_fits a (state g.S.Store c.all_grants.new.conn) (state g.S.Store c.count_vouchers.new.conn) d (state g.S.Store c.gain.new.conn) c.in_ok-grants.ensures.always c.in_ok-counts.ensures.looks c.in_ok-totals.ensures.looks
+    c.in_ok-grants.grants.items c.as_slice.result.now c.as_slice-2.result.now c.as_slice.ensures.value c.as_slice-2.ensures.value c.in_ok-counts.counts.items c.as_slice-3.result.now c.as_slice-3.ensures.value
+    c.in_ok-totals.totals.items c.as_slice-4.result.now c.as_slice-4.ensures.value c.in_ok-grants.ensures.read c.in_ok-counts.ensures.summed c.in_ok-totals.ensures.summed clean3 live t first can.1 in
+    rw (told.1, told.2) (c.in_err-gain.ensures.foreign still fits.0 fits.1)

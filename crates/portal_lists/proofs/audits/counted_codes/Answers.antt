@@ -13,5 +13,5 @@ loop-count-preserved c =
     counted_step c.args.counts.now c.loop-count.count-index c.count-item.result c.signs.ensures.code c.loop-count-test.true c.count-item.is (contains bytes_eq c.loop-count.codes) (contains bytes_eq c.insert.new.self) c.loop-count.invariant
     c.in_ok-insert.ensures.updates.0
 
-pub returns : goal.returns
-returns c = λ code is_code. c.loop-count.invariant code is_code ∙ ap (λ counts. list_any (λ (k : CountRow). bytes_eq k.code (text_of code)) (map count_read counts)) (take_all c.loop-count.count-index c.args.counts.now c.loop-count-test.false)
+pub returns-clause-codes : goal.returns-clause-codes
+returns-clause-codes c = λ code is_code. c.loop-count.invariant code is_code ∙ ap (λ counts. list_any (λ (k : CountRow). bytes_eq k.code (text_of code)) (map count_read counts)) (take_all c.loop-count.count-index c.args.counts.now c.loop-count-test.false)

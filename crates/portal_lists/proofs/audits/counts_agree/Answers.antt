@@ -2,5 +2,5 @@ use Rattle.std.proofs.Common.{map}
 use Rattle.portal_lists.specs.Sums.{grant_read}
 use Rattle.portal_lists.proofs.audits.counts_agree.Goals as goal
 
-pub returns : goal.returns
-returns c = c.are_counts_in.ensures (map grant_read c.args.grants.now) c.in_ok-uses.ensures
+pub returns-clause-agree : goal.returns-clause-agree
+returns-clause-agree c = c.are_counts_in.ensures (map grant_read c.args.grants.now) c.in_ok-uses.ensures.uses

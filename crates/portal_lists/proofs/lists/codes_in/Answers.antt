@@ -5,6 +5,8 @@ use Rattle.portal_codes.specs.Code.{IsCode, text_of}
 use Rattle.portal_model.specs.Rows.{VoucherRow}
 use Rattle.portal_rows.specs.Contents.{voucher_cells}
 use Rattle.portal_lists.specs.Lists.{AreReadAs}
+use Rattle.std.proofs.lemmas.Result.{err_from_is_err_and}
+use Rattle.sqlite_rules.proofs.ListLemmas.{has_at}
 use Rattle.portal_lists.proofs.Listing.{read_none, read_more}
 use Rattle.portal_lists.proofs.lists.codes_in.Goals as goal
 
@@ -25,3 +27,9 @@ loop-row-preserved c =
           (read_more voucher_cells 6 (λ (v : VoucherRow). v.code) c.args.rows.now c.loop-row.row-index c.row-item.result (map text_of done) (text_of one) c.loop-row-test.true c.row-item.is c.loop-row.invariant.read c.in_ok-code_of.ensures.read);
       codes = subst (All IsCode) (sym c.in_ok-push.ensures.items) (All-push IsCode done one c.loop-row.invariant.codes c.in_ok-code_of.ensures.code);
     }
+
+pub returns-in_err-code_of-clause-own : goal.returns-in_err-code_of-clause-own
+returns-in_err-code_of-clause-own c own =
+    let told = err_from_is_err_and c.from_residual.result c.from_residual.ensures.1 in
+    let shows = own c.row-item.result (has_at c.args.rows.now c.loop-row.row-index c.row-item.result c.loop-row-test.true c.row-item.is) in
+    rw (told.1, told.2) (c.in_err-code_of.ensures.own shows.0 shows.1 shows.2)

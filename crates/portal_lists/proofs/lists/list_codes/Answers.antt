@@ -1,4 +1,4 @@
-use Rattle.std.proofs.Common.{map, refl, subst, bytes_eq}
+use Rattle.std.proofs.Common.{map, refl, subst, bytes_eq, sym}
 use Rattle.portal_codes.specs.Code.{text_of}
 use Rattle.portal_sql.proofs.LooksLemmas.{looks_read}
 use Rattle.portal_model.specs.Rows.{VoucherRow}
@@ -6,6 +6,9 @@ use Rattle.portal_rows.specs.Contents.{voucher_cells}
 use Rattle.portal_rows.specs.Holds.{HasTables}
 use Rattle.portal_lists.specs.Lists.{AreReadAs, by_place}
 use Rattle.portal_rows.proofs.Cells.{exact_voucher}
+use Rattle.std.proofs.lemmas.Result.{err_from_is_err_and}
+use Rattle.portal_rows.specs.Foreign.{AreOfOwn, IsOwnVoucher}
+use Rattle.portal_lists.proofs.OwnRows.{own_listed}
 use Rattle.portal_lists.proofs.Listing.{read_shown}
 use Rattle.portal_lists.proofs.ListReading.{batch_listed}
 use Rattle.portal_lists.proofs.lists.list_codes.Goals as goal
@@ -22,3 +25,10 @@ returns-clause-looks g c = c.in_ok-rows.ensures.looks
 
 pub returns-in_err-codes_in-clause-looks : goal.returns-in_err-codes_in-clause-looks
 returns-in_err-codes_in-clause-looks g c = looks_read HasTables _ _ _ c.in_ok-rows.ensures.looks
+
+pub returns-in_err-codes_in-clause-foreign : goal.returns-in_err-codes_in-clause-foreign
+returns-in_err-codes_in-clause-foreign g c clean t h own =
+    let told = err_from_is_err_and c.from_residual-in_err-codes_in.result c.from_residual-in_err-codes_in.ensures.1 in
+    let rows = c.in_ok-rows.rows.items in
+    let shows = own_listed voucher_cells 6 (λ x. refl) IsOwnVoucher (λ (v : VoucherRow). bytes_eq c.args.batch.now v.batch) by_place t.vouchers rows (batch_listed t c.args.batch.now rows (c.in_ok-rows.ensures.rows clean t h)) (λ v has on. own v has) in
+    rw (told.1, told.2) (c.in_err-codes_in.ensures.own (subst (AreOfOwn voucher_cells 6 IsOwnVoucher) (sym c.deref.ensures.value) shows))

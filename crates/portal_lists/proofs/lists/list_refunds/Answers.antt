@@ -1,10 +1,13 @@
-use Rattle.std.proofs.Common.{map, refl, subst}
+use Rattle.std.proofs.Common.{map, refl, subst, sym}
 use Rattle.portal_sql.proofs.LooksLemmas.{looks_read}
 use Rattle.portal_model.specs.Rows.{VoucherRow}
 use Rattle.portal_rows.specs.Contents.{voucher_cells}
 use Rattle.portal_rows.specs.Holds.{HasTables}
 use Rattle.portal_lists.specs.Lists.{AreReadAs, is_within, by_refund, refund_shown, refund_read}
 use Rattle.portal_rows.proofs.Cells.{exact_voucher}
+use Rattle.std.proofs.lemmas.Result.{err_from_is_err_and}
+use Rattle.portal_rows.specs.Foreign.{AreOfOwn, IsOwnRefund}
+use Rattle.portal_lists.proofs.OwnRows.{own_listed, within_some}
 use Rattle.portal_lists.proofs.Listing.{read_shown}
 use Rattle.portal_lists.proofs.lists.list_refunds.Goals as goal
 
@@ -13,10 +16,17 @@ returns-clause-found g c clean t h =
     let rows = c.in_ok-rows.rows.items in
     let answer = map refund_read c.in_ok-refunds_in.field-0.items in
     read_shown voucher_cells (λ (v : VoucherRow). is_within c.args.from c.args.to v.refunded) by_refund t.vouchers refund_shown 6 (λ v. refl) exact_voucher rows (c.in_ok-rows.ensures.rows clean t h) answer
-    (subst (λ rows. AreReadAs voucher_cells 6 refund_shown rows answer) c.deref.ensures.value c.in_ok-refunds_in.ensures)
+    (subst (λ rows. AreReadAs voucher_cells 6 refund_shown rows answer) c.deref.ensures.value c.in_ok-refunds_in.ensures.read)
 
 pub returns-clause-looks : goal.returns-clause-looks
 returns-clause-looks g c = c.in_ok-rows.ensures.looks
 
 pub returns-in_err-refunds_in-clause-looks : goal.returns-in_err-refunds_in-clause-looks
 returns-in_err-refunds_in-clause-looks g c = looks_read HasTables _ _ _ c.in_ok-rows.ensures.looks
+
+pub returns-in_err-refunds_in-clause-foreign : goal.returns-in_err-refunds_in-clause-foreign
+returns-in_err-refunds_in-clause-foreign g c clean t h own =
+    let told = err_from_is_err_and c.from_residual-in_err-refunds_in.result c.from_residual-in_err-refunds_in.ensures.1 in
+    let rows = c.in_ok-rows.rows.items in
+    let shows = own_listed voucher_cells 6 (λ x. refl) IsOwnRefund (λ (v : VoucherRow). is_within c.args.from c.args.to v.refunded) by_refund t.vouchers rows (c.in_ok-rows.ensures.rows clean t h) (λ v has on. (own v has, within_some c.args.from c.args.to v.refunded on)) in
+    rw (told.1, told.2) (c.in_err-refunds_in.ensures.own (subst (AreOfOwn voucher_cells 6 IsOwnRefund) (sym c.deref.ensures.value) shows))

@@ -1,23 +1,37 @@
-use Rattle.std.proofs.Common.{sym, ap, ◌∙◌, map}
+use Rattle.std.proofs.Common.{sym, ap, ◌∙◌, map, subst, ◌<◌, ◌^◌}
 use Rattle.std.proofs.lemmas.List.{take_all}
 use Rattle.sqlite_trees.proofs.ListLemmas.{map-map}
 use Rattle.portal_model.specs.Rows.{total_from}
 use Rattle.portal_rows.specs.declared.rows.KeptSession.{KeptSession}
 use Rattle.portal_rows.specs.Read.{session_read}
 use Rattle.portal_rows.specs.Steps.{ends_row}
-use Rattle.portal_lists.specs.Sums.{grant_read, summed}
+use Rattle.portal_lists.specs.Sums.{grant_read, summed, given_to}
+use Rattle.std.proofs.lemmas.Result.{err_from_is_err_and}
+use Rattle.sqlite_rules.proofs.ListLemmas.{has_at}
+use Rattle.portal_sql.proofs.Keys.{has_mapped}
+use Rattle.portal_lists.specs.declared.sums.Given.{Given}
 use Rattle.portal_lists.proofs.SumLemmas.{made_more}
 use Rattle.portal_lists.proofs.sums.sum_totals.Goals as goal
 
 pub loop-session-preserved : goal.loop-session-preserved
 loop-session-preserved c =
     let grants = map grant_read c.args.grants.now in
-    let given = c.given_in.ensures ∙ c.in_ok-given.ensures c.session-item.result.number in
+    let given = c.given_in.ensures ∙ c.in_ok-given.ensures.given c.session-item.result.number in
     made_more ends_row (λ s. total_from (summed c.args.plans.now grants) (session_read s)) c.loop-session.totals.items c.push.new.self.items _ c.args.sessions.now c.loop-session.session-index c.session-item.result
-    c.loop-session.invariant c.in_ok-push.ensures.items c.loop-session-test.true c.session-item.is (c.in_ok-total.ensures grants given)
+    c.loop-session.invariant c.in_ok-push.ensures.items c.loop-session-test.true c.session-item.is (c.in_ok-total.ensures.total grants given)
 
-pub returns : goal.returns
-returns c =
+pub returns-clause-sums : goal.returns-clause-sums
+returns-clause-sums c =
     let rows = summed c.args.plans.now (map grant_read c.args.grants.now) in
     let made = λ (s : KeptSession). total_from rows (session_read s) in
     c.loop-session.invariant ∙ ap (map made) (take_all c.loop-session.session-index c.args.sessions.now c.loop-session-test.false) ∙ sym (map-map (total_from rows) session_read c.args.sessions.now)
+
+pub returns-in_err-total-clause-kept : goal.returns-in_err-total-clause-kept
+returns-in_err-total-clause-kept c fits =
+    let told = err_from_is_err_and c.from_residual-in_err-total.result c.from_residual-in_err-total.ensures.1 in
+    let grants = map grant_read c.args.grants.now in
+    let session = c.session-item.result in
+    let given = c.given_in.ensures ∙ c.in_ok-given.ensures.given session.number in
+    let has = has_mapped session_read c.args.sessions.now session (has_at c.args.sessions.now c.loop-session.session-index session c.loop-session-test.true c.session-item.is) in
+    let bytes = subst (λ (x : Given). x.bytes < 2 ^ 63) (sym given) (fits.given session.number).1 in
+    rw (told.1, told.2) (c.in_err-total.ensures.kept bytes (fits.used (session_read session) has) grants given (fits.ends (session_read session) has))

@@ -20,5 +20,5 @@ loop-grant-preserved c =
     uses_step c.args.grants.now c.loop-grant.grant-index c.grant-item.result c.uses_of-before.ensures.code c.loop-grant-test.true c.grant-item.is c.uses_of-before.result (get bytes_eq c.loop-grant.uses) (get bytes_eq c.insert.new.self)
     c.loop-grant.invariant c.uses_of-before.ensures.found c.in_ok-insert.ensures.updates.0
 
-pub returns : goal.returns
-returns c = subst (λ (grants : List KeptGrant). AreUses c.loop-grant.uses (map grant_read grants)) (take_all c.loop-grant.grant-index c.args.grants.now c.loop-grant-test.false) c.loop-grant.invariant
+pub returns-clause-uses : goal.returns-clause-uses
+returns-clause-uses c = subst (λ (grants : List KeptGrant). AreUses c.loop-grant.uses (map grant_read grants)) (take_all c.loop-grant.grant-index c.args.grants.now c.loop-grant-test.false) c.loop-grant.invariant

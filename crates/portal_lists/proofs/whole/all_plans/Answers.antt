@@ -1,19 +1,28 @@
-use Rattle.std.proofs.Common.{refl, ap, ◌∙◌, map}
+use Rattle.std.proofs.Common.{refl, ap, ◌∙◌, map, sym, subst}
 use Rattle.portal_sql.specs.Finds.{columns}
 use Rattle.portal_sql.proofs.LooksLemmas.{looks_read}
 use Rattle.portal_rows.specs.Contents.{plan_cells}
 use Rattle.portal_lists.specs.Asks.{Anything}
 use Rattle.portal_rows.specs.First.{HasFirst}
 use Rattle.portal_rows.proofs.Cells.{exact_plan}
+use Rattle.std.proofs.lemmas.Result.{err_from_is_err_and}
+use Rattle.portal_rows.specs.Foreign.{AreOfOwn, IsOwnPlan}
+use Rattle.portal_lists.proofs.OwnRows.{own_rows}
 use Rattle.portal_lists.proofs.SumLemmas.{rows_exact}
 use Rattle.portal_lists.proofs.whole.all_plans.Goals as goal
 
 pub returns-clause-read : goal.returns-clause-read
 returns-clause-read g c clean t h =
-    rows_exact plan_cells 7 (λ x. refl) exact_plan c.in_ok-read_each.field-0.items t.plans _ (c.in_ok-read_each.ensures ∙ ap (map (columns 7)) c.deref.ensures.value) (c.in_ok-rows.ensures.rows clean t h)
+    rows_exact plan_cells 7 (λ x. refl) exact_plan c.in_ok-read_each.field-0.items t.plans _ (c.in_ok-read_each.ensures.cells ∙ ap (map (columns 7)) c.deref.ensures.value) (c.in_ok-rows.ensures.rows clean t h)
 
 pub returns-in_err-read_each-clause-looks : goal.returns-in_err-read_each-clause-looks
 returns-in_err-read_each-clause-looks g c = looks_read HasFirst _ _ _ c.in_ok-rows.ensures.looks
 
 pub returns-in_err-read_each-clause-always : goal.returns-in_err-read_each-clause-always
 returns-in_err-read_each-clause-always g c = looks_read Anything _ _ _ c.in_ok-rows.ensures.always
+
+pub returns-in_err-read_each-clause-foreign : goal.returns-in_err-read_each-clause-foreign
+returns-in_err-read_each-clause-foreign g c clean t h own =
+    let told = err_from_is_err_and c.from_residual-in_err-read_each.result c.from_residual-in_err-read_each.ensures.1 in
+    let shows = own_rows plan_cells 7 (λ x. refl) IsOwnPlan t.plans c.in_ok-rows.rows.items (c.in_ok-rows.ensures.rows clean t h) own in
+    rw (told.1, told.2) (c.in_err-read_each.ensures.own (subst (AreOfOwn plan_cells 7 IsOwnPlan) (sym c.deref.ensures.value) shows))

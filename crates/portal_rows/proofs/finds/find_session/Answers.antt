@@ -1,4 +1,5 @@
 use Rattle.std.proofs.Common.{refl, sym, ap, ◌∙◌, slice_get}
+use Rattle.std.proofs.lemmas.Result.{err_from_is_err_and}
 use Rattle.portal_model.specs.Rows.{SessionRow}
 use Rattle.portal_sql.specs.Stored.{number}
 use Rattle.portal_sql.proofs.Keys.{finds_some, finds_none, same_number, number_itself}
@@ -6,6 +7,8 @@ use Rattle.portal_rows.specs.Contents.{session_cells}
 use Rattle.portal_sql.proofs.LooksLemmas.{looks_read}
 use Rattle.portal_rows.specs.Holds.{HasTables}
 use Rattle.portal_rows.specs.Read.{session_read}
+use Rattle.portal_rows.specs.Foreign.{IsOwnSession}
+use Rattle.portal_rows.proofs.Foreign.{of_first}
 use Rattle.portal_rows.proofs.Cells.{exact_session}
 use Rattle.portal_rows.proofs.finds.find_session.Goals as goal
 
@@ -22,3 +25,9 @@ pub returns-clause-found : goal.returns-clause-found
 returns-clause-found g c clean t h =
     let got = ap (λ xs. slice_get xs 0) (sym c.deref.ensures.value) ∙ sym c.in-None.ensures.value in
     finds_none session_cells 0 (λ (x : SessionRow). x.number) c.args.number number (λ x. refl) same_number number_itself 6 (λ x. refl) exact_session t.sessions _ (c.in_ok-rows.ensures.rows clean t h) got
+
+pub returns-in_err-session_of-in-Some-clause-foreign : goal.returns-in_err-session_of-in-Some-clause-foreign
+returns-in_err-session_of-in-Some-clause-foreign g c clean t h own =
+    let got = ap (λ xs. slice_get xs 0) (sym c.deref.ensures.value) ∙ sym c.in-Some.ensures.value in
+    let told = err_from_is_err_and c.from_residual-in_err-session_of-in-Some.result c.from_residual-in_err-session_of-in-Some.ensures.1 in
+    rw (told.1, told.2) (of_first session_cells 6 (λ x. refl) IsOwnSession t.sessions own _ _ (c.in_ok-rows.ensures.rows clean t h) c.in-Some.row.now got c.in_err-session_of-in-Some.ensures.own)

@@ -1,4 +1,5 @@
 use Rattle.std.proofs.Common.{Some, sym, subst}
+use Rattle.std.proofs.lemmas.Result.{err_from_is_err_and}
 use Rattle.portal_ledger.specs.RequestRow.{RequestRow, text_of_caller}
 use Rattle.portal_sql.specs.Finds.{Finds}
 use Rattle.portal_sql.proofs.LooksLemmas.{looks_read}
@@ -16,3 +17,9 @@ returns-in_ok-read_request-in-Some-clause-found g c clean t h =
 
 pub returns-in-None-clause-found : goal.returns-in-None-clause-found
 returns-in-None-clause-found g c clean t h = rw (c.in-None.is, c.as_bytes.ensures, c.of-text.ensures.text, c.text.ensures.value) at (c.in_ok-found.ensures.found clean t h)
+
+pub returns-in_err-read_request-in-Some-clause-foreign : goal.returns-in_err-read_request-in-Some-clause-foreign
+returns-in_err-read_request-in-Some-clause-foreign g c clean t h own =
+    let told = err_from_is_err_and c.from_residual-in_err-read_request-in-Some.result c.from_residual-in_err-read_request-in-Some.ensures.1 in
+    let found = rw (c.in-Some.is) at (c.in_ok-found.ensures.found clean t h) in
+    rw (told.1, told.2) (c.in_err-read_request-in-Some.ensures.own (own _ found.0))

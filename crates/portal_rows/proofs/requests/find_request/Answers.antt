@@ -17,7 +17,7 @@ returns-in-Some-clause-found g c clean t h =
     let b = c.args.number.now in
     tested_some request_cells key_of (a, b) (has_keys 0 (Text a) 1 (Text b)) (pair_only request_cells 0 1 (λ (k : RequestRow). k.caller) (λ (k : RequestRow). k.number) (λ k. refl) (λ k. refl) a b)
     (pair_meets request_cells 0 1 (λ (k : RequestRow). k.caller) (λ (k : RequestRow). k.number) (λ k. refl) (λ k. refl) a b) 10 (λ k. refl) exact_request t.requests _ (c.in_ok-rows.ensures.rows clean t h)
-    c.in-Some.row.now (request_read c.in_ok-request_of-in-Some.field-0) got c.in_ok-request_of-in-Some.ensures
+    c.in-Some.row.now (request_read c.in_ok-request_of-in-Some.field-0) got c.in_ok-request_of-in-Some.ensures.cells
 
 pub returns-in_err-request_of-in-Some-clause-looks : goal.returns-in_err-request_of-in-Some-clause-looks
 returns-in_err-request_of-in-Some-clause-looks g c = looks_read HasTables _ _ _ c.in_ok-rows.ensures.looks

@@ -1,0 +1,29 @@
+-- Where a table holds rows that this product writes, so do the rows of an answer show.
+use Rattle.std.proofs.Common.{◌≡◌, ℕ, List, map, filter, Bool, true, Option, Some, None, IsSome, refl, sym, ap, subst, ◌∙◌, Ordering}
+use Rattle.std.proofs.lemmas.List.Sorted.{IsPermutation-sym}
+use Rattle.sqlite.specs.Order.{Row}
+use Rattle.sqlite_rules.specs.Lists.{Has}
+use Rattle.sqlite_rules.proofs.ListLemmas.{has_filtered}
+use Rattle.portal_sql.specs.Finds.{columns}
+use Rattle.portal_sql.proofs.FindLemmas.{has_image, has_along}
+use Rattle.portal_rows.specs.Foreign.{AreOwn, AreOfOwn}
+use Rattle.portal_lists.specs.Lists.{ListsAs, is_within}
+
+module _ {P : Type 0} (cells : P → Row) (n : ℕ) (all : (p : P) → columns n (cells p) ≡ cells p) (IsOwn : P → Type 0) where
+  -- the rows of a whole table
+  pub own_rows : (ps : List P) (rows : List Row) → rows ≡ map cells ps → AreOwn IsOwn ps → AreOfOwn cells n IsOwn rows
+  own_rows ps rows is own row has =
+      let it = has_image cells ps row (subst (λ rs. Has rs row) is has) in
+      (it.0, own it.0 it.1, sym (all it.0) ∙ ap (columns n) (sym it.2))
+
+  -- those that pass a test, in an order
+  pub own_listed : (passes : P → Bool) (cmp : P → P → Ordering) (ps : List P) (rows : List Row) → ListsAs cells passes cmp ps rows → ((p : P) → Has ps p → passes p ≡ true → IsOwn p) → AreOfOwn cells n IsOwn rows
+  own_listed passes cmp ps rows l own row has =
+      let it = has_image cells l.listed row (subst (λ rs. Has rs row) l.shows has) in
+      let kept = has_filtered passes ps it.0 (has_along it.0 l.listed (filter passes ps) (IsPermutation-sym _ _ l.lists.same) it.1) in
+      (it.0, own it.0 kept.0 kept.1, sym (all it.0) ∙ ap (columns n) (sym it.2))
+
+-- a moment within two is there
+pub within_some : (from to : ℕ) (o : Option ℕ) → is_within from to o ≡ true → IsSome o
+within_some from to None on = cc
+within_some from to (Some at) on = refl
