@@ -6,8 +6,9 @@ use Rattle.sqlite_rules.specs.Lists.{Has}
 use Rattle.sqlite_rules.proofs.ListLemmas.{has_filtered}
 use Rattle.portal_sql.specs.Finds.{columns}
 use Rattle.portal_sql.proofs.FindLemmas.{has_image, has_along}
-use Rattle.portal_rows.specs.Foreign.{AreOwn, AreOfOwn}
-use Rattle.portal_lists.specs.Lists.{ListsAs, is_within}
+use Rattle.portal_model.specs.Rows.{VoucherRow}
+use Rattle.portal_rows.specs.Foreign.{AreOwn, AreOfOwn, IsOwnVoucher}
+use Rattle.portal_lists.specs.Lists.{IsOwnSale, ListsAs, is_within, sale_shown}
 
 module _ {P : Type 0} (cells : P → Row) (n : ℕ) (all : (p : P) → columns n (cells p) ≡ cells p) (IsOwn : P → Type 0) where
   -- the rows of a whole table
@@ -27,3 +28,12 @@ module _ {P : Type 0} (cells : P → Row) (n : ℕ) (all : (p : P) → columns n
 pub within_some : (from to : ℕ) (o : Option ℕ) → is_within from to o ≡ true → IsSome o
 within_some from to None on = cc
 within_some from to (Some at) on = refl
+
+-- the sales within two moments are of vouchers that this product writes
+pub own_sales : (from to : ℕ) (vs : List VoucherRow) → AreOwn IsOwnVoucher vs → AreOwn IsOwnSale (map sale_shown (filter (λ (v : VoucherRow). is_within from to v.sold) vs))
+own_sales from to vs own p has =
+    let sold : VoucherRow → Bool = λ v. is_within from to v.sold in
+    let it = has_image sale_shown (filter sold vs) p has in
+    let kept = has_filtered sold vs it.0 it.1 in
+    let whole = own it.0 kept.0 in
+    subst IsOwnSale (sym it.2) (whole.batch, whole.sold, within_some from to it.0.sold kept.1)

@@ -1,5 +1,5 @@
 -- What a reader lists of the values of a table.
-use Rattle.std.specs.Prelude.{◌≡◌, ℕ, ℤ, pos, Bool, true, false, ◌&&◌, nat_le, int_lt, List, [], ◌∷◌, map, filter, Option, Some, None, IsPermutation}
+use Rattle.std.specs.Prelude.{◌≡◌, ℕ, ℤ, pos, Bool, true, false, ◌&&◌, nat_le, int_lt, List, [], ◌∷◌, map, filter, Option, Some, None, IsSome, IsPermutation}
 use Rattle.std.specs.List.Sorted.{IsSorted}
 use Rattle.std.specs.Option.{option_cmp}
 use Rattle.std.specs.Ordering.{ordering_then, nat_cmp}
@@ -10,7 +10,9 @@ use Rattle.sqlite.specs.Order.{Row}
 use Rattle.portal_sql.specs.Stored.{or_null}
 use Rattle.portal_sql.specs.Finds.{columns}
 use Rattle.portal_model.specs.History.{is_below}
+use Rattle.portal_model.specs.IdText.{IsIdText}
 use Rattle.portal_model.specs.Rows.{VoucherRow, TotalRow}
+use Rattle.portal_rows.specs.Foreign.{IsMomentIfSome}
 use Rattle.portal_lists.specs.declared.lists.KeptSale.{KeptSale}
 
 -- ---- values that pass a test, in an order
@@ -81,6 +83,10 @@ sale_shown v = (v.batch, v.sold)
 
 abbrev pub sale_read : KeptSale → List ℕ × Option ℕ
 sale_read s = (s.batch, Some s.at)
+
+-- the sale of a voucher that this product writes
+abbrev pub IsOwnSale : List ℕ × Option ℕ → Type 0
+IsOwnSale sale = IsIdText sale.0 × IsMomentIfSome sale.1 × IsSome sale.1
 
 -- the same as the two columns of an answer
 abbrev pub sale_cells : List ℕ × Option ℕ → Row

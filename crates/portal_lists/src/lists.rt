@@ -196,6 +196,7 @@ pub fn list_sales<S: Alter>(
 ) -> Result<Vec<KeptSale>, Fault>
     ensures found { HasCleanDisk (state S.Store conn.new) → (t : Contents) → Holds (state S.Store conn.old).now t → IfOk result (λ sales. map sale_read sales.items ≡ map sale_shown (filter (λ v. is_within from to v.sold) t.vouchers)) }
     ensures looks { Looks HasTables result (state S.Store conn.old) (state S.Store conn.new) }
+    ensures foreign { TellsForeign Holds (λ t. AreOwn IsOwnVoucher t.vouchers) (state S.Store conn.old) (state S.Store conn.new) result }
 {
     let rows = sold_rows(conn, from, to)?;
     Ok(read_each(alloc, &rows)?)

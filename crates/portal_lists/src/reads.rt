@@ -4,10 +4,10 @@ ghost use Rattle.std.specs.Prelude.{◌≡◌, ℕ, IfOk, map};
 ghost use Rattle.sqlite.specs.Order.{Row as Cells};
 ghost use Rattle.portal_sql.specs.Finds.{columns};
 ghost use Rattle.portal_rows.specs.Contents.{plan_cells, batch_cells, voucher_cells, session_cells, grant_cells, count_cells, total_cells};
-ghost use Rattle.portal_rows.specs.Foreign.{AreOwn, IsOwnCount, IsOwnGrant, IsOwnPlan, IsOwnSession, IsOwnTotal, IsOwnVoucher, NotForeign, IsOfOwn};
+ghost use Rattle.portal_rows.specs.Foreign.{AreOwn, IsOwnBatch, IsOwnCount, IsOwnGrant, IsOwnPlan, IsOwnSession, IsOwnTotal, IsOwnVoucher, NotForeign, IsOfOwn};
 ghost use Rattle.portal_rows.specs.Steps.{ends_row};
 ghost use Rattle.portal_rows.specs.Read.{voucher_read, session_read, count_read};
-ghost use Rattle.portal_lists.specs.Lists.{sale_cells, sale_read};
+ghost use Rattle.portal_lists.specs.Lists.{IsOwnSale, sale_cells, sale_read};
 ghost use Rattle.portal_lists.specs.Sums.{grant_read};
 
 use crate::grants::{KeptGrant, grant_of};
@@ -54,6 +54,8 @@ impl FromRow for Batch {
 
     ghost width = { 5 };
 
+    ghost own = { IsOfOwn batch_cells IsOwnBatch };
+
     fn from_row(row: &Row) -> Result<Batch, Fault> {
         batch_of(row)
     }
@@ -63,6 +65,8 @@ impl FromRow for KeptSale {
     ghost cells = { λ sale. sale_cells (sale_read sale) };
 
     ghost width = { 2 };
+
+    ghost own = { IsOfOwn sale_cells IsOwnSale };
 
     fn from_row(row: &Row) -> Result<KeptSale, Fault> {
         Ok(KeptSale {

@@ -7,7 +7,7 @@ ghost use Rattle.portal_sql.specs.Looks.{Looks};
 ghost use Rattle.portal_lists.specs.Asks.{Anything};
 ghost use Rattle.portal_rows.specs.Contents.{Contents};
 ghost use Rattle.portal_rows.specs.First.{HoldsFirst, HasFirst};
-ghost use Rattle.portal_rows.specs.Foreign.{AreOwn, IsOwnCount, IsOwnGrant, IsOwnPlan, IsOwnSession, IsOwnTotal, IsOwnVoucher, TellsForeign};
+ghost use Rattle.portal_rows.specs.Foreign.{AreOwn, IsOwnBatch, IsOwnCount, IsOwnGrant, IsOwnPlan, IsOwnSession, IsOwnTotal, IsOwnVoucher, TellsForeign};
 ghost use Rattle.portal_rows.specs.Holds.{Holds, HasTables};
 ghost use Rattle.portal_rows.specs.Steps.{ends_row};
 ghost use Rattle.portal_rows.specs.Read.{voucher_read, session_read, count_read};
@@ -40,6 +40,7 @@ pub fn all_plans<S: Alter>(conn: &mut Connection<S>) -> Result<Vec<Plan>, Fault>
 pub fn all_batches<S: Alter>(conn: &mut Connection<S>) -> Result<Vec<Batch>, Fault>
     ensures read { HasCleanDisk (state S.Store conn.new) → (t : Contents) → Holds (state S.Store conn.old).now t → IfOk result (λ batches. batches.items ≡ t.batches) }
     ensures looks { Looks HasTables result (state S.Store conn.old) (state S.Store conn.new) }
+    ensures foreign { TellsForeign Holds (λ t. AreOwn IsOwnBatch t.batches) (state S.Store conn.old) (state S.Store conn.new) result }
 {
     let rows = all_batch_rows(conn)?;
     Ok(read_each(*rows.allocator(), &rows)?)

@@ -5,7 +5,7 @@ use Rattle.portal_model.specs.Rows.{total_from}
 use Rattle.portal_rows.specs.declared.rows.KeptSession.{KeptSession}
 use Rattle.portal_rows.specs.Read.{session_read}
 use Rattle.portal_rows.specs.Steps.{ends_row}
-use Rattle.portal_lists.specs.Sums.{grant_read, summed, given_to}
+use Rattle.portal_lists.specs.Sums.{grant_read, summed}
 use Rattle.std.proofs.lemmas.Result.{err_from_is_err_and}
 use Rattle.sqlite_rules.proofs.ListLemmas.{has_at}
 use Rattle.portal_sql.proofs.Keys.{has_mapped}
