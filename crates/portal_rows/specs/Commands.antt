@@ -14,7 +14,7 @@ use Rattle.portal_model.specs.declared.change.Repayment.{Repayment}
 use Rattle.portal_model.specs.declared.change.Closing.{Closing}
 use Rattle.portal_model.specs.declared.change.Answer.{Answer}
 use Rattle.portal_model.specs.Change.{sessions_after, reported, answer_of}
-use Rattle.portal_model.specs.Rows.{total_row, new_vouchers, new_counts}
+use Rattle.portal_model.specs.Rows.{TotalRow, total_row, new_vouchers, new_counts}
 use Rattle.portal_ledger.specs.Mark.{Mark}
 use Rattle.portal_ledger.specs.Ledger.{kept_with}
 use Rattle.portal_ledger.specs.RequestRow.{cells_of, row_of_request}
@@ -42,8 +42,13 @@ granted c t = with_grant (granted_row (c.head.grants + 1) (text_of c.voucher.cod
 abbrev pub redeemed : Redemption → Contents → Contents
 redeemed c t = with_numbers c.at (c.head.grants + 1) (sessions_after c.head.sessions c.running) (with_redeemed (text_of c.voucher.code) (c.voucher.redeemed + 1) (granted c t))
 
+-- what remains of a session's allowance: where it has none, its row stays as it is
+abbrev pub left_of : Option ℕ → TotalRow → Contents → Contents
+left_of None total t = t
+left_of (Some allowance) total t = with_ends total t
+
 abbrev pub used : Usage → Contents → Contents
-used c t = with_moment c.at (with_ends (total_row (reported c.bytes c.session)) (with_use c.session.number (max c.bytes c.session.used) t))
+used c t = with_moment c.at (left_of c.session.allowance (total_row (reported c.bytes c.session)) (with_use c.session.number (max c.bytes c.session.used) t))
 
 abbrev pub repaid : Repayment → Contents → Contents
 repaid c t = with_moment c.at (with_refund (text_of c.voucher.code) c.at c.amount t)

@@ -5,7 +5,7 @@ ghost use Rattle.portal_codes.specs.Code.{text_of};
 ghost use Rattle.portal_model.specs.Rows.{new_vouchers, new_counts, total_row};
 ghost use Rattle.portal_sql.specs.States.{IsUndone};
 ghost use Rattle.portal_rows.specs.Steps.{Steps, Leads, MayLead, with_plans, with_vouchers, with_counts, ends_row};
-ghost use Rattle.portal_rows.specs.Commands.{loaded, issued, sold, placed_in, granted, redeemed, used, repaid, closed, kept, FitsSession, FitsIssuance, FitsRedemption, FitsUsage, Fits, FitsMark, FitsMarked, with_mark, kept_marked};
+ghost use Rattle.portal_rows.specs.Commands.{loaded, issued, sold, placed_in, granted, redeemed, left_of, used, repaid, closed, kept, FitsSession, FitsIssuance, FitsRedemption, FitsUsage, Fits, FitsMark, FitsMarked, with_mark, kept_marked};
 
 use crate::inserts::{
     insert_batch, insert_count, insert_grant, insert_plan, insert_session, insert_total,
@@ -185,6 +185,23 @@ fn redeem<S: Alter>(tx: &mut Transaction<'_, S>, c: &Redemption) -> Result<(), E
     Ok(())
 }
 
+/// Keeps what remains of the session's allowance. A session without one costs no statement.
+fn set_left<S: Alter>(tx: &mut Transaction<'_, S>, session: &Session) -> Result<(), Error>
+    requires { FitsSession session.now }
+    ensures same_reference { tx.new.conn.ghost_name ≡ tx.old.conn.ghost_name }
+    ensures steps { HasCleanDisk (state S.Store tx.new.conn.now) → IsTrue (state S.Store tx.old.conn.now).in_transaction → OnOk result (Steps (left_of session.now.allowance (total_row session.now)) (state S.Store tx.old.conn.now) (state S.Store tx.new.conn.now)) }
+    ensures kept { HasCleanDisk (state S.Store tx.new.conn.now) → KeepsCommit (state S.Store tx.old.conn.now) (state S.Store tx.new.conn.now) }
+    ensures survives { Survives (state S.Store tx.old.conn.now) (state S.Store tx.new.conn.now) (λ _. ⊥) }
+{
+    match session.allowance {
+        Some(_) => {
+            set_ends(tx, &total_of(session))?;
+            Ok(())
+        }
+        None => Ok(()),
+    }
+}
+
 /// Keeps a report of usage.
 fn report<S: Alter>(tx: &mut Transaction<'_, S>, c: &Usage) -> Result<(), Error>
     requires { FitsUsage c.now }
@@ -195,7 +212,7 @@ fn report<S: Alter>(tx: &mut Transaction<'_, S>, c: &Usage) -> Result<(), Error>
 {
     let after = c.after();
     set_used(tx, after.number, after.used)?;
-    set_ends(tx, &total_of(&after))?;
+    set_left(tx, &after)?;
     set_moment(tx, c.at)?;
     Ok(())
 }

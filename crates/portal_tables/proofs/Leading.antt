@@ -25,11 +25,12 @@ use Rattle.portal_laws.proofs.Leading.{rows_lead}
 use Rattle.portal_laws.proofs.Numbers.{rows_are_numbered}
 use Rattle.portal_laws.proofs.Typed.{rows_are_typed}
 use Rattle.portal_sql.specs.Stored.{number, put_by}
-use Rattle.portal_rows.specs.Steps.{ended_if}
-use Rattle.portal_rows.specs.Commands.{kept}
+use Rattle.portal_rows.specs.Steps.{ended_if, with_moment, with_use}
+use Rattle.portal_rows.specs.Commands.{kept, left_of}
 use Rattle.portal_ledger.specs.RequestRow.{RequestRow}
 use Rattle.portal_tables.specs.Shown.{contents_of, head_kept, voucher_kept, session_kept, grant_kept, count_kept}
 use Rattle.portal_lists.proofs.SameCode.{code_test}
+use Rattle.portal_tables.proofs.Reported.{left_alone}
 
 -- ---- rows that change
 
@@ -162,7 +163,7 @@ module _ (ks : List RequestRow) (layout : ℕ) (r : Rows) (typed : AreTyped r) (
   IsOver (to.Issuance c) = Unit {0}
   IsOver (to.Sale c) = IsCode c.voucher.code
   IsOver (to.Redemption c) = IsCode c.voucher.code × (c.head ≡ r.head) × (c.running ≡ None → c.session.number ≡ r.head.sessions + 1)
-  IsOver (to.Usage c) = Unit {0}
+  IsOver (to.Usage c) = c.session.allowance ≡ None → map (totalled_if (reported c.bytes c.session)) r.totals ≡ r.totals
   IsOver (to.Repayment c) = IsCode c.voucher.code
   IsOver (to.Closing c) = Unit {0}
 
@@ -182,10 +183,21 @@ module _ (ks : List RequestRow) (layout : ℕ) (r : Rows) (typed : AreTyped r) (
   kept_is (to.Sale c) h = λ i. record (contents_of ks layout (lead (to.Sale c) r)) { vouchers = sold_alike c.voucher.code c.at h r.vouchers typed.vouchers i }
   kept_is (to.Redemption c) h =
       subst (λ (x : Head). let y = to.Redemption (record c { head = x }) in kept y (contents_of ks layout r) ≡ contents_of ks layout (lead y r)) (sym h.1) (redeem_kept c.at c.voucher c.running c.session h.0 h.2)
-  kept_is (to.Usage c) h = λ i. record (contents_of ks layout (lead (to.Usage c) r)) {
-    sessions = used_alike c.session.number (max c.bytes c.session.used) r.sessions i;
-    totals = ended_alike (reported c.bytes c.session) r.totals i;
-  }
+  kept_is (to.Usage c) h = go c.session.allowance refl
+    where
+      after : Session
+      after = reported c.bytes c.session
+
+      go : (o : Option ℕ) → c.session.allowance ≡ o
+          → with_moment c.at (left_of o (total_row after) (with_use c.session.number (max c.bytes c.session.used) (contents_of ks layout r))) ≡ contents_of ks layout (lead (to.Usage c) r)
+      go None none = λ i. record (contents_of ks layout (lead (to.Usage c) r)) {
+        sessions = used_alike c.session.number (max c.bytes c.session.used) r.sessions i;
+        totals = sym (h none) i;
+      }
+      go (Some allowance) some = λ i. record (contents_of ks layout (lead (to.Usage c) r)) {
+        sessions = used_alike c.session.number (max c.bytes c.session.used) r.sessions i;
+        totals = ended_alike (reported c.bytes c.session) r.totals i;
+      }
   kept_is (to.Repayment c) h = λ i. record (contents_of ks layout (lead (to.Repayment c) r)) { vouchers = refunded_alike c.voucher.code c.at c.amount h r.vouchers typed.vouchers i }
   kept_is (to.Closing c) h = λ i. record (contents_of ks layout (lead (to.Closing c) r)) { sessions = closed_alike c.session.number c.at r.sessions i }
 
@@ -224,9 +236,9 @@ module _ (ks : List RequestRow) (layout : ℕ) (H : History) (legal : IsLegal H)
   redeems device last None changes is e = absurd (cc)
   redeems device last (Some v) changes is e = subst Over (some_is e) (is v refl, refl, λ none. next_number (head_of H) v.plan device t (kept_if (is_open_at t) last) none)
 
-  reports : (bytes : ℕ) (o : Option Session) (changes : Changes) → report_change o bytes t ≡ Some changes → Over changes
-  reports bytes None changes e = absurd (cc)
-  reports bytes (Some s) changes e = subst Over (some_is e) tt
+  reports : (n bytes : ℕ) (o : Option Session) (changes : Changes) → session_of H n ≡ o → report_change o bytes t ≡ Some changes → Over changes
+  reports n bytes None changes is e = absurd (cc)
+  reports n bytes (Some s) changes is e = subst Over (some_is e) (left_alone H n bytes s is)
 
   closes : (o : Option Session) (changes : Changes) → close_change o t ≡ Some changes → Over changes
   closes None changes e = absurd (cc)
@@ -241,7 +253,7 @@ module _ (ks : List RequestRow) (layout : ℕ) (H : History) (legal : IsLegal H)
   over (Issue b p codes) changes h e = issues b codes (plan_of H p) changes e
   over (Sell c) changes h e = sells c (voucher_of H c) changes (λ v found. code_over H c v h found) e
   over (Redeem d c) changes h e = redeems d (last_session_of H d) (voucher_of H c) changes (λ v found. code_over H c v h.1 found) e
-  over (Report n bytes) changes h e = reports bytes (session_of H n) changes e
+  over (Report n bytes) changes h e = reports n bytes (session_of H n) changes refl e
   over (Refund c) changes h e = repays (voucher_of H c) changes (λ v found. code_over H c v h found) e
   over (Close n) changes h e = closes (session_of H n) changes e
 

@@ -11,6 +11,7 @@ pub mod Lookups
 pub mod OpeningLemmas
 pub mod PaymentLists
 pub mod PriceLemmas
+pub mod Reported
 pub mod ShownLemmas
 pub mod Spelled
 pub mod StandingLemmas
