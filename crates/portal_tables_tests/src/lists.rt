@@ -113,7 +113,7 @@ const REFUNDS: &[Job<'static>] = &[
     ]),
 ];
 
-/// Two vouchers that are sold at one moment, not in the order of their codes, and one before that has the last code.
+/// Three vouchers that are sold in another order than they were issued, two of them at one moment: they are listed as they were issued.
 const ORDER: &[Job<'static>] = &[
     Job::Entries(&[
         (0, Ask::Plans(&[HOUR, GIG]), Reply::Plans(2)),
@@ -144,8 +144,8 @@ const ORDER: &[Job<'static>] = &[
         ),
     ]),
     Job::Seen(&[
-        Seen::Sales(0, 1000, &[(900, 300), (1000, 500), (1000, 300)]),
-        Seen::Sales(901, 1000, &[(1000, 500), (1000, 300)]),
+        Seen::Sales(0, 1000, &[(1000, 300), (900, 300), (1000, 500)]),
+        Seen::Sales(901, 1000, &[(1000, 300), (1000, 500)]),
     ]),
 ];
 
