@@ -1,5 +1,6 @@
 pub mod KeptLemmas
 pub mod ActLemmas
+pub mod AdoptLemmas
 pub mod JudgeLemmas
 pub mod ReadLemmas
 pub mod TakingLemmas

@@ -1,4 +1,5 @@
 pub mod Acting
+pub mod Adopting
 pub mod DeskAt
 pub mod Judging
 pub mod Laws

@@ -5,6 +5,7 @@ pub mod InOrder
 pub mod Joining
 pub mod KeptLemmas
 pub mod Leading
+pub mod LeftoverLemmas
 pub mod ListLaws
 pub mod ListSteps
 pub mod Lookups

@@ -1,5 +1,5 @@
 -- Files that are opened, and opened again, stand at the history that they show.
-use Rattle.std.proofs.Common.{◌≡◌, [], false, inr, IsTrue, refl, subst, sym}
+use Rattle.std.proofs.Common.{◌≡◌, ◌∙◌, [], false, inl, inr, IsTrue, refl, subst, sym}
 use Rattle.sqlite_disk.specs.declared.Disk.{Ghosts}
 use Rattle.sqlite_disk.specs.declared.Files.{Files}
 use Rattle.sqlite_wal.specs.Reads.{AreClean}
@@ -12,23 +12,59 @@ use Rattle.sqlite.specs.Schema.{Schema}
 use Rattle.sqlite.specs.Steps.{over_memory, IsEmpty}
 use Rattle.sqlite_trees.specs.declared.memory.MemStore.{MemStore}
 use Rattle.sqlite.specs.Closing.{IsCopied}
-use Rattle.sqlite.specs.Files.{HoldsDatabase, image_of, file_state, over_files, Finds, IsOpened}
+use Rattle.sqlite.specs.declared.file.Leftover.{Leftover}
+use Rattle.sqlite.specs.declared.file.Leftover.TheVariants as left
+use Rattle.sqlite.specs.Files.{HoldsDatabase, IsNothing, LeavesFiles, image_of, file_state, over_files, Finds, IsOpened}
+use Rattle.sqlite.proofs.ListingLemmas.{empty_is_sound}
+use Rattle.sqlite_catalog.proofs.ReadLemmas.{lists_once}
+use Rattle.sqlite_trees.specs.Objects.{catalog_tree}
 use Rattle.portal_ledger.specs.Ledger.{Ledger}
 use Rattle.portal_sql.specs.StandsAt.{LeftShows}
 use Rattle.portal_sql.proofs.StandsAtLemmas.{at_open, opened_at, shows_under}
 use Rattle.portal_layouts.specs.Layouts.{is_any_named}
 use Rattle.portal_tables.specs.Stores.{StoreShows}
+use Rattle.portal_tables.specs.Images.{AreAt, ImageShows, LeftoverShows}
 use Rattle.portal_tables.specs.TablesAt.{ConnAt, FilesShow}
+use Rattle.portal_tables.proofs.LeftoverLemmas.{no_schema, found_empty, store_left, unopened_left}
 
 -- the law of the store at a connection over files
 abbrev pub IsSettledOver : {D : Type 0} {g : Ghosts D} → Held (FileStore D g) → Type 0
 IsSettledOver c = (db : Trees) → IsTrue (file_state c).is_open → (file_state c).may_leave db → db ≡ (file_state c).committed.trees
 
+-- an empty schema has no table of ours
+bare : (schema : Schema) → schema ≡ record { tables = []; indexes = []; views = [] } → is_any_named schema ≡ false
+bare schema none = subst (λ (s : Schema). is_any_named s ≡ false) (sym none) refl
+
+new_shows : (L : Ledger) → L ≡ [] → (trees : Trees) → StoreShows L (record { schema = no_schema; trees = trees })
+new_shows L none trees = inr (inr (none, refl))
+
 module _ {D : Type 0} {g : Ghosts D} (L : Ledger) where
-  pub opened_stands : (files : Files D) (c : Held (FileStore D g)) (left : Trees) → IsSettledOver c → HoldsDatabase (image_of g files) left → FilesShow left L → IsOpened c → Finds files c → ConnAt over_files c L
+  -- where there was no database yet, nothing was accepted
+  blank_stands : (files : Files D) (c : Held (FileStore D g)) → IsSettledOver c → IsNothing (image_of g files) → L ≡ [] → IsOpened c → Finds files c → ConnAt over_files c L
+  unfolding ConnAt
+  blank_stands files c law nothing none opened found =
+      let s = file_state c in
+      let live = opened.1 opened.0.is_open in
+      let empty = found_empty (image_of g files) s.committed.trees nothing found.reads in
+      let unlisted : s.committed.schema ≡ no_schema = lists_once (s.committed.trees catalog_tree) s.committed.schema no_schema live.1.lists (empty_is_sound s.committed.trees empty.1).lists in
+      let fresh : is_any_named s.now.schema ≡ false = bare s.now.schema (subst (λ (db : Database). db.schema ≡ no_schema) (sym opened.0.clean) unlisted) in
+      at_open (StoreShows L) s law opened.0.is_open opened.0.autocommit opened.0.clean live.0 (inr (inr (none, fresh)))
+
+  opened_stands : (files : Files D) (c : Held (FileStore D g)) (left : Trees) → IsSettledOver c → HoldsDatabase (image_of g files) left → FilesShow left L → IsOpened c → Finds files c → ConnAt over_files c L
   unfolding FilesShow ConnAt
   opened_stands files c left law holds shown opened found =
       at_open (StoreShows L) (file_state c) law opened.0.is_open opened.0.autocommit opened.0.clean (opened.1 opened.0.is_open).0 (opened_at (StoreShows L) files c left holds shown opened found)
+
+  pub opens : (files : Files D) (c : Held (FileStore D g)) → IsSettledOver c → ImageShows (image_of g files) L → IsOpened c → Finds files c → ConnAt over_files c L
+  opens files c law (inl (left, holds, shown)) opened found = opened_stands files c left law holds shown opened found
+  opens files c law (inr (nothing, none)) opened found = blank_stands files c law nothing none opened found
+
+  -- what is left of files that were not opened
+  pub leftover_shows : (files : Files D) (rest : Leftover D g) → AreAt g files L → LeavesFiles files rest → LeftoverShows (image_of g files) rest L
+  unfolding FilesShow
+  leftover_shows files (left.Files now) at leaves = λ image may. at.left image (leaves image may)
+  leftover_shows files (left.Unopened now) at leaves = unopened_left (StoreShows L) (L ≡ []) (new_shows L) files at.seen at.left now leaves
+  leftover_shows files (left.Store now) at leaves = store_left (StoreShows L) (L ≡ []) (new_shows L) files at.seen now leaves
 
   pub reopened_stands : (old again : Held (FileStore D g)) (files : Files D) → IsSettledOver again → ConnAt over_files old L → (AreClean g files.log files.db → IsCopied old files) → IsOpened again → Finds files again → ConnAt over_files again L
   unfolding ConnAt
@@ -39,10 +75,6 @@ module _ {D : Type 0} {g : Ghosts D} (L : Ledger) where
       let live = opened.1 opened.0.is_open in
       at_open (StoreShows L) s law opened.0.is_open opened.0.autocommit opened.0.clean live.0
       (subst (StoreShows L) (sym opened.0.clean) (shows_under (StoreShows L) s.committed.trees s.committed.schema live.1 here))
-
--- an empty schema has no table of ours
-bare : (schema : Schema) → schema ≡ record { tables = []; indexes = []; views = [] } → is_any_named schema ≡ false
-bare schema none = subst (λ (s : Schema). is_any_named s ≡ false) (sym none) refl
 
 -- a new store in memory shows the empty history
 pub empty_stands : (c : Held MemStore) → IsEmpty (state over_memory c) → ConnAt over_memory c []

@@ -34,7 +34,7 @@ use Rattle.portal_rows.specs.Steps.{Leads, MayLead}
 use Rattle.portal_rows.specs.Commands.{kept, kept_marked, with_mark}
 use Rattle.portal_tables.specs.Shown.{ShowsLedger, OfShown, OfLedger, contents_of, all_contents_of}
 use Rattle.portal_tables.specs.Stores.{StoreShows}
-use Rattle.portal_tables.specs.TablesAt.{ConnAt, ConnLeaves, IsHonest, TablesAt, Leaves, LeavesNoMore, MayLeave, FilesShow}
+use Rattle.portal_tables.specs.TablesAt.{ConnAt, ConnIsHonest, ConnLeaves, ConnMayLeave, IsHonest, TablesAt, Leaves, LeavesNoMore, MayLeave, FilesShow}
 use Rattle.portal_tables.proofs.Leading.{leads_on}
 use Rattle.portal_tables.proofs.ShownLemmas.{has_all_tables, history_shown}
 
@@ -242,6 +242,14 @@ module _ {S : Type 0} (g : Ghosts S) where
   pub released : (L : Ledger) (tables : Tables S) → TablesAt g tables (running L) → ConnAt g tables.conn L
   unfolding TablesAt ConnAt
   released L tables at = store_at L (state g tables.conn) at.1
+
+  pub released_honest : (tables : Tables S) → ConnIsHonest g tables.conn → IsHonest g tables
+  unfolding ConnIsHonest IsHonest
+  released_honest tables clean = clean
+
+  pub released_left : (tables : Tables S) (files : Trees) → ConnMayLeave g tables.conn files → MayLeave g tables files
+  unfolding ConnMayLeave MayLeave
+  released_left tables files may = may
 
 -- ---- what a reopening may find after a stop
 

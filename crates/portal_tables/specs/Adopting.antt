@@ -46,6 +46,14 @@ IsWhy Store db = Unit {0}
 abbrev pub HeadIsNoView : Schema → Type 0
 HeadIsNoView schema = view_named schema head_name ≡ None
 
+-- a store with tables of ours, whose head tells this layout, or none
+abbrev pub TellsOwn : Database → Option ℕ → Type 0
+TellsOwn db told = HeadIsNoView db.schema × IsNamed db.schema × TellsLayout db told
+
+-- one of the layouts that this version reads
+abbrev pub IsRead : Option ℕ → Type 0
+IsRead told = (layout : ℕ) × (1 ≤ layout) × (layout ≤ this_layout) × (told ≡ Some layout)
+
 -- what the head told is the cause
 abbrev pub IsExact : Option ℕ → OpenFault → Type 0
 IsExact told NotOurs = told ≡ None

@@ -1,4 +1,5 @@
 pub mod Adopting
+pub mod Images
 pub mod Lists
 pub mod Older
 pub mod Prices

@@ -34,6 +34,10 @@ module _ {S : Type 0} (g : Ghosts S) where
   unfoldable pub ConnLeaves : Held S → Ledger → Type 0
   ConnLeaves conn L = (files : Files) → (state g conn).may_leave files → FilesShow files L
 
+  -- a stop at this moment may leave these files
+  unfoldable pub ConnMayLeave : Held S → Files → Type 0
+  ConnMayLeave conn files = (state g conn).may_leave files
+
   -- the disk has returned what was written
   unfoldable pub ConnIsHonest : Held S → Type 0
   ConnIsHonest conn = HasCleanDisk (state g conn)

@@ -1,12 +1,12 @@
 //! Files opened, and opened again.
 
-ghost use Rattle.std.specs.Prelude.{[], IfOk, IsTrue};
-ghost use Rattle.sqlite.specs.Tree.{Trees};
-ghost use Rattle.sqlite.specs.Files.{HoldsDatabase, image_of, file_state, over_files};
+ghost use Rattle.std.specs.Prelude.{[], IfErr, IfOk, IsTrue};
+ghost use Rattle.sqlite.specs.Files.{IsCleanLeft, image_of, file_state, over_files};
 ghost use Rattle.sqlite.specs.State.{HasCleanDisk};
 ghost use Rattle.sqlite.specs.Steps.{over_memory};
 ghost use Rattle.portal_ledger.specs.Ledger.{Ledger};
-ghost use Rattle.portal_tables.specs.TablesAt.{ConnAt, FilesShow};
+ghost use Rattle.portal_tables.specs.Images.{AreAt, ImageShows, LeftoverShows};
+ghost use Rattle.portal_tables.specs.TablesAt.{ConnAt};
 
 use sqlite::{Connection, Error, FileStore, Leftover, MemStore, Options};
 use sqlite_disk::{Disk, Files};
@@ -22,7 +22,8 @@ pub fn open_in_memory(alloc: Global) -> Result<Connection<MemStore>, AllocError>
     }
 }
 
-/// Opens files. Where they hold a table set that shows a ledger, as a stop leaves them, the connection stands at it.
+/// Opens files. Where they show a ledger, as a stop leaves them, the connection stands at it; files with no database yet
+/// show that nothing was accepted. Where they are not opened, what a stop may leave of them shows the ledger still.
 pub fn open_files<D: Disk + Drop>(
     alloc: Global,
     files: Files<D>,
@@ -30,8 +31,10 @@ pub fn open_files<D: Disk + Drop>(
 ) -> Result<Connection<FileStore<D>>, (Error, Leftover<D>)>
     requires log { IsTrue (D.Disk.is_usable files.log) }
     requires db { IsTrue (D.Disk.is_usable files.db) }
-    ensures { (L : Ledger) (left : Trees) → HoldsDatabase (image_of D.Disk files) left → FilesShow left L
+    ensures opened { (L : Ledger) → ImageShows (image_of D.Disk files) L
         → IfOk result (λ conn. HasCleanDisk (file_state conn) → ConnAt over_files conn L) }
+    ensures unopened { (L : Ledger) → AreAt D.Disk files L
+        → IfErr result (λ e. IsCleanLeft e.1 → LeftoverShows (image_of D.Disk files) e.1 L) }
 {
     match Connection::open_files(alloc, files, options) {
         Ok(conn) => Ok(conn),

@@ -7,7 +7,7 @@ ghost use Rattle.portal_rows.specs.Commands.{Fits as FitsColumns, FitsSession, F
 ghost use Rattle.portal_ledger.specs.States.{State as Standing, running};
 ghost use Rattle.portal_ledger.specs.Calls.{Fits, Keeps, FailsToKeep, ReadsOf, ReadsThat, FailsToRead};
 ghost use Rattle.portal_tables.specs.Shown.{IsHeldUnder};
-ghost use Rattle.portal_tables.specs.TablesAt.{ConnAt, IsHonest, TablesAt, LeavesNoMore, IsStopped};
+ghost use Rattle.portal_tables.specs.TablesAt.{ConnAt, ConnIsHonest, ConnMayLeave, Files, IsHonest, MayLeave, TablesAt, LeavesNoMore, IsStopped};
 ghost use Rattle.portal_tables.specs.declared.fault.StoreFault.TheVariants.{Memory, Stopped};
 
 mod audits;
@@ -49,9 +49,12 @@ impl<S: Alter> Tables<S> {
         }
     }
 
-    /// Hands the connection back. Where the tables are not stopped, it stands where they stood.
+    /// Hands the connection back. Where the tables are not stopped, it stands where they stood. A stop leaves of it what it might
+    /// leave of them.
     pub fn release(self) -> Connection<S>
-        ensures { (L : Ledger) → TablesAt S.Store self (running L) → ConnAt S.Store result L }
+        ensures stands { (L : Ledger) → TablesAt S.Store self (running L) → ConnAt S.Store result L }
+        ensures honest { ConnIsHonest S.Store result → IsHonest S.Store self }
+        ensures left { (files : Files) → ConnMayLeave S.Store result files → MayLeave S.Store self files }
     {
         let Tables {
             conn,

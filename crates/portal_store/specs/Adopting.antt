@@ -1,0 +1,38 @@
+-- What becomes of a store that a desk takes over. The layers above cite these words and none of SQL.
+use Rattle.std.specs.Prelude.{ℕ, IsTrue, Option}
+use Rattle.sqlite.specs.Held.{Held, state}
+use Rattle.sqlite.specs.State.{Survives}
+use Rattle.sqlite_trees.specs.declared.store.Store.{Ghosts}
+use Rattle.portal_tables.specs.Adopting.{IsKept, IsKnown, IsWhy, TellsOwn}
+use Rattle.portal_tables.specs.TablesAt.{IsStopped}
+use Rattle.portal_tables.specs.declared.fault.OpenFault.{OpenFault}
+use Rattle.portal_store.specs.declared.desks.StoreDesk.{StoreDesk}
+
+module _ {S : Type 0} (g : Ghosts S) where
+  -- the desk has stopped
+  abbrev pub HasStopped : StoreDesk S → Type 0
+  HasStopped desk = IsStopped g desk.tables
+
+  -- no table of ours stands in the store, or the head has a layout that this version reads
+  unfoldable pub MayBeTaken : Held S → Type 0
+  MayBeTaken conn = IsKnown (state g conn).now
+
+  -- why it was not taken over; want of memory and a fault of the store have their cause elsewhere
+  unfoldable pub IsCause : Held S → OpenFault → Type 0
+  IsCause conn fault = IsWhy fault (state g conn).now
+
+  -- tables of ours stand in the store, and the head tells this layout, or none
+  unfoldable pub TellsHead : Held S → Option ℕ → Type 0
+  TellsHead conn told = TellsOwn (state g conn).now told
+
+  -- the connection is open
+  unfoldable pub IsOpen : Held S → Type 0
+  IsOpen conn = IsTrue (state g conn).is_open
+
+  -- nothing has changed, and a stop leaves what is there and nothing else
+  unfoldable pub IsAsItWas : Held S → Held S → Type 0
+  IsAsItWas old new = IsKept (state g old) (state g new)
+
+  -- nothing is added to what a stop may leave
+  unfoldable pub IsSpared : Held S → Held S → Type 0
+  IsSpared old new = Survives (state g old) (state g new) (λ _. ⊥)

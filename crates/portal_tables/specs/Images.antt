@@ -1,0 +1,38 @@
+-- When two files, by what they hold, show a ledger, and when what is left of files that were not opened does.
+-- ∥ A ∥₁ reads: there is one.
+use Rattle.std.specs.Prelude.{◌≡◌, ◌⊎◌, [], IsTrue}
+use Rattle.sqlite_disk.specs.declared.Disk.{Ghosts}
+use Rattle.sqlite_disk.specs.declared.Files.{Files as Pair}
+use Rattle.sqlite_wal.specs.Recovery.{Image}
+use Rattle.sqlite_wal.specs.Files.{outcomes}
+use Rattle.sqlite_pool.specs.Stored.{is_summed}
+use Rattle.sqlite_store.specs.FileStore.{recovers}
+use Rattle.sqlite_store.specs.Unopened.{state_of}
+use Rattle.sqlite.specs.Tree.{Trees}
+use Rattle.sqlite.specs.declared.file.Leftover.{Leftover}
+use Rattle.sqlite.specs.declared.file.Leftover.TheVariants as left
+use Rattle.sqlite.specs.Files.{HoldsDatabase, IsNothing, image_of}
+use Rattle.portal_ledger.specs.Ledger.{Ledger}
+use Rattle.portal_tables.specs.TablesAt.{FilesShow}
+
+-- An image is what two files hold. It shows the ledger where it holds tables that do; so does one with no database yet,
+-- where nothing was accepted.
+abbrev pub ImageShows : Image → Ledger → Type 0
+ImageShows image L = ((trees : Trees) × HoldsDatabase image trees × FilesShow trees L) ⊎ (IsNothing image × (L ≡ []))
+
+-- the image holds a database whose pages end in sums; this product makes none
+abbrev pub HasSums : Image → Type 0
+HasSums image = (trees : Trees) × (held : HoldsDatabase image trees) × IsTrue (is_summed held.0)
+
+-- two files show the ledger, as they read and as a stop at this moment may leave them
+pub record AreAt {D : Type 0} (g : Ghosts D) (files : Pair D) (L : Ledger) : Type 0 where
+  pub seen : ImageShows (image_of g files) L
+  pub left : (image : Image) → outcomes g files.log files.db image → ∥ ImageShows image L ∥₁
+
+module _ {D : Type 0} {g : Ghosts D} where
+  -- What a stop may leave of files that were not opened shows the ledger still. Of a database whose pages end in sums
+  -- the store does not say so.
+  abbrev pub LeftoverShows : Image → Leftover D g → Ledger → Type 0
+  LeftoverShows before (left.Files now) L = (image : Image) → outcomes g now.log now.db image → ∥ ImageShows image L ∥₁
+  LeftoverShows before (left.Unopened now) L = (image : Image) → (state_of now).may_leave image → ∥ ImageShows image L ⊎ HasSums before ∥₁
+  LeftoverShows before (left.Store now) L = (trees : Trees) → recovers now trees → FilesShow trees L
