@@ -1,0 +1,4 @@
+pub mod HandedBack
+pub mod LifeLemmas
+pub mod RoundLemmas
+pub mod ToldLemmas

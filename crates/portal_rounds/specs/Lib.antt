@@ -1,0 +1,3 @@
+pub mod Told
+pub mod Life
+pub mod Rounds
