@@ -1,0 +1,164 @@
+"""One request of each route and each subcommand over a database file, of which each request for memory is refused in turn. What is
+answered is the answer with memory, and then its rows stand in the file; or it is no_memory, and the rows are as before. Then the same call
+with memory is answered as if nothing had been."""
+
+import os
+import sys
+
+from desk import DESK, GATEWAY, PLANS, SETTINGS, guest, request
+from refusing import LIBRARY, bytes_of, copy_files, folder, rows, run
+
+SEED, CODE = "0" * 64, "3N55-WA4S-KH5V-JR49"
+NO_MEMORY = b'{"error":"no_memory"}'
+BATCH = '{"batch":"b1","plan":"%s","count":3}'
+SOLD = '{"code":"%s"}' % CODE
+
+
+def answer(now, method, path, field, body="", number=None):
+    words = ["answer", "--db", "portal.db", "--settings", "settings", "--now", str(now), "--seed", SEED]
+    return words, request(method, path, field, body, number)
+
+
+def told(*words):
+    return [*words, "--db", "portal.db", "--settings", "settings"], b""
+
+
+LOAD = answer(0, "POST", "/desk/plans", DESK, PLANS)
+ISSUE = answer(1000, "POST", "/desk/batches", DESK, BATCH % "hour")
+SALE = answer(1000, "POST", "/desk/sales", DESK, SOLD)
+REDEMPTION = answer(1000, "POST", "/portal/redeem", guest(1), SOLD)
+NUMBERED = answer(1000, "POST", "/portal/redeem", guest(1), SOLD, number="a1")
+NOTHING = answer(2000, "GET", "/", DESK)[0], b"GET"
+STORES = {"new": [], "plans": [LOAD], "issued": [LOAD, ISSUE], "sold": [LOAD, ISSUE, SALE], "open": [LOAD, ISSUE, SALE, NUMBERED]}
+
+CALLS = [
+    ("GET /captive", "open", answer(2000, "GET", "/captive", guest(1))),
+    ("POST /portal/redeem", "sold", REDEMPTION),
+    ("POST /portal/redeem, numbered", "sold", NUMBERED),
+    ("POST /portal/redeem, sent again", "open", NUMBERED),
+    ("POST /desk/plans", "new", LOAD),
+    ("POST /desk/batches", "plans", ISSUE),
+    ("GET /desk/batches/b1/print", "issued", answer(1000, "GET", "/desk/batches/b1/print", DESK)),
+    ("POST /desk/sales", "issued", SALE),
+    ("POST /desk/refunds", "sold", answer(2000, "POST", "/desk/refunds", DESK, SOLD)),
+    ("POST /desk/closes", "open", answer(2000, "POST", "/desk/closes", DESK, '{"session":1}')),
+    ("GET /desk/vouchers/..", "open", answer(2000, "GET", f"/desk/vouchers/{CODE}", DESK)),
+    ("GET /desk/takings", "sold", answer(2000, "GET", "/desk/takings?from=1970-01-01&to=1970-01-31", DESK)),
+    ("POST /gateway/reports", "open", answer(2000, "POST", "/gateway/reports", GATEWAY, '{"session":1,"bytes":7}')),
+    ("GET /gateway/sessions", "open", answer(2000, "GET", "/gateway/sessions", GATEWAY)),
+    ("POST /portal/redeem, a second session", "open", answer(2000, "POST", "/portal/redeem", guest(2), SOLD)),
+    ("POST /desk/sales, refused", "open", answer(2000, "POST", "/desk/sales", DESK, SOLD)),
+    ("no request", "open", NOTHING),
+    ("print", "issued", told("print", "b1")),
+    ("takings", "sold", told("takings", "1970-01-01", "1970-01-31")),
+    ("check", "open", told("check")),
+]
+
+# The calls of which each request for memory is refused; of the others those after the store is open.
+WHOLE = ("POST /desk/plans", "check")
+
+
+def is_no_memory(said):
+    """Whether that is what is said where memory is wanted: a response, or a word where none can be written."""
+    status, output, errors = said
+    if output:
+        is_response = output.startswith(b"HTTP/1.1 503 ") and output.endswith(b"\r\n\r\n" + NO_MEMORY)
+        return status == 1 and is_response and errors == b""
+    return (status, errors) in ((1, b"portal: no_memory\n"), (3, b"portal: no_memory\n"), (3, b"portal: cut\n"))
+
+
+class Trial:
+    """A call over a store: what is said and what stands there with memory."""
+
+    def __init__(self, program, name, source, call):
+        self.program, self.name, self.source, (words, self.data) = program, name, source, call
+        self.words, self.known = [program, *words], []
+        with folder() as room:
+            copy_files(source, room)
+            self.check(room)
+            self.before = rows(room)
+            copy_files(source, room)
+            self.wanted = run(self.words, room, self.data)[:3]
+            self.after = rows(room)
+        assert self.wanted[0] in (0, 1) and not is_no_memory(self.wanted), (name, self.wanted)
+
+    def check(self, room):
+        audit = run([self.program, *told("check")[0]], room)
+        assert audit[:3] == (0, b"ok\n", b""), (self.name, audit)
+
+    def look(self, room, is_done, where):
+        """What stands there is what the call makes of it, or what stood there, and then the call is made with memory. Files that are known
+        are not looked at again."""
+        left = (is_done, bytes_of(room))
+        if left in self.known:
+            return
+        self.known.append(left)
+        self.check(room)
+        found = rows(room)
+        if is_done:
+            assert found == self.after, where
+        else:
+            assert found == self.before, where
+            assert run(self.words, room, self.data)[:3] == self.wanted, where
+            assert rows(room) == self.after, where
+
+    def refuse(self, at):
+        """Refuses the request for memory of that number. False where there were not so many."""
+        with folder() as room:
+            copy_files(self.source, room)
+            *said, is_refused = run(self.words, room, self.data, at)
+            said, where = tuple(said), (self.name, at)
+            is_done = said == self.wanted
+            assert is_done or (is_refused and is_no_memory(said)), (where, said)
+            self.look(room, is_done, where)
+            return is_refused
+
+    def count(self):
+        """The number of requests for memory."""
+        low, high = 1, 2
+        with folder() as room:
+
+            def is_refused(at):
+                copy_files(self.source, room)
+                return run(self.words, room, self.data, at)[3]
+
+            while is_refused(high):
+                low, high = high, 2 * high
+            while high - low > 1:
+                middle = (low + high) // 2
+                low, high = (middle, high) if is_refused(middle) else (low, middle)
+        return low
+
+
+def stores(program, room):
+    """Each store in a folder of its own."""
+    for name, calls in STORES.items():
+        place = os.path.join(room, name)
+        os.mkdir(place)
+        with open(os.path.join(place, "settings"), "w", encoding="utf-8") as file:
+            file.write(SETTINGS)
+        for words, data in calls:
+            said = run([program, *words], place, data)
+            assert said[0] == 0, (name, words, said)
+
+
+def opened(program, place):
+    """The requests for memory of an opening of the store, some too few."""
+    return Trial(program, "no request", place, NOTHING).count() - 100
+
+
+def main():
+    program, LIBRARY["path"] = sys.argv[1:3]
+    with folder() as room:
+        stores(program, room)
+        first = {name: opened(program, os.path.join(room, name)) for name in STORES}
+        for name, store, call in CALLS:
+            trial = Trial(program, name, os.path.join(room, store), call)
+            start = 1 if name in WHOLE else first[store]
+            at = start
+            while trial.refuse(at):
+                at += 1
+            print(f"memory: {name}: {at - 1} requests for memory, refused from the one of number {start} on", flush=True)
+
+
+main()
