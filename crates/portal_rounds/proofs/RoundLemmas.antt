@@ -63,7 +63,7 @@ module _ {D : Type 0} {g : Ghosts D} where
 -- what a stop leaves of a desk shows what its state allows
 pub desk_leaves : {S : Type 0} (g : stores.Ghosts S) (desk : StoreDesk S) (s : State) → DeskAt g desk s → (tables : Tables) → DeskMayLeave g desk tables
     → (found : Ledger) × MayStand s found × FilesShow tables found
-desk_leaves g desk s at tables may = left_by g desk.tables s at tables may
+desk_leaves g desk s at tables may = left_by g desk.tables s at.0 tables may
 
 -- what a desk's state allows, by the tables that each image holds
 pub state_left : (s : State) (image : Image) (MayLeave : Tables → Type 0) → ((tables : Tables) → MayLeave tables → (found : Ledger) × MayStand s found × FilesShow tables found)
