@@ -121,6 +121,43 @@ def bytes_counted(program):
     store.tell(2000, "POST", "/gateway/reports", GATEWAY, '{"session":1,"bytes":5}', '{"open":false,"session":1,"used":1073741824}')
 
 
+def shape_and_extend_refused(program):
+    store = worked(program)
+    by_bytes, by_time = issued(store, "b2", plan="gig", seed=OTHER), issued(store, "b3", seed="02" * 32)
+    store.tell(2000, "POST", "/portal/redeem", guest(1), code(by_bytes), error("shape_differs"), 409)
+    assert '"redeemed":0,' in store.ask(2000, "GET", f"/desk/vouchers/{by_bytes}", DESK)[1]
+    store.tell(2000, "POST", "/portal/redeem", guest(2), code(by_bytes), '{"extended":false,"session":2,"uses_left":2}')
+    store.tell(2000, "POST", "/portal/redeem", guest(2), code(by_bytes), error("no_extend"), 409)
+    store.tell(2000, "POST", "/portal/redeem", guest(2), code(), error("used_up"), 409)
+    store.tell(2000, "POST", "/portal/redeem", guest(2), code(by_time), error("no_extend"), 409)
+
+
+def callers_and_routes(program):
+    store = worked(program)
+    store.tell(2000, "POST", "/desk/sales", "Accept: */*", code(), error("forbidden"), 403)
+    store.tell(2000, "POST", "/desk/sales", GATEWAY, code(), error("forbidden"), 403)
+    store.tell(2000, "GET", "/gateway/sessions", DESK, "", error("forbidden"), 403)
+    store.tell(2000, "GET", "/captive", "Portal-Device: 02:00-00:00:00:01", "", error("bad_device"), 400)
+    store.tell(2000, "GET", "/captive", "Portal-Device: 02-00-00-00-00-0A", "", CAPTIVE)
+    store.tell(2000, "GET", "/captive", "Portal-Device: 02-00-00-00-00-01", "", open_for(2600))
+    store.tell(2000, "GET", "/desk//x", DESK, "", error("no_route"), 404)
+    store.tell(2000, "DELETE", "/captive", guest(1), "", error("bad_method"), 405)
+
+
+def takings_local_day(program):
+    store = Store(program, zone="CET-1CEST,M3.5.0,M10.5.0/3")
+    at = 1583105400
+    store.tell(at, "POST", "/desk/batches", DESK, '{"batch":"b1","plan":"hour","count":1}', '{"batch":"b1","count":1,"expires":%d}' % (at + 30 * 86400))
+    store.tell(at, "POST", "/desk/sales", DESK, code(), '{"code":"%s","price":300}' % CODE)
+    wanted = """day            sold             sales refunded           refunds
+2020-03-01        0              0.00        0              0.00
+2020-03-02        1              3.00        0              0.00
+total             1              3.00        0              0.00
+net 3.00
+"""
+    store.tell(at, "GET", "/desk/takings?from=2020-03-01&to=2020-03-02", DESK, "", wanted)
+
+
 def refund_of_unused_uses(program):
     store = Store(program)
     text = issued(store, plan="gig")
@@ -192,8 +229,8 @@ def examples(program):
 
 
 def main():
-    cases = [examples, issue_sell_redeem, extended_before_end, new_session_at_end, bytes_counted, refund_of_unused_uses, desk_refusals, close_session,
-             numbered, hundred_codes]
+    cases = [examples, issue_sell_redeem, extended_before_end, new_session_at_end, bytes_counted, shape_and_extend_refused, refund_of_unused_uses,
+             desk_refusals, close_session, callers_and_routes, takings_local_day, numbered, hundred_codes]
     for case in cases:
         case(sys.argv[1])
     print(f"outside: {len(cases)} cases over HTTP, each response as it is worked out")
