@@ -51,6 +51,7 @@ class Page(http.server.BaseHTTPRequestHandler):
 
     server_version, sys_version, timeout = "page", "", 30
     most_bytes = 4096
+    body: bytes | None = None
 
     def address_string(self) -> str:
         return "-"
@@ -58,7 +59,15 @@ class Page(http.server.BaseHTTPRequestHandler):
     def log_message(self, format: str, *words: object) -> None:
         """nginx keeps the log."""
 
+    def sent(self) -> bytes | None:
+        """The body, which is read once; None where it is longer than any form, or of no length."""
+        size = self.headers.get("Content-Length", "")
+        if self.body is None and size.isdecimal() and int(size) <= self.most_bytes:
+            self.body = self.rfile.read(int(size))
+        return self.body
+
     def send(self, status: int, text: str = "", **fields: str) -> None:
+        self.sent()     # a connection that is closed over unread bytes is reset, and the answer with it
         data = text.encode()
         self.send_response(status)
         fields = {"Content-Type": "text/html; charset=utf-8", "Cache-Control": "no-store", **fields}
@@ -74,10 +83,10 @@ class Page(http.server.BaseHTTPRequestHandler):
         return Form.read(self.path.partition("?")[2])
 
     def sent_form(self) -> Form:
-        size = self.headers.get("Content-Length", "")
-        if not size.isdecimal() or int(size) > self.most_bytes:
+        body = self.sent()
+        if body is None:
             raise BadForm("length")
-        return Form.read(self.rfile.read(int(size)).decode("utf-8", "replace"))
+        return Form.read(body.decode("utf-8", "replace"))
 
 
 class UnixServer(socketserver.ThreadingMixIn, socketserver.UnixStreamServer):
