@@ -49,8 +49,12 @@ class Store:
         self.tell(0, "POST", "/desk/plans", DESK, PLANS, '{"plans":2}')
 
     def ask(self, now, method, path, field, body="", number=None, seed=SEED):
+        return self.send(now, request(method, path, field, body, number), seed)
+
+    def send(self, now, sent, seed=SEED):
+        """The status and the body that these bytes are answered with."""
         words = [self.program, "answer", "--db", "db", "--settings", "settings", "--now", str(now), "--seed", seed]
-        done = subprocess.run(words, cwd=self.room.name, input=request(method, path, field, body, number), capture_output=True, check=False)
+        done = subprocess.run(words, cwd=self.room.name, input=sent, capture_output=True, check=False)
         head, _, body = done.stdout.partition(b"\r\n\r\n")
         status = int(head.split(b" ")[1])
         assert done.returncode == (0 if status == 200 else 1) and done.stderr == b"", done
@@ -144,6 +148,72 @@ def callers_and_routes(program):
     store.tell(2000, "DELETE", "/captive", guest(1), "", error("bad_method"), 405)
 
 
+def lines(first, *fields, body=b""):
+    """The bytes of a request: its lines as they stand, and a body."""
+    return "\r\n".join([first, *fields, "", ""]).encode() + body
+
+
+def hostile_heads():
+    """What is wrong with a head, and the word that says so; None: it is answered as a captive state."""
+    captive, host, device = "GET /captive HTTP/1.1", "Host: api", guest(1)
+    good = (captive, host, device)
+    return [
+        (b"", "bad_request"),
+        (lines(*good)[:-1], "bad_request"),
+        (lines(*good, "X: " + 8117 * "a"), None),
+        (lines(*good, "X: " + 8118 * "a"), "bad_request"),
+        (lines(*good, *30 * ["X: a"]), None),
+        (lines(*good, *31 * ["X: a"]), "bad_request"),
+        (lines("GET /captive HTTP/1.0", host, host, device), "bad_request"),
+        (lines(captive, device, "Transfer-Encoding: chunked"), "bad_request"),
+        (lines(*good, "Transfer-Encoding: chunked", "Content-Length: 5", "Content-Length: 5"), "not_supported"),
+        (lines(*good, "Content-Length: 5", "Content-Length: 5"), "bad_request"),
+        (lines(*good, "Content-Length: +5"), "bad_request"),
+        (lines(*good, "Content-Length: "), "bad_request"),
+        (lines(*good, "Content-Length: " + 30 * "9"), "too_large"),
+        (lines("GET /captive/ HTTP/1.1", host, device), "no_route"),
+        (lines("GET * HTTP/1.1", host, device), "no_route"),
+        (lines("GET http://api/captive HTTP/1.1", host, device), "no_route"),
+        (lines("GET /captive?x=1 HTTP/1.1", host, device), None),
+        (lines(captive, host, device, device), "bad_device"),
+    ]
+
+
+def hostile_bodies():
+    """The same of bodies and queries that are told to the desk."""
+    sale, plans, report = ("POST /desk/sales HTTP/1.1", "Host: api", DESK), ("POST /desk/plans HTTP/1.1", "Host: api", DESK), (
+        "POST /gateway/reports HTTP/1.1", "Host: api", GATEWAY)
+    unknown = b'{"code":"2222-2222-2222"}'
+    nested = b'{"code":' + 200 * b"[" + 200 * b"]" + b"}"
+
+    def whole(head, body):
+        return lines(*head, f"Content-Length: {len(body)}", body=body)
+
+    return [
+        (lines(*sale, "Content-Length: 0000000025", body=unknown), "unknown_code"),
+        (whole(sale, unknown + 65511 * b" "), "unknown_code"),
+        (lines(*sale[:2], "Content-Length: 25", body=unknown[:-1]), "bad_request"),
+        (whole(sale[:2], unknown), "forbidden"),
+        (whole(sale, b"\xff"), "bad_request"),
+        (whole(plans, b"\xff"), "bad_plans"),
+        *((whole(report, b'{"session":1,"bytes":%s}' % count), "bad_request") for count in (b"9223372036854775808", b"-1", b"1.0")),
+        (whole(report, b'{"session":1,"bytes":9223372036854775807}'), "unknown_session"),
+        (whole(sale, nested), "bad_request"),
+        *((lines(f"GET /desk/takings?{query} HTTP/1.1", "Host: api", DESK), "bad_request") for query in (
+            "from=1970-01-01&to=1971-01-02", "from=1970-01-01&from=1970-01-01&to=1970-01-01", "from=1970-1-1&to=1970-01-01",
+            "from=1970-01-02&to=1970-01-01")),
+    ]
+
+
+def hostile_requests(program):
+    store = Store(program)
+    for sent, word in [*hostile_heads(), *hostile_bodies()]:
+        status, body = store.send(1000, sent)
+        assert (status, body) == (200, CAPTIVE) if word is None else status >= 400 and body == error(word), (sent[:200], word, status, body)
+    report = store.ask(1000, "GET", "/desk/takings?from=1970-01-01&to=1971-01-01", DESK)[1]
+    assert len(report.splitlines()) == 366 + 3, report
+
+
 def takings_local_day(program):
     store = Store(program, zone="CET-1CEST,M3.5.0,M10.5.0/3")
     at = 1583105400
@@ -230,7 +300,7 @@ def examples(program):
 
 def main():
     cases = [examples, issue_sell_redeem, extended_before_end, new_session_at_end, bytes_counted, shape_and_extend_refused, refund_of_unused_uses,
-             desk_refusals, close_session, callers_and_routes, takings_local_day, numbered, hundred_codes]
+             desk_refusals, close_session, callers_and_routes, hostile_requests, takings_local_day, numbered, hundred_codes]
     for case in cases:
         case(sys.argv[1])
     print(f"outside: {len(cases)} cases over HTTP, each response as it is worked out")
