@@ -1,5 +1,5 @@
-//! Tests of values, decisions, files, days and printed texts, with ample memory: what no clause says, by values that come from outside, and each
-//! answer once at its largest.
+//! Tests of values, decisions, files, days and printed texts, with ample memory: what no clause says, by values that
+//! come from outside, and each answer once at its largest.
 #![tactic(auto)]
 
 #[cfg(test)]
@@ -18,5 +18,7 @@ mod print;
 mod records;
 #[cfg(test)]
 mod redemptions;
+#[cfg(test)]
+mod replies;
 #[cfg(test)]
 mod values;

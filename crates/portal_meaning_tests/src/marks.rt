@@ -1,78 +1,94 @@
 //! Requests that act once: their numbers, and a mark at its largest.
-use crate::records::{device, hour, moment, sold};
-use portal_core::{Answer, Refusal, Voucher, decide_sell};
+use crate::records::{UNSOLD, device, hour, voucher};
+use crate::replies::{Reply, is_told};
+use portal_core::{Answer, Changes, Moment, Refusal, decide_sell};
 use portal_ledger::caller::Caller;
 use portal_ledger::marked::MarkedChanges;
 use portal_ledger::repeat::decide_repeat;
 use portal_ledger::request::{KeptRequest, RequestMark, RequestNumber};
-use std::test::Fail;
+use std::alloc::Global;
 
-fn number(text: &str) -> Result<RequestNumber, Fail> {
-    Ok(RequestNumber::read(text).ok_or("no number")?)
+const NUMBERS: &[&str] = &["a1", "A-z-0-9", "-", "123456789-123456789-123456789-123456"];
+
+const BAD_NUMBERS: &[&str] = &[
+    "",
+    "a b",
+    "a_1",
+    "é",
+    "123456789-123456789-123456789-1234567",
+];
+
+fn is_number(text: &str) -> bool {
+    match RequestNumber::read(text) {
+        Some(number) => number.text() == text,
+        None => false,
+    }
 }
 
 #[test]
 fn bad_numbers(rt: HostRuntime) {
-    for text in ["a1", "A-z-0-9", "-", "123456789-123456789-123456789-123456"] {
-        assert!(rt;
-            RequestNumber::read(text).is_some_and(|n| n.text() == text),
-            "{text}"
-        );
+    for text in NUMBERS {
+        assert!(rt; is_number(text), "{text}");
     }
-    for text in [
-        "",
-        "a b",
-        "a_1",
-        "é",
-        "123456789-123456789-123456789-1234567",
-    ] {
+    for text in BAD_NUMBERS {
         assert!(rt; RequestNumber::read(text).is_none(), "{text}");
     }
 }
 
-/// A sale under the mark of a request with the greatest body, of 65,536 bytes: kept, asked again, and another body under its number.
-#[test]
-fn greatest_mark(rt: HostRuntime) -> Result<(), Fail> {
+/// The mark of a sale with that body.
+fn mark(alloc: Global, body: &[u8]) -> Option<RequestMark> {
     let caller = Caller::Guest(device()?);
-    let body = [b' '; 65_536];
-    let mark = RequestMark::new(
-        rt.alloc(),
-        caller,
-        number("a1")?,
-        "POST",
-        "/desk/sales",
-        &body,
-    )?;
-    let other = RequestMark::new(
-        rt.alloc(),
-        caller,
-        number("a1")?,
-        "POST",
-        "/desk/sales",
-        &body[1..],
-    )?;
-    let voucher = sold("3N55-WA4S-KH53", hour()?)?;
-    let sale = decide_sell(
-        Some(Voucher {
-            sold: None,
-            ..voucher
-        }),
-        moment(1000)?,
-    )?;
-    let answer = Answer::Sold {
-        code: voucher.code,
-        price: 300,
+    let number = RequestNumber::read("a1")?;
+    RequestMark::new(alloc, caller, number, "POST", "/desk/sales", body).ok()
+}
+
+fn sale() -> Option<Changes> {
+    let unsold = voucher("3N55-WA4S-KH53", hour()?, UNSOLD)?;
+    decide_sell(Some(unsold), Moment::new(1000)?).ok()
+}
+
+/// The request of that body, and what the sale is answered.
+fn kept(alloc: Global, body: &[u8]) -> Option<KeptRequest> {
+    Some(KeptRequest {
+        mark: mark(alloc, body)?,
+        answer: sale()?.answer(),
+    })
+}
+
+fn is_sold(answer: Answer) -> bool {
+    is_told(Some(Ok(answer)), Reply::Sold("3N55-WA4S-KH53", 300))
+}
+
+/// Whether the mark is kept with the changes, under the key of the other one too.
+fn is_marked(alloc: Global, mark: &RequestMark, other: &RequestMark) -> Option<bool> {
+    let marked = MarkedChanges::with_mark(alloc, sale()?, mark).ok()?;
+    let is_kept = match &marked.mark {
+        Some(kept) => kept.is_same_request(mark) && kept.has_key_of(other),
+        None => false,
     };
-    let marked = MarkedChanges::with_mark(rt.alloc(), sale, &mark)?;
-    assert_eq!(rt; marked.changes.answer(), answer);
-    assert!(rt;
-        marked
-            .mark
-            .is_some_and(|m| m.is_same_request(&mark) && m.has_key_of(&other))
-    );
-    assert_eq!(rt; decide_repeat(None, &mark), Ok(None));
-    let kept = KeptRequest { mark, answer };
-    assert_eq!(rt; decide_repeat(Some(&kept), &kept.mark), Ok(Some(answer)));
-    assert_eq!(rt; decide_repeat(Some(&kept), &other), Err(Refusal::IdReused));
-    Ok(())
+    Some(is_kept && is_sold(marked.changes.answer()))
+}
+
+/// Whether a request is new, comes again, and another one comes under its number.
+fn is_repeated(kept: &KeptRequest, other: &RequestMark) -> bool {
+    decide_repeat(None, &kept.mark) == Ok(None)
+        && decide_repeat(Some(kept), &kept.mark) == Ok(Some(kept.answer))
+        && decide_repeat(Some(kept), other) == Err(Refusal::IdReused)
+}
+
+/// The greatest body.
+fn greatest(alloc: Global) -> Option<Vec<u8>> {
+    vec![in alloc; b' '; 65_536].ok()
+}
+
+/// A sale under the mark of a request with the greatest body, of 65,536 bytes: kept, asked again, and another body
+/// under its number.
+#[test]
+fn greatest_mark(rt: HostRuntime) {
+    let body = greatest(rt.alloc()).expect(&rt, "a body");
+    let kept = kept(rt.alloc(), body.as_slice()).expect(&rt, "a request");
+    assert!(rt; body.len() == 65_536 && is_sold(kept.answer));
+    let other = mark(rt.alloc(), &body.as_slice()[1..]).expect(&rt, "another");
+    assert!(rt; is_marked(rt.alloc(), &kept.mark, &other) == Some(true));
+    assert!(rt; is_repeated(&kept, &other));
 }

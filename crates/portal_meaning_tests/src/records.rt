@@ -1,80 +1,117 @@
-//! Records of the worked cases.
+//! Records of the worked cases. Where a value is none, there is no record either.
 use portal_codes::Code;
 use portal_core::{Batch, Device, Head, Id, Moment, Plan, Session, Voucher};
-use std::test::Fail;
 
-pub fn id(text: &str) -> Result<Id, Fail> {
-    Ok(Id::read(text).ok_or("no id")?)
+pub fn hour() -> Option<Plan> {
+    Plan::new(Id::read("hour")?, 300, 1, 3600, 0, 30, true).ok()
 }
 
-pub fn moment(seconds: u64) -> Result<Moment, Fail> {
-    Ok(Moment::new(seconds).ok_or("no moment")?)
+pub fn gig() -> Option<Plan> {
+    Plan::new(Id::read("gig")?, 500, 3, 0, 1_073_741_824, 30, false).ok()
 }
 
-pub fn hour() -> Result<Plan, Fail> {
-    Ok(Plan::new(id("hour")?, 300, 1, 3600, 0, 30, true)?)
+pub fn device() -> Option<Device> {
+    Device::read("02:00:00:00:00:01").ok()
 }
 
-pub fn gig() -> Result<Plan, Fail> {
-    Ok(Plan::new(id("gig")?, 500, 3, 0, 1_073_741_824, 30, false)?)
+/// How a voucher stands: whether it was sold at 1000, what was refunded, and how often it was redeemed.
+#[derive(Clone, Copy)]
+pub struct Stand {
+    pub sold: bool,
+    pub refund: Option<u64>,
+    pub redeemed: u64,
 }
 
-pub fn device() -> Result<Device, Fail> {
-    Ok(Device::read("02:00:00:00:00:01")?)
-}
+pub const UNSOLD: Stand = Stand {
+    sold: false,
+    refund: None,
+    redeemed: 0,
+};
 
-/// A voucher of the plan, issued and sold at 1000.
-pub fn sold(code: &str, plan: Plan) -> Result<Voucher, Fail> {
-    Ok(Voucher {
-        code: Code::read(code)?,
-        batch: id("b1")?,
+pub const SOLD: Stand = Stand {
+    sold: true,
+    refund: None,
+    redeemed: 0,
+};
+
+/// A voucher of the plan, issued at 1000.
+pub fn voucher(code: &str, plan: Plan, stand: Stand) -> Option<Voucher> {
+    let issued = Moment::new(1000)?;
+    Some(Voucher {
+        code: Code::read(code).ok()?,
+        batch: Id::read("b1")?,
         plan,
-        expires: moment(2_593_000)?,
-        sold: Some(moment(1000)?),
-        refund: None,
-        redeemed: 0,
+        expires: Moment::new(2_593_000)?,
+        sold: if stand.sold { Some(issued) } else { None },
+        refund: stand.refund,
+        redeemed: stand.redeemed,
     })
 }
 
-/// An hour of that device, from 1000 on.
-pub fn hour_session() -> Result<Session, Fail> {
-    Ok(Session {
+/// How a session stands that was opened at 1000, limited in time or in bytes.
+#[derive(Clone, Copy)]
+pub struct Run {
+    pub extend: bool,
+    pub ends: Option<u64>,
+    pub allowance: Option<u64>,
+    pub used: u64,
+    pub closed: Option<u64>,
+}
+
+/// An hour.
+pub const HOUR: Run = Run {
+    extend: true,
+    ends: Some(4600),
+    allowance: None,
+    used: 0,
+    closed: None,
+};
+
+/// A gibibyte.
+pub const GIG: Run = Run {
+    extend: false,
+    ends: None,
+    allowance: Some(1_073_741_824),
+    used: 0,
+    closed: None,
+};
+
+fn maybe(seconds: Option<u64>) -> Option<Option<Moment>> {
+    match seconds {
+        Some(seconds) => Some(Some(Moment::new(seconds)?)),
+        None => Some(None),
+    }
+}
+
+/// The session of that device.
+pub fn session(run: Run) -> Option<Session> {
+    Some(Session {
         number: 1,
         device: device()?,
-        extend: true,
-        opened: moment(1000)?,
-        ends: Some(moment(4600)?),
-        allowance: None,
-        used: 0,
-        closed: None,
+        extend: run.extend,
+        opened: Moment::new(1000)?,
+        ends: maybe(run.ends)?,
+        allowance: run.allowance,
+        used: run.used,
+        closed: maybe(run.closed)?,
     })
 }
 
-/// A gibibyte of that device, from 1000 on.
-pub fn gig_session() -> Result<Session, Fail> {
-    Ok(Session {
-        extend: false,
-        ends: None,
-        allowance: Some(1_073_741_824),
-        ..hour_session()?
-    })
-}
-
-pub fn head(grants: u64) -> Result<Head, Fail> {
-    Ok(Head {
-        last: moment(1000)?,
+pub fn head(grants: u64) -> Option<Head> {
+    Some(Head {
+        last: Moment::new(1000)?,
         grants,
         sessions: 1,
     })
 }
 
 /// A batch of so many codes of the plan, issued at 1000.
-pub fn batch(plan: &Plan, size: u64) -> Result<Batch, Fail> {
-    Ok(Batch {
-        id: id("b1")?,
+pub fn batch(plan: &Plan, size: u64) -> Option<Batch> {
+    Some(Batch {
+        id: Id::read("b1")?,
         plan: plan.id,
-        issued: moment(1000)?,
-        expires: moment(2_593_000)?,
+        issued: Moment::new(1000)?,
+        expires: Moment::new(2_593_000)?,
         size,
     })
 }
