@@ -1,6 +1,6 @@
 -- How the statements of a transaction compose.
 use Rattle.std.proofs.lemmas.List.{take_more, map-append}
-use Rattle.std.proofs.Common.{◌≡◌, true, false, IsTrue, ℕ, ◌+◌, ◌<◌, map, take, get_or, List, [], ◌∷◌, ◌++◌, length, refl, sym, ap, subst, ◌∙◌, arith, add-zero, zero-add, add_assoc, add-suc, one-add, append_assoc, append-nil}
+use Rattle.std.proofs.Common.{◌≡◌, true, false, IsTrue, ℕ, ◌+◌, ◌<◌, map, take, get_or, List, [], ◌∷◌, ◌++◌, length, refl, sym, ap, subst, subst₂, ◌∙◌, arith, add-zero, zero-add, add_assoc, add-suc, one-add, append_assoc, append-nil}
 use Rattle.sqlite.specs.Store.{Ghosts}
 use Rattle.sqlite.specs.Held.{Held, state}
 use Rattle.sqlite.specs.State.{State, HasCleanDisk, Shows, Survives}
@@ -9,26 +9,34 @@ use Rattle.sqlite.proofs.Callers.{survives_begin}
 use Rattle.portal_model.specs.declared.plan.Plan.{Plan}
 use Rattle.portal_model.specs.Rows.{new_vouchers, new_counts}
 use Rattle.portal_rows.specs.Contents.{Contents}
-use Rattle.portal_rows.specs.Holds.{LeftHolds}
+use Rattle.portal_rows.specs.Holds.{Holds, LeftHolds}
+use Rattle.portal_rows.specs.Others.{KeepsOthers, LeftOthers}
+use Rattle.portal_rows.proofs.OthersLemmas.{others_none, others_then}
 use Rattle.portal_rows.specs.Steps.{Steps, Leads, MayLead, new_voucher, count_row, with_plan, with_plans, with_voucher, with_vouchers, with_count, with_counts}
+
+-- what a statement on one of our tables comes to
+pub steps_by : (f : Contents → Contents) (old new : State) → ((t : Contents) → Holds old.now t → Holds new.now (f t) × KeepsOthers old.now new.now) → new.committed ≡ old.committed → new.in_transaction ≡ true → Steps f old new
+steps_by f old new leads committed mode = record { holds = λ t h. (leads t h).0; others = λ t h. (leads t h).1; committed = committed; mode = mode }
 
 pub steps_then : (f g : Contents → Contents) (a b c : State) → Steps f a b → Steps g b c → Steps (λ t. g (f t)) a c
 steps_then f g a b c p q = record {
   holds = λ t h. q.holds (f t) (p.holds t h);
+  others = λ t h. others_then a.now b.now c.now (p.others t h) (q.others (f t) (p.holds t h));
   committed = q.committed ∙ p.committed;
   mode = q.mode;
 }
 
 pub steps_none : (s : State) → IsTrue s.in_transaction → Steps (λ t. t) s s
-steps_none s inside = record { holds = λ t h. h; committed = refl; mode = inside }
+steps_none s inside = record { holds = λ t h. h; others = λ t h. others_none s.now; committed = refl; mode = inside }
 
 pub steps_same : (f g : Contents → Contents) (a b : State) → ((t : Contents) → f t ≡ g t) → Steps f a b → Steps g a b
-steps_same f g a b same s = record { holds = λ t h. rw (← same t) (s.holds t h); committed = s.committed; mode = s.mode }
+steps_same f g a b same s = record { holds = λ t h. rw (← same t) (s.holds t h); others = s.others; committed = s.committed; mode = s.mode }
 
 -- a transaction of which the body took steps leads to what it commits
 pub leads : (f : Contents → Contents) (old begun last new : State) → begun.now ≡ old.now → Steps f begun last → Shows last new last.now last.now false → Leads f old new
 leads f old begun last new same steps end = record {
   holds = λ t h. rw end.now_is (steps.holds t (rw same h));
+  others = λ t h. subst₂ KeepsOthers same (sym end.now_is) (steps.others t (rw same h));
   committed = end.committed_is ∙ sym end.now_is;
   ended = end.mode;
   is_open = end.is_open;
@@ -47,7 +55,11 @@ module _ {S : Type 0} (g : Ghosts S) (f : Contents → Contents) (old begun last
   pub crash : Survives (state g begun) (state g last) (λ _. ⊥) → Survives (state g last) (state g end) (λ db. db ≡ (state g last).now.trees) → Survives (state g old) (state g end) (MayLead f (state g old))
   crash inside ending =
       survives_then (state g old) (state g last) (state g end) _ _ (MayLead f (state g old)) (λ _ db none. absurd none)
-      (λ clean db is t h. let it = (stepped (omega (arith, ending.clean))).holds t h in subst (λ trees. LeftHolds trees (f t)) (sym is) ((state g last).now.schema, it.sound, it))
+      (λ clean db is t h.
+      let took = stepped (omega (arith, ending.clean)) in
+      let it = took.holds t h in
+      let schema = (state g last).now.schema in
+      subst (λ trees. LeftHolds trees (f t) × LeftOthers (state g old).now trees) (sym is) ((schema, it.sound, it), (schema, it.sound, took.others t h)))
       (survives_begin g old (state g last) _ (rw begins at inside)) ending
 
 -- ---- loops

@@ -6,6 +6,7 @@ use Rattle.sqlite.specs.Order.{Row}
 use Rattle.sqlite.specs.Effect.{Database, IsDatabase}
 use Rattle.sqlite.specs.State.{State}
 use Rattle.sqlite_rules.specs.Edit.{Edit}
+use Rattle.sqlite_rules.specs.Lists.{Has}
 use Rattle.sqlite_rules.proofs.ListLemmas.{all_has}
 use Rattle.sqlite_catalog.proofs.AlterLemmas.{place_has}
 use Rattle.portal_sql.specs.Stands.{Stands}
@@ -28,16 +29,18 @@ apart schema a b x y p q off same =
     let e = q.only x (place_has schema.tables a x p.there) (eq-eqb _ _ same) in
     true≢false (sym (eq-eqb (initial x) (initial y) (ap initial e)) ∙ off)
 
--- the statement left the schema and the tables of other names
+-- the statement left the schema, the tables of other names and each table but this one
 pub record Touches (db : Database) (table : Table) (after : Database) : Type 0 where
   pub schema : after.schema ≡ db.schema
   pub others : (a : ℕ) (x : Table) → Stands db.schema a x → (initial x == initial table) ≡ false → after.trees x.tree ≡ db.trees x.tree
+  pub beside : (x : Table) → Has db.schema.tables x → (x ≡ table → ⊥) → after.trees x.tree ≡ db.trees x.tree
   pub sound : IsDatabase after
 
 pub touches : {old new : State} {edit : Edit} (b : ℕ) → Stands old.now.schema b edit.table → Edits old new old.now.schema edit → Touches old.now edit.table new.now
 touches {old = old} {edit = edit} b here e = record {
   schema = e.schema_is;
   others = λ a x stands off. all_has _ old.now.schema.tables x e.applies.tables (place_has old.now.schema.tables a x stands.there) (apart old.now.schema a b x edit.table stands here off);
+  beside = λ x has other. all_has _ old.now.schema.tables x e.applies.tables has (λ same. other (here.only x has (eq-eqb _ _ same)));
   sound = e.sound;
 }
 

@@ -4,6 +4,7 @@ pub mod Foreign
 pub mod HoldsLemmas
 pub mod InsertSteps
 pub mod InsertTexts
+pub mod OthersLemmas
 pub mod Pairs
 pub mod Printed
 pub mod Reading

@@ -5,6 +5,7 @@ pub mod Foreign
 pub mod Holds
 pub mod Keyed
 pub mod Layout
+pub mod Others
 pub mod Read
 pub mod Requests
 pub mod Steps

@@ -12,6 +12,7 @@ use Rattle.portal_rows.specs.declared.signs.Total.{Total}
 use Rattle.portal_ledger.specs.RequestRow.{RequestRow}
 use Rattle.portal_rows.specs.Contents.{Contents, HeadRow}
 use Rattle.portal_rows.specs.Holds.{Holds, LeftHolds}
+use Rattle.portal_rows.specs.Others.{KeepsOthers, LeftOthers}
 
 -- ---- new rows
 
@@ -128,19 +129,21 @@ with_ends new t = record t { totals = map (ended_if new) t.totals }
 
 -- ---- statements and transactions
 
--- a statement inside a transaction led to the rows that f gives, and nothing is committed
+-- a statement inside a transaction led to the rows that f gives, with the tables of others as they were, and nothing is committed
 pub record Steps (f : Contents → Contents) (old new : State) : Type 0 where
   pub holds : (t : Contents) → Holds old.now t → Holds new.now (f t)
+  pub others : (t : Contents) → Holds old.now t → KeepsOthers old.now new.now
   pub committed : new.committed ≡ old.committed
   pub mode : new.in_transaction ≡ true
 
--- outside a transaction, a command led to the rows that f gives, and they are committed
+-- outside a transaction, a command led to the rows that f gives, with the tables of others as they were, and they are committed
 pub record Leads (f : Contents → Contents) (old new : State) : Type 0 where
   pub holds : (t : Contents) → Holds old.now t → Holds new.now (f t)
+  pub others : (t : Contents) → Holds old.now t → KeepsOthers old.now new.now
   pub committed : new.committed ≡ new.now
   pub ended : new.in_transaction ≡ false
   pub is_open : IsTrue new.is_open
 
 -- what a stop may leave beside what it could leave before
 abbrev pub MayLead : (Contents → Contents) → State → Trees → Type 0
-MayLead f old trees = (t : Contents) → Holds old.now t → LeftHolds trees (f t)
+MayLead f old trees = (t : Contents) → Holds old.now t → LeftHolds trees (f t) × LeftOthers old.now trees

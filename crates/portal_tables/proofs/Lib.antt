@@ -10,6 +10,7 @@ pub mod ListLaws
 pub mod ListSteps
 pub mod Lookups
 pub mod OpeningLemmas
+pub mod OthersLemmas
 pub mod PaymentLists
 pub mod PriceLemmas
 pub mod Reported

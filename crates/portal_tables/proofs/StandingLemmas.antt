@@ -209,7 +209,7 @@ module _ {S : Type 0} (g : Ghosts S) where
           λ trees left. elim (all.crash clean trees left) [
             | inl was ↦ inl (at.1.left trees was)
             | inr made ↦
-                let it = made (all_contents_of this_layout (all_rows_of L)) at.1.shown.1 in
+                let it = (made (all_contents_of this_layout (all_rows_of L)) at.1.shown.1).0 in
                 inr (it.0, it.1, grows L m a (record { schema = it.0; trees = trees }) at.1.shown.0 may it.2)
           ],
         ),

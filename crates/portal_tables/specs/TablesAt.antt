@@ -7,6 +7,7 @@ use Rattle.sqlite_trees.specs.declared.store.Store.{Ghosts}
 use Rattle.portal_sql.specs.StandsAt.{LeftShows, StandsAt}
 use Rattle.portal_ledger.specs.Ledger.{Ledger}
 use Rattle.portal_ledger.specs.States.{State as Standing, running, stopped}
+use Rattle.portal_rows.specs.Others.{KeepsOthers, LeftOthers}
 use Rattle.portal_tables.specs.declared.tables.Tables.{Tables}
 use Rattle.portal_tables.specs.Shown.{ShowsLedger}
 use Rattle.portal_tables.specs.Stores.{StoreShows}
@@ -58,6 +59,19 @@ module _ {S : Type 0} (g : Ghosts S) where
   -- each set of files that it may leave shows a ledger of this kind
   abbrev pub Leaves : Tables S → (Ledger → Type 0) → Type 0
   Leaves tables Is = (files : Files) → MayLeave tables files → (L : Ledger) × Is L × FilesShow files L
+
+  -- Each set of files that a stop may leave after has the tables of others: each one whose name is none of ours is there still, with the rows
+  -- that it had before.
+  unfoldable pub OthersLeft : Held S → Held S → Type 0
+  OthersLeft old new = (files : Files) → (state g new).may_leave files → LeftOthers (state g old).now files
+
+  -- so does the store
+  unfoldable pub OthersStay : Held S → Held S → Type 0
+  OthersStay old new = KeepsOthers (state g old).now (state g new).now
+
+  -- the tables of others were kept: in the store, where the tables work, and in what a stop may leave
+  abbrev pub OthersKept : Tables S → Tables S → Type 0
+  OthersKept old new = (new.is_stopped ≡ false → OthersStay old.conn new.conn) × OthersLeft old.conn new.conn
 
   -- they have stopped
   abbrev pub IsStopped : Tables S → Type 0

@@ -7,7 +7,7 @@ ghost use Rattle.portal_rows.specs.Commands.{Fits as FitsColumns, FitsSession, F
 ghost use Rattle.portal_ledger.specs.States.{State as Standing, running};
 ghost use Rattle.portal_ledger.specs.Calls.{Fits, Keeps, FailsToKeep, ReadsOf, ReadsThat, FailsToRead};
 ghost use Rattle.portal_tables.specs.Shown.{IsHeldUnder};
-ghost use Rattle.portal_tables.specs.TablesAt.{ConnAt, ConnIsHonest, ConnMayLeave, Files, IsHonest, MayLeave, TablesAt, LeavesNoMore, IsStopped};
+ghost use Rattle.portal_tables.specs.TablesAt.{ConnAt, ConnIsHonest, ConnMayLeave, Files, IsHonest, MayLeave, OthersKept, TablesAt, LeavesNoMore, IsStopped};
 ghost use Rattle.portal_tables.specs.declared.fault.StoreFault.TheVariants.{Memory, Stopped};
 
 mod audits;
@@ -89,11 +89,13 @@ impl<S: Alter> Tables<S> {
 
     /// Keeps what a command changes, and its request where it has a mark, in one transaction. They are to be those of a command that may follow, under a key that is not held.
     /// Memory leaves all as it was. After Stopped the files hold the command whole or not at all.
+    /// Whatever comes of it, each table beside the product's keeps its rows.
     pub fn commit(&mut self, marked: &MarkedChanges) -> Result<(), StoreFault>
         ensures honest { IsHonest S.Store self.new → IsHonest S.Store self.old }
         ensures stopped { IsStopped S.Store self.old → IsErrOf result Stopped × (self.new ≡ self.old) }
         ensures commit { IsHonest S.Store self.new → (old : Standing) → TablesAt S.Store self.old old → (a : Accepted) → Fits old marked.now a
             → (new : Standing) × TablesAt S.Store self.new new × MatchResult result (λ _. Keeps old a new) (λ fault. FailsToKeep Memory Stopped old a fault new) }
+        ensures others { IsHonest S.Store self.new → (L : Ledger) → TablesAt S.Store self.old (running L) → OthersKept S.Store self.old self.new }
     {
         if self.is_stopped {
             return Err(StoreFault::Stopped);

@@ -1,6 +1,7 @@
 use Rattle.std.proofs.Common.{arith, refl, true}
 use Rattle.portal_tables.specs.declared.tables.Tables.{Tables}
 use Rattle.portal_tables.proofs.StandingLemmas.{stays_keep, keeps, doubts, halts, honest_by, honest_is}
+use Rattle.portal_tables.proofs.OthersLemmas.{others_stopped, others_halted, others_led, others_failed}
 use Rattle.portal_tables.proofs.tables.Tables.commit.Goals as goal
 
 pub returns-then-self-clause-commit : goal.returns-then-self-clause-commit
@@ -30,3 +31,20 @@ returns-in-Err-clause-commit g c clean old at e may =
     let new = c.fault.new.self in
     doubts g.S.Store c.args.marked.now e c.args.self.now new c.keep.new.conn c.if-self.false clean c.in-Err.ensures.undone c.keep.ensures.crash c.fault.ensures.survives (λ db. g.met.S.Store.settled new.conn.store db)
     c.fault.result c.fault.ensures.told c.fault.ensures.same old at may
+
+pub returns-then-self-clause-others : goal.returns-then-self-clause-others
+returns-then-self-clause-others g c clean L at = others_stopped g.S.Store L c.args.self.now c.args.self.now c.if-self.true at
+
+pub returns-then-not-is_autocommit-clause-others : goal.returns-then-not-is_autocommit-clause-others
+returns-then-not-is_autocommit-clause-others g c clean L at = others_halted g.S.Store L c.args.self.now (λ db. g.met.S.Store.settled c.args.self.now.conn.store db) at
+
+pub returns-in-Ok-clause-others : goal.returns-in-Ok-clause-others
+returns-in-Ok-clause-others g c clean L at =
+    let new : Tables g.row.S.Denot = record { conn = c.keep.new.conn; is_stopped = c.args.self.now.is_stopped } in
+    others_led g.S.Store c.args.marked.now L c.args.self.now new (λ db. g.met.S.Store.settled new.conn.store db) (c.in-Ok.ensures.done (honest_is g.S.Store new clean)) at
+
+pub returns-in-Err-clause-others : goal.returns-in-Err-clause-others
+returns-in-Err-clause-others g c clean L at =
+    let new = c.fault.new.self in
+    others_failed g.S.Store c.args.marked.now L c.args.self.now new c.keep.new.conn (λ db. g.met.S.Store.settled c.args.self.now.conn.store db) (λ db. g.met.S.Store.settled new.conn.store db) clean
+    c.in-Err.ensures.undone c.keep.ensures.crash c.fault.ensures.survives c.fault.result c.fault.ensures.told c.fault.ensures.same at
