@@ -26,6 +26,7 @@ use Rattle.portal_sql.proofs.StandsLemmas.{still_stands, now_stands}
 use Rattle.portal_sql.proofs.Named.{still_unacted, unacted_by}
 use Rattle.portal_rows.specs.Layout.{head, plans, batches, vouchers, sessions, grants, counts, totals, requests}
 use Rattle.portal_rows.specs.Holds.{Place, IsAt, HoldsIn, Holds, LeftHolds, this_layout}
+use Rattle.portal_rows.specs.Others.{KeepsOthers, LeftOthers}
 use Rattle.portal_layouts.specs.Creates.{IsFree, HasMadeFirst, HasMadeLast, no_rows, new_store, Builds, IsCommitted, MayBuild}
 
 abbrev pub IsIdle : Table → Type 0
@@ -133,10 +134,17 @@ module _ {S : Type 0} (g : Ghosts S) (old begun last end : Held S) (begins : beg
   pub built_done : HasCleanDisk (state g last) → Shows (state g last) (state g end) (state g last).now (state g last).now false → IsFree (state g old).now.schema → Holds (state g end).now new_store
   built_done clean shown free = subst (λ db. Holds db new_store) (sym shown.now_is) (built clean free).holds
 
+  pub built_others : HasCleanDisk (state g last) → Shows (state g last) (state g end) (state g last).now (state g last).now false → IsFree (state g old).now.schema → KeepsOthers (state g old).now (state g end).now
+  built_others clean shown free = subst (KeepsOthers (state g old).now) (sym shown.now_is) (built clean free).others
+
   pub built_crash : Survives (state g begun) (state g last) (λ _. ⊥) → Survives (state g last) (state g end) (λ db. db ≡ (state g last).now.trees) → Survives (state g old) (state g end) (MayBuild (state g old))
   built_crash inside ending =
       survives_then (state g old) (state g last) (state g end) _ _ (MayBuild (state g old)) (λ _ db none. absurd none)
-      (λ clean db is free. let it = (built (omega (arith, ending.clean)) free).holds in subst (λ trees. LeftHolds trees new_store) (sym is) ((state g last).now.schema, it.sound, it))
+      (λ clean db is free.
+      let made = built (omega (arith, ending.clean)) free in
+      let sound = made.holds.sound in
+      let schema = (state g last).now.schema in
+      subst (λ trees. LeftHolds trees new_store × LeftOthers (state g old).now trees) (sym is) ((schema, sound, made.holds), (schema, sound, made.others)))
       (survives_begin g old (state g last) _ (rw begins at inside)) ending
 
   -- where the commit fails, nothing is made

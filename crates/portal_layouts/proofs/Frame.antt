@@ -11,6 +11,7 @@ use Rattle.sqlite.proofs.Callers.{survives_begin}
 use Rattle.portal_sql.specs.States.{IsUndone}
 use Rattle.portal_rows.specs.Contents.{Contents}
 use Rattle.portal_rows.specs.Holds.{Holds, HoldsIn, LeftHolds, this_layout}
+use Rattle.portal_rows.specs.Others.{KeepsOthers, LeftOthers}
 use Rattle.portal_layouts.specs.Brings.{StepsFrom, LeadsFrom, MayLeadFrom}
 
 module _ {S : Type 0} (g : Ghosts S) (layout : ℕ) (had : Bool) (Room : Schema → Type 0) (f : Contents → Contents) (old begun last end : Held S) (begins : begun ≡ record old { in_transaction = true })
@@ -21,10 +22,14 @@ module _ {S : Type 0} (g : Ghosts S) (layout : ℕ) (had : Bool) (Room : Schema 
   held : HasCleanDisk (state g last) → Room (state g old).now.schema → (t : Contents) → HoldsIn layout had (state g old).now t → Holds (state g last).now (f t)
   held clean room t was = (stepped clean room).holds t was
 
+  held_others : HasCleanDisk (state g last) → Room (state g old).now.schema → (t : Contents) → HoldsIn layout had (state g old).now t → KeepsOthers (state g old).now (state g last).now
+  held_others clean room t was = (stepped clean room).others t was
+
   -- the transaction is committed
   pub led_done : HasCleanDisk (state g last) → Shows (state g last) (state g end) (state g last).now (state g last).now false → LeadsFrom layout had Room f (state g old) (state g end)
   led_done clean shown = record {
     holds = λ room t was. rw shown.now_is (held clean room t was);
+    others = λ room t was. subst (KeepsOthers (state g old).now) (sym shown.now_is) (held_others clean room t was);
     committed = shown.committed_is ∙ sym shown.now_is;
     ended = shown.mode;
     is_open = shown.is_open;
@@ -35,7 +40,11 @@ module _ {S : Type 0} (g : Ghosts S) (layout : ℕ) (had : Bool) (Room : Schema 
       → Survives (state g old) (state g end) (MayLeadFrom layout had Room f (state g old))
   led_crash inside ending =
       survives_then (state g old) (state g last) (state g end) _ _ (MayLeadFrom layout had Room f (state g old)) (λ _ db none. absurd none)
-      (λ clean db is room t was. let it = held (omega (arith, ending.clean)) room t was in subst (λ trees. LeftHolds trees (f t)) (sym is) ((state g last).now.schema, it.sound, it))
+      (λ clean db is room t was.
+      let late : HasCleanDisk (state g last) = omega (arith, ending.clean) in
+      let it = held late room t was in
+      let schema = (state g last).now.schema in
+      subst (λ trees. LeftHolds trees (f t) × LeftOthers (state g old).now trees) (sym is) ((schema, it.sound, it), (schema, it.sound, held_others late room t was)))
       (survives_begin g old (state g last) _ (rw begins at inside)) ending
 
   -- where the commit fails, nothing is changed

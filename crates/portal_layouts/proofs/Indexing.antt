@@ -11,11 +11,13 @@ use Rattle.sqlite_catalog.specs.Change.{with_index, indexed}
 use Rattle.sqlite.specs.Change.{next_tree}
 use Rattle.sqlite_resolve.specs.Compile.{index_defined_by}
 use Rattle.sqlite_rules.specs.Lists.{Has}
+use Rattle.sqlite_rules.proofs.ListLemmas.{all_has}
 use Rattle.sqlite_tied.specs.Compute.{everything}
 use Rattle.portal_sql.proofs.IndexLemmas.{IsIndex, HasIndexed, indexes, still_stands_indexed, rows_indexed}
 use Rattle.portal_rows.specs.Layout.{head, plans, batches, vouchers, sessions, grants, counts, totals, requests}
 use Rattle.portal_rows.specs.Contents.{Contents}
 use Rattle.portal_rows.specs.Holds.{Place, IsAt, Stand, HoldsIn, HasSessionIndex}
+use Rattle.portal_rows.specs.Others.{KeepsOthers}
 use Rattle.portal_rows.proofs.HoldsLemmas.{moved}
 use Rattle.portal_layouts.specs.Brings.{StepsFrom}
 
@@ -94,9 +96,13 @@ still_holds layout db after t had h k =
       sound = k.sound;
     }
 
+others_indexed : (db : Database) (on : Table) (after : Database) → HasIndexed db on index_text after → KeepsOthers db after
+others_indexed db on after k x has other = (subst (λ (s : Schema). Has s.tables x) (sym k.is) has, all_has _ db.schema.tables x k.rows has)
+
 pub indexes_inside : (layout : ℕ) (had : Bool) (old new : State) (count : ℕ) → ExecutesInside 0 index_text [] old new (Ok count) → StepsFrom layout had layout true (λ t. t) old new
 indexes_inside layout had old new count ran = record {
   holds = λ t h. still_holds layout old.now new.now t had h (indexes index_text sessions h.places.sessions.at h.places.sessions.tree old new count index_is h.stand.sessions.stands ran.0);
+  others = λ t h. others_indexed old.now (sessions h.places.sessions.tree) new.now (indexes index_text sessions h.places.sessions.at h.places.sessions.tree old new count index_is h.stand.sessions.stands ran.0);
   committed = ran.1.committed_is;
   mode = ran.1.mode;
 }

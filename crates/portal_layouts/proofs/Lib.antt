@@ -9,5 +9,6 @@ pub mod IndexedLemmas
 pub mod Indexing
 pub mod MigrateLemmas
 pub mod NeverWrites
+pub mod OthersLemmas
 pub mod TellsOnce
 pub mod UpgradeLemmas

@@ -19,10 +19,12 @@ use Rattle.portal_layouts.specs.declared.layouts.OldLayout.{OldLayout}
 use Rattle.portal_layouts.specs.declared.layouts.OldLayout.TheVariants.{First}
 use Rattle.portal_layouts.specs.Brings.{StepsFrom, Rise, with_totals, counts_read, totals_read, widened, brought}
 use Rattle.portal_rows.proofs.Compose.{steps_then, steps_none, steps_same}
+use Rattle.portal_rows.proofs.OthersLemmas.{others_then}
 
 pub from_then : (k : ℕ) (a : Bool) (l : ℕ) (b : Bool) (m : ℕ) (d : Bool) (f g : Contents → Contents) (x y z : State) → StepsFrom k a l b f x y → StepsFrom l b m d g y z → StepsFrom k a m d (λ t. g (f t)) x z
 from_then k a l b m d f g x y z p q = record {
   holds = λ t h. q.holds (f t) (p.holds t h);
+  others = λ t h. others_then x.now y.now z.now (p.others t h) (q.others (f t) (p.holds t h));
   committed = q.committed ∙ p.committed;
   mode = q.mode;
 }
@@ -30,6 +32,7 @@ from_then k a l b m d f g x y z p q = record {
 pub from_steps : (k : ℕ) (a : Bool) (f g : Contents → Contents) (x y z : State) → StepsFrom k a this_layout true f x y → Steps g y z → StepsFrom k a this_layout true (λ t. g (f t)) x z
 from_steps k a f g x y z p q = record {
   holds = λ t h. q.holds (f t) (p.holds t h);
+  others = λ t h. others_then x.now y.now z.now (p.others t h) (q.others (f t) (p.holds t h));
   committed = q.committed ∙ p.committed;
   mode = q.mode;
 }

@@ -21,6 +21,7 @@ use Rattle.portal_lists.specs.Sums.{summed, grant_read}
 use Rattle.portal_lists.specs.Asks.{Anything}
 use Rattle.portal_rows.specs.First.{HoldsFirst}
 use Rattle.portal_rows.specs.Holds.{Holds, LeftHolds, this_layout}
+use Rattle.portal_rows.specs.Others.{KeepsOthers, LeftOthers}
 use Rattle.portal_rows.specs.Steps.{with_layout, ends_row}
 use Rattle.portal_rows.specs.declared.rows.KeptCount.{KeptCount}
 use Rattle.portal_rows.specs.declared.rows.KeptVoucher.{KeptVoucher}
@@ -137,12 +138,17 @@ module _ (a b c d e : State) (one : Reads Anything a b) (two : Reads Anything b 
       let ended = subst (All (λ (x : TotalRow). x.number < 2 ^ 63)) (sym k.totals) fits.totals in
       (all_back (λ (x : CountRow). x.redeemed < 2 ^ 63) count_read ks1 counted, all_back (λ (x : TotalRow). x.number < 2 ^ 63) ends_row ms1 ended)
 
+  -- nothing was changed by reading
+  read_same : HasCleanDisk d → IsTrue a.is_open → d.now ≡ a.now
+  read_same clean live = same_now Anything a d (reads_then Anything a b d one (reads_then Anything b c d two three)) clean live tt
+
   pub upgrade_done : HasCleanDisk d → IsTrue a.is_open → LeadsFrom 1 false Anything (brought First ks1 ms1) d e → HasUpgraded First a e
   upgrade_done clean live gained = record {
     holds = λ t first.
         let k = knows clean live t first in
         let rise = summed_rise d.now t ms1 k.first k.totals in
         subst (Holds e.now) (upgraded_is ks1 ms1 t rise k.counts k.totals) (gained.holds tt t k.first);
+    others = λ t first. subst (λ (was : Database). KeepsOthers was e.now) (read_same clean live) (gained.others tt t (knows clean live t first).first);
     committed = gained.committed;
     ended = gained.ended;
     is_open = gained.is_open;
@@ -154,7 +160,8 @@ module _ (a b c d e : State) (one : Reads Anything a b) (two : Reads Anything b 
       (λ clean db may live t first.
       let k = knows (omega (arith, clean, ending.clean)) live t first in
       let rise = summed_rise d.now t ms1 k.first k.totals in
-      subst (LeftHolds db) (upgraded_is ks1 ms1 t rise k.counts k.totals) (may tt t k.first))
+      let left = may tt t k.first in
+      (subst (LeftHolds db) (upgraded_is ks1 ms1 t rise k.counts k.totals) left.0, subst (λ (was : Database). LeftOthers was db) (read_same (omega (arith, clean, ending.clean)) live) left.1))
       (reads_then Anything a b d one (reads_then Anything b c d two three)).crash ending
 
 -- where a reading fails, nothing is changed
@@ -167,5 +174,14 @@ undone_after a d e read clean live undone =
     record { now = λ on. undone.now on ∙ same.0.committed_is; committed = λ on. undone.committed on ∙ same.0.committed_is; ended = undone.ended }
 
 -- a layout that has its counters is brought up with none added
+pub later_done : (from : OldLayout) (a e : State) → ((t : Contents) → brought from [] [] t ≡ upgraded from t) → LeadsFrom (number_of from) false Anything (brought from [] []) a e → HasUpgraded from a e
+later_done from a e same led = record {
+  holds = λ t h. subst (Holds e.now) (same t) (led.holds tt t h);
+  others = λ t h. led.others tt t h;
+  committed = led.committed;
+  ended = led.ended;
+  is_open = led.is_open;
+}
+
 pub later_crash : (from : OldLayout) (a e : State) → ((t : Contents) → brought from [] [] t ≡ upgraded from t) → Survives a e (MayLeadFrom (number_of from) false Anything (brought from [] []) a) → Survives a e (MayUpgrade from a)
-later_crash from a e same = survives_weaker a e _ _ (λ _ db may live t h. subst (LeftHolds db) (same t) (may tt t h))
+later_crash from a e same = survives_weaker a e _ _ (λ _ db may live t h. let left = may tt t h in (subst (LeftHolds db) (same t) left.0, left.1))

@@ -18,6 +18,7 @@ use Rattle.portal_rows.specs.Foreign.{AreOwnRows}
 use Rattle.portal_rows.specs.Read.{count_read}
 use Rattle.portal_rows.specs.Steps.{ends_row, with_counts, with_layout}
 use Rattle.portal_rows.specs.Holds.{HoldsIn, Holds, LeftHolds, this_layout}
+use Rattle.portal_rows.specs.Others.{KeepsOthers, LeftOthers}
 use Rattle.portal_lists.specs.Sums.{SumsFit, summed}
 use Rattle.portal_layouts.specs.declared.layouts.OldLayout.{OldLayout}
 use Rattle.portal_layouts.specs.declared.layouts.OldLayout.TheVariants.{First, Second, Third, Fourth}
@@ -50,16 +51,17 @@ completed Fourth t = t
 abbrev pub upgraded : OldLayout → Contents → Contents
 upgraded from t = with_layout this_layout (completed from t)
 
--- the tables of the layout were brought to those of this version, with the index, and it is committed
+-- the tables of the layout were brought to those of this version, with the index and with the tables of others as they were, and it is committed
 pub record HasUpgraded (from : OldLayout) (old new : State) : Type 0 where
   pub holds : (t : Contents) → HoldsIn (number_of from) false old.now t → Holds new.now (upgraded from t)
+  pub others : (t : Contents) → HoldsIn (number_of from) false old.now t → KeepsOthers old.now new.now
   pub committed : new.committed ≡ new.now
   pub ended : new.in_transaction ≡ false
   pub is_open : IsTrue new.is_open
 
 -- what a stop may leave of it beside what it could leave before
 abbrev pub MayUpgrade : OldLayout → State → Trees → Type 0
-MayUpgrade from old trees = IsTrue old.is_open → (t : Contents) → HoldsIn (number_of from) false old.now t → LeftHolds trees (upgraded from t)
+MayUpgrade from old trees = IsTrue old.is_open → (t : Contents) → HoldsIn (number_of from) false old.now t → LeftHolds trees (upgraded from t) × LeftOthers old.now trees
 
 -- ---- room
 
@@ -128,21 +130,23 @@ filled counts totals t = with_totals (totals_read totals) (with_counts (counts_r
 abbrev pub brought : OldLayout → List KeptCount → List Total → Contents → Contents
 brought from counts totals t = with_layout this_layout (filled counts totals (widened from t))
 
--- inside a transaction, statements led from the tables of one layout to those of another, and nothing is committed
+-- inside a transaction, statements led from the tables of one layout to those of another, with those of others as they were, and nothing is committed
 pub record StepsFrom (k : ℕ) (a : Bool) (l : ℕ) (b : Bool) (f : Contents → Contents) (old new : State) : Type 0 where
   pub holds : (t : Contents) → HoldsIn k a old.now t → HoldsIn l b new.now (f t)
+  pub others : (t : Contents) → HoldsIn k a old.now t → KeepsOthers old.now new.now
   pub committed : new.committed ≡ old.committed
   pub mode : new.in_transaction ≡ true
 
 -- ---- one transaction
 
--- outside a transaction, the tables of a layout were led to those of this version, and it is committed
+-- outside a transaction, the tables of a layout were led to those of this version, with those of others as they were, and it is committed
 pub record LeadsFrom (k : ℕ) (a : Bool) (Room : Schema → Type 0) (f : Contents → Contents) (old new : State) : Type 0 where
   pub holds : Room old.now.schema → (t : Contents) → HoldsIn k a old.now t → Holds new.now (f t)
+  pub others : Room old.now.schema → (t : Contents) → HoldsIn k a old.now t → KeepsOthers old.now new.now
   pub committed : new.committed ≡ new.now
   pub ended : new.in_transaction ≡ false
   pub is_open : IsTrue new.is_open
 
 -- what a stop may leave beside what it could leave before
 abbrev pub MayLeadFrom : ℕ → Bool → (Schema → Type 0) → (Contents → Contents) → State → Trees → Type 0
-MayLeadFrom k a Room f old trees = Room old.now.schema → (t : Contents) → HoldsIn k a old.now t → LeftHolds trees (f t)
+MayLeadFrom k a Room f old trees = Room old.now.schema → (t : Contents) → HoldsIn k a old.now t → LeftHolds trees (f t) × LeftOthers old.now trees

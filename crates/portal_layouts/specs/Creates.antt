@@ -12,6 +12,7 @@ use Rattle.portal_rows.specs.Layout.{head, plans, batches, vouchers, sessions, g
 use Rattle.portal_rows.specs.Contents.{Contents}
 use Rattle.portal_rows.specs.Steps.{first_head}
 use Rattle.portal_rows.specs.Holds.{Holds, LeftHolds, this_layout}
+use Rattle.portal_rows.specs.Others.{KeepsOthers, LeftOthers}
 
 -- no foreign key that is there acts on a table of these names, and tables that count have the table that keeps the numbers
 pub record IsFree (schema : Schema) : Type 0 where
@@ -59,9 +60,10 @@ no_rows = record { heads = []; plans = []; batches = []; vouchers = []; sessions
 abbrev pub new_store : Contents
 new_store = record no_rows { heads = first_head this_layout ∷ [] }
 
--- inside a transaction the tables were made, and nothing is committed
+-- inside a transaction the tables were made beside those of others, and nothing is committed
 pub record Builds (old new : State) : Type 0 where
   pub holds : Holds new.now new_store
+  pub others : KeepsOthers old.now new.now
   pub committed : new.committed ≡ old.committed
   pub mode : new.in_transaction ≡ true
 
@@ -73,4 +75,4 @@ pub record IsCommitted (s : State) : Type 0 where
 
 -- what a stop may leave beside what it could leave before
 abbrev pub MayBuild : State → Trees → Type 0
-MayBuild old trees = IsFree old.now.schema → LeftHolds trees new_store
+MayBuild old trees = IsFree old.now.schema → LeftHolds trees new_store × LeftOthers old.now trees

@@ -7,6 +7,7 @@ ghost use Rattle.portal_sql.specs.Made.{Counts, HasMade};
 ghost use Rattle.portal_sql.specs.States.{IsUndone};
 ghost use Rattle.portal_rows.specs.Layout.{head, plans, batches, vouchers, sessions, grants, counts, totals, requests};
 ghost use Rattle.portal_rows.specs.Holds.{Holds};
+ghost use Rattle.portal_rows.specs.Others.{KeepsOthers};
 ghost use Rattle.portal_layouts.specs.Brings.{StepsFrom};
 ghost use Rattle.portal_layouts.specs.Creates.{IsFree, HasMadeFirst, HasMadeLast, Builds, IsCommitted, MayBuild, is_free, new_store};
 
@@ -190,6 +191,7 @@ fn create_inside<S: Alter>(tx: &mut Transaction<'_, S>) -> Result<(), Error>
 pub fn create<S: Alter>(conn: &mut Connection<S>) -> Result<(), Error>
     requires { conn.old.in_transaction ≡ false }
     ensures made { HasCleanDisk (state S.Store conn.new) → IsFree (state S.Store conn.old).now.schema → OnOk result (Holds (state S.Store conn.new).now new_store) }
+    ensures others { HasCleanDisk (state S.Store conn.new) → IsFree (state S.Store conn.old).now.schema → OnOk result (KeepsOthers (state S.Store conn.old).now (state S.Store conn.new).now) }
     ensures committed { HasCleanDisk (state S.Store conn.new) → OnOk result (IsCommitted (state S.Store conn.new)) }
     ensures undone { HasCleanDisk (state S.Store conn.new) → IsFree (state S.Store conn.old).now.schema → OnErr result (IsUndone (state S.Store conn.old) (state S.Store conn.new)) }
     ensures crash { Survives (state S.Store conn.old) (state S.Store conn.new) (MayBuild (state S.Store conn.old)) }

@@ -6,6 +6,7 @@ use Rattle.sqlite.specs.State.{State, HasCleanDisk, IsUnchanged, Survives}
 use Rattle.sqlite.proofs.StateLemmas.{survives_then}
 use Rattle.portal_rows.specs.Contents.{Contents}
 use Rattle.portal_rows.specs.Holds.{Holds, HoldsIn, this_layout}
+use Rattle.portal_rows.specs.Others.{KeepsOthers, LeftOthers}
 use Rattle.portal_layouts.specs.Layouts.{Answers, IsOneRow, TellsLayout}
 use Rattle.portal_layouts.specs.Brings.{HasUpgraded, MayUpgrade, number_of, upgraded}
 use Rattle.portal_layouts.specs.declared.layouts.OldLayout.{OldLayout}
@@ -22,12 +23,24 @@ pub upgrades_crash : (from : OldLayout) (old mid new : State) → (HasCleanDisk 
     → Survives old new (LeftCarried old.now)
 upgrades_crash from old mid new look one two =
     survives_then old mid new _ _ (LeftCarried old.now) (λ _ db none. absurd none)
-    (λ clean db may. let it = look (omega (arith, two.clean)) in (from, it.0, λ t h. may it.1.0.is_open t (subst (λ db. HoldsIn (number_of from) false db t) (sym it.1.0.now_is) h))) one two
+    (λ clean db may. let it = look (omega (arith, two.clean)) in (
+      from,
+      it.0,
+      λ t h.
+          let left = may it.1.0.is_open t (subst (λ db. HoldsIn (number_of from) false db t) (sym it.1.0.now_is) h) in
+          (left.0, subst (λ (was : Database). LeftOthers was db) it.1.0.now_is left.1),
+    )) one two
 
 -- a look at the head, and what it led to
 pub brings : (from : OldLayout) (old mid new : State) → TellsLayout old.now (Some (number_of from)) → IsUnchanged old mid → HasUpgraded from mid new → IsCarried old new
 brings from old mid new tells same did = record {
-  carries = inr (from, tells, λ t h. did.holds t (subst (λ db. HoldsIn (number_of from) false db t) (sym same.0.now_is) h));
+  carries = inr (
+    from,
+    tells,
+    λ t h.
+        let here = subst (λ db. HoldsIn (number_of from) false db t) (sym same.0.now_is) h in
+        (did.holds t here, subst (λ (was : Database). KeepsOthers was new.now) same.0.now_is (did.others t here)),
+  );
   is_open = did.is_open;
   ended = did.ended;
   same = did.committed;
@@ -39,6 +52,9 @@ completes old mid new tells same did = go did.holds
     here : (t : Contents) → HoldsIn this_layout false old.now t → HoldsIn this_layout false mid.now t
     here t h = subst (λ db. HoldsIn this_layout false db t) (sym same.0.now_is) h
 
+    others : (t : Contents) → HoldsIn this_layout false old.now t → KeepsOthers old.now new.now
+    others t h = subst (λ (was : Database). KeepsOthers was new.now) same.0.now_is (did.others t (here t h))
+
     go : ((t : Contents) → HoldsIn this_layout false mid.now t → Holds new.now t) ⊎ ((t : Contents) → HoldsIn this_layout false mid.now t → Holds new.now (upgraded Fourth t)) → IsCarried old new
-    go (inl kept) = record { carries = inl (tells, λ t h. kept t (here t h)); is_open = did.is_open; ended = did.ended; same = did.same }
-    go (inr up) = record { carries = inr (Fourth, tells, λ t h. up t (here t h)); is_open = did.is_open; ended = did.ended; same = did.same }
+    go (inl kept) = record { carries = inl (tells, λ t h. (kept t (here t h), others t h)); is_open = did.is_open; ended = did.ended; same = did.same }
+    go (inr up) = record { carries = inr (Fourth, tells, λ t h. (up t (here t h), others t h)); is_open = did.is_open; ended = did.ended; same = did.same }

@@ -15,6 +15,8 @@ use Rattle.portal_sql.specs.StandsAt.{LeftShows}
 use Rattle.portal_sql.proofs.StandsAtLemmas.{at_open}
 use Rattle.portal_layouts.specs.Creates.{new_store}
 use Rattle.portal_rows.specs.Holds.{Holds, LeftHolds, this_layout}
+use Rattle.portal_rows.specs.Others.{KeepsOthers, LeftOthers}
+use Rattle.portal_rows.proofs.OthersLemmas.{others_none}
 use Rattle.portal_layouts.specs.Brings.{number_of}
 use Rattle.portal_layouts.specs.declared.layouts.OldLayout.{OldLayout}
 use Rattle.portal_layouts.specs.declared.layouts.OldLayout.TheVariants.{First, Second, Third, Fourth}
@@ -30,7 +32,7 @@ use Rattle.portal_tables.specs.Adopting.{Carries, Stays, IsBrought, FailsToAdopt
 use Rattle.portal_tables.specs.Older.{ShowsIn}
 use Rattle.portal_tables.specs.Shown.{ShowsLedger, all_contents_of}
 use Rattle.portal_tables.specs.Stores.{IsBare, IsNamed, ShowsOlder, StoreShows}
-use Rattle.portal_tables.specs.TablesAt.{ConnAt, ConnLeaves, ConnIsHonest, FilesShow, IsHonest, TablesAt}
+use Rattle.portal_tables.specs.TablesAt.{ConnAt, ConnLeaves, ConnIsHonest, FilesShow, IsHonest, OthersLeft, OthersStay, TablesAt}
 use Rattle.portal_tables.proofs.StandingLemmas.{IsSettled, left_store}
 use Rattle.portal_tables.proofs.Upgrading.{upgraded_shows}
 
@@ -98,50 +100,53 @@ new_shown L db none holds = subst (λ x. ShowsLedger x db) (sym none) (tt, holds
 
 -- ---- the tables that were made ready
 
-stays_shown : (from : OldLayout) (L : Ledger) (old new : Database) → Stays old new → ShowsIn (number_of from) L old → ShowsLedger L new
+stays_shown : (from : OldLayout) (L : Ledger) (old new : Database) → Stays old new → ShowsIn (number_of from) L old → ShowsLedger L new × KeepsOthers old new
 stays_shown from L old new kept shown =
     let is : Fourth ≡ from = same_layout Fourth from (tells_old from L old shown (Some this_layout) kept.0) in
     let here : ShowsIn this_layout L old = subst (λ (f : OldLayout). ShowsIn (number_of f) L old) (sym is) shown in
-    (here.sound, kept.1 _ here.holds)
+    let led = kept.1 _ here.holds in
+    ((here.sound, led.0), led.1)
 
-brought_shown : (from : OldLayout) (L : Ledger) (old new : Database) → IsBrought old new → ShowsIn (number_of from) L old → ShowsLedger L new
+brought_shown : (from : OldLayout) (L : Ledger) (old new : Database) → IsBrought old new → ShowsIn (number_of from) L old → ShowsLedger L new × KeepsOthers old new
 brought_shown from L old new kept shown =
     let is : kept.0 ≡ from = same_layout kept.0 from (tells_old from L old shown (Some (number_of kept.0)) kept.1) in
     let here : ShowsIn (number_of kept.0) L old = subst (λ (f : OldLayout). ShowsIn (number_of f) L old) (sym is) shown in
-    upgraded_shows kept.0 L new here.sound here.unmarked (kept.2 _ here.holds)
+    let led = kept.2 _ here.holds in
+    (upgraded_shows kept.0 L new here.sound here.unmarked led.0, led.1)
 
-carried_shown : (L : Ledger) (old new : Database) → Carries old new → ShowsOlder L old → ShowsLedger L new
+carried_shown : (L : Ledger) (old new : Database) → Carries old new → ShowsOlder L old → ShowsLedger L new × KeepsOthers old new
 carried_shown L old new (inl kept) shown = stays_shown shown.0 L old new kept shown.1
 carried_shown L old new (inr kept) shown = brought_shown shown.0 L old new kept shown.1
 
-ready_shown : (L : Ledger) (old new : State) → StoreShows L old.now → IsReady old new → ShowsLedger L new.now
+ready_shown : (L : Ledger) (old new : State) → StoreShows L old.now → IsReady old new → ShowsLedger L new.now × KeepsOthers old.now new.now
 ready_shown L old new shows ready = go shows ready.holds
   where
-    go : StoreShows L old.now → (IsBare old.now.schema × Holds new.now new_store) ⊎ (IsNamed old.now.schema × Carries old.now new.now) → ShowsLedger L new.now
+    go : StoreShows L old.now → (IsBare old.now.schema × Holds new.now new_store × KeepsOthers old.now new.now) ⊎ (IsNamed old.now.schema × Carries old.now new.now) → ShowsLedger L new.now × KeepsOthers old.now new.now
     go (inl shown) (inl made) = let it = as_older L old.now shown in never_both old.now.schema (named (number_of it.0) L old.now it.1) made.0
     go (inl shown) (inr kept) = carried_shown L old.now new.now kept.1 (as_older L old.now shown)
     go (inr (inl shown)) (inl made) = never_both old.now.schema (named (number_of shown.0) L old.now shown.1) made.0
     go (inr (inl shown)) (inr kept) = carried_shown L old.now new.now kept.1 shown
-    go (inr (inr is)) (inl made) = new_shown L new.now is.0 made.1
+    go (inr (inr is)) (inl made) = (new_shown L new.now is.0 made.1, made.2)
     go (inr (inr is)) (inr kept) = never_both old.now.schema kept.0 is.1
 
 -- what a stop may leave
-left_carried : (L : Ledger) (old : Database) (trees : Trees) → LeftCarried old trees → ShowsOlder L old → LeftShows (ShowsLedger L) trees
+left_carried : (L : Ledger) (old : Database) (trees : Trees) → LeftCarried old trees → ShowsOlder L old → LeftShows (ShowsLedger L) trees × LeftOthers old trees
 left_carried L old trees kept shown =
     let is : kept.0 ≡ shown.0 = same_layout kept.0 shown.0 (tells_old shown.0 L old shown.1 (Some (number_of kept.0)) kept.1) in
     let here : ShowsIn (number_of kept.0) L old = subst (λ (f : OldLayout). ShowsIn (number_of f) L old) (sym is) shown.1 in
-    let it = kept.2 _ here.holds in
-    (it.0, it.1, upgraded_shows kept.0 L (record { schema = it.0; trees = trees }) here.sound here.unmarked it.2)
+    let led = kept.2 _ here.holds in
+    let it = led.0 in
+    ((it.0, it.1, upgraded_shows kept.0 L (record { schema = it.0; trees = trees }) here.sound here.unmarked it.2), led.1)
 
 new_left : (L : Ledger) (trees : Trees) → L ≡ [] → LeftHolds trees new_store → LeftShows (ShowsLedger L) trees
 new_left L trees none left = (left.0, left.1, new_shown L (record { schema = left.0; trees = trees }) none left.2)
 
-left_shown : (L : Ledger) (old : Database) (trees : Trees) → StoreShows L old → MayAdopt old trees → LeftShows (ShowsLedger L) trees
+left_shown : (L : Ledger) (old : Database) (trees : Trees) → StoreShows L old → MayAdopt old trees → LeftShows (ShowsLedger L) trees × LeftOthers old trees
 left_shown L old trees (inl shown) (inl made) = let it = as_older L old shown in never_both old.schema (named (number_of it.0) L old it.1) made.0
 left_shown L old trees (inl shown) (inr kept) = left_carried L old trees kept.1 (as_older L old shown)
 left_shown L old trees (inr (inl shown)) (inl made) = never_both old.schema (named (number_of shown.0) L old shown.1) made.0
 left_shown L old trees (inr (inl shown)) (inr kept) = left_carried L old trees kept.1 shown
-left_shown L old trees (inr (inr is)) (inl made) = new_left L trees is.0 made.1
+left_shown L old trees (inr (inr is)) (inl made) = (new_left L trees is.0 made.1, made.2)
 left_shown L old trees (inr (inr is)) (inr kept) = never_both old.schema kept.0 is.1
 
 -- a store that shows a ledger is ours, and not newer
@@ -198,7 +203,7 @@ module _ {S : Type 0} (g : Ghosts S) where
   unfolding ConnAt TablesAt
   adopted L old tables works law at made =
       let ready = made at.is_open in
-      let shown = ready_shown L (state g old) (state g tables.conn) at.shown ready in
+      let shown = (ready_shown L (state g old) (state g tables.conn) at.shown ready).0 in
       (works, at_open (ShowsLedger L) (state g tables.conn) law ready.is_open ready.ended (sym ready.same) shown.1.sound shown)
 
   -- ---- it was not
@@ -213,7 +218,7 @@ module _ {S : Type 0} (g : Ghosts S) where
   unfolding ConnAt ConnLeaves FilesShow
   leaves L old new at clean survives files may = elim (survives.crash clean files may) [
     | inl was ↦ at.left files was
-    | inr adopts ↦ left_store L files (left_shown L (state g old).now files at.shown adopts)
+    | inr adopts ↦ left_store L files (left_shown L (state g old).now files at.shown adopts).0
   ]
 
   shows_at : (L : Ledger) (old : Held S) → ConnAt g old L → StoreShows L (state g old).now × IsTrue (state g old).is_open
@@ -254,6 +259,19 @@ module _ {S : Type 0} (g : Ghosts S) where
     committed = it.0.committed;
     left = λ trees may. law trees it.0.is_open may ∙ ap (λ (db : Database). db.trees) (it.0.committed ∙ sym it.1);
   }
+
+  -- ---- the tables of others
+
+  pub others_stay : (L : Ledger) (old new : Held S) → ConnAt g old L → (IsTrue (state g old).is_open → IsReady (state g old) (state g new)) → OthersStay g old new
+  unfolding ConnAt OthersStay
+  others_stay L old new at made = (ready_shown L (state g old) (state g new) at.shown (made at.is_open)).1
+
+  pub others_left : (L : Ledger) (old new : Held S) → IsSettled g old → ConnAt g old L → HasCleanDisk (state g new) → Survives (state g old) (state g new) (MayAdopt (state g old).now) → OthersLeft g old new
+  unfolding ConnAt OthersLeft
+  others_left L old new law at clean survives files may = elim (survives.crash clean files may) [
+    | inl was ↦ (at_open (KeepsOthers (state g old).now) (state g old) law at.is_open at.autocommit at.settled at.sound (others_none (state g old).now)).left files was
+    | inr adopts ↦ (left_shown L (state g old).now files at.shown adopts).1
+  ]
 
   -- ---- the disk
 

@@ -117,6 +117,6 @@ module _ (from : OldLayout) (L : Ledger) (old new : State) (at : StandsAt (Shows
   left_in_either clean survives trees may = elim (survives.crash clean trees may) [
     | inl was ↦ inl (at.left trees was)
     | inr made ↦
-        let it = made at.is_open (all_contents_of (number_of from) (all_rows_of L)) at.shown.holds in
+        let it = (made at.is_open (all_contents_of (number_of from) (all_rows_of L)) at.shown.holds).0 in
         inr (it.0, it.1, upgraded_shows from L (record { schema = it.0; trees = trees }) at.shown.sound at.shown.unmarked it.2)
   ]

@@ -5,12 +5,14 @@ use Rattle.sqlite.specs.Effect.{Database}
 use Rattle.sqlite.specs.Schema.{Schema}
 use Rattle.sqlite_schema.specs.Names.{view_named}
 use Rattle.sqlite.specs.State.{State}
+use Rattle.sqlite.specs.Held.{Held}
 use Rattle.sqlite_trees.specs.declared.store.Store.{Ghosts}
 use Rattle.portal_ledger.specs.Ledger.{Ledger}
 use Rattle.portal_rows.specs.Contents.{Contents}
 use Rattle.portal_layouts.specs.Creates.{new_store}
 use Rattle.portal_rows.specs.Holds.{Holds, HoldsIn, LeftHolds, this_layout}
 use Rattle.portal_rows.specs.Layout.{head_name}
+use Rattle.portal_rows.specs.Others.{KeepsOthers, LeftOthers}
 use Rattle.portal_layouts.specs.Layouts.{TellsLayout}
 use Rattle.portal_layouts.specs.Brings.{number_of, upgraded}
 use Rattle.portal_layouts.specs.declared.layouts.OldLayout.{OldLayout}
@@ -18,8 +20,9 @@ use Rattle.portal_layouts.specs.declared.layouts.OldLayout.TheVariants.{Fourth}
 use Rattle.portal_tables.specs.declared.fault.OpenFault.{OpenFault}
 use Rattle.portal_tables.specs.declared.fault.OpenFault.TheVariants.{NotOurs, Newer, Memory, Store}
 use Rattle.portal_tables.specs.declared.adopt.Refused.{Refused}
+use Rattle.portal_tables.specs.declared.tables.Tables.{Tables}
 use Rattle.portal_tables.specs.Stores.{IsBare, IsNamed}
-use Rattle.portal_tables.specs.TablesAt.{ConnAt, ConnLeaves}
+use Rattle.portal_tables.specs.TablesAt.{ConnAt, ConnLeaves, OthersLeft, OthersStay}
 
 -- ---- by what stands there
 
@@ -66,28 +69,29 @@ IsExact told Store = Unit {0}
 -- a store of this version's layout has its index, and all is committed
 pub record IsCompleted (old new : State) : Type 0 where
   pub holds : ((t : Contents) → HoldsIn this_layout false old.now t → Holds new.now t) ⊎ ((t : Contents) → HoldsIn this_layout false old.now t → Holds new.now (upgraded Fourth t))
+  pub others : (t : Contents) → HoldsIn this_layout false old.now t → KeepsOthers old.now new.now
   pub is_open : IsTrue new.is_open
   pub ended : new.in_transaction ≡ false
   pub same : new.committed ≡ new.now
 
--- the rows of our tables stay in this version's layout
+-- the rows of our tables stay in this version's layout, and those of the tables of others as they were
 abbrev pub Stays : Database → Database → Type 0
-Stays db after = TellsLayout db (Some this_layout) × ((t : Contents) → HoldsIn this_layout false db t → Holds after t)
+Stays db after = TellsLayout db (Some this_layout) × ((t : Contents) → HoldsIn this_layout false db t → Holds after t × KeepsOthers db after)
 
--- those of an older layout, or of this one without its index, are brought to it
+-- those of an older layout, or of this one without its index, are brought to it, and those of others stay
 abbrev pub IsBrought : Database → Database → Type 0
-IsBrought db after = (from : OldLayout) × TellsLayout db (Some (number_of from)) × ((t : Contents) → HoldsIn (number_of from) false db t → Holds after (upgraded from t))
+IsBrought db after = (from : OldLayout) × TellsLayout db (Some (number_of from)) × ((t : Contents) → HoldsIn (number_of from) false db t → Holds after (upgraded from t) × KeepsOthers db after)
 
 abbrev pub Carries : Database → Database → Type 0
 Carries db after = Stays db after ⊎ IsBrought db after
 
 -- the same of trees that a stop leaves
 abbrev pub LeftCarried : Database → Trees → Type 0
-LeftCarried db trees = (from : OldLayout) × TellsLayout db (Some (number_of from)) × ((t : Contents) → HoldsIn (number_of from) false db t → LeftHolds trees (upgraded from t))
+LeftCarried db trees = (from : OldLayout) × TellsLayout db (Some (number_of from)) × ((t : Contents) → HoldsIn (number_of from) false db t → LeftHolds trees (upgraded from t) × LeftOthers db trees)
 
 -- what a stop may leave beside what it could leave before: a new store where there was none, or the rows that were there
 abbrev pub MayAdopt : Database → Trees → Type 0
-MayAdopt db trees = (IsBare db.schema × LeftHolds trees new_store) ⊎ (IsNamed db.schema × LeftCarried db trees)
+MayAdopt db trees = (IsBare db.schema × LeftHolds trees new_store × LeftOthers db trees) ⊎ (IsNamed db.schema × LeftCarried db trees)
 
 -- the rows of our tables were carried over, and all is committed
 pub record IsCarried (old new : State) : Type 0 where
@@ -98,7 +102,7 @@ pub record IsCarried (old new : State) : Type 0 where
 
 -- the tables are ready: new ones where there were none, or with the rows that were there, committed
 pub record IsReady (old new : State) : Type 0 where
-  pub holds : (IsBare old.now.schema × Holds new.now new_store) ⊎ (IsNamed old.now.schema × Carries old.now new.now)
+  pub holds : (IsBare old.now.schema × Holds new.now new_store × KeepsOthers old.now new.now) ⊎ (IsNamed old.now.schema × Carries old.now new.now)
   pub is_open : IsTrue new.is_open
   pub ended : new.in_transaction ≡ false
   pub same : new.committed ≡ new.now
@@ -110,6 +114,10 @@ pub record IsKept (old new : State) : Type 0 where
   pub now : new.now ≡ old.now
   pub committed : new.committed ≡ old.committed
   pub left : (trees : Trees) → new.may_leave trees → trees ≡ old.now.trees
+
+-- tables that took over a connection kept the tables of others: in the store, and in what a stop may leave
+abbrev pub OthersTaken : {S : Type 0} → Ghosts S → Held S → Tables S → Type 0
+OthersTaken g old new = OthersStay g old new.conn × OthersLeft g old new.conn
 
 -- a store that shows the ledger was not adopted: want of memory changed nothing, and after any other fault its files still show the ledger
 abbrev pub FailsToAdopt : {S : Type 0} → Ghosts S → Ledger → Refused S → Type 0

@@ -6,6 +6,7 @@ ghost use Rattle.sqlite.specs.State.{HasCleanDisk, IsUnchanged, Survives};
 ghost use Rattle.portal_sql.specs.States.{IsAsBefore};
 ghost use Rattle.portal_layouts.specs.Creates.{IsCommitted, new_store};
 ghost use Rattle.portal_rows.specs.Holds.{Holds, LeftHolds};
+ghost use Rattle.portal_rows.specs.Others.{KeepsOthers, LeftOthers};
 ghost use Rattle.portal_layouts.specs.Layouts.{TellsLayout};
 ghost use Rattle.portal_layouts.specs.Brings.{MayUpgrade};
 ghost use Rattle.portal_layouts.specs.declared.layouts.OldLayout.TheVariants.{Fourth};
@@ -52,10 +53,10 @@ fn read_layout<S: Alter>(conn: &mut Connection<S>) -> Result<Option<u64>, OpenFa
 /// Makes the tables in a store that has none of them.
 fn start<S: Alter>(conn: &mut Connection<S>) -> Result<(), OpenFault>
     requires { conn.old.in_transaction ≡ false }
-    ensures made { HasCleanDisk (state S.Store conn.new) → OnOk result (Holds (state S.Store conn.new).now new_store × IsCommitted (state S.Store conn.new)) }
+    ensures made { HasCleanDisk (state S.Store conn.new) → OnOk result (Holds (state S.Store conn.new).now new_store × KeepsOthers (state S.Store conn.old).now (state S.Store conn.new).now × IsCommitted (state S.Store conn.new)) }
     ensures faults { IfErr result (λ fault. (fault ≡ Memory) ⊎ (fault ≡ Store)) }
     ensures memory { HasCleanDisk (state S.Store conn.new) → IfErr result (λ fault. fault ≡ Memory → IsAsBefore (state S.Store conn.old) (state S.Store conn.new)) }
-    ensures crash { Survives (state S.Store conn.old) (state S.Store conn.new) (λ trees. LeftHolds trees new_store) }
+    ensures crash { Survives (state S.Store conn.old) (state S.Store conn.new) (λ trees. LeftHolds trees new_store × LeftOthers (state S.Store conn.old).now trees) }
 {
     if !is_room(conn.schema()) {
         return Err(OpenFault::Store);

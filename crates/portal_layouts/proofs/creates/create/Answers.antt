@@ -2,9 +2,10 @@ use Rattle.std.proofs.Common.{◌≡◌, subst, arith, rules}
 use Rattle.sqlite.specs.Held.{state}
 use Rattle.sqlite.specs.State.{HasCleanDisk, Survives}
 use Rattle.portal_rows.specs.Holds.{Holds}
+use Rattle.portal_rows.specs.Others.{KeepsOthers}
 use Rattle.portal_sql.specs.States.{IsUndone}
 use Rattle.portal_layouts.specs.Creates.{new_store, MayBuild, IsCommitted}
-use Rattle.portal_layouts.proofs.CreateLemmas.{built_done, built_crash, built_undone, committed_by}
+use Rattle.portal_layouts.proofs.CreateLemmas.{built_done, built_others, built_crash, built_undone, committed_by}
 use Rattle.portal_sql.proofs.Frame.{on_err}
 use Rattle.portal_layouts.proofs.creates.create.Goals as goal
 
@@ -16,6 +17,16 @@ returns-clause-made g c clean free =
     let late : HasCleanDisk (state g.S.Store end) = search rules in
     subst (λ h. Holds (state g.S.Store h).now new_store) same
     (built_done g.S.Store c.args.conn.now c.transaction-tx.result.conn.now last end c.transaction-tx.ensures.begun
+    (λ still inside room. c.in_ok-create_inside.ensures.builds still inside room) (omega (arith, c.commit.ensures.survives.clean)) (c.in_ok-commit.ensures.ok late).1 free)
+
+pub returns-clause-others : goal.returns-clause-others
+returns-clause-others g c clean free =
+    let last = c.create_inside.new.tx.conn.now in
+    let end = c.commit.new.self.0 in
+    let same : end ≡ c.conn-2-1.given.0 = search rules in
+    let late : HasCleanDisk (state g.S.Store end) = search rules in
+    subst (λ h. KeepsOthers (state g.S.Store c.args.conn.now).now (state g.S.Store h).now) same
+    (built_others g.S.Store c.args.conn.now c.transaction-tx.result.conn.now last end c.transaction-tx.ensures.begun
     (λ still inside room. c.in_ok-create_inside.ensures.builds still inside room) (omega (arith, c.commit.ensures.survives.clean)) (c.in_ok-commit.ensures.ok late).1 free)
 
 pub returns-clause-crash : goal.returns-clause-crash

@@ -1,7 +1,10 @@
+use Rattle.sqlite.specs.Held.{state}
+use Rattle.portal_rows.specs.Layout.{requests}
 use Rattle.portal_layouts.proofs.BesideLemmas.{asked}
+use Rattle.portal_layouts.proofs.OthersLemmas.{others_made}
 use Rattle.portal_layouts.proofs.migrates.make_asked.Goals as goal
 
 pub returns-clause-steps : goal.returns-clause-steps
 returns-clause-steps g c clean inside room had =
     let one = c.in_ok-make_requests.ensures.made clean inside room.numbered in
-    record { holds = asked _ _ room one.0 had; committed = one.2.committed_is; mode = one.2.mode }
+    record { holds = asked _ _ room one.0 had; others = λ t h. others_made (state g.S.Store c.args.tx.now.conn.now).now (requests 0) (state g.S.Store c.make_requests.new.tx.conn.now).now one.0; committed = one.2.committed_is; mode = one.2.mode }

@@ -15,6 +15,7 @@ returns-clause-done g c clean =
     let done = c.in_ok-bring.ensures.done clean in
     record {
       holds = λ _ t h. done.holds room t (as_indexed c.is_indexed-has_index.result (number_of c.args.from) (state g.S.Store c.args.conn.now).now t law h);
+      others = λ _ t h. done.others room t (as_indexed c.is_indexed-has_index.result (number_of c.args.from) (state g.S.Store c.args.conn.now).now t law h);
       committed = done.committed;
       ended = done.ended;
       is_open = done.is_open;

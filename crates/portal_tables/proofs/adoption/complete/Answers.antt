@@ -3,15 +3,16 @@ use Rattle.sqlite.specs.Held.{state}
 use Rattle.sqlite.specs.Schema.{Schema}
 use Rattle.portal_rows.specs.Holds.{Places, Stand, this_layout}
 use Rattle.portal_layouts.proofs.IndexedLemmas.{as_indexed}
+use Rattle.portal_rows.proofs.OthersLemmas.{others_none}
 use Rattle.portal_tables.proofs.adoption.complete.Goals as goal
 
 pub returns-then-is_indexed-clause-done : goal.returns-then-is_indexed-clause-done
 returns-then-is_indexed-clause-done g c clean live settled =
     let old = state g.S.Store c.args.conn.now in
     let law = subst (λ (s : Schema). (layout : ℕ) (places : Places) → Stand layout false s places → Stand layout true s places) c.schema-2.ensures.value (c.is_indexed.ensures.index c.if-is_indexed.true) in
-    record { holds = inl (λ t h. as_indexed true this_layout old.now t (λ _. law) h); is_open = live; ended = c.requires; same = sym settled }
+    record { holds = inl (λ t h. as_indexed true this_layout old.now t (λ _. law) h); others = λ t h. others_none old.now; is_open = live; ended = c.requires; same = sym settled }
 
 pub returns-clause-done : goal.returns-clause-done
 returns-clause-done g c clean live settled =
     let did = c.in_ok-upgrade.ensures.done clean live in
-    record { holds = inr did.holds; is_open = did.is_open; ended = did.ended; same = did.committed }
+    record { holds = inr did.holds; others = did.others; is_open = did.is_open; ended = did.ended; same = did.committed }

@@ -1,9 +1,25 @@
-use Rattle.std.proofs.Common.{inr, sym, subst, ◌∙◌}
+use Rattle.std.proofs.Common.{inl, inr, sym, subst, ◌∙◌}
 use Rattle.sqlite.proofs.StateLemmas.{survives_weaker}
-use Rattle.portal_tables.specs.Stores.{IsNamed}
+use Rattle.portal_tables.specs.Stores.{IsBare, IsNamed}
 use Rattle.portal_tables.proofs.adoption.make_ready.Goals as goal
 
 pub returns-in_ok-resume-clause-crash : goal.returns-in_ok-resume-clause-crash
 returns-in_ok-resume-clause-crash g c =
     let named = subst IsNamed c.schema.ensures.value (sym c.is_any_named.ensures ∙ c.if-is_any_named.true) in
     survives_weaker _ _ _ _ (λ _ db carried. inr (named, carried)) c.resume.ensures.crash
+
+pub returns-in_ok-start-clause-ready : goal.returns-in_ok-start-clause-ready
+returns-in_ok-start-clause-ready g c clean live =
+    let bare = subst IsBare c.schema.ensures.value (sym c.is_any_named.ensures ∙ c.if-is_any_named.false) in
+    let made = c.in_ok-start.ensures.made clean in
+    record { holds = inl (bare, made.0, made.1); is_open = made.2.is_open; ended = made.2.ended; same = made.2.same }
+
+pub returns-in_ok-start-clause-crash : goal.returns-in_ok-start-clause-crash
+returns-in_ok-start-clause-crash g c =
+    let bare = subst IsBare c.schema.ensures.value (sym c.is_any_named.ensures ∙ c.if-is_any_named.false) in
+    survives_weaker _ _ _ _ (λ _ db made. inl (bare, made.0, made.1)) c.start.ensures.crash
+
+pub returns-in_err-start-clause-crash : goal.returns-in_err-start-clause-crash
+returns-in_err-start-clause-crash g c =
+    let bare = subst IsBare c.schema.ensures.value (sym c.is_any_named.ensures ∙ c.if-is_any_named.false) in
+    survives_weaker _ _ _ _ (λ _ db made. inl (bare, made.0, made.1)) c.start.ensures.crash

@@ -5,6 +5,7 @@ use Rattle.sqlite.proofs.StateLemmas.{survives_weaker, survives_then}
 use Rattle.portal_sql.proofs.HarmlessLemmas.{as_before}
 use Rattle.portal_layouts.specs.Creates.{IsFree, new_store}
 use Rattle.portal_rows.specs.Holds.{LeftHolds}
+use Rattle.portal_rows.specs.Others.{LeftOthers}
 use Rattle.portal_layouts.proofs.FreeLemmas.{free_is}
 use Rattle.portal_tables.proofs.adoption.start.Goals as goal
 
@@ -12,7 +13,7 @@ pub returns-in-Ok-clause-made : goal.returns-in-Ok-clause-made
 returns-in-Ok-clause-made g c clean =
     let roomy : IsTrue c.is_room.result = search rules in
     let free = subst IsFree c.schema.ensures.value (free_is c.schema.result.now (sym c.is_room.ensures ∙ roomy)) in
-    (c.in-Ok.ensures.made clean free, c.in-Ok.ensures.committed clean)
+    (c.in-Ok.ensures.made clean free, c.in-Ok.ensures.others clean free, c.in-Ok.ensures.committed clean)
 
 pub returns-in-Ok-clause-crash : goal.returns-in-Ok-clause-crash
 returns-in-Ok-clause-crash g c =
@@ -31,5 +32,5 @@ pub returns-in-Err-clause-crash : goal.returns-in-Err-clause-crash
 returns-in-Err-clause-crash g c =
     let roomy : IsTrue c.is_room.result = search rules in
     let free = subst IsFree c.schema.ensures.value (free_is c.schema.result.now (sym c.is_room.ensures ∙ roomy)) in
-    survives_then (state g.S.Store c.args.conn.now) (state g.S.Store c.create.new.conn) (state g.S.Store c.told.new.conn) _ _ (λ trees. LeftHolds trees new_store)
+    survives_then (state g.S.Store c.args.conn.now) (state g.S.Store c.create.new.conn) (state g.S.Store c.told.new.conn) _ _ (λ trees. LeftHolds trees new_store × LeftOthers (state g.S.Store c.args.conn.now).now trees)
     (λ _ db may. may free) (λ _ db none. absurd none) c.create.ensures.crash c.told.ensures.survives

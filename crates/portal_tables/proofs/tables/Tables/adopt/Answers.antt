@@ -2,11 +2,11 @@ use Rattle.std.proofs.Common.{◌≡◌, ◌≤◌, ℕ, Some, false, sym, subst
 use Rattle.sqlite.specs.Held.{state}
 use Rattle.portal_tables.specs.declared.adopt.Refused.{Refused}
 use Rattle.portal_tables.specs.declared.tables.Tables.{Tables}
-use Rattle.portal_tables.specs.Adopting.{IsKnown}
+use Rattle.portal_tables.specs.Adopting.{IsKnown, OthersTaken}
 use Rattle.portal_rows.specs.Holds.{this_layout}
 use Rattle.portal_ledger.specs.States.{running}
 use Rattle.portal_tables.specs.TablesAt.{IsHonest, ConnIsHonest, TablesAt}
-use Rattle.portal_tables.proofs.AdoptedLemmas.{adopted, exact_known, exact_why, refused, spares, kept_by, conn_honest, conn_clean, tables_honest, tables_clean}
+use Rattle.portal_tables.proofs.AdoptedLemmas.{adopted, exact_known, exact_why, others_left, others_stay, refused, spares, kept_by, conn_honest, conn_clean, tables_honest, tables_clean}
 use Rattle.portal_tables.proofs.tables.Tables.adopt.Goals as goal
 
 pub returns-in-Ok-clause-honest : goal.returns-in-Ok-clause-honest
@@ -19,6 +19,20 @@ returns-in-Ok-clause-adopted g c h at =
     let tables : Tables g.row.S.Denot = record { conn = c.make_ready.new.conn; is_stopped = false } in
     subst (λ (t : Tables g.row.S.Denot). IsHonest g.S.Store t → TablesAt g.S.Store t (running h)) (sym c.new.ensures)
     (λ honest. adopted g.S.Store h c.args.conn tables refl (λ db. g.met.S.Store.settled tables.conn.store db) at (λ live. c.in-Ok.ensures.ready (tables_clean g.S.Store tables honest) live))
+
+pub returns-in-Ok-clause-others : goal.returns-in-Ok-clause-others
+returns-in-Ok-clause-others g c h at =
+    let old = c.args.conn in
+    let tables : Tables g.row.S.Denot = record { conn = c.make_ready.new.conn; is_stopped = false } in
+    subst (λ (t : Tables g.row.S.Denot). IsHonest g.S.Store t → OthersTaken g.S.Store old t) (sym c.new.ensures)
+    (λ honest. let clean = tables_clean g.S.Store tables honest in
+    (others_stay g.S.Store h old tables.conn at (λ live. c.in-Ok.ensures.ready clean live), others_left g.S.Store h old tables.conn (λ db. g.met.S.Store.settled old.store db) at clean c.make_ready.ensures.crash))
+
+pub returns-in-Err-clause-others : goal.returns-in-Err-clause-others
+returns-in-Err-clause-others g c h at honest =
+    let old = c.args.conn in
+    let new = c.make_ready.new.conn in
+    others_left g.S.Store h old new (λ db. g.met.S.Store.settled old.store db) at (conn_clean g.S.Store new honest) c.make_ready.ensures.crash
 
 pub returns-in-Ok-clause-why : goal.returns-in-Ok-clause-why
 returns-in-Ok-clause-why g c =
