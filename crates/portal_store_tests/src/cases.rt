@@ -263,21 +263,13 @@ fn takings_local_day(rt: HostRuntime) -> Result<(), Fail> {
 }
 
 const A1: Numbered = Numbered {
-    guest: Some(FIRST_DEVICE),
     number: "a1",
     body: "{\"code\":\"2222-2222-223N\"}",
 };
 
 const A1_ANOTHER: Numbered = Numbered {
-    guest: Some(FIRST_DEVICE),
     number: "a1",
     body: "{\"code\":\"2222-2222-2222\"}",
-};
-
-const A1_OF_SECOND: Numbered = Numbered {
-    guest: Some(SECOND_DEVICE),
-    number: "a1",
-    body: "{\"code\":\"2222-2222-223N\"}",
 };
 
 /// A numbered redemption acts once, and a number is its caller's own. One that was refused is free.
@@ -324,7 +316,7 @@ const NUMBERED_AGAIN: &[Step] = &[
     ),
     Step::Send(
         3000,
-        A1_OF_SECOND,
+        A1,
         Order::Redeem(LAST_ONE_CODE, SECOND_DEVICE),
         Reply::Opened(2, 1),
     ),

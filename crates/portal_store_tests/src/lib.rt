@@ -1,9 +1,11 @@
-//! Tests of the desk over real stores, in memory and over files that are closed and opened again, by the cases that the
-//! desk is described with.
+//! Tests of the desk over real stores, in memory and over files that are closed or stopped and opened again, by the
+//! cases that the desk is described with.
 #![tactic(auto)]
 
 #[cfg(test)]
 mod cases;
+#[cfg(test)]
+mod jobs;
 #[cfg(test)]
 mod kept;
 #[cfg(test)]
@@ -11,7 +13,15 @@ mod orders;
 #[cfg(test)]
 mod place;
 #[cfg(test)]
+mod script;
+#[cfg(test)]
+mod sql;
+#[cfg(test)]
 mod steps;
+#[cfg(test)]
+mod stopped;
+#[cfg(test)]
+mod stops;
 #[cfg(test)]
 mod told;
 #[cfg(test)]

@@ -26,10 +26,9 @@ pub enum Order {
     Close(u64),
 }
 
-/// The number of a request, and its body. A guest is told by the device; the others are the desk.
+/// The number of a request, and its body.
 #[derive(Clone, Copy)]
 pub struct Numbered {
-    pub guest: Option<&'static str>,
     pub number: &'static str,
     pub body: &'static str,
 }
@@ -91,19 +90,36 @@ pub fn command(alloc: Global, order: Order) -> Result<Command, Trouble>
     }
 }
 
-/// The mark of a request for a redemption or a sale.
-pub fn mark(alloc: Global, numbered: Numbered) -> Result<RequestMark, Trouble> {
+/// Who sends the command.
+fn caller(order: Order) -> Result<Caller, Trouble> {
+    Ok(match order {
+        Order::Redeem(_, guest) => Caller::Guest(device(guest)?),
+        Order::Report(_, _) => Caller::Gateway,
+        _ => Caller::Desk,
+    })
+}
+
+fn path(order: Order) -> &'static str {
+    match order {
+        Order::Plans(_) => "/desk/plans",
+        Order::Issue(_, _, _) => "/desk/batches",
+        Order::Sell(_) => "/desk/sales",
+        Order::Redeem(_, _) => "/portal/redeem",
+        Order::Report(_, _) => "/gateway/reports",
+        Order::Refund(_) => "/desk/refunds",
+        Order::Close(_) => "/desk/closes",
+    }
+}
+
+/// The mark of the request for the command.
+pub fn mark(alloc: Global, numbered: Numbered, order: Order) -> Result<RequestMark, Trouble> {
     let number = RequestNumber::read(numbered.number).ok_or(Trouble::BadValue)?;
-    let (caller, path) = match numbered.guest {
-        Some(text) => (Caller::Guest(device(text)?), "/portal/redeem"),
-        None => (Caller::Desk, "/desk/sales"),
-    };
     Ok(RequestMark::new(
         alloc,
-        caller,
+        caller(order)?,
         number,
         "POST",
-        path,
+        path(order),
         numbered.body.as_bytes(),
     )?)
 }

@@ -2,9 +2,10 @@
 //! again.
 //!
 //! Only the functions of this file name a connection over a store of one kind.
-use crate::steps::{Step, run};
-use sqlite::{Connection, Files, Options};
-use sqlite_disk::{Disk, Memory};
+use crate::jobs::{Job, run};
+use crate::steps::Step;
+use crate::stopped::InFiles;
+use sqlite::Connection;
 use std::alloc::Global;
 use std::process::Abort;
 use std::test::Fail;
@@ -18,7 +19,8 @@ pub fn in_memory(
 ) -> Result<(), Fail> {
     let mut conn = Connection::open_in_memory(alloc)?;
     for steps in groups {
-        conn = run(rt, alloc, conn, settings, steps)?;
+        let (after, _told) = run(rt, alloc, conn, settings, Job::Steps(steps))?;
+        conn = after;
     }
     Ok(())
 }
@@ -32,35 +34,10 @@ pub fn in_memory_anew(
 ) -> Result<(), Fail> {
     let mut conn = Connection::open_in_memory(alloc)?;
     for step in steps {
-        conn = run(rt, alloc, conn, settings, &[*step])?;
+        let (after, _told) = run(rt, alloc, conn, settings, Job::Steps(&[*step]))?;
+        conn = after;
     }
     Ok(())
-}
-
-/// The files after a desk over them took the steps.
-fn visited(
-    rt: &impl Abort,
-    alloc: Global,
-    files: Files<Memory>,
-    settings: &str,
-    steps: &[Step],
-) -> Result<Files<Memory>, Fail> {
-    if !files.may_be_used() {
-        return Err("the files may not be used".into());
-    }
-    match Connection::open_files(alloc, files, Options::new(1)) {
-        Ok(conn) => match run(rt, alloc, conn, settings, steps)?.close_files() {
-            Ok(files) => Ok(files),
-            Err((error, store)) => {
-                drop(store.close());
-                Err(error.into())
-            }
-        },
-        Err((error, left)) => {
-            drop(left.into_files());
-            Err(error.into())
-        }
-    }
 }
 
 /// The same over new files, which are closed after each group and opened again.
@@ -70,12 +47,9 @@ pub fn in_files(
     settings: &str,
     groups: &[&[Step]],
 ) -> Result<(), Fail> {
-    let mut files = Files {
-        log: Memory::new(alloc),
-        db: Memory::new(alloc),
-    };
+    let mut files = InFiles::new(alloc);
     for steps in groups {
-        files = visited(rt, alloc, files, settings, steps)?;
+        drop(files.visit(rt, settings, Job::Steps(steps))?);
     }
     Ok(())
 }

@@ -4,11 +4,10 @@ use crate::told::{Guest, Open, Reply, captive, open_list, wanted};
 use crate::values::{Trouble, code, device, id, moment};
 use portal_days::{Day, DayRange, DayTakings};
 use portal_desk::Desk;
-use portal_files::{Settings, read_settings};
+use portal_model::change::Answer;
 use portal_model::refusal::Refusal;
 use portal_store::StoreDesk;
-use portal_tables::adopt::Refused;
-use sqlite::{Alter, Connection};
+use sqlite::Alter;
 use std::alloc::Global;
 use std::process::Abort;
 use std::test::Fail;
@@ -47,31 +46,39 @@ pub enum Step {
     Audit,
 }
 
-fn check_act<S: Alter>(
-    rt: &impl Abort,
+/// What a command is answered.
+pub fn outcome_of<S: Alter>(
     alloc: Global,
     desk: &mut StoreDesk<S>,
-    at: u64,
-    order: Order,
-    reply: Reply,
-) -> Result<(), Fail> {
-    let outcome = desk.act(alloc, moment(at)?, command(alloc, order)?);
-    assert_eq!(rt; outcome, wanted(reply)?);
-    Ok(())
+    step: Step,
+) -> Result<Result<Answer, Refusal>, Trouble> {
+    match step {
+        Step::Act(at, order, _) => Ok(desk.act(alloc, moment(at)?, command(alloc, order)?)),
+        Step::Send(at, numbered, order, _) => {
+            let mark = mark(alloc, numbered, order)?;
+            let command = command(alloc, order)?;
+            Ok(desk.act_marked(alloc, moment(at)?, command, &mark))
+        }
+        _ => Err(Trouble::BadValue),
+    }
 }
 
-fn check_send<S: Alter>(
+/// What a command is to be answered.
+pub fn wanted_of(step: Step) -> Result<Result<Answer, Refusal>, Trouble> {
+    match step {
+        Step::Act(_, _, reply) | Step::Send(_, _, _, reply) => wanted(reply),
+        _ => Err(Trouble::BadValue),
+    }
+}
+
+fn check_sent<S: Alter>(
     rt: &impl Abort,
     alloc: Global,
     desk: &mut StoreDesk<S>,
-    at: u64,
-    numbered: Numbered,
-    order: Order,
-    reply: Reply,
+    step: Step,
 ) -> Result<(), Fail> {
-    let mark = mark(alloc, numbered)?;
-    let outcome = desk.act_marked(alloc, moment(at)?, command(alloc, order)?, &mark);
-    assert_eq!(rt; outcome, wanted(reply)?);
+    let outcome = outcome_of(alloc, desk, step)?;
+    assert_eq!(rt; outcome, wanted_of(step)?);
     Ok(())
 }
 
@@ -157,10 +164,7 @@ fn take_step<S: Alter>(
     step: Step,
 ) -> Result<(), Fail> {
     match step {
-        Step::Act(at, order, reply) => check_act(rt, alloc, desk, at, order, reply),
-        Step::Send(at, numbered, order, reply) => {
-            check_send(rt, alloc, desk, at, numbered, order, reply)
-        }
+        Step::Act(_, _, _) | Step::Send(_, _, _, _) => check_sent(rt, alloc, desk, step),
         Step::State(at, device_text, guest) => {
             let told = desk.state(moment(at)?, device(device_text)?)?;
             assert_eq!(rt; told, captive(guest));
@@ -187,7 +191,8 @@ fn take_step<S: Alter>(
     }
 }
 
-fn take_all<S: Alter>(
+/// The desk takes the steps, and does not stop.
+pub fn take_all<S: Alter>(
     rt: &impl Abort,
     alloc: Global,
     desk: &mut StoreDesk<S>,
@@ -199,36 +204,4 @@ fn take_all<S: Alter>(
     }
     assert!(rt; !desk.is_stopped());
     Ok(())
-}
-
-fn adopted<S: Alter + Drop>(conn: Connection<S>, settings: Settings) -> Result<StoreDesk<S>, Fail> {
-    match StoreDesk::adopt(conn, settings) {
-        Ok(desk) => Ok(desk),
-        Err(Refused { fault, connection }) => {
-            drop(connection);
-            Err(fault.into())
-        }
-    }
-}
-
-/// A desk over the connection's store takes the steps, and the connection is handed back.
-pub fn run<S: Alter + Drop>(
-    rt: &impl Abort,
-    alloc: Global,
-    conn: Connection<S>,
-    settings: &str,
-    steps: &[Step],
-) -> Result<Connection<S>, Fail> {
-    let settings = match read_settings(alloc, settings.as_bytes()) {
-        Ok(settings) => settings,
-        Err(fault) => {
-            drop(conn);
-            return Err(fault.into());
-        }
-    };
-    let mut desk = adopted(conn, settings)?;
-    let outcome = take_all(rt, alloc, &mut desk, steps);
-    let conn = desk.release();
-    outcome?;
-    Ok(conn)
 }

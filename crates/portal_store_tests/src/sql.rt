@@ -1,0 +1,44 @@
+//! What stands in a store, read by SQL beside the desk.
+use sqlite::{Alter, Connection};
+use std::alloc::Global;
+use std::test::Fail;
+
+/// Adds each row that the query answers to the text.
+fn write_rows<S: Alter>(
+    conn: &mut Connection<S>,
+    sql: &str,
+    whole: &mut String,
+) -> Result<(), Fail> {
+    for row in conn.query_all(sql, &[])? {
+        writeln!(whole, "{row:?}")?;
+    }
+    Ok(())
+}
+
+/// The names of the tables of a store, in order.
+fn tables<S: Alter>(alloc: Global, conn: &mut Connection<S>) -> Result<Vec<String>, Fail> {
+    let mut names = Vec::new(alloc);
+    for row in conn.query_all(
+        "SELECT name FROM sqlite_master WHERE type = 'table' ORDER BY name",
+        &[],
+    )? {
+        names.push(row.get(0)?)?;
+    }
+    Ok(names)
+}
+
+/// All that stands in a store: what its tables, indexes and views were made of, and each row of each table.
+pub fn whole<S: Alter>(alloc: Global, conn: &mut Connection<S>) -> Result<String, Fail> {
+    let mut whole = String::new(alloc);
+    write_rows(
+        conn,
+        "SELECT type, name, sql FROM sqlite_master ORDER BY name",
+        &mut whole,
+    )?;
+    for table in tables(alloc, conn)? {
+        let sql = format!(in alloc; "SELECT * FROM {table} ORDER BY 1")?;
+        writeln!(whole, "{table}")?;
+        write_rows(conn, sql.as_str(), &mut whole)?;
+    }
+    Ok(whole)
+}
