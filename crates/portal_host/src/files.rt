@@ -1,10 +1,14 @@
 //! The machine's files.
 ghost use Rattle.std.specs.Prelude.{◌≡◌, [], IfErr, IfOk};
 ghost use Rattle.portal_host.specs.Laws.{desk_is_honest};
+ghost use Rattle.sqlite_wal.specs.Files.{image_at};
+ghost use Rattle.sqlite.specs.Files.{over_files};
 ghost use Rattle.sqlite.specs.Steps.{over_memory};
+ghost use Rattle.portal_ledger.specs.Ledger.{Ledger};
 ghost use Rattle.portal_ledger.specs.States.{running};
-ghost use Rattle.portal_program.specs.Places.{IsOfFile};
-ghost use Rattle.portal_store.specs.DeskAt.{DeskAt, settings_of};
+ghost use Rattle.portal_program.specs.Places.{IsOfFile, IsOfStore};
+ghost use Rattle.portal_store.specs.DeskAt.{DeskAt, DeskIsHonest, settings_of};
+ghost use Rattle.portal_tables.specs.Images.{ImageShows};
 
 use crate::faults::fault_of_file;
 use crate::opening::{adopt_store, open_memory, open_path};
@@ -42,7 +46,12 @@ impl<'h, S: Start> Place for HostFiles<'h, S> {
         self,
         path: &str,
         settings: Settings,
-    ) -> Result<StoreDesk<FileStore<FileFrom<S>>>, Fault> {
+    ) -> Result<StoreDesk<FileStore<FileFrom<S>>>, Fault>
+        ensures why { IfErr result IsOfStore }
+        ensures told { IfOk result (λ desk. settings_of desk ≡ settings) }
+        ensures stands { (L : Ledger) → ImageShows (image_at S.Start) L
+            → IfOk result (λ desk. DeskIsHonest over_files desk → DeskAt over_files desk (running L)) }
+    {
         match open_path(self.host, path, self.start) {
             Ok(conn) => adopt_store(conn, settings),
             Err(fault) => Err(fault),

@@ -1,5 +1,5 @@
 -- What is left of files that were not opened.
-use Rattle.std.proofs.Common.{◌≡◌, ◌⊎◌, inl, inr, ◌∙◌, ◌+◌, ◌-◌, ◌*◌, ◌%◌, ◌≤◌, ◌<◌, ℕ, Bool, true, false, true≢false, IsTrue, List, [], ◌++◌, ◌∷◌, length, take, slice_index, Option, Some, unwrap_or, codes, refl, ap, sym, subst, arith, get_or-take, eq-eqb, ne_eqb, zero-add}
+use Rattle.std.proofs.Common.{◌≡◌, ◌⊎◌, inl, inr, ◌∙◌, ◌-◌, ◌*◌, ◌%◌, ◌≤◌, ◌<◌, ℕ, true, false, true≢false, IsTrue, List, [], ◌++◌, ◌∷◌, length, take, slice_index, Option, Some, unwrap_or, codes, refl, ap, sym, subst, arith, get_or-take, eq-eqb, ne_eqb, zero-add}
 use Rattle.std.proofs.lemmas.Bool.{cases_Bool, cases_eq}
 use Rattle.std.proofs.lemmas.List.{length-take}
 use Rattle.std.proofs.Math.Logic.{∥∥₁_map, ∥∥₁_elim}

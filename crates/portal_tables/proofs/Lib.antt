@@ -11,6 +11,7 @@ pub mod ListSteps
 pub mod Lookups
 pub mod OpeningLemmas
 pub mod OthersLemmas
+pub mod PathLemmas
 pub mod PaymentLists
 pub mod PriceLemmas
 pub mod Reported

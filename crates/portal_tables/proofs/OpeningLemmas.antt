@@ -1,13 +1,16 @@
 -- Files that are opened, and opened again, stand at the history that they show.
-use Rattle.std.proofs.Common.{◌≡◌, ◌∙◌, [], false, inl, inr, IsTrue, refl, subst, sym}
+use Rattle.std.proofs.Common.{◌≡◌, [], false, inl, inr, IsTrue, refl, subst, sym}
 use Rattle.sqlite_disk.specs.declared.Disk.{Ghosts}
 use Rattle.sqlite_disk.specs.declared.Files.{Files}
+use Rattle.sqlite_wal.specs.Recovery.{Image}
+use Rattle.sqlite_wal.specs.Files.{outcomes}
 use Rattle.sqlite_wal.specs.Reads.{AreClean}
 use Rattle.sqlite.specs.Tree.{Trees}
 use Rattle.sqlite.specs.declared.FileStore.{FileStore}
 use Rattle.sqlite.specs.Effect.{Database}
 use Rattle.sqlite.proofs.Callers.{finds_again}
 use Rattle.sqlite.specs.Held.{Held, state}
+use Rattle.sqlite.specs.Start.{FindsIn}
 use Rattle.sqlite.specs.Schema.{Schema}
 use Rattle.sqlite.specs.Steps.{over_memory, IsEmpty}
 use Rattle.sqlite_trees.specs.declared.memory.MemStore.{MemStore}
@@ -20,7 +23,7 @@ use Rattle.sqlite_catalog.proofs.ReadLemmas.{lists_once}
 use Rattle.sqlite_trees.specs.Objects.{catalog_tree}
 use Rattle.portal_ledger.specs.Ledger.{Ledger}
 use Rattle.portal_sql.specs.StandsAt.{LeftShows}
-use Rattle.portal_sql.proofs.StandsAtLemmas.{at_open, opened_at, shows_under}
+use Rattle.portal_sql.proofs.StandsAtLemmas.{at_open, shows_under}
 use Rattle.portal_layouts.specs.Layouts.{is_any_named}
 use Rattle.portal_tables.specs.Stores.{StoreShows}
 use Rattle.portal_tables.specs.Images.{AreAt, ImageShows, LeftoverShows}
@@ -40,24 +43,32 @@ new_shows L none trees = inr (inr (none, refl))
 
 module _ {D : Type 0} {g : Ghosts D} (L : Ledger) where
   -- where there was no database yet, nothing was accepted
-  blank_stands : (files : Files D) (c : Held (FileStore D g)) → IsSettledOver c → IsNothing (image_of g files) → L ≡ [] → IsOpened c → Finds files c → ConnAt over_files c L
+  blank_stands : (image : Image) (c : Held (FileStore D g)) → IsSettledOver c → IsNothing image → L ≡ [] → IsOpened c → FindsIn image (file_state c) → ConnAt over_files c L
   unfolding ConnAt
-  blank_stands files c law nothing none opened found =
+  blank_stands image c law nothing none opened found =
       let s = file_state c in
       let live = opened.1 opened.0.is_open in
-      let empty = found_empty (image_of g files) s.committed.trees nothing found.reads in
+      let empty = found_empty image s.committed.trees nothing found.reads in
       let unlisted : s.committed.schema ≡ no_schema = lists_once (s.committed.trees catalog_tree) s.committed.schema no_schema live.1.lists (empty_is_sound s.committed.trees empty.1).lists in
       let fresh : is_any_named s.now.schema ≡ false = bare s.now.schema (subst (λ (db : Database). db.schema ≡ no_schema) (sym opened.0.clean) unlisted) in
       at_open (StoreShows L) s law opened.0.is_open opened.0.autocommit opened.0.clean live.0 (inr (inr (none, fresh)))
 
-  opened_stands : (files : Files D) (c : Held (FileStore D g)) (left : Trees) → IsSettledOver c → HoldsDatabase (image_of g files) left → FilesShow left L → IsOpened c → Finds files c → ConnAt over_files c L
+  opened_stands : (image : Image) (c : Held (FileStore D g)) (left : Trees) → IsSettledOver c → HoldsDatabase image left → FilesShow left L → IsOpened c → FindsIn image (file_state c) → ConnAt over_files c L
   unfolding FilesShow ConnAt
-  opened_stands files c left law holds shown opened found =
-      at_open (StoreShows L) (file_state c) law opened.0.is_open opened.0.autocommit opened.0.clean (opened.1 opened.0.is_open).0 (opened_at (StoreShows L) files c left holds shown opened found)
+  opened_stands image c left law holds shown opened found =
+      let s = file_state c in
+      let live = opened.1 opened.0.is_open in
+      let here : LeftShows (StoreShows L) s.committed.trees = subst (LeftShows (StoreShows L)) (sym (found.holds left holds)) shown in
+      at_open (StoreShows L) s law opened.0.is_open opened.0.autocommit opened.0.clean live.0
+      (subst (StoreShows L) (sym opened.0.clean) (shows_under (StoreShows L) s.committed.trees s.committed.schema live.1 here))
+
+  -- what the files held when they were opened, or were supposed to hold
+  pub opens_from : (image : Image) (c : Held (FileStore D g)) → IsSettledOver c → ImageShows image L → IsOpened c → FindsIn image (file_state c) → ConnAt over_files c L
+  opens_from image c law (inl (left, holds, shown)) opened found = opened_stands image c left law holds shown opened found
+  opens_from image c law (inr (nothing, none)) opened found = blank_stands image c law nothing none opened found
 
   pub opens : (files : Files D) (c : Held (FileStore D g)) → IsSettledOver c → ImageShows (image_of g files) L → IsOpened c → Finds files c → ConnAt over_files c L
-  opens files c law (inl (left, holds, shown)) opened found = opened_stands files c left law holds shown opened found
-  opens files c law (inr (nothing, none)) opened found = blank_stands files c law nothing none opened found
+  opens files c law shown opened found = opens_from (image_of g files) c law shown opened (record { holds = found.holds; reads = found.reads })
 
   -- what is left of files that were not opened
   pub leftover_shows : (files : Files D) (rest : Leftover D g) → AreAt g files L → LeavesFiles files rest → LeftoverShows (image_of g files) rest L
@@ -65,6 +76,19 @@ module _ {D : Type 0} {g : Ghosts D} (L : Ledger) where
   leftover_shows files (left.Files now) at leaves = λ image may. at.left image (leaves image may)
   leftover_shows files (left.Unopened now) at leaves = unopened_left (StoreShows L) (L ≡ []) (new_shows L) files at.seen at.left now leaves
   leftover_shows files (left.Store now) at leaves = store_left (StoreShows L) (L ≡ []) (new_shows L) files at.seen now leaves
+
+  -- files to which nothing has happened since they held the image
+  pub untouched_at : (files : Files D) (image : Image) → image_of g files ≡ image → ((left : Image) → outcomes g files.log files.db left → left ≡ image) → ImageShows image L → AreAt g files L
+  untouched_at files image same only shown = record {
+    seen = subst (λ (i : Image). ImageShows i L) (sym same) shown;
+    left = λ left may. let r : ImageShows left L = subst (λ (i : Image). ImageShows i L) (sym (only left may)) shown in ∣ r ∣₁;
+  }
+
+  -- what is left of them, where they were not opened
+  pub untouched_left : (files : Files D) (rest : Leftover D g) (image : Image) → image_of g files ≡ image → ((left : Image) → outcomes g files.log files.db left → left ≡ image) → ImageShows image L
+      → LeavesFiles files rest → LeftoverShows image rest L
+  untouched_left files rest image same only shown leaves =
+      subst (λ (i : Image). LeftoverShows i rest L) same (leftover_shows files rest (untouched_at files image same only shown) leaves)
 
   pub reopened_stands : (old again : Held (FileStore D g)) (files : Files D) → IsSettledOver again → ConnAt over_files old L → (AreClean g files.log files.db → IsCopied old files) → IsOpened again → Finds files again → ConnAt over_files again L
   unfolding ConnAt

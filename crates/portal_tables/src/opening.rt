@@ -1,6 +1,7 @@
 //! Files opened, and opened again.
 
-ghost use Rattle.std.specs.Prelude.{[], IfErr, IfOk, IsTrue};
+ghost use Rattle.std.specs.Prelude.{[], IfErr, IfOk, IfSome, IsTrue};
+ghost use Rattle.sqlite_wal.specs.Files.{image_at};
 ghost use Rattle.sqlite.specs.Files.{IsCleanLeft, image_of, file_state, over_files};
 ghost use Rattle.sqlite.specs.State.{HasCleanDisk};
 ghost use Rattle.sqlite.specs.Steps.{over_memory};
@@ -8,7 +9,7 @@ ghost use Rattle.portal_ledger.specs.Ledger.{Ledger};
 ghost use Rattle.portal_tables.specs.Images.{AreAt, ImageShows, LeftoverShows};
 ghost use Rattle.portal_tables.specs.TablesAt.{ConnAt};
 
-use sqlite::{Connection, Error, FileStore, Leftover, MemStore, Options};
+use sqlite::{Connection, Error, FileFrom, FileStore, Leftover, MemStore, Options, Start};
 use sqlite_disk::{Disk, Files};
 use std::alloc::{AllocError, Global};
 
@@ -38,6 +39,27 @@ pub fn open_files<D: Disk + Drop>(
 {
     match Connection::open_files(alloc, files, options) {
         Ok(conn) => Ok(conn),
+        Err(fault) => Err(fault),
+    }
+}
+
+/// Opens the database file at a path with its log, both made where they are missing. They are locked until the
+/// connection is let go. No contract says what a file holds, nor ties a path to one: `S` stands for what the two held
+/// when they were opened. Where that shows a ledger, the connection stands at it, and what a stop may leave of files
+/// that were locked and not opened shows it still. Nothing is left over where the files were not locked, or no random
+/// number could be drawn.
+pub fn open_path<S: Start>(
+    host: &HostRuntime,
+    path: &str,
+    start: S,
+) -> Result<Connection<FileStore<FileFrom<S>>>, (Error, Option<Leftover<FileFrom<S>>>)>
+    ensures opened { (L : Ledger) → ImageShows (image_at S.Start) L
+        → IfOk result (λ conn. HasCleanDisk (file_state conn) → ConnAt over_files conn L) }
+    ensures unopened { (L : Ledger) → ImageShows (image_at S.Start) L
+        → IfErr result (λ e. IfSome e.1 (λ left. IsCleanLeft left → LeftoverShows (image_at S.Start) left L)) }
+{
+    match Connection::open_from(host, path, false, start) {
+        Ok(opened) => Ok(opened),
         Err(fault) => Err(fault),
     }
 }
