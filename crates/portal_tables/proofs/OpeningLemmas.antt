@@ -1,5 +1,6 @@
 -- Files that are opened, and opened again, stand at the history that they show.
 use Rattle.std.proofs.Common.{◌≡◌, [], false, inl, inr, IsTrue, refl, subst, sym}
+use Rattle.std.proofs.Math.Logic.{∥∥₁_elim, ∥∥₁_map}
 use Rattle.sqlite_disk.specs.declared.Disk.{Ghosts}
 use Rattle.sqlite_disk.specs.declared.Files.{Files}
 use Rattle.sqlite_wal.specs.Recovery.{Image}
@@ -14,19 +15,22 @@ use Rattle.sqlite.specs.Start.{FindsIn}
 use Rattle.sqlite.specs.Schema.{Schema}
 use Rattle.sqlite.specs.Steps.{over_memory, IsEmpty}
 use Rattle.sqlite_trees.specs.declared.memory.MemStore.{MemStore}
-use Rattle.sqlite.specs.Closing.{IsCopied}
+use Rattle.sqlite.specs.Closing.{HoldsAlone, IsCopied}
 use Rattle.sqlite.specs.declared.file.Leftover.{Leftover}
 use Rattle.sqlite.specs.declared.file.Leftover.TheVariants as left
-use Rattle.sqlite.specs.Files.{HoldsDatabase, IsNothing, LeavesFiles, image_of, file_state, over_files, Finds, IsOpened}
+use Rattle.sqlite.specs.Files.{HoldsDatabase, IsCleanLeft, IsNothing, LeavesFiles, image_of, file_state, over_files, Finds, IsOpened}
 use Rattle.sqlite.proofs.ListingLemmas.{empty_is_sound}
 use Rattle.sqlite_catalog.proofs.ReadLemmas.{lists_once}
 use Rattle.sqlite_trees.specs.Objects.{catalog_tree}
+use Rattle.sqlite_trees.specs.Props.{Trees-set}
+use Rattle.sqlite_trees.specs.View.{IsQuiet}
+use Rattle.sqlite_store.specs.FileStore.{view, faults, recovers, is_shielded}
 use Rattle.portal_ledger.specs.Ledger.{Ledger}
 use Rattle.portal_sql.specs.StandsAt.{LeftShows}
 use Rattle.portal_sql.proofs.StandsAtLemmas.{at_open, shows_under}
 use Rattle.portal_layouts.specs.Layouts.{is_any_named}
 use Rattle.portal_tables.specs.Stores.{StoreShows}
-use Rattle.portal_tables.specs.Images.{AreAt, ImageShows, LeftoverShows}
+use Rattle.portal_tables.specs.Images.{AreAt, ClosedShow, ImageShows, LeftoverShows}
 use Rattle.portal_tables.specs.TablesAt.{ConnAt, FilesShow}
 use Rattle.portal_tables.proofs.LeftoverLemmas.{no_schema, found_empty, store_left, unopened_left}
 
@@ -99,6 +103,38 @@ module _ {D : Type 0} {g : Ghosts D} (L : Ledger) where
       let live = opened.1 opened.0.is_open in
       at_open (StoreShows L) s law opened.0.is_open opened.0.autocommit opened.0.clean live.0
       (subst (StoreShows L) (sym opened.0.clean) (shows_under (StoreShows L) s.committed.trees s.committed.schema live.1 here))
+
+  -- a store that was not closed leaves no more than its connection did
+  pub unclosed_shows : (old : Held (FileStore D g)) (last : FileStore D g) → ConnAt over_files old L → IsQuiet view faults recovers is_shielded old.store last → (trees : Trees) → recovers last trees → FilesShow trees L
+  unfolding ConnAt FilesShow
+  unclosed_shows old last at quiet trees may = at.left trees (quiet.outcomes trees may)
+
+  -- files that were closed hold what the connection had committed
+  module _ (old : Held (FileStore D g)) (files : Files D) (at : ConnAt over_files old L) (copied : IsCopied old files) where
+    abbrev committed : Trees
+    committed = (file_state old).committed.trees
+
+    committed_shows : FilesShow committed L
+    unfolding ConnAt FilesShow
+    committed_shows = subst (λ (db : Database). LeftShows (StoreShows L) db.trees) at.settled ((file_state old).now.schema, at.sound, at.shown)
+
+    held_shows : (image : Image) → HoldsAlone image committed → ∥ ImageShows image L ∥₁
+    held_shows image held = ∥∥₁_map held.both (λ holds. let r : ImageShows image L = inl (committed, holds, committed_shows) in r)
+
+    closed_shows : (image : Image) → outcomes g files.log files.db image → ∥ ImageShows image L ∥₁
+    closed_shows image may = held_shows image (copied.left image may)
+
+    closed_left : (rest : Leftover D g) → LeavesFiles files rest → LeftoverShows (image_of g files) rest L
+    unfolding FilesShow
+    closed_left (left.Files now) leaves = λ image may. closed_shows image (leaves image may)
+    closed_left (left.Unopened now) leaves = λ image may.
+        ∥∥₁_elim (held_shows (image_of g files) copied.seen) squash₁ (λ seen. unopened_left (StoreShows L) (L ≡ []) (new_shows L) files seen closed_shows now leaves image may)
+    closed_left (left.Store now) leaves = λ trees may.
+        let same : trees ≡ committed = ∥∥₁_elim copied.seen.both (Trees-set _ _) (λ holds. (leaves trees may).1 committed holds) in
+        subst (LeftShows (StoreShows L)) (sym same) committed_shows
+
+    pub closed_show : (rest : Leftover D g) → (IsCleanLeft rest → LeavesFiles files rest) → ClosedShow files rest L
+    closed_show rest leaves = (closed_shows, λ clean. closed_left rest (leaves clean))
 
 -- a new store in memory shows the empty history
 pub empty_stands : (c : Held MemStore) → IsEmpty (state over_memory c) → ConnAt over_memory c []

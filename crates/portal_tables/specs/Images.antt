@@ -5,14 +5,17 @@ use Rattle.sqlite_disk.specs.declared.Disk.{Ghosts}
 use Rattle.sqlite_disk.specs.declared.Files.{Files as Pair}
 use Rattle.sqlite_wal.specs.Recovery.{Image}
 use Rattle.sqlite_wal.specs.Files.{outcomes}
+use Rattle.sqlite_wal.specs.Reads.{AreClean}
 use Rattle.sqlite_pool.specs.Stored.{is_summed}
 use Rattle.sqlite_store.specs.FileStore.{recovers}
 use Rattle.sqlite_store.specs.Unopened.{state_of}
 use Rattle.sqlite.specs.Tree.{Trees}
 use Rattle.sqlite.specs.declared.file.Leftover.{Leftover}
 use Rattle.sqlite.specs.declared.file.Leftover.TheVariants as left
-use Rattle.sqlite.specs.Files.{HoldsDatabase, IsNothing, image_of}
+use Rattle.sqlite.specs.Files.{HoldsDatabase, IsCleanLeft, IsNothing, image_of}
 use Rattle.portal_ledger.specs.Ledger.{Ledger}
+use Rattle.portal_tables.specs.declared.opening.Unopened.{Unopened}
+use Rattle.portal_tables.specs.declared.opening.Unopened.TheVariants.{Unclosed, Refused}
 use Rattle.portal_tables.specs.TablesAt.{FilesShow}
 
 -- An image is what two files hold. It shows the ledger where it holds tables that do; so does one with no database yet,
@@ -36,3 +39,15 @@ module _ {D : Type 0} {g : Ghosts D} where
   LeftoverShows before (left.Files now) L = (image : Image) → outcomes g now.log now.db image → ∥ ImageShows image L ∥₁
   LeftoverShows before (left.Unopened now) L = (image : Image) → (state_of now).may_leave image → ∥ ImageShows image L ⊎ HasSums before ∥₁
   LeftoverShows before (left.Store now) L = (trees : Trees) → recovers now trees → FilesShow trees L
+
+  -- Files were closed between two openings, of which the second did not come about. A stop between the two leaves what
+  -- shows the ledger, and so does one after them, where the disk has returned what was written to it.
+  abbrev pub ClosedShow : Pair D → Leftover D g → Ledger → Type 0
+  ClosedShow closed left L =
+      ((image : Image) → outcomes g closed.log closed.db image → ∥ ImageShows image L ∥₁) × (IsCleanLeft left → LeftoverShows (image_of g closed) left L)
+
+  -- What is left of files that were not closed, or not opened again, shows the ledger still. Of those that were closed
+  -- this is said where the disk had returned what was written by then.
+  abbrev pub UnopenedShows : Unopened D g → Ledger → Type 0
+  UnopenedShows (Unclosed error store) L = (trees : Trees) → recovers store trees → FilesShow trees L
+  UnopenedShows (Refused error left) L = (closed : Pair D) × (AreClean g closed.log closed.db → ClosedShow closed left L)

@@ -6,7 +6,7 @@ ghost use Rattle.sqlite.specs.Files.{IsCleanLeft, image_of, file_state, over_fil
 ghost use Rattle.sqlite.specs.State.{HasCleanDisk};
 ghost use Rattle.sqlite.specs.Steps.{over_memory};
 ghost use Rattle.portal_ledger.specs.Ledger.{Ledger};
-ghost use Rattle.portal_tables.specs.Images.{AreAt, ImageShows, LeftoverShows};
+ghost use Rattle.portal_tables.specs.Images.{AreAt, ImageShows, LeftoverShows, UnopenedShows};
 ghost use Rattle.portal_tables.specs.TablesAt.{ConnAt};
 
 use sqlite::{Connection, Error, FileFrom, FileStore, Leftover, MemStore, Options, Start};
@@ -66,17 +66,22 @@ pub fn open_path<S: Start>(
 
 /// What is left of files that were not closed, or not opened again, and why.
 pub enum Unopened<D: Disk> {
+    /// They were not closed: their store.
     Unclosed(Error, FileStore<D>),
+    /// They were closed, and not opened again.
     Refused(Error, Leftover<D>),
 }
 
-/// Closes the files of a connection and opens them again. What stood there stands there.
+/// Closes the files of a connection and opens them again. What stood there stands there, and what a stop may leave of
+/// files that were not closed, or not opened again, shows it still.
 pub fn reopen<D: Disk + Drop>(
     alloc: Global,
     conn: Connection<FileStore<D>>,
     options: Options,
 ) -> Result<Connection<FileStore<D>>, Unopened<D>>
-    ensures { (L : Ledger) → ConnAt over_files conn L → IfOk result (λ again. HasCleanDisk (file_state again) → ConnAt over_files again L) }
+    ensures opened { (L : Ledger) → ConnAt over_files conn L
+        → IfOk result (λ again. HasCleanDisk (file_state again) → ConnAt over_files again L) }
+    ensures unopened { (L : Ledger) → ConnAt over_files conn L → IfErr result (λ e. UnopenedShows e L) }
 {
     match conn.close_files() {
         Ok(files) => match Connection::open_files(alloc, files, options) {

@@ -1,9 +1,16 @@
 use Rattle.sqlite_store.specs.Laws.{settled_at}
-use Rattle.portal_tables.proofs.OpeningLemmas.{reopened_stands}
+use Rattle.portal_tables.proofs.OpeningLemmas.{closed_show, reopened_stands, unclosed_shows}
 use Rattle.portal_tables.proofs.opening.reopen.Goals as goal
 
-pub returns-in-Ok-open_files : goal.returns-in-Ok-open_files
-returns-in-Ok-open_files g c h at clean =
+pub returns-in-Ok-open_files-clause-opened : goal.returns-in-Ok-open_files-clause-opened
+returns-in-Ok-open_files-clause-opened g c h at clean =
     let again = c.in-Ok-open_files.again in
     reopened_stands h c.args.conn again c.in-Ok.files (λ db. settled_at again.store g.met.D.Disk.seen_may_stay db)
     at c.in-Ok.ensures.copied (c.in-Ok-open_files.ensures.opened clean) (c.in-Ok-open_files.ensures.found clean)
+
+pub returns-in-Err-open_files-clause-unopened : goal.returns-in-Err-open_files-clause-unopened
+returns-in-Err-open_files-clause-unopened g c h at =
+    (c.in-Ok.files, λ honest. closed_show h c.args.conn c.in-Ok.files at (c.in-Ok.ensures.copied honest) c.in-Err-open_files.left c.in-Err-open_files.ensures.unharmed)
+
+pub returns-in-Err-clause-unopened : goal.returns-in-Err-clause-unopened
+returns-in-Err-clause-unopened g c h at = unclosed_shows h c.args.conn c.in-Err.store at c.in-Err.ensures.err.0.quiet
