@@ -18,7 +18,7 @@ const NOT_COUNTED: VoucherSeen = VoucherSeen {
 };
 
 /// Changes of one row each, after which the counters differ from the rows.
-const CHANGES: [&str; 8] = [
+const CHANGES: &[&str] = &[
     "UPDATE portal_counts SET redeemed = 2",
     "DELETE FROM portal_counts",
     "UPDATE portal_totals SET ends = 4601",

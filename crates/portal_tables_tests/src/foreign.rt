@@ -11,33 +11,38 @@ const FOREIGN: &str =
     "CREATE TABLE portal_plans (name TEXT); INSERT INTO portal_plans VALUES ('a'), ('b')";
 
 /// The store of the newer layout, and nothing else, stands there.
-const IS_NEWER: [&str; 2] = [
+const IS_NEWER: &[&str] = &[
     "portal_head WHERE id = 1 AND layout = 99 AND last_moment = 3 AND grants = 4 AND sessions = 5",
     "sqlite_master",
 ];
 
 /// The foreign table, and nothing else, stands there.
-const IS_FOREIGN: [&str; 3] = [
+const IS_FOREIGN: &[&str] = &[
     "portal_plans WHERE name = 'a' AND (SELECT count(*) FROM portal_plans) = 2",
     "portal_plans WHERE name = 'b'",
     "sqlite_master",
 ];
 
+const NEWER_STORE: &[Job<'static>] = &[
+    Job::Sql(NEWER),
+    Job::Refused(OpenFault::Newer),
+    Job::Rows(IS_NEWER),
+];
+
+const FOREIGN_STORE: &[Job<'static>] = &[
+    Job::Sql(FOREIGN),
+    Job::Refused(OpenFault::NotOurs),
+    Job::Rows(IS_FOREIGN),
+];
+
 #[test]
 fn foreign_and_newer_stores(rt: HostRuntime) -> Result<(), Fail> {
-    let stores = [
-        (NEWER, OpenFault::Newer, IS_NEWER.as_slice()),
-        (FOREIGN, OpenFault::NotOurs, IS_FOREIGN.as_slice()),
-    ];
-    for (sql, fault, rows) in stores {
-        let jobs = [Job::Sql(sql), Job::Refused(fault), Job::Rows(rows)];
-        in_files(&rt, rt.alloc(), jobs.as_slice())?;
-    }
-    Ok(())
+    in_files(&rt, rt.alloc(), NEWER_STORE)?;
+    in_files(&rt, rt.alloc(), FOREIGN_STORE)
 }
 
 /// Stores with a table or a view of the product's names, and why they are not adopted.
-const STORES: [(&str, OpenFault); 16] = [
+const STORES: &[(&str, OpenFault)] = &[
     ("CREATE TABLE PORTAL_PLANS (name TEXT)", OpenFault::NotOurs),
     (
         "CREATE TABLE portal_totals (number INTEGER PRIMARY KEY, ends INTEGER, remaining INTEGER) STRICT",
@@ -104,7 +109,7 @@ const STORES: [(&str, OpenFault); 16] = [
 #[test]
 fn stores_that_are_not_adopted(rt: HostRuntime) -> Result<(), Fail> {
     for (sql, fault) in STORES {
-        let jobs = [Job::Sql(sql), Job::Refused(fault)];
+        let jobs = [Job::Sql(sql), Job::Refused(*fault)];
         in_memory(&rt, rt.alloc(), jobs.as_slice())?;
     }
     Ok(())

@@ -143,7 +143,7 @@ fn with_patience<S: Alter + Drop>(
     let mut tables = adopted_patiently(conn)?;
     let outcome = carry_out_patiently(alloc, &mut tables, deed);
     let conn = tables.release();
-    assert_eq!(rt; outcome, Outcome::Done);
+    assert!(rt; outcome == Outcome::Done, "{outcome:?}");
     Ok(conn)
 }
 
@@ -157,10 +157,10 @@ fn check_refused<S: Alter + Drop>(
     let before = whole(alloc, &mut conn)?;
     let is_outside = conn.is_autocommit();
     let (fault, mut conn) = refused(conn)?;
-    assert_eq!(rt; fault, wanted, "{before}");
-    assert_eq!(rt; conn.is_autocommit(), is_outside);
+    assert!(rt; fault == wanted, "{before}");
+    assert!(rt; conn.is_autocommit() == is_outside);
     let after = whole(alloc, &mut conn)?;
-    assert_eq!(rt; after.as_str(), before.as_str());
+    assert!(rt; after.as_str() == before.as_str(), "{after}");
     Ok(conn)
 }
 

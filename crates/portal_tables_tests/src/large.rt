@@ -48,10 +48,10 @@ fn check_batch<S: Alter>(
     let issued = keep(tables, &MarkedChanges::unmarked(changes));
     assert!(rt; is_told(issued, Reply::Issued("b1", 500, 2_593_000))?);
     let listed = read_codes(alloc, tables, &id("b1")?)?;
-    assert_eq!(rt; listed.as_slice(), codes.as_slice());
+    assert!(rt; listed.as_slice() == codes.as_slice());
     for code in &codes {
         let voucher = read_voucher(tables, code)?.ok_or("no voucher")?;
-        assert_eq!(rt; (voucher.code, voucher.sold), (*code, None));
+        assert!(rt; voucher.code == *code && voucher.sold.is_none());
     }
     Ok(())
 }

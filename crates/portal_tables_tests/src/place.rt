@@ -1,7 +1,7 @@
 //! Where a store stands while jobs are done with it: in memory, in files in memory, which may stop answering, or in a
 //! file of the file system.
 //!
-//! Only the functions of this file name a connection over a store of one kind.
+//! Only the functions of this file name a connection over a store of one kind, and none of them a disk with it.
 use crate::jobs::{Job, Told, run};
 use sqlite::{Connection, FileStore, Files, Options};
 use sqlite_disk::{Crash, Disk, Fuse, Memory};
@@ -151,24 +151,9 @@ impl InFiles {
         Ok(())
     }
 
-    /// Opens the store and does the job. Answers what it tells, and the files.
-    fn open(&self, rt: &impl Abort, job: Job<'_>) -> Result<(Told, Files<FileDisk>), Fail> {
-        let files = self.files()?;
-        if !files.may_be_used() {
-            return Err("the files may not be used".into());
-        }
-        match Connection::open_files(self.alloc, files, Options::new(1)) {
-            Ok(conn) => {
-                let (conn, told) = run(rt, self.alloc, conn, job)?;
-                Ok((told, left_by(conn, self.limit.is_some())?))
-            }
-            Err((_, left)) => Ok((Told::Unopened, left.into_files())),
-        }
-    }
-
     /// Opens the store, does the job, and closes the store.
     pub fn visit(&mut self, rt: &impl Abort, job: Job<'_>) -> Result<Told, Fail> {
-        let (told, files) = self.open(rt, job)?;
+        let (told, files) = open(rt, self.alloc, self.files()?, false, job)?;
         self.image = self.image_of(&files)?;
         Ok(told)
     }
@@ -182,8 +167,9 @@ impl InFiles {
         limit: Limit,
     ) -> Result<(Told, Image, Image), Fail> {
         self.limit = Some(limit);
-        let (told, files) = self.open(rt, job)?;
+        let files = self.files()?;
         self.limit = None;
+        let (told, files) = open(rt, self.alloc, files, true, job)?;
         let ended = self.image_of(&files)?;
         let Files { mut log, mut db } = files;
         log.crash();
@@ -193,11 +179,31 @@ impl InFiles {
     }
 }
 
-/// The files, closed where they do not stop.
-fn left_by(
-    conn: Connection<FileStore<FileDisk>>,
+/// Opens the store in the files and does the job. Answers what it tells, and the files.
+fn open<D: Disk + Drop>(
+    rt: &impl Abort,
+    alloc: Global,
+    files: Files<D>,
     is_stopped: bool,
-) -> Result<Files<FileDisk>, Fail> {
+    job: Job<'_>,
+) -> Result<(Told, Files<D>), Fail> {
+    if !files.may_be_used() {
+        return Err("the files may not be used".into());
+    }
+    match Connection::open_files(alloc, files, Options::new(1)) {
+        Ok(conn) => {
+            let (conn, told) = run(rt, alloc, conn, job)?;
+            Ok((told, left_by(conn, is_stopped)?))
+        }
+        Err((_, left)) => Ok((Told::Unopened, left.into_files())),
+    }
+}
+
+/// The files, closed where they do not stop.
+fn left_by<D: Disk + Drop>(
+    conn: Connection<FileStore<D>>,
+    is_stopped: bool,
+) -> Result<Files<D>, Fail> {
     if is_stopped {
         return Ok(conn.into_store().close());
     }

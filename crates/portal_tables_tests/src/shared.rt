@@ -52,7 +52,7 @@ fn other_tables_beside_ours(rt: HostRuntime) -> Result<(), Fail> {
 
 /// What a foreign key of another table says of a voucher that is deleted or gets another code, and whether the store
 /// is adopted.
-const ACTIONS: [(&str, bool); 11] = [
+const ACTIONS: &[(&str, bool)] = &[
     ("", true),
     ("ON DELETE NO ACTION ON UPDATE NO ACTION", true),
     ("ON DELETE RESTRICT", false),
@@ -94,8 +94,8 @@ fn foreign_keys_of_others_on_ours(rt: HostRuntime) -> Result<(), Fail> {
         let sql = format!(in alloc;
             "CREATE TABLE gift (id INTEGER PRIMARY KEY, code TEXT REFERENCES PORTAL_vouchers (code) {action})"
         )?;
-        check_before(&rt, alloc, sql.as_str(), is_adopted)?;
-        check_after(&rt, alloc, sql.as_str(), is_adopted)?;
+        check_before(&rt, alloc, sql.as_str(), *is_adopted)?;
+        check_after(&rt, alloc, sql.as_str(), *is_adopted)?;
     }
     Ok(())
 }

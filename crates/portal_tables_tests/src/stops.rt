@@ -144,7 +144,7 @@ fn prepared_case(
     let before = left_in(rt, files)?;
     files.put(&image)?;
     let outcome = outcome_of(files.visit(rt, Job::Deed(trial.deed))?)?;
-    assert_eq!(rt; outcome, Outcome::Done);
+    assert!(rt; outcome == Outcome::Done, "{outcome:?}");
     let then = left_in(rt, files)?;
     drop(files.visit(rt, Job::Rows(trial.rows))?);
     Ok(Case {
@@ -179,9 +179,9 @@ fn check_again(rt: &impl Abort, files: &mut InFiles, case: &Case) -> Result<(), 
         return Ok(());
     }
     let outcome = outcome_of(files.visit(rt, Job::Deed(case.deed))?)?;
-    assert_eq!(rt; outcome, Outcome::Done);
+    assert!(rt; outcome == Outcome::Done, "{outcome:?}");
     let left = left_in(rt, files)?;
-    assert_eq!(rt; left.as_str(), case.then.as_str());
+    assert!(rt; left.as_str() == case.then.as_str(), "{left}");
     Ok(())
 }
 
@@ -232,13 +232,12 @@ fn stopped(
     files.put(&case.image)?;
     let (told, ended, failed) = files.stop(rt, Job::Deed(case.deed), limit)?;
     let outcome = outcome_of(told)?;
-    for image in [ended, failed] {
-        let left = left_by(rt, files, case, image)?;
-        assert!(rt;
-            is_allowed(case.deed, outcome, left),
-            "{limit:?} {outcome:?}"
-        );
-    }
+    let left = left_by(rt, files, case, ended)?;
+    let is_ended_so = is_allowed(case.deed, outcome, left);
+    assert!(rt; is_ended_so, "{limit:?} {outcome:?}");
+    let left = left_by(rt, files, case, failed)?;
+    let is_failed_so = is_allowed(case.deed, outcome, left);
+    assert!(rt; is_failed_so, "{limit:?} {outcome:?} at a power failure");
     Ok(outcome)
 }
 
@@ -478,7 +477,7 @@ fn image_of(rt: &impl Abort, files: &mut InFiles, start: Start) -> Result<Image,
     drop(files.visit(rt, start_of(start))?);
     if matches!(start, Start::Logged) {
         let (told, ended, failed) = files.stop(rt, Job::Deed(EXTENSION.deed), AT_END)?;
-        assert_eq!(rt; outcome_of(told)?, Outcome::Done);
+        assert!(rt; outcome_of(told)? == Outcome::Done);
         drop(failed);
         files.put(&ended)?;
     }
@@ -494,20 +493,26 @@ fn stop_deed(rt: &impl Abort, alloc: Global, trial: &Trial, part: Part) -> Resul
     Ok(())
 }
 
-/// Each deed in memory, tried again where there was no memory for it.
+const TRIALS: &[Trial] = &[
+    LOAD, ISSUE, SALE, OPENING, EXTENSION, REPORT, REFUND, CLOSE, NUMBERED, NEW, FIRST, SECOND,
+    THIRD,
+];
+
+/// The deed in memory, tried again where there was no memory for it.
+fn check_patiently(rt: &impl Abort, alloc: Global, trial: &Trial) -> Result<(), Fail> {
+    let jobs = [
+        start_of(trial.start),
+        Job::Patient(trial.deed),
+        Job::Rows(trial.rows),
+    ];
+    in_memory(rt, alloc, jobs.as_slice())
+}
+
+/// Each deed.
 #[test]
 fn deeds_tried_again(rt: HostRuntime) -> Result<(), Fail> {
-    let trials = [
-        LOAD, ISSUE, SALE, OPENING, EXTENSION, REPORT, REFUND, CLOSE, NUMBERED, NEW, FIRST, SECOND,
-        THIRD,
-    ];
-    for trial in trials {
-        let jobs = [
-            start_of(trial.start),
-            Job::Patient(trial.deed),
-            Job::Rows(trial.rows),
-        ];
-        in_memory(&rt, rt.alloc(), jobs.as_slice())?;
+    for trial in TRIALS {
+        check_patiently(&rt, rt.alloc(), trial)?;
     }
     Ok(())
 }
