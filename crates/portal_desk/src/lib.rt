@@ -1,4 +1,4 @@
-//! The desk: what every desk answers, whatever keeps its records, and a desk in memory.
+//! The desk: what every desk answers, whatever keeps its records.
 #![tactic(auto)]
 
 ghost use Rattle.std.specs.Prelude.{◌≡◌, ℕ, List, true, None, Some, IfOk, MatchResult};
@@ -13,7 +13,6 @@ ghost use Rattle.portal_ledger.specs.Calls.{Fits, Keeps};
 ghost use Rattle.portal_desk.specs.Calls.{is_over, Answers, CannotAnswer, Misses, Prepares, PreparesMarked, Refuses, CannotKeep};
 ghost use Rattle.portal_desk.specs.Sheets.{sheet_of, takings_over};
 
-pub mod memory;
 pub mod prepared;
 
 use crate::prepared::{Marked, Prepared};

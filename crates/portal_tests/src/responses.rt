@@ -1,5 +1,5 @@
 //! The bytes of a response.
-use crate::desk::{CAPTIVE, MOMENT};
+use crate::requests::{CAPTIVE, MOMENT};
 use http::{Method, StatusCode};
 use portal_response::{ContentType, response};
 use std::test::Fail;

@@ -1,5 +1,5 @@
 //! What the checks make of whole requests, one of each route, before any desk is asked.
-use crate::asked::{DESK, GATE, GUEST, request};
+use crate::requests::{DESK, GATE, GUEST, request};
 use portal_checks::{Wanted, check_request};
 use portal_files::sample_settings;
 use portal_ledger::caller::Caller;

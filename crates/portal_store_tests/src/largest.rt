@@ -1,5 +1,6 @@
 //! What a desk answers at the largest that it takes.
-use crate::desk::{CAPTIVE, MOMENT, answer, answer_at, answers, new_desk};
+use crate::desks::{answer, answers_in_memory};
+use crate::requests::{CAPTIVE, MOMENT};
 use std::test::Fail;
 
 #[test]
@@ -18,8 +19,7 @@ fn five_hundred_plans(rt: HostRuntime) -> Result<(), Fail> {
         "POST /desk/plans HTTP/1.1\r\nHost: api\r\nPortal-Token: desk-token\r\nContent-Length: {length}\r\n\r\n"
     )?.into_bytes();
     request.extend_from_slice(body.as_slice())?;
-    let mut desk = new_desk(alloc)?;
-    let loaded = answer_at(alloc, &mut desk, MOMENT, request.as_slice())?;
+    let loaded = answer(alloc, request.as_slice())?;
     assert!(rt; loaded.as_slice().starts_with(b"HTTP/1.1 200 OK\r\n"));
     assert!(rt; loaded.as_slice().ends_with(b"\r\n\r\n{\"plans\":500}"));
     Ok(())
@@ -33,8 +33,7 @@ fn two_hundred_requests(rt: HostRuntime) -> Result<(), Fail> {
     for _ in 0..200 {
         requests.push((MOMENT, request.as_slice()))?;
     }
-    let mut desk = new_desk(alloc)?;
-    let responses = answers(alloc, &mut desk, requests.as_slice())?;
+    let responses = answers_in_memory(alloc, requests.as_slice())?;
     assert_eq!(rt; responses.len(), 200);
     for response in responses.as_slice() {
         assert_eq!(rt; response.as_slice(), CAPTIVE.as_bytes());

@@ -1,8 +1,10 @@
 //! The program over words, a reader and two writers: what goes out, and the status with which it ends.
-use crate::desk::{CAPTIVE, MOMENT};
+use crate::desks::InMemory;
 use crate::places::{Line, good_shelf};
+use crate::requests::{CAPTIVE, MOMENT};
 use portal_ends::Fault;
 use portal_program::answering::{Request, answer};
+use portal_program::place::Place;
 use portal_program::program::run_program;
 use portal_program::seed::read_seed;
 use portal_program::words::words_of;
@@ -94,7 +96,7 @@ impl<'w> Env for GivenWords<'w> {
 }
 
 /// Whether the answer to what the reader gives ends with this status, and says just this beside what it writes.
-fn ends_so<R: Read, W: Write>(
+fn ends_at<P: Place, R: Read, W: Write>(
     alloc: Global,
     now: u64,
     seed: &str,
@@ -111,7 +113,7 @@ fn ends_so<R: Read, W: Write>(
         seed,
     };
     let ended = answer(
-        good_shelf(alloc),
+        good_shelf(alloc).place::<P>(),
         alloc,
         &request,
         input,
@@ -119,6 +121,38 @@ fn ends_so<R: Read, W: Write>(
         &mut errors,
     );
     ended == status && errors.as_slice() == said.as_bytes()
+}
+
+/// The same of the desks in memory.
+fn ends_so<R: Read, W: Write>(
+    alloc: Global,
+    now: u64,
+    seed: &str,
+    input: &mut R,
+    output: &mut W,
+    status: u8,
+    said: &str,
+) -> bool {
+    ends_at::<InMemory, R, W>(alloc, now, seed, input, output, status, said)
+}
+
+/// The status with which the program ends, with such words and a guest's request.
+fn status_of<P: Place>(
+    alloc: Global,
+    words: &[&str],
+    output: &mut FailingWriter,
+    errors: &mut Vec<u8>,
+) -> u8 {
+    let mut input = REQUEST.as_bytes();
+    run_program(
+        good_shelf(alloc).place::<P>(),
+        &Line { is_free: true },
+        alloc,
+        words,
+        &mut input,
+        output,
+        errors,
+    )
 }
 
 /// Whether the bytes begin and end so; nothing stands for no bytes.
@@ -409,22 +443,13 @@ fn words_to_status(rt: HostRuntime) {
         ),
     ];
     for (words, room, status, wrote, said) in lines {
-        let mut input = REQUEST.as_bytes();
         let mut output = FailingWriter {
             taken: Vec::new(alloc),
             room,
             fails: true,
         };
         let mut errors = Vec::new(alloc);
-        let ended = run_program(
-            good_shelf(alloc),
-            &Line { is_free: true },
-            alloc,
-            words,
-            &mut input,
-            &mut output,
-            &mut errors,
-        );
+        let ended = status_of::<InMemory>(alloc, words, &mut output, &mut errors);
         let is_well = ended == status
             && is_framed(output.taken.as_slice(), wrote, "")
             && is_framed(errors.as_slice(), said, "");

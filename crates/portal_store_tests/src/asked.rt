@@ -1,25 +1,8 @@
 //! What each route asks of its request, in the order of the checks, and what a desk without vouchers answers.
-use crate::desk::{CAPTIVE, answer};
+use crate::desks::answer;
+use crate::requests::{CAPTIVE, DESK, GATE, GUEST, request};
 use std::alloc::Global;
 use std::test::Fail;
-
-/// The fields of the three callers.
-pub const GUEST: &str = "Portal-Device: 02:00:00:00:00:01\r\n";
-
-pub const DESK: &str = "Portal-Token: desk-token\r\n";
-
-pub const GATE: &str = "Portal-Token: gate-token\r\n";
-
-/// A request with that body, by its line and its fields.
-pub fn request(alloc: Global, line: &str, fields: &str, body: &[u8]) -> Result<Vec<u8>, Fail> {
-    let size = body.len();
-    let head = format!(in alloc;
-        "{line} HTTP/1.1\r\nHost: api\r\n{fields}Content-Length: {size}\r\n\r\n"
-    )?;
-    let mut request = head.into_bytes();
-    request.extend_from_slice(body)?;
-    Ok(request)
-}
 
 /// What a new desk answers to such a request.
 fn ask(alloc: Global, line: &str, fields: &str, body: &[u8]) -> Result<Vec<u8>, Fail> {

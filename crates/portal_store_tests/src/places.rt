@@ -1,5 +1,4 @@
 //! A place of one settings file, with the faults that it is to answer.
-use portal_desk::memory::MemoryDesk;
 use portal_ends::Fault;
 use portal_files::Settings;
 use portal_model::moment::Moment;
@@ -8,6 +7,7 @@ use portal_program::serving::Network;
 use portal_serve::Host;
 use std::alloc::Global;
 use std::io::{self, Read, Write};
+use std::marker::PhantomData;
 
 /// A settings file in UTC, with the tokens of the sample settings.
 pub const SETTINGS: &str = "zone = \"UTC0\"\n\
@@ -34,28 +34,49 @@ pub fn good_shelf(alloc: Global) -> Shelf {
     }
 }
 
-impl Place for Shelf {
-    type Stored = MemoryDesk;
+impl Shelf {
+    /// The place of these files, whose desks are those in memory of another place.
+    pub fn place<P: Place>(self) -> GivenPlace<P> {
+        GivenPlace {
+            shelf: self,
+            of: PhantomData,
+        }
+    }
+}
 
-    type Fresh = MemoryDesk;
+/// A place of given files. Each desk is one over a new store in memory of another place.
+#[derive(Drop)]
+pub struct GivenPlace<P: Place> {
+    shelf: Shelf,
+    of: PhantomData<P>,
+}
 
-    ghost is_fresh_honest = { λ desk. tt };
+impl<P: Place> Place for GivenPlace<P> {
+    type Stored = P::Fresh;
+
+    type Fresh = P::Fresh;
+
+    ghost is_fresh_honest = { λ desk. P.is_fresh_honest desk };
 
     fn read(&self, alloc: Global, _path: &str) -> Result<Vec<u8>, Fault> {
-        match self.reading {
+        match self.shelf.reading {
             Some(Fault::NoMemory) => return Err(Fault::NoMemory),
             Some(_) => return Err(Fault::File),
             None => {}
         }
-        match self.text.as_bytes().to_vec(alloc) {
+        match self.shelf.text.as_bytes().to_vec(alloc) {
             Ok(bytes) => Ok(bytes),
             Err(_) => Err(Fault::NoMemory),
         }
     }
 
-    fn open(self, _path: &str, settings: Settings) -> Result<MemoryDesk, Fault> {
-        match self.opening {
-            None => Ok(MemoryDesk::new(self.alloc, settings)),
+    fn open(self, _path: &str, settings: Settings) -> Result<P::Fresh, Fault> {
+        match self.shelf.opening {
+            None => match P::open_fresh(self.shelf.alloc, settings) {
+                Ok(desk) => Ok(desk),
+                Err(Fault::NoMemory) => Err(Fault::NoMemory),
+                Err(_) => Err(Fault::File),
+            },
             Some(Fault::NotOurs) => Err(Fault::NotOurs),
             Some(Fault::Newer) => Err(Fault::Newer),
             Some(Fault::NoMemory) => Err(Fault::NoMemory),
@@ -63,16 +84,16 @@ impl Place for Shelf {
         }
     }
 
-    fn close(desk: MemoryDesk) {
-        drop(desk);
+    fn close(desk: P::Fresh) {
+        P::close_fresh(desk);
     }
 
-    fn open_fresh(alloc: Global, settings: Settings) -> Result<MemoryDesk, Fault> {
-        Ok(MemoryDesk::new(alloc, settings))
+    fn open_fresh(alloc: Global, settings: Settings) -> Result<P::Fresh, Fault> {
+        P::open_fresh(alloc, settings)
     }
 
-    fn close_fresh(desk: MemoryDesk) {
-        drop(desk);
+    fn close_fresh(desk: P::Fresh) {
+        P::close_fresh(desk);
     }
 }
 

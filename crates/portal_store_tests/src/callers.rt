@@ -1,5 +1,6 @@
 //! Who asks, and where.
-use crate::desk::{BAD_REQUEST, CAPTIVE, answer};
+use crate::desks::answer;
+use crate::requests::{BAD_REQUEST, CAPTIVE};
 use std::alloc::Global;
 use std::test::Fail;
 

@@ -1,21 +1,19 @@
 //! The subcommands over a place: which fault comes first, what is printed, and the status.
-use crate::desk::{CAPTIVE, MOMENT};
+use crate::desks::InMemory;
 use crate::places::{Line, SETTINGS, Shelf, good_shelf};
-use portal_codes::Code;
+use crate::requests::{CAPTIVE, MOMENT};
 use portal_desk::Desk;
-use portal_desk::memory::MemoryDesk;
 use portal_ends::Fault;
-use portal_files::sample_settings;
-use portal_model::command::Command;
 use portal_model::moment::Moment;
 use portal_program::answering::{Request, answer, answer_at};
 use portal_program::checking::{check, check_at};
-use portal_program::place::Files;
+use portal_program::place::{Files, Place};
 use portal_program::printing::{print, print_at};
 use portal_program::serving::{Listening, serve};
 use portal_program::takings::{read_range, takings, takings_at};
 use portal_route::Routes;
 use std::alloc::Global;
+use std::process::Abort;
 use std::test::Fail;
 
 const REQUEST: &str =
@@ -51,7 +49,7 @@ impl Ended {
     }
 }
 
-fn answered(place: Shelf, now: u64, seed: &str, files: bool) -> Ended {
+fn answered<P: Place>(place: Shelf, now: u64, seed: &str, files: bool) -> Ended {
     let mut output = Vec::new(place.alloc);
     let mut errors = Vec::new(place.alloc);
     let request = Request {
@@ -62,7 +60,7 @@ fn answered(place: Shelf, now: u64, seed: &str, files: bool) -> Ended {
     };
     let mut input = REQUEST.as_bytes();
     let status = answer(
-        place,
+        place.place::<P>(),
         place.alloc,
         &request,
         &mut input,
@@ -76,10 +74,17 @@ fn answered(place: Shelf, now: u64, seed: &str, files: bool) -> Ended {
     }
 }
 
-fn printed(place: Shelf, batch: &str) -> Ended {
+fn printed<P: Place>(place: Shelf, batch: &str) -> Ended {
     let mut output = Vec::new(place.alloc);
     let mut errors = Vec::new(place.alloc);
-    let status = print(place, place.alloc, FILES, batch, &mut output, &mut errors);
+    let status = print(
+        place.place::<P>(),
+        place.alloc,
+        FILES,
+        batch,
+        &mut output,
+        &mut errors,
+    );
     Ended {
         status,
         output,
@@ -87,11 +92,11 @@ fn printed(place: Shelf, batch: &str) -> Ended {
     }
 }
 
-fn taken(place: Shelf, from: &str, to: &str) -> Ended {
+fn taken<P: Place>(place: Shelf, from: &str, to: &str) -> Ended {
     let mut output = Vec::new(place.alloc);
     let mut errors = Vec::new(place.alloc);
     let status = takings(
-        place,
+        place.place::<P>(),
         place.alloc,
         FILES,
         from,
@@ -106,10 +111,16 @@ fn taken(place: Shelf, from: &str, to: &str) -> Ended {
     }
 }
 
-fn checked(place: Shelf) -> Ended {
+fn checked<P: Place>(place: Shelf) -> Ended {
     let mut output = Vec::new(place.alloc);
     let mut errors = Vec::new(place.alloc);
-    let status = check(place, place.alloc, FILES, &mut output, &mut errors);
+    let status = check(
+        place.place::<P>(),
+        place.alloc,
+        FILES,
+        &mut output,
+        &mut errors,
+    );
     Ended {
         status,
         output,
@@ -117,13 +128,13 @@ fn checked(place: Shelf) -> Ended {
     }
 }
 
-fn served(place: Shelf, is_free: bool) -> Ended {
+fn served<P: Place>(place: Shelf, is_free: bool) -> Ended {
     let mut output = Vec::new(place.alloc);
     let mut errors = Vec::new(place.alloc);
     let at = Listening { port: 80, count: 1 };
     let network = Line { is_free };
     let status = serve(
-        place,
+        place.place::<P>(),
         &network,
         place.alloc,
         FILES,
@@ -138,9 +149,7 @@ fn served(place: Shelf, is_free: bool) -> Ended {
     }
 }
 
-#[test]
-fn first_fault(rt: HostRuntime) {
-    let alloc = rt.alloc();
+fn check_first_fault<P: Place>(rt: &impl Abort, alloc: Global) {
     let newer = Some(Fault::Newer);
     let cases = [
         ("", Some(Fault::File), newer, "portal: file\n"),
@@ -160,53 +169,62 @@ fn first_fault(rt: HostRuntime) {
             opening,
         };
         assert!(rt;
-            answered(place, MOMENT, SEED, true).is(3, "", said),
+            answered::<P>(place, MOMENT, SEED, true).is(3, "", said),
             "{said}"
         );
-        assert!(rt; printed(place, "b1").is(3, "", said), "{said}");
-        assert!(rt; printed(place, "no id").is(3, "", said), "{said}");
+        assert!(rt; printed::<P>(place, "b1").is(3, "", said), "{said}");
+        assert!(rt; printed::<P>(place, "no id").is(3, "", said), "{said}");
         assert!(rt;
-            taken(place, "1970-01-02", "1970-01-02").is(3, "", said),
+            taken::<P>(place, "1970-01-02", "1970-01-02").is(3, "", said),
             "{said}"
         );
-        assert!(rt; checked(place).is(3, "", said), "{said}");
-        assert!(rt; served(place, false).is(3, "", said), "{said}");
+        assert!(rt; checked::<P>(place).is(3, "", said), "{said}");
+        assert!(rt; served::<P>(place, false).is(3, "", said), "{said}");
         // what the words say comes before any file
         let usage = "portal: usage\n";
         assert!(rt;
-            answered(place, 253_370_764_800, SEED, true).is(2, "", usage),
+            answered::<P>(place, 253_370_764_800, SEED, true).is(2, "", usage),
             "{said}"
         );
         assert!(rt;
-            answered(place, MOMENT, "00", true).is(2, "", usage),
+            answered::<P>(place, MOMENT, "00", true).is(2, "", usage),
             "{said}"
         );
         assert!(rt;
-            taken(place, "1970-01-02", "1970-01-01").is(2, "", usage),
+            taken::<P>(place, "1970-01-02", "1970-01-01").is(2, "", usage),
             "{said}"
         );
         // neither file is asked for
         assert!(rt;
-            answered(place, MOMENT, SEED, false).is(0, CAPTIVE, ""),
+            answered::<P>(place, MOMENT, SEED, false).is(0, CAPTIVE, ""),
             "{said}"
         );
     }
 }
 
 #[test]
-fn no_fault(rt: HostRuntime) {
-    let place = good_shelf(rt.alloc());
-    assert!(rt; answered(place, MOMENT, SEED, true).is(0, CAPTIVE, ""));
+fn first_fault(rt: HostRuntime) {
+    check_first_fault::<InMemory>(&rt, rt.alloc());
+}
+
+fn check_no_fault<P: Place>(rt: &impl Abort, alloc: Global) {
+    let place = good_shelf(alloc);
+    assert!(rt; answered::<P>(place, MOMENT, SEED, true).is(0, CAPTIVE, ""));
     for batch in ["b1", "", "B1", "no id", "012345678901234567890123456789012"] {
         assert!(rt;
-            printed(place, batch).is(1, "", "portal: unknown_batch\n"),
+            printed::<P>(place, batch).is(1, "", "portal: unknown_batch\n"),
             "{batch}"
         );
     }
-    assert!(rt; taken(place, "1970-01-02", "1970-01-02").is(0, REPORT, ""));
-    assert!(rt; checked(place).is(0, "ok\n", ""));
-    assert!(rt; served(place, false).is(3, "", "portal: network\n"));
-    assert!(rt; served(place, true).is(0, "listening 127.0.0.1:80\n", "portal: network\n"));
+    assert!(rt; taken::<P>(place, "1970-01-02", "1970-01-02").is(0, REPORT, ""));
+    assert!(rt; checked::<P>(place).is(0, "ok\n", ""));
+    assert!(rt; served::<P>(place, false).is(3, "", "portal: network\n"));
+    assert!(rt; served::<P>(place, true).is(0, "listening 127.0.0.1:80\n", "portal: network\n"));
+}
+
+#[test]
+fn no_fault(rt: HostRuntime) {
+    check_no_fault::<InMemory>(&rt, rt.alloc());
 }
 
 #[test]
@@ -234,41 +252,27 @@ fn ranges(rt: HostRuntime) {
     }
 }
 
-/// A desk that has stopped.
-fn stopped_desk(alloc: Global) -> Result<MemoryDesk, Fail> {
-    let mut desk = MemoryDesk::new(alloc, sample_settings(alloc)?);
-    let moment = Moment::new(1000).ok_or("a moment")?;
-    let code = Code::read("2222-2222-2222").map_err(|_| "a code")?;
-    // a desk in memory that keeps plans alone stops at any other command
-    match desk.prepare(alloc, moment, Command::Sell { code }) {
-        Ok(_) => Err("it is kept")?,
-        Err(_) => Ok(desk),
-    }
-}
-
-#[test]
-fn stopped(rt: HostRuntime) -> Result<(), Fail> {
-    let alloc = rt.alloc();
+/// Each subcommand says that the desk has stopped.
+pub fn check_stopped<D: Desk>(rt: &impl Abort, alloc: Global, desk: &mut D) -> Result<(), Fail> {
     let routes = Routes::new(alloc)?;
     let said = "portal: stopped\n".as_bytes();
     let mut output = Vec::new(alloc);
-    let mut desk = stopped_desk(alloc)?;
     let mut errors = Vec::new(alloc);
-    assert!(rt; print_at(&mut desk, alloc, "b1", &mut output, &mut errors) == 3);
+    assert!(rt; print_at(desk, alloc, "b1", &mut output, &mut errors) == 3);
     assert!(rt; errors.as_slice() == said);
     let mut errors = Vec::new(alloc);
-    assert!(rt; check_at(&mut desk, alloc, &mut output, &mut errors) == 3);
+    assert!(rt; check_at(desk, alloc, &mut output, &mut errors) == 3);
     assert!(rt; errors.as_slice() == said);
     let range = read_range("1970-01-02", "1970-01-02").ok_or("a range")?;
     let mut errors = Vec::new(alloc);
-    assert!(rt; takings_at(&mut desk, alloc, range, &mut output, &mut errors) == 3);
+    assert!(rt; takings_at(desk, alloc, range, &mut output, &mut errors) == 3);
     assert!(rt; errors.as_slice() == said && output.is_empty());
     // a response of a desk that has stopped, and one that does not reach it
     let moment = Moment::new(MOMENT).ok_or("a moment")?;
     for (request, status) in [(REQUEST, 3), ("", 1)] {
         let mut input = request.as_bytes();
         let ended = answer_at(
-            &mut desk,
+            desk,
             alloc,
             &routes,
             moment,

@@ -1,17 +1,15 @@
 //! Serving: what peers are sent, what is printed, and the status, over a host that is made up; a port that is taken.
-use crate::desk::{BAD_REQUEST, CAPTIVE, MOMENT, new_desk};
+use crate::desks::served_in_memory;
 use crate::exchanges::{Sender, Taker, sends, takes};
-use crate::heads::CAPTIVE as REQUEST;
+use crate::requests::{BAD_REQUEST, CAPTIVE, MOMENT, REQUEST};
 use portal_desk::Desk;
-use portal_desk::memory::MemoryDesk;
 use portal_ends::Fault;
-use portal_model::command::Command;
 use portal_model::moment::Moment;
-use portal_model::refusal::Refusal;
 use portal_route::Routes;
 use portal_serve::{Host, bind_loopback, fresh_seed, moment_now, serve};
 use std::alloc::Global;
-use std::io::{self, ErrorKind};
+use std::io::{self, ErrorKind, Write};
+use std::process::Abort;
 use std::rt::Clock;
 use std::test::Fail;
 use std::time::Duration;
@@ -90,27 +88,18 @@ fn played(alloc: Global, peers: &[Peer]) -> Script<'_> {
     }
 }
 
-/// Serves at port 8080, and gives the status with what was printed.
-fn served<H: Host>(
+/// Serves at port 8080, and gives the status with the faults that were printed.
+pub fn served<D: Desk, H: Host, W: Write>(
     alloc: Global,
-    desk: &mut MemoryDesk,
+    desk: &mut D,
     host: &mut H,
     count: u64,
-) -> Result<(u8, Vec<u8>, Vec<u8>), Fail> {
+    output: &mut W,
+) -> Result<(u8, Vec<u8>), Fail> {
     let routes = Routes::new(alloc)?;
-    let mut output = Vec::new(alloc);
     let mut errors = Vec::new(alloc);
-    let status = serve(
-        desk,
-        alloc,
-        &routes,
-        host,
-        8080,
-        count,
-        &mut output,
-        &mut errors,
-    );
-    Ok((status, output, errors))
+    let status = serve(desk, alloc, &routes, host, 8080, count, output, &mut errors);
+    Ok((status, errors))
 }
 
 #[test]
@@ -125,7 +114,8 @@ fn peers_one_after_another(rt: HostRuntime) -> Result<(), Fail> {
         Peer::Asks,
     ];
     let mut host = played(alloc, peers.as_slice());
-    let (status, output, errors) = served(alloc, &mut new_desk(alloc)?, &mut host, 6)?;
+    let mut output = Vec::new(alloc);
+    let (status, errors) = served_in_memory(alloc, &mut host, 6, &mut output)?;
     assert_eq!(rt; (status, host.accepts), (0, 6));
     assert_eq!(rt; output.as_slice(), b"listening 127.0.0.1:8080\n".as_slice());
     assert_eq!(rt;
@@ -150,7 +140,8 @@ fn ends_of_serving(rt: HostRuntime) -> Result<(), Fail> {
     for (clock, count, status, said, accepts) in cases {
         let mut host = played(alloc, [Peer::Asks, Peer::Asks].as_slice());
         host.clock = clock;
-        let (ended, _, errors) = served(alloc, &mut new_desk(alloc)?, &mut host, count)?;
+        let mut output = Vec::new(alloc);
+        let (ended, errors) = served_in_memory(alloc, &mut host, count, &mut output)?;
         assert_eq!(rt; (ended, host.accepts), (status, accepts), "{said}");
         assert_eq!(rt; errors.as_slice(), said.as_bytes());
     }
@@ -158,15 +149,10 @@ fn ends_of_serving(rt: HostRuntime) -> Result<(), Fail> {
 }
 
 /// A desk that has stopped ends the program before another connection is waited for.
-#[test]
-fn stopped_desk(rt: HostRuntime) -> Result<(), Fail> {
-    let alloc = rt.alloc();
-    let mut desk = new_desk(alloc)?;
-    let moment = Moment::new(MOMENT).ok_or("a moment past the greatest")?;
-    let stopped = desk.prepare(alloc, moment, Command::Close { session: 1 });
-    assert!(rt; matches!(stopped, Err(Refusal::Stopped)));
+pub fn check_stopped<D: Desk>(rt: &impl Abort, alloc: Global, desk: &mut D) -> Result<(), Fail> {
     let mut host = played(alloc, [Peer::Asks].as_slice());
-    let (status, output, errors) = served(alloc, &mut desk, &mut host, 1)?;
+    let mut output = Vec::new(alloc);
+    let (status, errors) = served(alloc, desk, &mut host, 1, &mut output)?;
     assert_eq!(rt; (status, host.accepts), (3, 0));
     assert_eq!(rt; output.as_slice(), b"listening 127.0.0.1:8080\n".as_slice());
     assert_eq!(rt; errors.as_slice(), b"portal: stopped\n".as_slice());
@@ -177,23 +163,11 @@ fn stopped_desk(rt: HostRuntime) -> Result<(), Fail> {
 #[test]
 fn line_cut_off(rt: HostRuntime) -> Result<(), Fail> {
     let alloc = rt.alloc();
-    let routes = Routes::new(alloc)?;
-    let mut desk = new_desk(alloc)?;
     for room in 0..25 {
         let mut host = played(alloc, [Peer::Asks].as_slice());
         let mut output = takes(alloc, 10);
         output.room = room;
-        let mut errors = Vec::new(alloc);
-        let status = serve(
-            &mut desk,
-            alloc,
-            &routes,
-            &mut host,
-            8080,
-            1,
-            &mut output,
-            &mut errors,
-        );
+        let (status, errors) = served_in_memory(alloc, &mut host, 1, &mut output)?;
         assert_eq!(rt; (status, host.accepts), (3, 0), "{room}");
         assert_eq!(rt; errors.as_slice(), b"portal: cut\n".as_slice());
         assert_eq!(rt;
