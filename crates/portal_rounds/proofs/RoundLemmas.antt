@@ -13,12 +13,13 @@ use Rattle.sqlite_store.specs.declared.store.FileStore.{FileStore}
 use Rattle.sqlite.specs.Held.{Held}
 use Rattle.sqlite.specs.State.{HasCleanDisk}
 use Rattle.sqlite.specs.Files.{HoldsDatabase, file_state, over_files}
+use Rattle.sqlite.specs.Tree.{Trees}
 use Rattle.portal_ledger.specs.Ledger.{Ledger}
 use Rattle.portal_ledger.specs.States.{State, MayStand, running}
 use Rattle.portal_files.specs.SettingsFile.{SettingsValue}
 use Rattle.portal_tables.specs.Adopting.{FailsToAdopt}
 use Rattle.portal_tables.specs.declared.adopt.Refused.{Refused}
-use Rattle.portal_tables.specs.Images.{ImageShows}
+use Rattle.portal_tables.specs.Images.{ImageHolds, ImageShows}
 use Rattle.portal_tables.specs.TablesAt.{ConnAt, ConnIsHonest, ConnLeaves, ConnMayLeave, FilesShow, Files as Tables}
 use Rattle.portal_tables.proofs.StandingLemmas.{conn_leaves}
 use Rattle.sqlite_trees.specs.declared.store.Store as stores
@@ -41,9 +42,9 @@ module _ {D : Type 0} {g : Ghosts D} where
   unfolding ConnIsHonest
   honest_by conn clean = clean
 
-  pub may_leave_by : (conn : Held (FileStore D g)) (image : Image) → ∥ ((tables : Tables) × (file_state conn).may_leave tables × HoldsDatabase image tables) ∥₁
-      → ∥ ((tables : Tables) × ConnMayLeave over_files conn tables × HoldsDatabase image tables) ∥₁
-  unfolding ConnMayLeave
+  pub may_leave_by : (conn : Held (FileStore D g)) (image : Image) → ∥ ((trees : Trees) × (file_state conn).may_leave trees × HoldsDatabase image trees) ∥₁
+      → ∥ ((tables : Tables) × ConnMayLeave over_files conn tables × ImageHolds image tables) ∥₁
+  unfolding Tables ConnMayLeave ImageHolds
   may_leave_by conn image may = may
 
   -- a connection that was not taken over leaves what showed the ledger
@@ -52,11 +53,11 @@ module _ {D : Type 0} {g : Ghosts D} where
   still_leaves L refused (inr store) = store.1
 
   leaves_shown : (L : Ledger) (conn : Held (FileStore D g)) (tables : Tables) → ConnLeaves over_files conn L → ConnMayLeave over_files conn tables → FilesShow tables L
-  unfolding ConnLeaves ConnMayLeave
+  unfolding Tables ConnLeaves ConnMayLeave
   leaves_shown L conn tables leaves may = leaves tables may
 
   pub image_left : (L : Ledger) (conn : Held (FileStore D g)) (image : Image) → ConnLeaves over_files conn L
-      → ∥ ((tables : Tables) × ConnMayLeave over_files conn tables × HoldsDatabase image tables) ∥₁ → ∥ ImageShows image L ∥₁
+      → ∥ ((tables : Tables) × ConnMayLeave over_files conn tables × ImageHolds image tables) ∥₁ → ∥ ImageShows image L ∥₁
   image_left L conn image leaves held =
       ∥∥₁_map held (λ it. let r : ImageShows image L = inl (it.0, it.2, leaves_shown L conn it.0 leaves it.1) in r)
 
@@ -67,7 +68,7 @@ desk_leaves g desk s at tables may = left_by g desk.tables s at.0 tables may
 
 -- what a desk's state allows, by the tables that each image holds
 pub state_left : (s : State) (image : Image) (MayLeave : Tables → Type 0) → ((tables : Tables) → MayLeave tables → (found : Ledger) × MayStand s found × FilesShow tables found)
-    → ∥ ((tables : Tables) × MayLeave tables × HoldsDatabase image tables) ∥₁ → ∥ ((found : Ledger) × MayStand s found × ImageShows image found) ∥₁
+    → ∥ ((tables : Tables) × MayLeave tables × ImageHolds image tables) ∥₁ → ∥ ((found : Ledger) × MayStand s found × ImageShows image found) ∥₁
 state_left s image MayLeave leaves held =
     ∥∥₁_map held (λ it.
     let left = leaves it.0 it.1 in

@@ -3,10 +3,10 @@ ghost use Rattle.std.specs.Prelude.{◌≡◌, IfErr, IfOk, IsTrue};
 ghost use Rattle.sqlite_wal.specs.Recovery.{Image};
 ghost use Rattle.sqlite_wal.specs.Files.{outcomes};
 ghost use Rattle.sqlite_wal.specs.Reads.{AreClean};
-ghost use Rattle.sqlite.specs.Files.{HoldsDatabase, image_of, over_files};
+ghost use Rattle.sqlite.specs.Files.{image_of, over_files};
 ghost use Rattle.portal_ledger.specs.Ledger.{Ledger};
 ghost use Rattle.portal_ledger.specs.States.{State, MayStand, running};
-ghost use Rattle.portal_tables.specs.Images.{ImageShows};
+ghost use Rattle.portal_tables.specs.Images.{ImageHolds, ImageShows};
 ghost use Rattle.portal_tables.specs.TablesAt.{ConnIsHonest, ConnMayLeave, Files as Tables};
 ghost use Rattle.portal_store.specs.DeskAt.{DeskAt, DeskIsHonest, settings_of};
 ghost use Rattle.portal_rounds.specs.Rounds.{IsHonestMissed, StillShows};
@@ -59,7 +59,7 @@ pub fn open_desk<D: Disk + Drop>(
 pub fn give_back<D: Disk + Drop>(conn: Connection<FileStore<D>>) -> Files<D>
     ensures honest { AreClean D.Disk result.log result.db → ConnIsHonest over_files conn }
     ensures left { AreClean D.Disk result.log result.db → (image : Image) → outcomes D.Disk result.log result.db image
-        → ∥ ((tables : Tables) × ConnMayLeave over_files conn tables × HoldsDatabase image tables) ∥₁ }
+        → ∥ ((tables : Tables) × ConnMayLeave over_files conn tables × ImageHolds image tables) ∥₁ }
 {
     let store = conn.into_store();
     store.close()

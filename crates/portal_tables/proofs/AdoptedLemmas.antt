@@ -32,7 +32,7 @@ use Rattle.portal_tables.specs.Adopting.{Carries, Stays, IsBrought, FailsToAdopt
 use Rattle.portal_tables.specs.Older.{ShowsIn}
 use Rattle.portal_tables.specs.Shown.{ShowsLedger, all_contents_of}
 use Rattle.portal_tables.specs.Stores.{IsBare, IsNamed, ShowsOlder, StoreShows}
-use Rattle.portal_tables.specs.TablesAt.{ConnAt, ConnLeaves, ConnIsHonest, FilesShow, IsHonest, OthersLeft, OthersStay, TablesAt}
+use Rattle.portal_tables.specs.TablesAt.{ConnAt, ConnLeaves, ConnIsHonest, Files, FilesShow, IsHonest, OthersLeft, OthersStay, TablesAt}
 use Rattle.portal_tables.proofs.StandingLemmas.{IsSettled, left_store}
 use Rattle.portal_tables.proofs.Upgrading.{upgraded_shows}
 
@@ -215,7 +215,7 @@ module _ {S : Type 0} (g : Ghosts S) where
       at_open (StoreShows L) (state g new) law before.is_open before.ended (before.now ∙ sym before.committed) (subst IsDatabase (sym now) at.sound) (subst (StoreShows L) (sym now) at.shown)
 
   leaves : (L : Ledger) (old new : Held S) → ConnAt g old L → HasCleanDisk (state g new) → Survives (state g old) (state g new) (MayAdopt (state g old).now) → ConnLeaves g new L
-  unfolding ConnAt ConnLeaves FilesShow
+  unfolding Files ConnAt ConnLeaves FilesShow
   leaves L old new at clean survives files may = elim (survives.crash clean files may) [
     | inl was ↦ at.left files was
     | inr adopts ↦ left_store L files (left_shown L (state g old).now files at.shown adopts).0
@@ -267,7 +267,7 @@ module _ {S : Type 0} (g : Ghosts S) where
   others_stay L old new at made = (ready_shown L (state g old) (state g new) at.shown (made at.is_open)).1
 
   pub others_left : (L : Ledger) (old new : Held S) → IsSettled g old → ConnAt g old L → HasCleanDisk (state g new) → Survives (state g old) (state g new) (MayAdopt (state g old).now) → OthersLeft g old new
-  unfolding ConnAt OthersLeft
+  unfolding Files ConnAt OthersLeft
   others_left L old new law at clean survives files may = elim (survives.crash clean files may) [
     | inl was ↦ (at_open (KeepsOthers (state g old).now) (state g old) law at.is_open at.autocommit at.settled at.sound (others_none (state g old).now)).left files was
     | inr adopts ↦ (left_shown L (state g old).now files at.shown adopts).1

@@ -30,8 +30,8 @@ use Rattle.portal_sql.specs.StandsAt.{LeftShows}
 use Rattle.portal_sql.proofs.StandsAtLemmas.{at_open, shows_under}
 use Rattle.portal_layouts.specs.Layouts.{is_any_named}
 use Rattle.portal_tables.specs.Stores.{StoreShows}
-use Rattle.portal_tables.specs.Images.{AreAt, ClosedShow, ImageShows, LeftoverShows}
-use Rattle.portal_tables.specs.TablesAt.{ConnAt, FilesShow}
+use Rattle.portal_tables.specs.Images.{AreAt, ClosedShow, ImageHolds, ImageShows, LeftoverShows, StoreMayLeave}
+use Rattle.portal_tables.specs.TablesAt.{ConnAt, Files as Tables, FilesShow}
 use Rattle.portal_tables.proofs.LeftoverLemmas.{no_schema, found_empty, store_left, unopened_left}
 
 -- the law of the store at a connection over files
@@ -57,8 +57,8 @@ module _ {D : Type 0} {g : Ghosts D} (L : Ledger) where
       let fresh : is_any_named s.now.schema ≡ false = bare s.now.schema (subst (λ (db : Database). db.schema ≡ no_schema) (sym opened.0.clean) unlisted) in
       at_open (StoreShows L) s law opened.0.is_open opened.0.autocommit opened.0.clean live.0 (inr (inr (none, fresh)))
 
-  opened_stands : (image : Image) (c : Held (FileStore D g)) (left : Trees) → IsSettledOver c → HoldsDatabase image left → FilesShow left L → IsOpened c → FindsIn image (file_state c) → ConnAt over_files c L
-  unfolding FilesShow ConnAt
+  opened_stands : (image : Image) (c : Held (FileStore D g)) (left : Tables) → IsSettledOver c → ImageHolds image left → FilesShow left L → IsOpened c → FindsIn image (file_state c) → ConnAt over_files c L
+  unfolding Tables ImageHolds FilesShow ConnAt
   opened_stands image c left law holds shown opened found =
       let s = file_state c in
       let live = opened.1 opened.0.is_open in
@@ -76,7 +76,7 @@ module _ {D : Type 0} {g : Ghosts D} (L : Ledger) where
 
   -- what is left of files that were not opened
   pub leftover_shows : (files : Files D) (rest : Leftover D g) → AreAt g files L → LeavesFiles files rest → LeftoverShows (image_of g files) rest L
-  unfolding FilesShow
+  unfolding Tables ImageHolds StoreMayLeave FilesShow
   leftover_shows files (left.Files now) at leaves = λ image may. at.left image (leaves image may)
   leftover_shows files (left.Unopened now) at leaves = unopened_left (StoreShows L) (L ≡ []) (new_shows L) files at.seen at.left now leaves
   leftover_shows files (left.Store now) at leaves = store_left (StoreShows L) (L ≡ []) (new_shows L) files at.seen now leaves
@@ -105,27 +105,29 @@ module _ {D : Type 0} {g : Ghosts D} (L : Ledger) where
       (subst (StoreShows L) (sym opened.0.clean) (shows_under (StoreShows L) s.committed.trees s.committed.schema live.1 here))
 
   -- a store that was not closed leaves no more than its connection did
-  pub unclosed_shows : (old : Held (FileStore D g)) (last : FileStore D g) → ConnAt over_files old L → IsQuiet view faults recovers is_shielded old.store last → (trees : Trees) → recovers last trees → FilesShow trees L
-  unfolding ConnAt FilesShow
+  pub unclosed_shows : (old : Held (FileStore D g)) (last : FileStore D g) → ConnAt over_files old L → IsQuiet view faults recovers is_shielded old.store last → (files : Tables) → StoreMayLeave last files → FilesShow files L
+  unfolding Tables StoreMayLeave ConnAt FilesShow
   unclosed_shows old last at quiet trees may = at.left trees (quiet.outcomes trees may)
 
   -- files that were closed hold what the connection had committed
   module _ (old : Held (FileStore D g)) (files : Files D) (at : ConnAt over_files old L) (copied : IsCopied old files) where
-    abbrev committed : Trees
+    unfoldable committed : Tables
+    unfolding Tables
     committed = (file_state old).committed.trees
 
     committed_shows : FilesShow committed L
-    unfolding ConnAt FilesShow
+    unfolding Tables committed ConnAt FilesShow
     committed_shows = subst (λ (db : Database). LeftShows (StoreShows L) db.trees) at.settled ((file_state old).now.schema, at.sound, at.shown)
 
-    held_shows : (image : Image) → HoldsAlone image committed → ∥ ImageShows image L ∥₁
+    held_shows : (image : Image) → HoldsAlone image (file_state old).committed.trees → ∥ ImageShows image L ∥₁
+    unfolding Tables committed ImageHolds
     held_shows image held = ∥∥₁_map held.both (λ holds. let r : ImageShows image L = inl (committed, holds, committed_shows) in r)
 
     closed_shows : (image : Image) → outcomes g files.log files.db image → ∥ ImageShows image L ∥₁
     closed_shows image may = held_shows image (copied.left image may)
 
     closed_left : (rest : Leftover D g) → LeavesFiles files rest → LeftoverShows (image_of g files) rest L
-    unfolding FilesShow
+    unfolding Tables committed ImageHolds StoreMayLeave FilesShow
     closed_left (left.Files now) leaves = λ image may. closed_shows image (leaves image may)
     closed_left (left.Unopened now) leaves = λ image may.
         ∥∥₁_elim (held_shows (image_of g files) copied.seen) squash₁ (λ seen. unopened_left (StoreShows L) (L ≡ []) (new_shows L) files seen closed_shows now leaves image may)

@@ -19,7 +19,7 @@ use Rattle.portal_tables.specs.declared.fault.StoreFault.{StoreFault}
 use Rattle.portal_tables.specs.declared.fault.StoreFault.TheVariants.{Memory}
 use Rattle.portal_tables.specs.declared.tables.Tables.{Tables}
 use Rattle.portal_tables.specs.Shown.{all_contents_of}
-use Rattle.portal_tables.specs.TablesAt.{IsHonest, OthersKept, OthersLeft, OthersStay, TablesAt}
+use Rattle.portal_tables.specs.TablesAt.{Files, IsHonest, OthersKept, OthersLeft, OthersStay, TablesAt}
 use Rattle.portal_tables.proofs.StandingLemmas.{IsSettled, IsTold, honest_is}
 
 module _ {S : Type 0} (g : Ghosts S) where
@@ -31,7 +31,7 @@ module _ {S : Type 0} (g : Ghosts S) where
       at_open (KeepsOthers s.now) s law at.1.is_open at.1.autocommit at.1.settled at.1.sound (others_none s.now)
 
   others_by : (old new : Tables S) → StandsAt (KeepsOthers (state g old.conn).now) (state g new.conn) → OthersKept g old new
-  unfolding OthersStay OthersLeft
+  unfolding Files OthersStay OthersLeft
   others_by old new at = (λ works. at.shown, at.left)
 
   pub others_stopped : (L : Ledger) (old new : Tables S) → old.is_stopped ≡ true → TablesAt g old (running L) → OthersKept g old new
@@ -40,7 +40,7 @@ module _ {S : Type 0} (g : Ghosts S) where
 
   -- tables that stop before they wrote anything
   pub others_halted : (L : Ledger) (old : Tables S) → IsSettled g old.conn → TablesAt g old (running L) → OthersKept g old (record old { is_stopped = true })
-  unfolding OthersStay OthersLeft
+  unfolding Files OthersStay OthersLeft
   others_halted L old law at = (λ works. absurd (true≢false works), (others_at L old law at).left)
 
   pub others_led : (m : MarkedChanges) (L : Ledger) (old new : Tables S) → IsSettled g new.conn → Leads (kept_marked m) (state g old.conn) (state g new.conn) → TablesAt g old (running L) → OthersKept g old new
@@ -52,7 +52,7 @@ module _ {S : Type 0} (g : Ghosts S) where
   module _ (m : MarkedChanges) (L : Ledger) (old new : Tables S) (mid : Held S) (before : IsSettled g old.conn) (law : IsSettled g new.conn) (clean : HasCleanDisk (state g new.conn))
       (undone : IsUndone (state g old.conn) (state g mid)) (crash : Survives (state g old.conn) (state g mid) (MayLead (kept_marked m) (state g old.conn))) (later : Survives (state g mid) (state g new.conn) (λ _. ⊥)) where
     failed_by : (fault : StoreFault) → IsTold fault old.is_stopped new.is_stopped → (fault ≡ Memory → IsUnchanged (state g mid) (state g new.conn)) → TablesAt g old (running L) → OthersKept g old new
-    unfolding TablesAt OthersStay OthersLeft
+    unfolding Files TablesAt OthersStay OthersLeft
     failed_by fault (inl told) same at =
         others_by old new (again_at (KeepsOthers (state g old.conn).now) (state g old.conn) (state g mid) (state g new.conn) law (others_at L old before at) undone (same told.0))
     failed_by fault (inr told) same at =

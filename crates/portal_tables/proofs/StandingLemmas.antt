@@ -34,7 +34,7 @@ use Rattle.portal_rows.specs.Steps.{Leads, MayLead}
 use Rattle.portal_rows.specs.Commands.{kept, kept_marked, with_mark}
 use Rattle.portal_tables.specs.Shown.{ShowsLedger, OfShown, OfLedger, contents_of, all_contents_of}
 use Rattle.portal_tables.specs.Stores.{StoreShows}
-use Rattle.portal_tables.specs.TablesAt.{ConnAt, ConnIsHonest, ConnLeaves, ConnMayLeave, IsHonest, TablesAt, Leaves, LeavesNoMore, MayLeave, FilesShow}
+use Rattle.portal_tables.specs.TablesAt.{ConnAt, ConnIsHonest, ConnLeaves, ConnMayLeave, Files, IsHonest, TablesAt, Leaves, LeavesNoMore, MayLeave, FilesShow}
 use Rattle.portal_tables.proofs.Leading.{leads_on}
 use Rattle.portal_tables.proofs.ShownLemmas.{has_all_tables, history_shown}
 
@@ -116,7 +116,7 @@ module _ {S : Type 0} (g : Ghosts S) where
 
   -- what tables that stopped answer
   pub stays_read : (tables : Tables S) (s : Standing) → TablesAt g tables s → tables.is_stopped ≡ true → (new : Standing) × TablesAt g tables new × LeavesNoMore g tables tables × FailsToRead Memory Stopped s Stopped new
-  unfolding MayLeave
+  unfolding Files MayLeave
   stays_read tables s at on = let it = stopped_is tables s at on in (s, at, λ files may. may, subst (λ (x : Standing). FailsToRead Memory Stopped x Stopped x) (sym it.2) (refl, refl))
 
   pub stays_keep : (a : Accepted) (tables : Tables S) (s : Standing) → TablesAt g tables s → tables.is_stopped ≡ true → (new : Standing) × TablesAt g tables new × FailsToKeep Memory Stopped s a Stopped new
@@ -126,7 +126,7 @@ module _ {S : Type 0} (g : Ghosts S) where
 
   reads_at : (h : Ledger) (old new : Tables S) → TablesAt g old (running h) → HasCleanDisk (state g new.conn) → new.is_stopped ≡ old.is_stopped → Reads HasTables (state g old.conn) (state g new.conn)
       → TablesAt g new (running h) × ShowsLedger h (state g old.conn).now × IsTrue (state g old.conn).is_open × LeavesNoMore g old new
-  unfolding TablesAt MayLeave
+  unfolding Files TablesAt MayLeave
   reads_at h old new at clean on read =
       let has = has_all_tables h (state g old.conn).now at.1.shown in
       ((on ∙ at.0, still_at (ShowsLedger h) (state g old.conn) (state g new.conn) at.1 clean (read.same clean at.1.is_open has) (survives_weaker _ _ _ _ (λ _ db none. none at.1.is_open has) read.crash)), at.1.shown, at.1.is_open, λ files may. leaves_before (state g old.conn) (state g new.conn) files clean (survives_weaker _ _ _ _ (λ _ db none. none at.1.is_open has) read.crash) may)
@@ -147,7 +147,7 @@ module _ {S : Type 0} (g : Ghosts S) where
 
   fails_at : (h : Ledger) (old new : Tables S) (mid : Held S) → TablesAt g old (running h) → HasCleanDisk (state g new.conn) → Fails HasTables (state g old.conn) (state g mid) → Survives (state g mid) (state g new.conn) (λ _. ⊥)
       → IsSettled g new.conn → (fault : StoreFault) → IsTold fault old.is_stopped new.is_stopped → (fault ≡ Memory → IsUnchanged (state g mid) (state g new.conn)) → (x : Standing) × TablesAt g new x × LeavesNoMore g old new × FailsToRead Memory Stopped (running h) fault x
-  unfolding TablesAt MayLeave
+  unfolding Files TablesAt MayLeave
   fails_at h old new mid at clean failed later law fault (inl told) same =
       let has = has_all_tables h (state g old.conn).now at.1.shown in
       let undone = failed.undone (omega (arith, clean, later.clean)) at.1.is_open has at.1.autocommit at.1.settled in (
@@ -247,14 +247,14 @@ module _ {S : Type 0} (g : Ghosts S) where
   unfolding ConnIsHonest IsHonest
   released_honest tables clean = clean
 
-  pub released_left : (tables : Tables S) (files : Trees) → ConnMayLeave g tables.conn files → MayLeave g tables files
-  unfolding ConnMayLeave MayLeave
+  pub released_left : (tables : Tables S) (files : Files) → ConnMayLeave g tables.conn files → MayLeave g tables files
+  unfolding Files ConnMayLeave MayLeave
   released_left tables files may = may
 
 -- ---- what a reopening may find after a stop
 
 pub leaves : {S : Type 0} (g : Ghosts S) (tables : Tables S) (s : Standing) → TablesAt g tables s → Leaves g tables (MayStand s)
-unfolding TablesAt MayLeave FilesShow
+unfolding Files TablesAt MayLeave FilesShow
 leaves g tables (running h) at files may = (h, refl, left_store h files (at.1.left files may))
 leaves g tables (stopped h None) at files may = (h, refl, left_store h files (at.1 files may))
 leaves g tables (stopped h (Some a)) at files may = elim (at.1 files may) [ inl old ↦ (h, inl refl, left_store h files old) | inr new ↦ (a ∷ h, inr refl, left_store (a ∷ h) files new) ]
@@ -270,10 +270,10 @@ store_sound L db (inl shown) = shown.0
 store_sound L db (inr (inl shown)) = shown.1.sound
 store_sound L db (inr (inr is)) = subst IsSound (sym is.0) tt
 
-pub files_sound : (files : Trees) (L : Ledger) → FilesShow files L → IsSound L
-unfolding FilesShow
+pub files_sound : (files : Files) (L : Ledger) → FilesShow files L → IsSound L
+unfolding Files FilesShow
 files_sound files L left = store_sound L (record { schema = left.0; trees = files }) left.2
 
 pub conn_leaves : {S : Type 0} (g : Ghosts S) (conn : Held S) (L : Ledger) → ConnAt g conn L → ConnLeaves g conn L
-unfolding ConnAt ConnLeaves FilesShow
+unfolding Files ConnAt ConnLeaves FilesShow
 conn_leaves g conn L at files may = at.left files may

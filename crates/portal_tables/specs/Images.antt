@@ -8,6 +8,7 @@ use Rattle.sqlite_wal.specs.Files.{outcomes}
 use Rattle.sqlite_wal.specs.Reads.{AreClean}
 use Rattle.sqlite_pool.specs.Stored.{is_summed}
 use Rattle.sqlite_store.specs.FileStore.{recovers}
+use Rattle.sqlite_store.specs.declared.store.FileStore.{FileStore}
 use Rattle.sqlite_store.specs.Unopened.{state_of}
 use Rattle.sqlite.specs.Tree.{Trees}
 use Rattle.sqlite.specs.declared.file.Leftover.{Leftover}
@@ -16,12 +17,16 @@ use Rattle.sqlite.specs.Files.{HoldsDatabase, IsCleanLeft, IsNothing, image_of}
 use Rattle.portal_ledger.specs.Ledger.{Ledger}
 use Rattle.portal_tables.specs.declared.opening.Unopened.{Unopened}
 use Rattle.portal_tables.specs.declared.opening.Unopened.TheVariants.{Unclosed, Refused}
-use Rattle.portal_tables.specs.TablesAt.{FilesShow}
+use Rattle.portal_tables.specs.TablesAt.{Files, FilesShow}
 
--- An image is what two files hold. It shows the ledger where it holds tables that do; so does one with no database yet,
--- where nothing was accepted.
+-- An image is what two files hold, which may be a database: a set of tables.
+unfoldable pub ImageHolds : Image → Files → Type 0
+unfolding Files
+ImageHolds image files = HoldsDatabase image files
+
+-- The image shows the ledger where it holds tables that do; so does one with no database yet, where nothing was accepted.
 abbrev pub ImageShows : Image → Ledger → Type 0
-ImageShows image L = ((trees : Trees) × HoldsDatabase image trees × FilesShow trees L) ⊎ (IsNothing image × (L ≡ []))
+ImageShows image L = ((files : Files) × ImageHolds image files × FilesShow files L) ⊎ (IsNothing image × (L ≡ []))
 
 -- the image holds a database whose pages end in sums; this product makes none
 abbrev pub HasSums : Image → Type 0
@@ -33,12 +38,17 @@ pub record AreAt {D : Type 0} (g : Ghosts D) (files : Pair D) (L : Ledger) : Typ
   pub left : (image : Image) → outcomes g files.log files.db image → ∥ ImageShows image L ∥₁
 
 module _ {D : Type 0} {g : Ghosts D} where
+  -- a store that its connection has let go of may leave these tables
+  unfoldable pub StoreMayLeave : FileStore D g → Files → Type 0
+  unfolding Files
+  StoreMayLeave store files = recovers store files
+
   -- What a stop may leave of files that were not opened shows the ledger still. Of a database whose pages end in sums
   -- the store does not say so.
   abbrev pub LeftoverShows : Image → Leftover D g → Ledger → Type 0
   LeftoverShows before (left.Files now) L = (image : Image) → outcomes g now.log now.db image → ∥ ImageShows image L ∥₁
   LeftoverShows before (left.Unopened now) L = (image : Image) → (state_of now).may_leave image → ∥ ImageShows image L ⊎ HasSums before ∥₁
-  LeftoverShows before (left.Store now) L = (trees : Trees) → recovers now trees → FilesShow trees L
+  LeftoverShows before (left.Store now) L = (files : Files) → StoreMayLeave now files → FilesShow files L
 
   -- Files were closed between two openings, of which the second did not come about. A stop between the two leaves what
   -- shows the ledger, and so does one after them, where the disk has returned what was written to it.
@@ -49,5 +59,5 @@ module _ {D : Type 0} {g : Ghosts D} where
   -- What is left of files that were not closed, or not opened again, shows the ledger still. Of those that were closed
   -- this is said where the disk had returned what was written by then.
   abbrev pub UnopenedShows : Unopened D g → Ledger → Type 0
-  UnopenedShows (Unclosed error store) L = (trees : Trees) → recovers store trees → FilesShow trees L
+  UnopenedShows (Unclosed error store) L = (files : Files) → StoreMayLeave store files → FilesShow files L
   UnopenedShows (Refused error left) L = (closed : Pair D) × (AreClean g closed.log closed.db → ClosedShow closed left L)

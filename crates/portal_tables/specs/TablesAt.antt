@@ -12,12 +12,13 @@ use Rattle.portal_tables.specs.declared.tables.Tables.{Tables}
 use Rattle.portal_tables.specs.Shown.{ShowsLedger}
 use Rattle.portal_tables.specs.Stores.{StoreShows}
 
--- what a stop may leave: a set of tables, other tables beside ours among them
-abbrev pub Files : Type 0
+-- what a stop may leave: a set of tables, other tables beside ours among them; no layer above looks into it
+unfoldable pub Files : Type 0
 Files = Trees
 
 -- the files show the history
 unfoldable pub FilesShow : Files → Ledger → Type 0
+unfolding Files
 FilesShow files L = LeftShows (StoreShows L) files
 
 -- files that show what the standing allows
@@ -33,10 +34,12 @@ module _ {S : Type 0} (g : Ghosts S) where
 
   -- each set of files that a stop at this moment may leave shows the ledger
   unfoldable pub ConnLeaves : Held S → Ledger → Type 0
+  unfolding Files
   ConnLeaves conn L = (files : Files) → (state g conn).may_leave files → FilesShow files L
 
   -- a stop at this moment may leave these files
   unfoldable pub ConnMayLeave : Held S → Files → Type 0
+  unfolding Files
   ConnMayLeave conn files = (state g conn).may_leave files
 
   -- the disk has returned what was written
@@ -54,6 +57,7 @@ module _ {S : Type 0} (g : Ghosts S) where
 
   -- a stop at this moment may leave these files
   unfoldable pub MayLeave : Tables S → Files → Type 0
+  unfolding Files
   MayLeave tables files = (state g tables.conn).may_leave files
 
   -- each set of files that it may leave shows a ledger of this kind
@@ -63,6 +67,7 @@ module _ {S : Type 0} (g : Ghosts S) where
   -- Each set of files that a stop may leave after has the tables of others: each one whose name is none of ours is there still, with the rows
   -- that it had before.
   unfoldable pub OthersLeft : Held S → Held S → Type 0
+  unfolding Files
   OthersLeft old new = (files : Files) → (state g new).may_leave files → LeftOthers (state g old).now files
 
   -- so does the store

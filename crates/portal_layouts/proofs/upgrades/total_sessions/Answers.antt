@@ -5,8 +5,7 @@ use Rattle.portal_sql.specs.Looks.{Looks}
 use Rattle.portal_sql.proofs.LooksLemmas.{reads_then, looks_then, looks_read}
 use Rattle.portal_lists.specs.Asks.{Anything}
 use Rattle.std.proofs.lemmas.Result.{err_from_is_err_and}
-use Rattle.portal_rows.specs.Foreign.{NotForeign}
-use Rattle.portal_layouts.proofs.UpgradeLemmas.{totals_are, first_after, open_after}
+use Rattle.portal_layouts.proofs.UpgradeLemmas.{totals_are, first_after}
 use Rattle.portal_layouts.proofs.upgrades.total_sessions.Goals as goal
 
 pub returns-clause-summed : goal.returns-clause-summed
