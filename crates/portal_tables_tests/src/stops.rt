@@ -608,6 +608,11 @@ fn first_layout_stopped_by_the_database(rt: HostRuntime) -> Result<(), Fail> {
 }
 
 #[test]
+fn second_layout_stopped_by_the_database(rt: HostRuntime) -> Result<(), Fail> {
+    stop_deed(&rt, rt.alloc(), &SECOND, Part::Database)
+}
+
+#[test]
 fn third_layout_stopped_by_the_database(rt: HostRuntime) -> Result<(), Fail> {
     stop_deed(&rt, rt.alloc(), &THIRD, Part::Database)
 }
