@@ -8,48 +8,52 @@ use Rattle.sqlite_tied.specs.Compute.{everything}
 use Rattle.sqlite_ast.specs.declared.Statement.TheVariants as written
 use Rattle.portal_sql.specs.States.{KeepsNow}
 use Rattle.portal_sql.specs.Looks.{Looks}
-use Rattle.portal_sql.proofs.LooksLemmas.{looks_by}
+use Rattle.portal_sql.proofs.LooksLemmas.{looks_by, looks_weaker}
 use Rattle.portal_sql.proofs.Selects.{select_of, up}
-use Rattle.portal_lists.specs.Asks.{Anything, OnlyAsks}
+use Rattle.portal_lists.specs.Asks.{Anything, Asks, OnlyAsks}
 use Rattle.portal_rows.specs.Layout.{plans_name, vouchers_name, sessions_name, grants_name}
 use Rattle.portal_lists.proofs.Asking.{understood_idle}
 use Rattle.portal_lists.proofs.WholeTexts as texts
 
-module _ (sql : List ℕ) (params : Row) (old new : State) (asks : OnlyAsks sql) where
-  shown_same : (rows : List Row) → Shown sql params old new rows → IsUnchanged old new
+module _ (sql : List ℕ) (params : Row) (old new : State) where
+  no_some : {X : Type 0} (o : Option X) → o ≡ None → IsSome o → ⊥
+  no_some None is some = cc
+  no_some (Some x) is some = cc
+
+  pub commits_nothing : Survives old new (CommitsShowing sql params old) → Survives old new (λ _. ¬ Asks sql old.now.schema)
+  unfolding CommitsShowing
+  commits_nothing = survives_weaker old new _ _ (λ _ db h asks. no_some h.0.returning (asks h.0 h.1.is) h.2)
+
+  shown_same : Asks sql old.now.schema → (rows : List Row) → Shown sql params old new rows → IsUnchanged old new
   unfolding Shown
-  shown_same rows h = (rw (asks old.now.schema h.0 h.1.is) at h.2).3
+  shown_same asks rows h = (rw (asks h.0 h.1.is) at h.2).3
 
   same_kept : IsUnchanged old new → KeepsNow old new
   same_kept same = (same.0.now_is, same.0.committed_is)
 
-  fails_kept : (e : Error) → FailsToQuery sql params old new e → IsTrue new.is_open → old.now ≡ old.committed → KeepsNow old new
+  fails_kept : Asks sql old.now.schema → (e : Error) → FailsToQuery sql params old new e → IsTrue new.is_open → old.now ≡ old.committed → KeepsNow old new
   unfolding FailsToQuery IsNotRun
-  fails_kept e (inl (inl h)) live settled = same_kept h.1
-  fails_kept e (inl (inr h)) live settled = ((h.3.undone live).0 ∙ sym settled, (h.3.undone live).1)
-  fails_kept e (inr h) live settled = same_kept ((rw (asks old.now.schema h.0 h.1.is) at h.2).3)
-
-  nothing : {X : Type 0} (o : Option X) → o ≡ None → IsSome o → ⊥
-  nothing None is some = cc
-  nothing (Some x) is some = cc
-
-  commits_nothing : Survives old new (CommitsShowing sql params old) → Survives old new (λ _. ¬ Anything old.now.schema)
-  unfolding CommitsShowing
-  commits_nothing = survives_weaker old new _ _ (λ _ db h has. nothing h.0.returning (asks old.now.schema h.0 h.1.is) h.2)
+  fails_kept asks e (inl (inl h)) live settled = same_kept h.1
+  fails_kept asks e (inl (inr h)) live settled = ((h.3.undone live).0 ∙ sym settled, (h.3.undone live).1)
+  fails_kept asks e (inr h) live settled = same_kept ((rw (asks h.0 h.1.is) at h.2).3)
 
   module _ {X : Type 0} (items : X → List Row) where
-    ask_same : (r : Result X Error) → IfOk r (λ x. Shown sql params old new (items x)) → OnOk r (IsUnchanged old new)
-    ask_same (Ok x) h = shown_same (items x) h
-    ask_same (Err e) h = tt
+    ask_same : Asks sql old.now.schema → (r : Result X Error) → IfOk r (λ x. Shown sql params old new (items x)) → OnOk r (IsUnchanged old new)
+    ask_same asks (Ok x) h = shown_same asks (items x) h
+    ask_same asks (Err e) h = tt
 
-    ask_kept : (r : Result X Error) → IfOk r (λ x. Shown sql params old new (items x)) → IfErr r (FailsToQuery sql params old new) → IsTrue new.is_open → old.now ≡ old.committed → KeepsNow old new
-    ask_kept (Ok x) h fails live settled = same_kept (shown_same (items x) h)
-    ask_kept (Err e) h fails live settled = fails_kept e fails live settled
+    ask_kept : Asks sql old.now.schema → (r : Result X Error) → IfOk r (λ x. Shown sql params old new (items x)) → IfErr r (FailsToQuery sql params old new) → IsTrue new.is_open → old.now ≡ old.committed → KeepsNow old new
+    ask_kept asks (Ok x) h fails live settled = same_kept (shown_same asks (items x) h)
+    ask_kept asks (Err e) h fails live settled = fails_kept asks e fails live settled
 
-    pub asks_always : (r : Result X Error) → (HasCleanDisk new → IfOk r (λ x. Shown sql params old new (items x))) → (HasCleanDisk new → IfErr r (FailsToQuery sql params old new))
+    pub asks_looks : (r : Result X Error) → (HasCleanDisk new → IfOk r (λ x. Shown sql params old new (items x))) → (HasCleanDisk new → IfErr r (FailsToQuery sql params old new))
+        → (old.in_transaction ≡ false → new.in_transaction ≡ false) → Survives old new (CommitsShowing sql params old) → Looks (Asks sql) r old new
+    asks_looks r shown fails mode crash =
+        looks_by (Asks sql) r old new (λ clean asks. ask_same asks r (shown clean)) (λ clean asks live settled. ask_kept asks r (shown clean) (fails clean) live settled) mode (commits_nothing crash)
+
+    pub asks_always : OnlyAsks sql → (r : Result X Error) → (HasCleanDisk new → IfOk r (λ x. Shown sql params old new (items x))) → (HasCleanDisk new → IfErr r (FailsToQuery sql params old new))
         → (old.in_transaction ≡ false → new.in_transaction ≡ false) → Survives old new (CommitsShowing sql params old) → Looks Anything r old new
-    asks_always r shown fails mode crash =
-        looks_by Anything r old new (λ clean has. ask_same r (shown clean)) (λ clean has live settled. ask_kept r (shown clean) (fails clean) live settled) mode (commits_nothing crash)
+    asks_always asks r shown fails mode crash = looks_weaker (Asks sql) Anything (λ schema _. asks schema) r old new (asks_looks r shown fails mode crash)
 
 -- ---- the texts that read a whole table
 

@@ -7,6 +7,7 @@ pub mod ListTexts
 pub mod Listing
 pub mod OwnRows
 pub mod SameCode
+pub mod Streaming
 pub mod SumLemmas
 pub mod WholeReading
 pub mod WholeTables

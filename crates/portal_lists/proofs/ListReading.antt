@@ -25,6 +25,8 @@ use Rattle.portal_rows.specs.Holds.{Holds, HasTables}
 use Rattle.portal_lists.specs.Lists.{ListsAs, is_within, by_place, by_refund, by_number, sale_shown, sale_cells}
 use Rattle.portal_rows.proofs.Cells.{vouchers_in, totals_in}
 use Rattle.portal_lists.proofs.Listing.{number_order, option_order, sql_within, within_is, cells_listed}
+use Rattle.portal_lists.specs.Asks.{Asks, IsSimple}
+use Rattle.portal_lists.proofs.Streaming.{means_simple, simple_asks}
 use Rattle.portal_lists.proofs.WholeTables.{some_columns}
 use Rattle.portal_lists.proofs.ListTexts as texts
 
@@ -54,8 +56,11 @@ batch_listed t batch rows s =
 
 -- ---- the ends of all sessions
 
-pub totals_plain : (schema : Schema) → HasTables schema → IsPlain (understood schema texts.totals_text)
-totals_plain schema h = let place = h.0.totals in (texts.totals_means schema place.at place.tree (h.1.totals (lit≤ tt)).stands).plain
+pub totals_simple : (schema : Schema) → HasTables schema → IsSimple (understood schema texts.totals_text)
+totals_simple schema h = let place = h.0.totals in means_simple schema texts.totals_text _ _ (texts.totals_means schema place.at place.tree (h.1.totals (lit≤ tt)).stands)
+
+pub asks_totals : (schema : Schema) → HasTables schema → Asks texts.totals_text schema
+asks_totals schema h = simple_asks texts.totals_text schema (totals_simple schema h)
 
 pub totals_rows_are : (old new : State) (rows : List Row) → Shown texts.totals_text [] old new rows → (t : Contents) → Holds old.now t → ListsAs total_cells (λ _. true) by_number t.totals rows
 totals_rows_are old new rows shown t h =
@@ -96,8 +101,11 @@ module _ (old new : State) (from to : ℕ) (rows : List Row) (t : Contents) (h :
       cells_listed voucher_cells (λ (v : VoucherRow). is_within from to v.refunded) by_refund t.vouchers (λ r. sql_within (column r 4) (number from) (number to)) (by_columns 4 0) (λ v. within_is v.refunded from to)
       (λ a b. ap₂ ordering_then (option_order a.refunded b.refunded) (value_cmp-Text a.code b.code)) rows all
 
-pub sold_plain : (schema : Schema) → HasTables schema → IsPlain (understood schema texts.sold_text)
-sold_plain schema h = let place = h.0.vouchers in (texts.sold_means schema place.at place.tree h.1.vouchers.stands).plain
+pub sold_simple : (schema : Schema) → HasTables schema → IsSimple (understood schema texts.sold_text)
+sold_simple schema h = let place = h.0.vouchers in means_simple schema texts.sold_text _ _ (texts.sold_means schema place.at place.tree h.1.vouchers.stands)
+
+pub asks_sold : (schema : Schema) → HasTables schema → Asks texts.sold_text schema
+asks_sold schema h = simple_asks texts.sold_text schema (sold_simple schema h)
 
 pub refunded_plain : (schema : Schema) → HasTables schema → IsPlain (understood schema texts.refunded_text)
 refunded_plain schema h = let place = h.0.vouchers in (texts.refunded_means schema place.at place.tree h.1.vouchers.stands).plain

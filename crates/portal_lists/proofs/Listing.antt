@@ -1,7 +1,7 @@
 -- From the rows of an answer to the values that were read of them, in their order.
 use Rattle.std.proofs.Common.{◌≡◌, ◌+◌, ◌<◌, arith, ℕ, pos, List, [], ◌∷◌, ◌++◌, map, filter, take, length, get_or, cond, Bool, true, false, ◌&&◌, nat_le, Option, Some, None, refl, sym, ap, ap₂, subst, ◌∙◌, Ordering, nat_cmp, is_ge, is_le}
 use Rattle.std.specs.List.Sorted.{IsSorted}
-use Rattle.std.specs.Option.{option_cmp, option_to_list}
+use Rattle.std.specs.Option.{option_cmp}
 use Rattle.std.proofs.lemmas.Bool.Decides.{nat_tests}
 use Rattle.std.proofs.lemmas.Int.{ints}
 use Rattle.std.proofs.lemmas.List.{get_or-map, length-map, map-append, take_more}
@@ -18,6 +18,9 @@ use Rattle.sqlite_trees.proofs.ListLemmas.{map-map, filter-map, pull_back}
 use Rattle.portal_sql.specs.Stored.{number, or_null}
 use Rattle.portal_sql.specs.Finds.{IsSelection, columns}
 use Rattle.portal_model.specs.Rows.{TotalRow}
+use Rattle.portal_rows.specs.declared.signs.Total.{Total}
+use Rattle.portal_rows.specs.Steps.{ends_row}
+use Rattle.portal_rows.proofs.Compose.{more_mapped}
 use Rattle.portal_lists.specs.Lists.{Lists, ListsAs, IsReadAs, AreReadAs, is_within, may_be_open, numbers_open, sale_cells}
 
 -- ---- the order of SQL, at numbers, at texts, and where a number may be missing
@@ -135,19 +138,6 @@ numbers_push at totals m =
     one true = refl
     one false = refl
 
--- the numbers that were kept of these rows
-abbrev pub AreNumbers : ℕ → (TotalRow → Row) → ℕ → List Row → List ℕ → Type 0
-AreNumbers at cells count rows numbers = (totals : List TotalRow) × (map cells totals ≡ map (columns count) rows) × (numbers ≡ numbers_open at totals)
-
-pub numbers_more : (moment : ℕ) (cells : TotalRow → Row) (count : ℕ) (rows : List Row) (at : ℕ) (row : Row) (numbers : List ℕ) (m : TotalRow) (number : Option ℕ) → at < length rows → row ≡ get_or rows at row
-    → AreNumbers moment cells count (take at rows) numbers → cells m ≡ columns count row → number ≡ cond (may_be_open moment m) (Some m.number) None → AreNumbers moment cells count (take (at + 1) rows) (numbers ++ option_to_list number)
-numbers_more moment cells count rows at row numbers m number within is before one kept =
-    let more : take (at + 1) rows ≡ take at rows ++ row ∷ [] = take_more rows at row within ∙ ap (λ r. take at rows ++ r ∷ []) (sym is) in (
-      before.0 ++ m ∷ [],
-      map-append cells before.0 (m ∷ []) ∙ ap₂ ◌++◌ before.1 (ap (λ r. r ∷ []) one) ∙ sym (map-append (columns count) (take at rows) (row ∷ [])) ∙ ap (map (columns count)) (sym more),
-      ap₂ ◌++◌ before.2 (ap option_to_list kept ∙ listed (may_be_open moment m)) ∙ sym (numbers_push moment before.0 m),
-    )
-  where
-    listed : (b : Bool) → option_to_list (cond b (Some m.number) None) ≡ cond b (m.number ∷ []) []
-    listed true = refl
-    listed false = refl
+pub numbers_more : (at : ℕ) (totals : List Total) (i : ℕ) (total : Total) → i < length totals → total ≡ get_or totals i total
+    → numbers_open at (map ends_row (take (i + 1) totals)) ≡ numbers_open at (map ends_row (take i totals)) ++ cond (may_be_open at (ends_row total)) (total.number ∷ []) []
+numbers_more at totals i total within is = ap (numbers_open at) (more_mapped ends_row totals i total within is) ∙ numbers_push at (map ends_row (take i totals)) (ends_row total)

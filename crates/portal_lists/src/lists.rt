@@ -1,6 +1,6 @@
 //! The rows of a table that pass a test, read as values in an order.
 
-ghost use Rattle.std.specs.Prelude.{◌≡◌, IfOk, List, map, filter, true, bytes_eq, All, cond, Some, None};
+ghost use Rattle.std.specs.Prelude.{◌≡◌, IfOk, List, map, filter, true, bytes_eq, All};
 ghost use Rattle.sqlite.specs.Held.{state};
 ghost use Rattle.sqlite.specs.State.{HasCleanDisk};
 ghost use Rattle.portal_codes.specs.Code.{IsCode, text_of};
@@ -13,12 +13,12 @@ ghost use Rattle.portal_rows.specs.Holds.{Holds, HasTables};
 ghost use Rattle.portal_lists.specs.Lists.{Lists, ListsAs, IsReadAs, AreReadAs, is_within, may_be_open, numbers_open, by_place, by_refund, by_number, sale_cells, sale_shown, sale_read, refund_shown, refund_read};
 ghost use Rattle.portal_rows.specs.Steps.{ends_row};
 
-use crate::reads::read_each;
+use crate::reads::read_values;
 use portal_codes::Code;
 use portal_model::moment::Moment;
 use portal_model::name::Id;
 use portal_rows::queries::batch_vouchers_rows;
-use portal_rows::rows::{Fault, total_of, voucher_of};
+use portal_rows::rows::{Fault, voucher_of};
 use portal_rows::signs::Total;
 use portal_sql::query::read_all;
 use sqlite::{Alter, Connection, Error, Row, params};
@@ -29,34 +29,6 @@ use std::alloc::Global;
 pub struct KeptSale {
     pub batch: Id,
     pub at: Moment,
-}
-
-/// The rows of the ends of all sessions, by number.
-fn totals_rows<S: Alter>(conn: &mut Connection<S>) -> Result<Vec<Row>, Error>
-    ensures rows { HasCleanDisk (state S.Store conn.new) → (t : Contents) → Holds (state S.Store conn.old).now t → IfOk result (λ rows. ListsAs total_cells (λ _. true) by_number t.totals rows.items) }
-    ensures looks { Looks HasTables result (state S.Store conn.old) (state S.Store conn.new) }
-{
-    read_all(
-        conn,
-        "SELECT number, ends, remaining FROM portal_totals ORDER BY number",
-        &[],
-    )
-}
-
-/// The batch and the moment of each voucher that was sold within the two moments, both included, in order of issue.
-fn sold_rows<S: Alter>(
-    conn: &mut Connection<S>,
-    from: Moment,
-    to: Moment,
-) -> Result<Vec<Row>, Error>
-    ensures rows { HasCleanDisk (state S.Store conn.new) → (t : Contents) → Holds (state S.Store conn.old).now t → IfOk result (λ rows. rows.items ≡ map sale_cells (map sale_shown (filter (λ v. is_within from to v.sold) t.vouchers))) }
-    ensures looks { Looks HasTables result (state S.Store conn.old) (state S.Store conn.new) }
-{
-    read_all(
-        conn,
-        "SELECT batch_id, sold FROM portal_vouchers WHERE sold >= ?1 AND sold <= ?2 ORDER BY rowid",
-        params![from.get() as i64, to.get() as i64],
-    )
 }
 
 /// The rows of the vouchers that were refunded within the two moments, both included, by moment and code.
@@ -107,28 +79,15 @@ fn may_be_open(total: &Total, at: Moment) -> bool
     total.ends.is_none_or(|ends| at < ends) && total.remaining.is_none_or(|left| left > 0)
 }
 
-/// The number of the session of a row, where it may be open at `at`.
-fn number_of(row: &Row, at: Moment) -> Result<Option<u64>, Fault>
-    ensures read { IfOk result (λ number. (m : TotalRow) × (total_cells m ≡ columns 3 row.now) × (number ≡ cond (may_be_open at m) (Some m.number) None)) }
-    ensures own { SparesOwn total_cells IsOwnTotal (columns 3 row.now) result }
-{
-    let total = total_of(row)?;
-    if may_be_open(&total, at) {
-        Ok(Some(total.number))
-    } else {
-        Ok(None)
-    }
-}
-
-/// The numbers of the sessions that may be open at `at`, of these rows and in their order.
-fn numbers_in(alloc: Global, rows: &[Row], at: Moment) -> Result<Vec<u64>, Fault>
-    ensures read { IfOk result (λ numbers. (totals : List TotalRow) × (map total_cells totals ≡ map (columns 3) rows.now) × (numbers.items ≡ numbers_open at totals)) }
-    ensures own { AreOfOwn total_cells 3 IsOwnTotal rows.now → NotForeign result }
+/// The numbers of the sessions that may be open at `at`, in the order of their ends. The errors are want of memory.
+fn numbers_in(alloc: Global, totals: &[Total], at: Moment) -> Result<Vec<u64>, Fault>
+    ensures numbers { IfOk result (λ numbers. numbers.items ≡ numbers_open at (map ends_row totals.now)) }
+    ensures memory { NotForeign result }
 {
     let mut numbers = Vec::new(alloc);
-    for row in rows {
-        if let Some(number) = number_of(row, at)? {
-            numbers.push(number)?;
+    for total in totals {
+        if may_be_open(total, at) {
+            numbers.push(total.number)?;
         }
     }
     Ok(numbers)
@@ -183,8 +142,13 @@ pub fn list_numbers<S: Alter>(
     ensures looks { Looks HasTables result (state S.Store conn.old) (state S.Store conn.new) }
     ensures foreign { TellsForeign Holds (λ t. AreOwn IsOwnTotal t.totals) (state S.Store conn.old) (state S.Store conn.new) result }
 {
-    let rows = totals_rows(conn)?;
-    Ok(numbers_in(alloc, &rows, at)?)
+    let totals: Vec<Total> = read_values(
+        alloc,
+        conn,
+        "SELECT number, ends, remaining FROM portal_totals ORDER BY number",
+        &[],
+    )?;
+    Ok(numbers_in(alloc, &totals, at)?)
 }
 
 /// The sales within the two moments, both included, in the order in which their vouchers were issued.
@@ -198,8 +162,12 @@ pub fn list_sales<S: Alter>(
     ensures looks { Looks HasTables result (state S.Store conn.old) (state S.Store conn.new) }
     ensures foreign { TellsForeign Holds (λ t. AreOwn IsOwnVoucher t.vouchers) (state S.Store conn.old) (state S.Store conn.new) result }
 {
-    let rows = sold_rows(conn, from, to)?;
-    Ok(read_each(alloc, &rows)?)
+    read_values(
+        alloc,
+        conn,
+        "SELECT batch_id, sold FROM portal_vouchers WHERE sold >= ?1 AND sold <= ?2 ORDER BY rowid",
+        params![from.get() as i64, to.get() as i64],
+    )
 }
 
 /// The refunds within the two moments, both included, each with its moment and its amount in hundredths: the earlier first, and of two at one moment the one of the voucher with the lesser printed code.

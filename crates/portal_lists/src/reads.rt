@@ -1,12 +1,18 @@
 //! Rows of an answer, read as values.
 
-ghost use Rattle.std.specs.Prelude.{◌≡◌, ℕ, IfOk, map};
+ghost use Rattle.std.specs.Prelude.{◌≡◌, ℕ, List, IfOk, map};
+ghost use Rattle.sqlite.specs.Held.{state};
+ghost use Rattle.sqlite.specs.State.{HasCleanDisk, Shown};
+ghost use Rattle.sqlite.specs.Values.{bound};
+ghost use Rattle.sqlite.specs.Listing.{understood};
 ghost use Rattle.sqlite.specs.Order.{Row as Cells};
+ghost use Rattle.portal_sql.specs.Looks.{Looks};
 ghost use Rattle.portal_sql.specs.Finds.{columns};
 ghost use Rattle.portal_rows.specs.Contents.{plan_cells, batch_cells, voucher_cells, session_cells, grant_cells, count_cells, total_cells};
 ghost use Rattle.portal_rows.specs.Foreign.{AreOwn, IsOwnBatch, IsOwnCount, IsOwnGrant, IsOwnPlan, IsOwnSession, IsOwnTotal, IsOwnVoucher, NotForeign, IsOfOwn};
 ghost use Rattle.portal_rows.specs.Steps.{ends_row};
 ghost use Rattle.portal_rows.specs.Read.{voucher_read, session_read, count_read};
+ghost use Rattle.portal_lists.specs.Asks.{AreShown, Asks, IsSimple};
 ghost use Rattle.portal_lists.specs.Lists.{IsOwnSale, sale_cells, sale_read};
 ghost use Rattle.portal_lists.specs.Sums.{grant_read};
 
@@ -19,7 +25,8 @@ use portal_rows::rows::{
     session_of, total_of, voucher_of,
 };
 use portal_rows::signs::Total;
-use sqlite::Row;
+use sqlite::types::ValueRef;
+use sqlite::{Alter, Connection, Error, ErrorCode, Row};
 use std::alloc::Global;
 
 /// A value that keeps a row of one table.
@@ -134,6 +141,29 @@ impl FromRow for Total {
     fn from_row(row: &Row) -> Result<Total, Fault> {
         total_of(row)
     }
+}
+
+/// The values that keep the rows of the answer of a query, read one at a time.
+pub(crate) fn read_values<S: Alter, T: FromRow + Drop>(
+    alloc: Global,
+    conn: &mut Connection<S>,
+    sql: &str,
+    params: &[ValueRef<'_>],
+) -> Result<Vec<T>, Fault>
+    ensures shown { HasCleanDisk (state S.Store conn.new) → Asks sql.now (state S.Store conn.old).now.schema → IfOk result (λ values. AreShown (Shown sql.now (bound params.now) (state S.Store conn.old) (state S.Store conn.new)) T.cells T.width values.items) }
+    ensures looks { Looks (Asks sql.now) result (state S.Store conn.old) (state S.Store conn.new) }
+    ensures own { HasCleanDisk (state S.Store conn.new) → IsSimple (understood (state S.Store conn.old).now.schema sql.now)
+        → ((rows : List Cells) → Shown sql.now (bound params.now) (state S.Store conn.old) (state S.Store conn.new) rows → AreOwn (λ row. T.own (columns T.width row)) rows) → NotForeign result }
+{
+    let mut values = Vec::new(alloc);
+    let mut rows = conn.query(sql, params)?;
+    'rows: for _ in 0..u64::MAX {
+        let Some(row) = rows.next()? else {
+            return Ok(values);
+        };
+        values.push(T::from_row(row)?)?;
+    }
+    Err(Fault::Sql(Error::SqliteFailure(ErrorCode::TooBig)))
 }
 
 /// The rows, each read, in their order.

@@ -1,7 +1,7 @@
-use Rattle.std.proofs.Common.{take}
-use Rattle.portal_rows.specs.Contents.{total_cells}
-use Rattle.portal_lists.proofs.Listing.{AreNumbers}
+use Rattle.std.proofs.Common.{◌≡◌, map, take}
+use Rattle.portal_rows.specs.Steps.{ends_row}
+use Rattle.portal_lists.specs.Lists.{numbers_open}
 use Rattle.portal_lists.proofs.lists.numbers_in.Given as goal
 
-abbrev pub invariant-loop-row : goal.invariant-loop-row
-invariant-loop-row l = AreNumbers l.fn.at total_cells 3 (take l.row-index l.fn.rows) l.numbers.items
+abbrev pub invariant-loop-total : goal.invariant-loop-total
+invariant-loop-total l = l.numbers.items ≡ numbers_open l.at (map ends_row (take l.total-index l.totals))
