@@ -31,6 +31,7 @@ use Rattle.portal_rows.specs.Read.{voucher_read, session_read, count_read}
 use Rattle.portal_lists.specs.Audit.{IsAudited, Agrees, AreRead, is_counted, has_count, total_in}
 use Rattle.portal_rows.proofs.Cells.{exact_head, exact_session, exact_total}
 use Rattle.portal_rows.proofs.Compose.{more_mapped}
+use Rattle.portal_lists.proofs.OwnRows.{has_mapped}
 use Rattle.portal_lists.proofs.SameCode.{code_test}
 use Rattle.portal_lists.proofs.SumLemmas.{map_exact}
 
@@ -64,11 +65,6 @@ true_any : {X : Type 0} (p : X → Bool) (xs : List X) (x : X) → Has xs x → 
 true_any p [] x has on = absurd has
 true_any p (y ∷ xs) x (inl e) on = ap (λ b. b || list_any p xs) (sym (ap p e) ∙ on)
 true_any p (y ∷ xs) x (inr later) on = ap (λ b. p y || b) (true_any p xs x later on) ∙ or_true (p y)
-
-has_mapped : {X Y : Type 0} (f : X → Y) (xs : List X) (x : X) → Has xs x → Has (map f xs) (f x)
-has_mapped f [] x has = absurd has
-has_mapped f (y ∷ xs) x (inl e) = inl (ap f e)
-has_mapped f (y ∷ xs) x (inr later) = inr (has_mapped f xs x later)
 
 -- ---- the codes that have a count, with one count more
 

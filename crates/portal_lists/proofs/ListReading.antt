@@ -11,7 +11,6 @@ use Rattle.sqlite.specs.Table.{Table}
 use Rattle.sqlite.specs.Term.{Term}
 use Rattle.sqlite.specs.Listing.{understood}
 use Rattle.sqlite.specs.State.{State, Shown}
-use Rattle.sqlite.proofs.Callers.{IsPlain}
 use Rattle.sqlite_trees.proofs.ListLemmas.{map-map, filter-map}
 use Rattle.portal_sql.specs.Stored.{number}
 use Rattle.portal_sql.specs.Finds.{has_key, by_column, fields, IsSelection}
@@ -107,5 +106,8 @@ sold_simple schema h = let place = h.0.vouchers in means_simple schema texts.sol
 pub asks_sold : (schema : Schema) → HasTables schema → Asks texts.sold_text schema
 asks_sold schema h = simple_asks texts.sold_text schema (sold_simple schema h)
 
-pub refunded_plain : (schema : Schema) → HasTables schema → IsPlain (understood schema texts.refunded_text)
-refunded_plain schema h = let place = h.0.vouchers in (texts.refunded_means schema place.at place.tree h.1.vouchers.stands).plain
+pub refunded_simple : (schema : Schema) → HasTables schema → IsSimple (understood schema texts.refunded_text)
+refunded_simple schema h = let place = h.0.vouchers in means_simple schema texts.refunded_text _ _ (texts.refunded_means schema place.at place.tree h.1.vouchers.stands)
+
+pub asks_refunded : (schema : Schema) → HasTables schema → Asks texts.refunded_text schema
+asks_refunded schema h = simple_asks texts.refunded_text schema (refunded_simple schema h)

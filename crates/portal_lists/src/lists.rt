@@ -11,6 +11,7 @@ ghost use Rattle.portal_rows.specs.Contents.{Contents, voucher_cells, total_cell
 ghost use Rattle.portal_rows.specs.Foreign.{AreOwn, IsOwnRefund, IsOwnTotal, IsOwnVoucher, NotForeign, AreOfOwn, SparesOwn, TellsForeign};
 ghost use Rattle.portal_rows.specs.Holds.{Holds, HasTables};
 ghost use Rattle.portal_lists.specs.Lists.{Lists, ListsAs, IsReadAs, AreReadAs, is_within, may_be_open, numbers_open, by_place, by_refund, by_number, sale_cells, sale_shown, sale_read, refund_shown, refund_read};
+ghost use Rattle.portal_rows.specs.Read.{voucher_read};
 ghost use Rattle.portal_rows.specs.Steps.{ends_row};
 
 use crate::reads::read_values;
@@ -18,10 +19,9 @@ use portal_codes::Code;
 use portal_model::moment::Moment;
 use portal_model::name::Id;
 use portal_rows::queries::batch_vouchers_rows;
-use portal_rows::rows::{Fault, voucher_of};
+use portal_rows::rows::{Fault, KeptVoucher, voucher_of};
 use portal_rows::signs::Total;
-use portal_sql::query::read_all;
-use sqlite::{Alter, Connection, Error, Row, params};
+use sqlite::{Alter, Connection, Row, params};
 use std::alloc::Global;
 
 /// A sale of a voucher: the voucher's batch, and the moment.
@@ -29,22 +29,6 @@ use std::alloc::Global;
 pub struct KeptSale {
     pub batch: Id,
     pub at: Moment,
-}
-
-/// The rows of the vouchers that were refunded within the two moments, both included, by moment and code.
-fn refunded_rows<S: Alter>(
-    conn: &mut Connection<S>,
-    from: Moment,
-    to: Moment,
-) -> Result<Vec<Row>, Error>
-    ensures rows { HasCleanDisk (state S.Store conn.new) → (t : Contents) → Holds (state S.Store conn.old).now t → IfOk result (λ rows. ListsAs voucher_cells (λ v. is_within from to v.refunded) by_refund t.vouchers rows.items) }
-    ensures looks { Looks HasTables result (state S.Store conn.old) (state S.Store conn.new) }
-{
-    read_all(
-        conn,
-        "SELECT code, batch_id, place, sold, refunded, amount FROM portal_vouchers WHERE refunded >= ?1 AND refunded <= ?2 ORDER BY refunded, code",
-        params![from.get() as i64, to.get() as i64],
-    )
 }
 
 /// The code of a voucher's row.
@@ -79,7 +63,7 @@ fn may_be_open(total: &Total, at: Moment) -> bool
     total.ends.is_none_or(|ends| at < ends) && total.remaining.is_none_or(|left| left > 0)
 }
 
-/// The numbers of the sessions that may be open at `at`, in the order of their ends. The errors are want of memory.
+/// The numbers of the sessions that may be open at `at`, of these and in their order. The errors are want of memory.
 fn numbers_in(alloc: Global, totals: &[Total], at: Moment) -> Result<Vec<u64>, Fault>
     ensures numbers { IfOk result (λ numbers. numbers.items ≡ numbers_open at (map ends_row totals.now)) }
     ensures memory { NotForeign result }
@@ -93,26 +77,25 @@ fn numbers_in(alloc: Global, totals: &[Total], at: Moment) -> Result<Vec<u64>, F
     Ok(numbers)
 }
 
-/// The refund of a voucher's row: the moment, and the amount in hundredths.
-fn refund_of(row: &Row) -> Result<(Moment, u64), Fault>
-    ensures read { IfOk result (λ refund. IsReadAs voucher_cells 6 refund_shown row.now (refund_read refund)) }
-    ensures own { SparesOwn voucher_cells IsOwnRefund (columns 6 row.now) result }
+/// The refund of a voucher: the moment, and the amount in hundredths.
+fn refund_of(voucher: &KeptVoucher) -> Result<(Moment, u64), Fault>
+    ensures read { IfOk result (λ refund. refund_read refund ≡ refund_shown (voucher_read voucher.now)) }
+    ensures own { IsOwnRefund (voucher_read voucher.now) → NotForeign result }
 {
-    let voucher = voucher_of(row)?;
     match (voucher.refunded, voucher.amount) {
         (Some(at), Some(amount)) => Ok((at, amount)),
         _ => Err(Fault::ForeignRow),
     }
 }
 
-/// The refunds of these rows of vouchers, in their order.
-fn refunds_in(alloc: Global, rows: &[Row]) -> Result<Vec<(Moment, u64)>, Fault>
-    ensures read { IfOk result (λ refunds. AreReadAs voucher_cells 6 refund_shown rows.now (map refund_read refunds.items)) }
-    ensures own { AreOfOwn voucher_cells 6 IsOwnRefund rows.now → NotForeign result }
+/// The refunds of these vouchers, in their order.
+fn refunds_in(alloc: Global, vouchers: &[KeptVoucher]) -> Result<Vec<(Moment, u64)>, Fault>
+    ensures read { IfOk result (λ refunds. map refund_read refunds.items ≡ map (λ v. refund_shown (voucher_read v)) vouchers.now) }
+    ensures own { AreOwn IsOwnRefund (map voucher_read vouchers.now) → NotForeign result }
 {
     let mut refunds = Vec::new(alloc);
-    for row in rows {
-        refunds.push(refund_of(row)?)?;
+    for voucher in vouchers {
+        refunds.push(refund_of(voucher)?)?;
     }
     Ok(refunds)
 }
@@ -181,6 +164,11 @@ pub fn list_refunds<S: Alter>(
     ensures looks { Looks HasTables result (state S.Store conn.old) (state S.Store conn.new) }
     ensures foreign { TellsForeign Holds (λ t. AreOwn IsOwnVoucher t.vouchers) (state S.Store conn.old) (state S.Store conn.new) result }
 {
-    let rows = refunded_rows(conn, from, to)?;
-    Ok(refunds_in(alloc, &rows)?)
+    let vouchers: Vec<KeptVoucher> = read_values(
+        alloc,
+        conn,
+        "SELECT code, batch_id, place, sold, refunded, amount FROM portal_vouchers WHERE refunded >= ?1 AND refunded <= ?2 ORDER BY refunded, code",
+        params![from.get() as i64, to.get() as i64],
+    )?;
+    Ok(refunds_in(alloc, &vouchers)?)
 }

@@ -1,32 +1,71 @@
-use Rattle.std.proofs.Common.{map, refl, subst, sym}
-use Rattle.portal_sql.proofs.LooksLemmas.{looks_read}
+use Rattle.std.proofs.Common.{◌<◌, ◌^◌, ◌∙◌, w64, List, map, refl, ap, sym, subst, arith}
+use Rattle.std.proofs.lemmas.Int.{to_z_pos}
+use Rattle.std.proofs.lemmas.Result.{err_from_is_err_and}
+use Rattle.sqlite.specs.Held.{state}
+use Rattle.sqlite_trees.proofs.ListLemmas.{map-map}
+use Rattle.portal_sql.proofs.LooksLemmas.{fails_weaker, looks_read, reads_weaker}
 use Rattle.portal_model.specs.Rows.{VoucherRow}
 use Rattle.portal_rows.specs.Contents.{voucher_cells}
+use Rattle.portal_rows.specs.Foreign.{AreOwn, IsOwnRefund, IsOwnVoucher}
 use Rattle.portal_rows.specs.Holds.{HasTables}
-use Rattle.portal_lists.specs.Lists.{AreReadAs, is_within, by_refund, refund_shown, refund_read}
+use Rattle.portal_rows.specs.Read.{voucher_read}
+use Rattle.portal_rows.specs.declared.rows.KeptVoucher.{KeptVoucher}
 use Rattle.portal_rows.proofs.Cells.{exact_voucher}
-use Rattle.std.proofs.lemmas.Result.{err_from_is_err_and}
-use Rattle.portal_rows.specs.Foreign.{AreOfOwn, IsOwnRefund}
-use Rattle.portal_lists.proofs.OwnRows.{own_listed, within_some}
-use Rattle.portal_lists.proofs.Listing.{read_shown}
+use Rattle.portal_lists.specs.Asks.{Asks}
+use Rattle.portal_lists.specs.Lists.{is_within, by_refund, refund_shown}
+use Rattle.portal_lists.proofs.OwnRows.{listed_own, own_listed, within_some}
+use Rattle.portal_lists.proofs.Listing.{read_listed}
+use Rattle.portal_lists.proofs.ListReading.{asks_refunded, refunded_rows_are, refunded_simple}
+use Rattle.portal_lists.proofs.ListTexts.{refunded_text}
 use Rattle.portal_lists.proofs.lists.list_refunds.Goals as goal
 
 pub returns-clause-found : goal.returns-clause-found
 returns-clause-found g c clean t h =
-    let rows = c.in_ok-rows.rows.items in
-    let answer = map refund_read c.in_ok-refunds_in.field-0.items in
-    read_shown voucher_cells (λ (v : VoucherRow). is_within c.args.from c.args.to v.refunded) by_refund t.vouchers refund_shown 6 (λ v. refl) exact_voucher rows (c.in_ok-rows.ensures.rows clean t h) answer
-    (subst (λ rows. AreReadAs voucher_cells 6 refund_shown rows answer) c.deref.ensures.value c.in_ok-refunds_in.ensures.read)
+    let old = state g.S.Store c.args.conn.now in
+    let new = state g.S.Store c.read_values.new.conn in
+    let low : c.get.result < 2 ^ 63 = omega arith in
+    let high : c.get-2.result < 2 ^ 63 = omega arith in
+    let refunded = λ (v : VoucherRow). is_within c.args.from c.args.to v.refunded in
+    let vouchers = c.in_ok-vouchers.vouchers.items in
+    let all = rw (c.params-to_sql.ensures, c.params-to_sql-2.ensures, to_z_pos w64 c.get.result low, to_z_pos w64 c.get-2.result high, c.get.ensures.value, c.get-2.ensures.value) at (c.in_ok-vouchers.ensures.shown clean (asks_refunded old.now.schema (h.places, h.stand))) in
+    record {
+      listed = map voucher_read vouchers;
+      lists = read_listed voucher_cells refunded by_refund t.vouchers 6 (λ v. refl) exact_voucher all.rows (refunded_rows_are old new c.args.from c.args.to all.rows t h all.shown) (map voucher_read vouchers) (map-map voucher_cells voucher_read vouchers ∙ all.are);
+      shows = c.in_ok-refunds_in.ensures.read ∙ ap (map (λ (v : KeptVoucher). refund_shown (voucher_read v))) c.deref.ensures.value ∙ sym (map-map refund_shown voucher_read vouchers);
+    }
 
 pub returns-clause-looks : goal.returns-clause-looks
-returns-clause-looks g c = c.in_ok-rows.ensures.looks
+returns-clause-looks g c = reads_weaker (Asks refunded_text) HasTables asks_refunded _ _ c.in_ok-vouchers.ensures.looks
+
+pub returns-in_err-vouchers-clause-looks : goal.returns-in_err-vouchers-clause-looks
+returns-in_err-vouchers-clause-looks g c =
+    let told = err_from_is_err_and c.from_residual.result c.from_residual.ensures.1 in
+    rw told.1 (fails_weaker (Asks refunded_text) HasTables asks_refunded _ _ c.in_err-vouchers.ensures.looks)
+
+pub returns-in_err-vouchers-clause-foreign : goal.returns-in_err-vouchers-clause-foreign
+returns-in_err-vouchers-clause-foreign g c clean t h own =
+    let old = state g.S.Store c.args.conn.now in
+    let new = state g.S.Store c.read_values.new.conn in
+    let low : c.get.result < 2 ^ 63 = omega arith in
+    let high : c.get-2.result < 2 ^ 63 = omega arith in
+    let refunded = λ (v : VoucherRow). is_within c.args.from c.args.to v.refunded in
+    let told = err_from_is_err_and c.from_residual.result c.from_residual.ensures.1 in
+    let kept = rw (c.params-to_sql.ensures, c.params-to_sql-2.ensures, to_z_pos w64 c.get.result low, to_z_pos w64 c.get-2.result high, c.get.ensures.value, c.get-2.ensures.value) at (c.in_err-vouchers.ensures.own clean (refunded_simple old.now.schema (h.places, h.stand))) in
+    rw (told.1, told.2) (kept (λ rows shown. own_listed voucher_cells 6 (λ v. refl) IsOwnVoucher refunded by_refund t.vouchers rows (refunded_rows_are old new c.args.from c.args.to rows t h shown) (λ v has on. own v has)))
 
 pub returns-in_err-refunds_in-clause-looks : goal.returns-in_err-refunds_in-clause-looks
-returns-in_err-refunds_in-clause-looks g c = looks_read HasTables _ _ _ c.in_ok-rows.ensures.looks
+returns-in_err-refunds_in-clause-looks g c = looks_read HasTables _ _ _ (reads_weaker (Asks refunded_text) HasTables asks_refunded _ _ c.in_ok-vouchers.ensures.looks)
 
 pub returns-in_err-refunds_in-clause-foreign : goal.returns-in_err-refunds_in-clause-foreign
 returns-in_err-refunds_in-clause-foreign g c clean t h own =
+    let old = state g.S.Store c.args.conn.now in
+    let new = state g.S.Store c.read_values.new.conn in
+    let low : c.get.result < 2 ^ 63 = omega arith in
+    let high : c.get-2.result < 2 ^ 63 = omega arith in
+    let refunded = λ (v : VoucherRow). is_within c.args.from c.args.to v.refunded in
+    let vouchers = c.in_ok-vouchers.vouchers.items in
     let told = err_from_is_err_and c.from_residual-in_err-refunds_in.result c.from_residual-in_err-refunds_in.ensures.1 in
-    let rows = c.in_ok-rows.rows.items in
-    let shows = own_listed voucher_cells 6 (λ x. refl) IsOwnRefund (λ (v : VoucherRow). is_within c.args.from c.args.to v.refunded) by_refund t.vouchers rows (c.in_ok-rows.ensures.rows clean t h) (λ v has on. (own v has, within_some c.args.from c.args.to v.refunded on)) in
-    rw (told.1, told.2) (c.in_err-refunds_in.ensures.own (subst (AreOfOwn voucher_cells 6 IsOwnRefund) (sym c.deref.ensures.value) shows))
+    let all = rw (c.params-to_sql.ensures, c.params-to_sql-2.ensures, to_z_pos w64 c.get.result low, to_z_pos w64 c.get-2.result high, c.get.ensures.value, c.get-2.ensures.value) at (c.in_ok-vouchers.ensures.shown clean (asks_refunded old.now.schema (h.places, h.stand))) in
+    let lists = read_listed voucher_cells refunded by_refund t.vouchers 6 (λ v. refl) exact_voucher all.rows (refunded_rows_are old new c.args.from c.args.to all.rows t h all.shown) (map voucher_read vouchers) (map-map voucher_cells voucher_read vouchers ∙ all.are) in
+    let kept = listed_own IsOwnRefund refunded by_refund t.vouchers (map voucher_read vouchers) lists (λ v has on. (own v has, within_some c.args.from c.args.to v.refunded on)) in
+    rw (told.1, told.2) (c.in_err-refunds_in.ensures.own (subst (λ (vs : List KeptVoucher). AreOwn IsOwnRefund (map voucher_read vs)) (sym c.deref.ensures.value) kept))

@@ -1,7 +1,7 @@
-use Rattle.std.proofs.Common.{map, take}
-use Rattle.portal_rows.specs.Contents.{voucher_cells}
-use Rattle.portal_lists.specs.Lists.{AreReadAs, refund_shown, refund_read}
+use Rattle.std.proofs.Common.{◌≡◌, map, take}
+use Rattle.portal_rows.specs.Read.{voucher_read}
+use Rattle.portal_lists.specs.Lists.{refund_shown, refund_read}
 use Rattle.portal_lists.proofs.lists.refunds_in.Given as goal
 
-abbrev pub invariant-loop-row : goal.invariant-loop-row
-invariant-loop-row l = AreReadAs voucher_cells 6 refund_shown (take l.row-index l.fn.rows) (map refund_read l.refunds.items)
+abbrev pub invariant-loop-voucher : goal.invariant-loop-voucher
+invariant-loop-voucher l = map refund_read l.refunds.items ≡ map (λ v. refund_shown (voucher_read v)) (take l.voucher-index l.vouchers)
