@@ -3,7 +3,8 @@ use portal_batches::{codes_of, read_issue};
 use portal_model::command::Command;
 use portal_model::refusal::Refusal;
 use std::alloc::Global;
-use std::test::Fail;
+
+const ZEROS: [u8; 32] = [0; 32];
 
 /// The seed of the bytes 0 to 31.
 const RISING: [u8; 32] = [
@@ -12,48 +13,64 @@ const RISING: [u8; 32] = [
 ];
 
 /// Of a seed the code at a place of a batch of 500.
-const CODES: [([u8; 32], usize, &[u8]); 6] = [
-    ([0; 32], 0, b"3N55-WA4S-KH5V-JR49"),
-    ([0; 32], 1, b"VX9P-KPN3-9M27-5E2M"),
-    ([0; 32], 2, b"AXU5-SDWY-DBCH-DQCK"),
-    ([0; 32], 499, b"AEXK-CK27-WM8N-CKNU"),
-    (RISING, 0, b"F7Y7-DHQ3-UJAB-Y89Q"),
-    (RISING, 1, b"8UJP-5UA7-4J3N-UQ9F"),
+const CODES: &[([u8; 32], usize, &str)] = &[
+    (ZEROS, 0, "3N55-WA4S-KH5V-JR49"),
+    (ZEROS, 1, "VX9P-KPN3-9M27-5E2M"),
+    (ZEROS, 2, "AXU5-SDWY-DBCH-DQCK"),
+    (ZEROS, 499, "AEXK-CK27-WM8N-CKNU"),
+    (RISING, 0, "F7Y7-DHQ3-UJAB-Y89Q"),
+    (RISING, 1, "8UJP-5UA7-4J3N-UQ9F"),
 ];
 
+/// Whether the seed has 500 codes, and that one at the place.
+fn is_at(alloc: Global, seed: &[u8; 32], place: usize, text: &str) -> Option<bool> {
+    let codes = codes_of(alloc, *seed, 500).ok()?;
+    let code = codes.as_slice().get(place)?.text();
+    Some(codes.as_slice().len() == 500 && code.as_bytes() == text.as_bytes())
+}
+
+/// Whether an empty batch has no code.
+fn is_empty(alloc: Global) -> Option<bool> {
+    let codes = codes_of(alloc, ZEROS, 0).ok()?;
+    Some(codes.as_slice().is_empty())
+}
+
+#[test]
+fn long_code_from_seed(rt: HostRuntime) {
+    for (seed, place, text) in CODES {
+        assert!(rt;
+            is_at(rt.alloc(), seed, *place, text) == Some(true),
+            "{text}"
+        );
+    }
+    assert!(rt; is_empty(rt.alloc()) == Some(true));
+}
+
 /// The bodies that order no batch.
-const NO_ORDERS: [&[u8]; 4] = [
+const NO_ORDERS: &[&[u8]] = &[
     b"{\"batch\":\"b1\",\"plan\":\"hour\",\"count\":501}",
     b"{\"batch\":\"b1\",\"plan\":\"hour\",\"count\":0}",
     b"{\"batch\":\"B1\",\"plan\":\"hour\",\"count\":1}",
     b"{\"plan\":\"hour\",\"count\":1}",
 ];
 
-#[test]
-fn long_code_from_seed(rt: HostRuntime) -> Result<(), Fail> {
-    for (seed, place, text) in CODES {
-        let codes = codes_of(rt.alloc(), seed, 500)?;
-        assert_eq!(rt; codes.as_slice().len(), 500);
-        assert!(rt; codes.as_slice()[place].text().as_bytes() == text);
-    }
-    assert!(rt; codes_of(rt.alloc(), [0; 32], 0)?.as_slice().is_empty());
-    Ok(())
-}
+const LARGEST: &[u8] = b"{\"batch\":\"b1\",\"plan\":\"hour\",\"count\":500}";
 
 /// How many codes a body orders.
 fn ordered(alloc: Global, body: &[u8]) -> Result<usize, Refusal> {
-    match read_issue(alloc, body, [0; 32]) {
-        Ok(Command::Issue { codes, .. }) => Ok(codes.as_slice().len()),
-        Ok(_) => Ok(0),
-        Err(refusal) => Err(refusal),
+    match read_issue(alloc, body, ZEROS)? {
+        Command::Issue { codes, .. } => Ok(codes.as_slice().len()),
+        _ => Ok(0),
     }
 }
 
 #[test]
 fn largest_batch_is_ordered(rt: HostRuntime) {
-    let largest = b"{\"batch\":\"b1\",\"plan\":\"hour\",\"count\":500}".as_slice();
-    assert!(rt; ordered(rt.alloc(), largest) == Ok(500));
-    for body in NO_ORDERS {
-        assert!(rt; ordered(rt.alloc(), body) == Err(Refusal::BadRequest));
+    assert!(rt; ordered(rt.alloc(), LARGEST) == Ok(500));
+    for (n, body) in NO_ORDERS.iter().enumerate() {
+        assert!(rt;
+            ordered(rt.alloc(), body) == Err(Refusal::BadRequest),
+            "body {n}"
+        );
     }
 }

@@ -1,4 +1,5 @@
 //! The bodies that go out and come in, as JSON texts.
+use crate::requests::{LARGEST_BODY, list_body};
 use portal_codes::Code;
 use portal_json::{
     answer_text, captive_text, error_text, read_batch, read_close, read_redeem, read_refund,
@@ -12,7 +13,6 @@ use portal_model::plan::Plan;
 use portal_model::record::Voucher;
 use portal_model::refusal::Refusal;
 use std::alloc::Global;
-use std::test::Fail;
 
 const PORTAL_URL: &str = "https://wifi.example/portal";
 
@@ -22,452 +22,642 @@ const LONG_ID: &str = "abcdefghijklmnopqrstuvwxyz-01234";
 /// The greatest moment: the end of the year 9998.
 const LAST: u64 = 253_370_764_799;
 
-fn state(seconds: Option<u64>, bytes: Option<u64>, extend: Option<bool>) -> Captive {
-    Captive {
-        captive: extend.is_none(),
-        seconds,
-        bytes,
-        extend,
+/// Whether there is a text, and it is that one.
+fn is_text(text: Option<String>, wanted: &str) -> bool {
+    match text {
+        Some(text) => text.as_str() == wanted,
+        None => false,
     }
 }
 
-/// The keys in byte order, each only where the state has it. A quotation mark in a URL is written
-/// with a backslash (RFC 8259, section 7).
-#[test]
-fn captive_states(rt: HostRuntime) -> Result<(), Fail> {
-    let most = Some(9_000_000_000_000_000);
-    let yes = Some(true);
-    let cases = [
-        (
-            state(None, None, None),
-            PORTAL_URL,
-            None,
-            "{\"captive\":true,\"user-portal-url\":\"https://wifi.example/portal\"}",
-        ),
-        (
-            state(Some(1), None, yes),
-            PORTAL_URL,
-            None,
-            "{\"can-extend-session\":true,\"captive\":false,\"seconds-remaining\":1,\"user-portal-url\":\"https://wifi.example/portal\"}",
-        ),
-        (
-            state(None, Some(1), Some(false)),
-            PORTAL_URL,
-            None,
-            "{\"bytes-remaining\":1,\"can-extend-session\":false,\"captive\":false,\"user-portal-url\":\"https://wifi.example/portal\"}",
-        ),
-        (
-            state(Some(LAST), most, yes),
-            PORTAL_URL,
-            Some("https://b"),
-            "{\"bytes-remaining\":9000000000000000,\"can-extend-session\":true,\"captive\":false,\"seconds-remaining\":253370764799,\"user-portal-url\":\"https://wifi.example/portal\",\"venue-info-url\":\"https://b\"}",
-        ),
-        (
-            state(None, None, None),
-            "https://a/\"",
-            Some("https://b"),
-            "{\"captive\":true,\"user-portal-url\":\"https://a/\\\"\",\"venue-info-url\":\"https://b\"}",
-        ),
-    ];
-    for (state, portal, venue, wanted) in cases {
-        let text = captive_text(rt.alloc(), &state, portal, venue)?;
-        assert_eq!(rt; text.as_str(), wanted);
-    }
-    Ok(())
+/// A device that is captive.
+const ALONE: Captive = Captive {
+    captive: true,
+    seconds: None,
+    bytes: None,
+    extend: None,
+};
+
+const TIMED: Captive = Captive {
+    captive: false,
+    seconds: Some(1),
+    bytes: None,
+    extend: Some(true),
+};
+
+const COUNTED: Captive = Captive {
+    captive: false,
+    seconds: None,
+    bytes: Some(1),
+    extend: Some(false),
+};
+
+const BOTH: Captive = Captive {
+    captive: false,
+    seconds: Some(1),
+    bytes: Some(1),
+    extend: Some(false),
+};
+
+const MOST: Captive = Captive {
+    captive: false,
+    seconds: Some(LAST),
+    bytes: Some(9_000_000_000_000_000),
+    extend: Some(true),
+};
+
+/// States, the URLs of the portal and the venue, and the text: the keys in byte order, each only where the state has it.
+/// A quotation mark in a URL is written with a backslash (RFC 8259, section 7).
+const STATES: &[(Captive, &str, Option<&str>, &str)] = &[
+    (
+        ALONE,
+        PORTAL_URL,
+        None,
+        "{\"captive\":true,\"user-portal-url\":\"https://wifi.example/portal\"}",
+    ),
+    (
+        TIMED,
+        PORTAL_URL,
+        None,
+        "{\"can-extend-session\":true,\"captive\":false,\"seconds-remaining\":1,\"user-portal-url\":\"https://wifi.example/portal\"}",
+    ),
+    (
+        COUNTED,
+        PORTAL_URL,
+        None,
+        "{\"bytes-remaining\":1,\"can-extend-session\":false,\"captive\":false,\"user-portal-url\":\"https://wifi.example/portal\"}",
+    ),
+    (
+        MOST,
+        PORTAL_URL,
+        Some("https://b"),
+        "{\"bytes-remaining\":9000000000000000,\"can-extend-session\":true,\"captive\":false,\"seconds-remaining\":253370764799,\"user-portal-url\":\"https://wifi.example/portal\",\"venue-info-url\":\"https://b\"}",
+    ),
+    (
+        ALONE,
+        "https://a/\"",
+        Some("https://b"),
+        "{\"captive\":true,\"user-portal-url\":\"https://a/\\\"\",\"venue-info-url\":\"https://b\"}",
+    ),
+];
+
+fn is_state(alloc: Global, state: &Captive, portal: &str, venue: Option<&str>, text: &str) -> bool {
+    is_text(captive_text(alloc, state, portal, venue).ok(), text)
 }
 
-/// Two URLs of 2,048 bytes, the most that the settings allow.
 #[test]
-fn longest_captive_state(rt: HostRuntime) -> Result<(), Fail> {
-    let alloc = rt.alloc();
-    let mut url = String::from_str(alloc, "https://")?;
+fn captive_states(rt: HostRuntime) {
+    for (n, (state, portal, venue, text)) in STATES.iter().enumerate() {
+        assert!(rt;
+            is_state(rt.alloc(), state, portal, *venue, text),
+            "state {n}"
+        );
+    }
+}
+
+/// A URL of 2,048 bytes, the most that the settings allow.
+fn longest_url(alloc: Global) -> Option<String> {
+    let mut url = String::from_str(alloc, "https://").ok()?;
     for _ in 0..2_040 {
-        url.push('a')?;
+        url.push('a').ok()?;
     }
-    let url = url.as_str();
-    let text = captive_text(alloc, &state(Some(1), Some(1), Some(false)), url, Some(url))?;
-    let wanted = format!(in alloc;
+    Some(url)
+}
+
+/// The text of a state with that URL as both.
+fn with_url(alloc: Global, url: &str) -> Option<String> {
+    format!(in alloc;
         "{{\"bytes-remaining\":1,\"can-extend-session\":false,\"captive\":false,\"seconds-remaining\":1,\"user-portal-url\":\"{url}\",\"venue-info-url\":\"{url}\"}}"
-    )?;
-    assert_eq!(rt; text.as_str(), wanted.as_str());
-    Ok(())
+    ).ok()
+}
+
+fn is_longest_state(alloc: Global) -> Option<bool> {
+    let url = longest_url(alloc)?;
+    let wanted = with_url(alloc, url.as_str())?;
+    Some(is_state(
+        alloc,
+        &BOTH,
+        url.as_str(),
+        Some(url.as_str()),
+        wanted.as_str(),
+    ))
+}
+
+#[test]
+fn longest_captive_state(rt: HostRuntime) {
+    assert!(rt; is_longest_state(rt.alloc()) == Some(true));
+}
+
+/// An answer, told by texts.
+#[derive(Clone, Copy)]
+enum Reply {
+    Plans(u64),
+    /// A batch, the number of its codes and its expiry moment.
+    Issued(&'static str, u64, u64),
+    /// A code and its price.
+    Sold(&'static str, u64),
+    /// Whether the session was extended, the session, and the uses that are left.
+    Redeemed(bool, u64, u64),
+    /// Whether it is still open, the session and its bytes.
+    Reported(bool, u64, u64),
+    /// An amount and the code.
+    Refunded(u64, &'static str),
+    Closed(u64),
 }
 
 /// The seven answers, with codes of both lengths, and each at its longest.
-#[test]
-fn answers(rt: HostRuntime) -> Result<(), Fail> {
-    let short = Code::read("3N55-WA4S-KH53")?;
-    let long = Code::read("3N55-WA4S-KH5V-JR49")?;
-    let cases = [
-        (Answer::Plans { plans: 2 }, "{\"plans\":2}"),
-        (Answer::Plans { plans: 500 }, "{\"plans\":500}"),
-        (
-            Answer::Issued {
-                batch: Id::read("b1").ok_or("id")?,
-                count: 1,
-                expires: Moment::new(2_593_000).ok_or("moment")?,
-            },
-            "{\"batch\":\"b1\",\"count\":1,\"expires\":2593000}",
-        ),
-        (
-            Answer::Issued {
-                batch: Id::read(LONG_ID).ok_or("id")?,
-                count: 500,
-                expires: Moment::new(LAST).ok_or("moment")?,
-            },
-            "{\"batch\":\"abcdefghijklmnopqrstuvwxyz-01234\",\"count\":500,\"expires\":253370764799}",
-        ),
-        (
-            Answer::Sold {
-                code: short,
-                price: 300,
-            },
-            "{\"code\":\"3N55-WA4S-KH53\",\"price\":300}",
-        ),
-        (
-            Answer::Sold {
-                code: long,
-                price: 100_000_000,
-            },
-            "{\"code\":\"3N55-WA4S-KH5V-JR49\",\"price\":100000000}",
-        ),
-        (
-            Answer::Redeemed {
-                extended: false,
-                session: 1,
-                uses_left: 0,
-            },
-            "{\"extended\":false,\"session\":1,\"uses_left\":0}",
-        ),
-        (
-            Answer::Redeemed {
-                extended: true,
-                session: 9_007_199_254_740_991,
-                uses_left: 99_999,
-            },
-            "{\"extended\":true,\"session\":9007199254740991,\"uses_left\":99999}",
-        ),
-        (
-            Answer::Reported {
-                still_open: true,
-                session: 1,
-                used: 1_073_741_823,
-            },
-            "{\"open\":true,\"session\":1,\"used\":1073741823}",
-        ),
-        (
-            Answer::Reported {
-                still_open: false,
-                session: 9_007_199_254_740_991,
-                used: 9_223_372_036_854_775_807,
-            },
-            "{\"open\":false,\"session\":9007199254740991,\"used\":9223372036854775807}",
-        ),
-        (
-            Answer::Refunded {
-                amount: 333,
-                code: Code::read("2222-2222-223N")?,
-            },
-            "{\"amount\":333,\"code\":\"2222-2222-223N\"}",
-        ),
-        (
-            Answer::Refunded {
-                amount: 100_000_000,
-                code: long,
-            },
-            "{\"amount\":100000000,\"code\":\"3N55-WA4S-KH5V-JR49\"}",
-        ),
-        (Answer::Closed { session: 1 }, "{\"session\":1}"),
-    ];
-    for (answer, wanted) in cases {
-        let text = answer_text(rt.alloc(), answer)?;
-        assert_eq!(rt; text.as_str(), wanted);
+const ANSWERS: &[(Reply, &str)] = &[
+    (Reply::Plans(2), "{\"plans\":2}"),
+    (Reply::Plans(500), "{\"plans\":500}"),
+    (
+        Reply::Issued("b1", 1, 2_593_000),
+        "{\"batch\":\"b1\",\"count\":1,\"expires\":2593000}",
+    ),
+    (
+        Reply::Issued(LONG_ID, 500, LAST),
+        "{\"batch\":\"abcdefghijklmnopqrstuvwxyz-01234\",\"count\":500,\"expires\":253370764799}",
+    ),
+    (
+        Reply::Sold("3N55-WA4S-KH53", 300),
+        "{\"code\":\"3N55-WA4S-KH53\",\"price\":300}",
+    ),
+    (
+        Reply::Sold("3N55-WA4S-KH5V-JR49", 100_000_000),
+        "{\"code\":\"3N55-WA4S-KH5V-JR49\",\"price\":100000000}",
+    ),
+    (
+        Reply::Redeemed(false, 1, 0),
+        "{\"extended\":false,\"session\":1,\"uses_left\":0}",
+    ),
+    (
+        Reply::Redeemed(true, 9_007_199_254_740_991, 99_999),
+        "{\"extended\":true,\"session\":9007199254740991,\"uses_left\":99999}",
+    ),
+    (
+        Reply::Reported(true, 1, 1_073_741_823),
+        "{\"open\":true,\"session\":1,\"used\":1073741823}",
+    ),
+    (
+        Reply::Reported(false, 9_007_199_254_740_991, 9_223_372_036_854_775_807),
+        "{\"open\":false,\"session\":9007199254740991,\"used\":9223372036854775807}",
+    ),
+    (
+        Reply::Refunded(333, "2222-2222-223N"),
+        "{\"amount\":333,\"code\":\"2222-2222-223N\"}",
+    ),
+    (
+        Reply::Refunded(100_000_000, "3N55-WA4S-KH5V-JR49"),
+        "{\"amount\":100000000,\"code\":\"3N55-WA4S-KH5V-JR49\"}",
+    ),
+    (Reply::Closed(1), "{\"session\":1}"),
+];
+
+fn issued(batch: &str, count: u64, expires: u64) -> Option<Answer> {
+    Some(Answer::Issued {
+        batch: Id::read(batch)?,
+        count,
+        expires: Moment::new(expires)?,
+    })
+}
+
+fn answer(reply: Reply) -> Option<Answer> {
+    Some(match reply {
+        Reply::Plans(plans) => Answer::Plans { plans },
+        Reply::Issued(batch, count, expires) => issued(batch, count, expires)?,
+        Reply::Sold(code, price) => Answer::Sold {
+            code: Code::read(code).ok()?,
+            price,
+        },
+        Reply::Redeemed(extended, session, uses_left) => Answer::Redeemed {
+            extended,
+            session,
+            uses_left,
+        },
+        Reply::Reported(still_open, session, used) => Answer::Reported {
+            still_open,
+            session,
+            used,
+        },
+        Reply::Refunded(amount, code) => Answer::Refunded {
+            amount,
+            code: Code::read(code).ok()?,
+        },
+        Reply::Closed(session) => Answer::Closed { session },
+    })
+}
+
+fn is_answer(alloc: Global, reply: Reply, text: &str) -> bool {
+    match answer(reply) {
+        Some(answer) => is_text(answer_text(alloc, answer).ok(), text),
+        None => false,
     }
-    Ok(())
+}
+
+#[test]
+fn answers(rt: HostRuntime) {
+    for (n, (reply, text)) in ANSWERS.iter().enumerate() {
+        assert!(rt; is_answer(rt.alloc(), *reply, text), "answer {n}");
+    }
 }
 
 /// The thirty-one refusals, by their words.
-#[test]
-fn refusals(rt: HostRuntime) -> Result<(), Fail> {
-    let alloc = rt.alloc();
-    let cases = [
-        (Refusal::BadRequest, "bad_request"),
-        (Refusal::BadCode, "bad_code"),
-        (Refusal::BadDevice, "bad_device"),
-        (Refusal::BadPlans, "bad_plans"),
-        (Refusal::Forbidden, "forbidden"),
-        (Refusal::NoRoute, "no_route"),
-        (Refusal::BadMethod, "bad_method"),
-        (Refusal::UnknownPlan, "unknown_plan"),
-        (Refusal::UnknownBatch, "unknown_batch"),
-        (Refusal::UnknownCode, "unknown_code"),
-        (Refusal::UnknownSession, "unknown_session"),
-        (Refusal::PlanDiffers, "plan_differs"),
-        (Refusal::BatchExists, "batch_exists"),
-        (Refusal::CodeTaken, "code_taken"),
-        (Refusal::NotSold, "not_sold"),
-        (Refusal::SoldAlready, "sold_already"),
-        (Refusal::Refunded, "refunded"),
-        (Refusal::Expired, "expired"),
-        (Refusal::UsedUp, "used_up"),
-        (Refusal::NoExtend, "no_extend"),
-        (Refusal::ShapeDiffers, "shape_differs"),
-        (Refusal::AllowanceFull, "allowance_full"),
-        (Refusal::ClosedAlready, "closed_already"),
-        (Refusal::NothingLeft, "nothing_left"),
-        (Refusal::MomentRange, "moment_range"),
-        (Refusal::NumbersFull, "numbers_full"),
-        (Refusal::TooLarge, "too_large"),
-        (Refusal::NotSupported, "not_supported"),
-        (Refusal::NoMemory, "no_memory"),
-        (Refusal::Stopped, "stopped"),
-        (Refusal::IdReused, "id_reused"),
-    ];
-    for (refusal, word) in cases {
-        let text = error_text(alloc, refusal)?;
-        let wanted = format!(in alloc; "{{\"error\":\"{word}\"}}")?;
-        assert_eq!(rt; text.as_str(), wanted.as_str());
+const REFUSALS: &[(Refusal, &str)] = &[
+    (Refusal::BadRequest, "bad_request"),
+    (Refusal::BadCode, "bad_code"),
+    (Refusal::BadDevice, "bad_device"),
+    (Refusal::BadPlans, "bad_plans"),
+    (Refusal::Forbidden, "forbidden"),
+    (Refusal::NoRoute, "no_route"),
+    (Refusal::BadMethod, "bad_method"),
+    (Refusal::UnknownPlan, "unknown_plan"),
+    (Refusal::UnknownBatch, "unknown_batch"),
+    (Refusal::UnknownCode, "unknown_code"),
+    (Refusal::UnknownSession, "unknown_session"),
+    (Refusal::PlanDiffers, "plan_differs"),
+    (Refusal::BatchExists, "batch_exists"),
+    (Refusal::CodeTaken, "code_taken"),
+    (Refusal::NotSold, "not_sold"),
+    (Refusal::SoldAlready, "sold_already"),
+    (Refusal::Refunded, "refunded"),
+    (Refusal::Expired, "expired"),
+    (Refusal::UsedUp, "used_up"),
+    (Refusal::NoExtend, "no_extend"),
+    (Refusal::ShapeDiffers, "shape_differs"),
+    (Refusal::AllowanceFull, "allowance_full"),
+    (Refusal::ClosedAlready, "closed_already"),
+    (Refusal::NothingLeft, "nothing_left"),
+    (Refusal::MomentRange, "moment_range"),
+    (Refusal::NumbersFull, "numbers_full"),
+    (Refusal::TooLarge, "too_large"),
+    (Refusal::NotSupported, "not_supported"),
+    (Refusal::NoMemory, "no_memory"),
+    (Refusal::Stopped, "stopped"),
+    (Refusal::IdReused, "id_reused"),
+];
+
+fn is_error(alloc: Global, refusal: Refusal, word: &str) -> bool {
+    match format!(in alloc; "{{\"error\":\"{word}\"}}") {
+        Ok(wanted) => is_text(error_text(alloc, refusal).ok(), wanted.as_str()),
+        Err(_) => false,
     }
-    Ok(())
 }
 
-/// None, one, and lists of 50 and 500 at their longest: the first sessions of 58 bytes and more.
 #[test]
-fn open_sessions(rt: HostRuntime) -> Result<(), Fail> {
-    let alloc = rt.alloc();
-    let device = Device::read("02:00:00:00:00:01")?;
-    let timed = OpenSession {
+fn refusals(rt: HostRuntime) {
+    for (refusal, word) in REFUSALS {
+        assert!(rt; is_error(rt.alloc(), *refusal, word), "{word}");
+    }
+}
+
+const TIMED_TEXT: &str =
+    "{\"device\":\"02:00:00:00:00:01\",\"seconds-remaining\":2600,\"session\":1}";
+
+/// A session that is limited in time, so many times.
+fn timed_sessions(alloc: Global, count: usize) -> Option<Vec<OpenSession>> {
+    let session = OpenSession {
         bytes: None,
-        device,
+        device: Device::read("02:00:00:00:00:01").ok()?,
         seconds: Some(2600),
         number: 1,
     };
-    let timed_text = "{\"device\":\"02:00:00:00:00:01\",\"seconds-remaining\":2600,\"session\":1}";
-    let long = OpenSession {
+    vec![in alloc; session; count].ok()
+}
+
+const LONG_TEXT: &str =
+    "{\"bytes-remaining\":9000000000000000,\"device\":\"02:00:00:00:00:01\",\"seconds-remaining\":253370764799,\"session\":9007199254740991}";
+
+/// A session at its longest, so many times.
+fn long_sessions(alloc: Global, count: usize) -> Option<Vec<OpenSession>> {
+    let session = OpenSession {
         bytes: Some(9_000_000_000_000_000),
-        device,
+        device: Device::read("02:00:00:00:00:01").ok()?,
         seconds: Some(LAST),
         number: 9_007_199_254_740_991,
     };
-    let long_text =
-        "{\"bytes-remaining\":9000000000000000,\"device\":\"02:00:00:00:00:01\",\"seconds-remaining\":253370764799,\"session\":9007199254740991}";
-    let cases = [
-        (timed, timed_text, 0),
-        (timed, timed_text, 1),
-        (long, long_text, 50),
-        (long, long_text, 500),
-    ];
-    for (session, text, count) in cases {
-        let mut sessions = Vec::new(alloc);
-        let mut wanted = String::from_str(alloc, "{\"sessions\":[")?;
-        for place in 0..count {
-            sessions.push(session)?;
-            wanted.push_str(if place == 0 { "" } else { "," })?;
-            wanted.push_str(text)?;
-        }
-        wanted.push_str("]}")?;
-        let told = sessions_text(alloc, sessions.as_slice())?;
-        assert_eq!(rt; told.as_str(), wanted.as_str());
-    }
-    Ok(())
+    vec![in alloc; session; count].ok()
 }
 
-/// A voucher once sold and redeemed, and one at its longest, refunded.
+/// The text of a list of so many sessions of that text.
+fn list_text(alloc: Global, text: &str, count: usize) -> Option<String> {
+    let mut list = String::from_str(alloc, "{\"sessions\":[").ok()?;
+    for place in 0..count {
+        list.push_str(if place == 0 { "" } else { "," }).ok()?;
+        list.push_str(text).ok()?;
+    }
+    list.push_str("]}").ok()?;
+    Some(list)
+}
+
+/// Whether the list has so many sessions of that text.
+fn is_list(
+    alloc: Global,
+    sessions: Option<Vec<OpenSession>>,
+    text: &str,
+    count: usize,
+) -> Option<bool> {
+    let sessions = sessions?;
+    let wanted = list_text(alloc, text, count)?;
+    let told = sessions_text(alloc, sessions.as_slice()).ok();
+    Some(is_text(told, wanted.as_str()))
+}
+
+const LONG_COUNTS: &[usize] = &[50, 500];
+
+/// None, one, and lists of 50 and 500 at their longest: the first sessions of 58 bytes and more.
 #[test]
-fn voucher_state(rt: HostRuntime) -> Result<(), Fail> {
-    let long_id = Id::read(LONG_ID).ok_or("id")?;
-    let cases = [
-        (
-            Voucher {
-                code: Code::read("3N55-WA4S-KH53")?,
-                batch: Id::read("b1").ok_or("id")?,
-                plan: Plan::new(Id::read("hour").ok_or("id")?, 300, 1, 3600, 0, 30, true)?,
-                expires: Moment::new(2_593_000).ok_or("moment")?,
-                sold: Moment::new(1000),
-                refund: None,
-                redeemed: 1,
-            },
-            "{\"batch\":\"b1\",\"code\":\"3N55-WA4S-KH53\",\"expires\":2593000,\"plan\":\"hour\",\"redeemed\":1,\"refund\":null,\"sold\":1000,\"uses\":1}",
-        ),
-        (
-            Voucher {
-                code: Code::read("3N55-WA4S-KH5V-JR49")?,
-                batch: long_id,
-                plan: Plan::new(long_id, 100_000_000, 1_000, 0, 1, 30, true)?,
-                expires: Moment::new(LAST).ok_or("moment")?,
-                sold: Moment::new(LAST),
-                refund: Some(100_000_000),
-                redeemed: 999,
-            },
-            "{\"batch\":\"abcdefghijklmnopqrstuvwxyz-01234\",\"code\":\"3N55-WA4S-KH5V-JR49\",\"expires\":253370764799,\"plan\":\"abcdefghijklmnopqrstuvwxyz-01234\",\"redeemed\":999,\"refund\":100000000,\"sold\":253370764799,\"uses\":1000}",
-        ),
-        (
-            Voucher {
-                code: Code::read("2222-2222-2222-2222")?,
-                batch: long_id,
-                plan: Plan::new(long_id, 0, 1, 1, 0, 1, false)?,
-                expires: Moment::new(0).ok_or("moment")?,
-                sold: None,
-                refund: None,
-                redeemed: 0,
-            },
-            "{\"batch\":\"abcdefghijklmnopqrstuvwxyz-01234\",\"code\":\"2222-2222-2222-2222\",\"expires\":0,\"plan\":\"abcdefghijklmnopqrstuvwxyz-01234\",\"redeemed\":0,\"refund\":null,\"sold\":null,\"uses\":1}",
-        ),
-    ];
-    for (voucher, wanted) in cases {
-        let text = voucher_text(rt.alloc(), &voucher)?;
-        assert_eq!(rt; text.as_str(), wanted);
-    }
-    Ok(())
-}
-
-/// The three readers of a code read alike: keys beside `code` are not looked at, and of two under
-/// it the last counts.
-fn code_of(alloc: Global, body: &[u8]) -> Result<Result<Code, Refusal>, Fail> {
-    let code = read_sale(alloc, body);
-    if read_redeem(alloc, body) != code || read_refund(alloc, body) != code {
-        return Err("the readers differ")?;
-    }
-    Ok(code)
-}
-
-#[test]
-fn code_bodies(rt: HostRuntime) -> Result<(), Fail> {
+fn open_sessions(rt: HostRuntime) {
     let alloc = rt.alloc();
-    let short = Ok(Code::read("3N55-WA4S-KH53")?);
-    let long = Ok(Code::read("3N55-WA4S-KH5V-JR49")?);
-    let bad = Err(Refusal::BadRequest);
-    let cases: [(&[u8], Result<Code, Refusal>); 16] = [
-        (b"{\"code\":\"3N55-WA4S-KH53\"}", short),
-        (b" {\"more\":[1], \"code\": \"3n55wa4skh53\"} ", short),
-        (b"{\"code\":1,\"code\":\"3N55-WA4S-KH53\"}", short),
-        (b"{\"code\":\"3N55-WA4S-KH5V-JR49\"}", long),
-        (b"{\"code\":\"2222-2222-22N3\"}", Err(Refusal::BadCode)),
-        (b"{\"code\":\"2222-2222-2222-22H3\"}", Err(Refusal::BadCode)),
-        (b"", bad),
-        (b"{}", bad),
-        (b"{\"code\":1}", bad),
-        (b"{\"Code\":\"3N55-WA4S-KH53\"}", bad),
-        (b"\"3N55-WA4S-KH53\"", bad),
-        (b"[\"3N55-WA4S-KH53\"]", bad),
-        (b"{\"code\":\"3N55-WA4S-KH53\"", bad),
-        (b"{\"code\":\"3N55-WA4S-KH53\"}}", bad),
-        (b"{\"code\":\"\xff\"}", bad),
-        (b"\xff", bad),
-    ];
-    for (body, wanted) in cases {
-        assert_eq!(rt; code_of(alloc, body)?, wanted, "{body:?}");
-    }
-    Ok(())
-}
-
-/// A body of 65,536 bytes, the most that comes in; and one whose code is 200 nested lists.
-#[test]
-fn hostile_requests_in_bodies(rt: HostRuntime) -> Result<(), Fail> {
-    let alloc = rt.alloc();
-    let mut spaces = b"{\"code\":\"2222-2222-2222\"}".to_vec(alloc)?;
-    for _ in 0..65_511 {
-        spaces.push(b' ')?;
-    }
-    assert_eq!(rt; spaces.len(), 65_536);
-    assert_eq!(rt;
-        code_of(alloc, spaces.as_slice())?,
-        Ok(Code::read("2222-2222-2222")?)
-    );
-    let mut nested = b"{\"code\":".to_vec(alloc)?;
-    for sign in [b'[', b']'] {
-        for _ in 0..200 {
-            nested.push(sign)?;
-        }
-    }
-    nested.push(b'}')?;
-    assert_eq!(rt;
-        code_of(alloc, nested.as_slice())?,
-        Err(Refusal::BadRequest)
-    );
-    Ok(())
-}
-
-#[test]
-fn batch_bodies(rt: HostRuntime) -> Result<(), Fail> {
-    let alloc = rt.alloc();
-    let orders: [(&[u8], &str, &str, u64); 2] = [
-        (
-            b"{\"batch\":\"b1\",\"plan\":\"hour\",\"count\":1}",
-            "b1",
-            "hour",
-            1,
-        ),
-        (
-            b"{\"batch\":\"abcdefghijklmnopqrstuvwxyz-01234\",\"plan\":\"a\",\"count\":500}",
-            LONG_ID,
-            "a",
-            500,
-        ),
-    ];
-    for (body, batch, plan, count) in orders {
-        let order = read_batch(alloc, body)?;
-        assert_eq!(rt; order.batch.text(), batch);
-        assert_eq!(rt; order.plan.text(), plan);
-        assert_eq!(rt; order.count, count);
-    }
-    let bad = [
-        b"{\"batch\":\"b1\",\"plan\":\"hour\"}".as_slice(),
-        b"{\"batch\":\"b1\",\"plan\":\"hour\",\"count\":0}",
-        b"{\"batch\":\"b1\",\"plan\":\"hour\",\"count\":501}",
-        b"{\"batch\":\"b1\",\"plan\":\"hour\",\"count\":-1}",
-        b"{\"batch\":\"b1\",\"plan\":\"hour\",\"count\":1.0}",
-        b"{\"batch\":\"b1\",\"plan\":\"hour\",\"count\":1e2}",
-        b"{\"batch\":\"b1\",\"plan\":\"hour\",\"count\":\"1\"}",
-        b"{\"batch\":\"B1\",\"plan\":\"hour\",\"count\":1}",
-        b"{\"batch\":\"b1\",\"plan\":\"\",\"count\":1}",
-    ];
-    for body in bad {
-        assert_eq!(rt;
-            read_batch(alloc, body),
-            Err(Refusal::BadRequest),
-            "{body:?}"
+    for count in 0..2 {
+        let sessions = timed_sessions(alloc, count);
+        assert!(rt;
+            is_list(alloc, sessions, TIMED_TEXT, count) == Some(true),
+            "{count}"
         );
     }
-    Ok(())
+    for count in LONG_COUNTS {
+        let sessions = long_sessions(alloc, *count);
+        assert!(rt;
+            is_list(alloc, sessions, LONG_TEXT, *count) == Some(true),
+            "{count}"
+        );
+    }
+}
+
+/// How a voucher stands.
+#[derive(Clone, Copy)]
+struct Stand {
+    code: &'static str,
+    batch: &'static str,
+    plan: &'static str,
+    /// The price, the uses, the seconds, the bytes and the days on the shelf.
+    terms: [u64; 5],
+    extend: bool,
+    expires: u64,
+    sold: Option<u64>,
+    refund: Option<u64>,
+    redeemed: u64,
+}
+
+/// A voucher once sold and redeemed.
+const ONCE: Stand = Stand {
+    code: "3N55-WA4S-KH53",
+    batch: "b1",
+    plan: "hour",
+    terms: [300, 1, 3600, 0, 30],
+    extend: true,
+    expires: 2_593_000,
+    sold: Some(1000),
+    refund: None,
+    redeemed: 1,
+};
+
+/// One at its longest, refunded.
+const REFUNDED: Stand = Stand {
+    code: "3N55-WA4S-KH5V-JR49",
+    batch: LONG_ID,
+    plan: LONG_ID,
+    terms: [100_000_000, 1_000, 0, 1, 30],
+    extend: true,
+    expires: LAST,
+    sold: Some(LAST),
+    refund: Some(100_000_000),
+    redeemed: 999,
+};
+
+/// One that was never sold.
+const UNSOLD: Stand = Stand {
+    code: "2222-2222-2222-2222",
+    batch: LONG_ID,
+    plan: LONG_ID,
+    terms: [0, 1, 1, 0, 1],
+    extend: false,
+    expires: 0,
+    sold: None,
+    refund: None,
+    redeemed: 0,
+};
+
+const VOUCHERS: &[(Stand, &str)] = &[
+    (
+        ONCE,
+        "{\"batch\":\"b1\",\"code\":\"3N55-WA4S-KH53\",\"expires\":2593000,\"plan\":\"hour\",\"redeemed\":1,\"refund\":null,\"sold\":1000,\"uses\":1}",
+    ),
+    (
+        REFUNDED,
+        "{\"batch\":\"abcdefghijklmnopqrstuvwxyz-01234\",\"code\":\"3N55-WA4S-KH5V-JR49\",\"expires\":253370764799,\"plan\":\"abcdefghijklmnopqrstuvwxyz-01234\",\"redeemed\":999,\"refund\":100000000,\"sold\":253370764799,\"uses\":1000}",
+    ),
+    (
+        UNSOLD,
+        "{\"batch\":\"abcdefghijklmnopqrstuvwxyz-01234\",\"code\":\"2222-2222-2222-2222\",\"expires\":0,\"plan\":\"abcdefghijklmnopqrstuvwxyz-01234\",\"redeemed\":0,\"refund\":null,\"sold\":null,\"uses\":1}",
+    ),
+];
+
+fn plan(stand: &Stand) -> Option<Plan> {
+    let [price, uses, seconds, bytes, shelf_days] = stand.terms;
+    let id = Id::read(stand.plan)?;
+    Plan::new(id, price, uses, seconds, bytes, shelf_days, stand.extend).ok()
+}
+
+fn voucher(stand: &Stand) -> Option<Voucher> {
+    Some(Voucher {
+        code: Code::read(stand.code).ok()?,
+        batch: Id::read(stand.batch)?,
+        plan: plan(stand)?,
+        expires: Moment::new(stand.expires)?,
+        sold: match stand.sold {
+            Some(seconds) => Some(Moment::new(seconds)?),
+            None => None,
+        },
+        refund: stand.refund,
+        redeemed: stand.redeemed,
+    })
+}
+
+fn is_voucher(alloc: Global, stand: &Stand, text: &str) -> bool {
+    match voucher(stand) {
+        Some(voucher) => is_text(voucher_text(alloc, &voucher).ok(), text),
+        None => false,
+    }
 }
 
 #[test]
-fn session_bodies(rt: HostRuntime) -> Result<(), Fail> {
-    let alloc = rt.alloc();
-    let most = 9_223_372_036_854_775_807;
-    let reports: [(&[u8], Result<(u64, u64), Refusal>); 6] = [
-        (
-            b"{\"session\":1,\"bytes\":1073741823}",
-            Ok((1, 1_073_741_823)),
-        ),
-        (
-            b"{\"session\":0,\"bytes\":9223372036854775807}",
-            Ok((0, most)),
-        ),
-        (
-            b"{\"session\":9223372036854775807,\"bytes\":0}",
-            Ok((most, 0)),
-        ),
-        (
-            b"{\"session\":1,\"bytes\":9223372036854775808}",
-            Err(Refusal::BadRequest),
-        ),
-        (b"{\"session\":1,\"bytes\":-1}", Err(Refusal::BadRequest)),
-        (b"{\"session\":1,\"bytes\":1.0}", Err(Refusal::BadRequest)),
-    ];
-    for (body, wanted) in reports {
-        let order = read_report(alloc, body).map(|order| (order.session, order.bytes));
-        assert_eq!(rt; order, wanted, "{body:?}");
+fn voucher_state(rt: HostRuntime) {
+    for (n, (stand, text)) in VOUCHERS.iter().enumerate() {
+        assert!(rt; is_voucher(rt.alloc(), stand, text), "voucher {n}");
     }
-    let closes: [(&[u8], Result<u64, Refusal>); 4] = [
-        (b"{\"session\":1}", Ok(1)),
-        (b"{\"session\":9223372036854775807}", Ok(most)),
-        (b"{\"session\":-0}", Err(Refusal::BadRequest)),
-        (b"{\"session\":null}", Err(Refusal::BadRequest)),
-    ];
-    for (body, wanted) in closes {
-        assert_eq!(rt; read_close(alloc, body), wanted, "{body:?}");
+}
+
+/// The code of a body, where the three readers of a code read alike.
+fn code_of(alloc: Global, body: &[u8]) -> Option<Result<Code, Refusal>> {
+    let code = read_sale(alloc, body);
+    if read_redeem(alloc, body) != code || read_refund(alloc, body) != code {
+        return None;
     }
-    Ok(())
+    Some(code)
+}
+
+/// The text of a code, or the refusal of the body.
+type Wanted = Result<&'static str, Refusal>;
+
+const SHORT: Wanted = Ok("3N55-WA4S-KH53");
+
+const BAD: Wanted = Err(Refusal::BadRequest);
+
+/// Keys beside `code` are not looked at, and of two under it the last counts.
+const CODES: &[(&[u8], Wanted)] = &[
+    (b"{\"code\":\"3N55-WA4S-KH53\"}", SHORT),
+    (b" {\"more\":[1], \"code\": \"3n55wa4skh53\"} ", SHORT),
+    (b"{\"code\":1,\"code\":\"3N55-WA4S-KH53\"}", SHORT),
+    (
+        b"{\"code\":\"3N55-WA4S-KH5V-JR49\"}",
+        Ok("3N55-WA4S-KH5V-JR49"),
+    ),
+    (b"{\"code\":\"2222-2222-22N3\"}", Err(Refusal::BadCode)),
+    (b"{\"code\":\"2222-2222-2222-22H3\"}", Err(Refusal::BadCode)),
+    (b"", BAD),
+    (b"{}", BAD),
+    (b"{\"code\":1}", BAD),
+    (b"{\"Code\":\"3N55-WA4S-KH53\"}", BAD),
+    (b"\"3N55-WA4S-KH53\"", BAD),
+    (b"[\"3N55-WA4S-KH53\"]", BAD),
+    (b"{\"code\":\"3N55-WA4S-KH53\"", BAD),
+    (b"{\"code\":\"3N55-WA4S-KH53\"}}", BAD),
+    (b"{\"code\":\"\xff\"}", BAD),
+    (b"\xff", BAD),
+];
+
+fn is_code(alloc: Global, body: &[u8], wanted: Wanted) -> Option<bool> {
+    let code = code_of(alloc, body)?;
+    Some(match wanted {
+        Ok(text) => code == Ok(Code::read(text).ok()?),
+        Err(refusal) => code == Err(refusal),
+    })
+}
+
+#[test]
+fn code_bodies(rt: HostRuntime) {
+    for (n, (body, wanted)) in CODES.iter().enumerate() {
+        assert!(rt;
+            is_code(rt.alloc(), body, *wanted) == Some(true),
+            "body {n}"
+        );
+    }
+}
+
+fn is_largest_read(alloc: Global) -> Option<bool> {
+    let body = LARGEST_BODY.bytes(alloc)?;
+    let is_read = is_code(alloc, body.as_slice(), Ok("2222-2222-2222"))?;
+    Some(body.len() == 65_536 && is_read)
+}
+
+fn are_lists_refused(alloc: Global) -> Option<bool> {
+    let body = list_body(alloc)?;
+    is_code(alloc, body.as_slice(), BAD)
+}
+
+#[test]
+fn hostile_requests_in_bodies(rt: HostRuntime) {
+    assert!(rt; is_largest_read(rt.alloc()) == Some(true));
+    assert!(rt; are_lists_refused(rt.alloc()) == Some(true));
+}
+
+/// Bodies, and the batch, the plan and the count that each orders.
+const ORDERS: &[(&[u8], &str, &str, u64)] = &[
+    (
+        b"{\"batch\":\"b1\",\"plan\":\"hour\",\"count\":1}",
+        "b1",
+        "hour",
+        1,
+    ),
+    (
+        b"{\"batch\":\"abcdefghijklmnopqrstuvwxyz-01234\",\"plan\":\"a\",\"count\":500}",
+        LONG_ID,
+        "a",
+        500,
+    ),
+];
+
+const NO_ORDERS: &[&[u8]] = &[
+    b"{\"batch\":\"b1\",\"plan\":\"hour\"}",
+    b"{\"batch\":\"b1\",\"plan\":\"hour\",\"count\":0}",
+    b"{\"batch\":\"b1\",\"plan\":\"hour\",\"count\":501}",
+    b"{\"batch\":\"b1\",\"plan\":\"hour\",\"count\":-1}",
+    b"{\"batch\":\"b1\",\"plan\":\"hour\",\"count\":1.0}",
+    b"{\"batch\":\"b1\",\"plan\":\"hour\",\"count\":1e2}",
+    b"{\"batch\":\"b1\",\"plan\":\"hour\",\"count\":\"1\"}",
+    b"{\"batch\":\"B1\",\"plan\":\"hour\",\"count\":1}",
+    b"{\"batch\":\"b1\",\"plan\":\"\",\"count\":1}",
+];
+
+fn is_order(alloc: Global, body: &[u8], batch: &str, plan: &str, count: u64) -> bool {
+    match read_batch(alloc, body) {
+        Ok(order) => {
+            order.batch.text() == batch && order.plan.text() == plan && order.count == count
+        }
+        Err(_) => false,
+    }
+}
+
+fn is_no_order(alloc: Global, body: &[u8]) -> bool {
+    read_batch(alloc, body).err() == Some(Refusal::BadRequest)
+}
+
+#[test]
+fn batch_bodies(rt: HostRuntime) {
+    for (n, (body, batch, plan, count)) in ORDERS.iter().enumerate() {
+        assert!(rt;
+            is_order(rt.alloc(), body, batch, plan, *count),
+            "order {n}"
+        );
+    }
+    for (n, body) in NO_ORDERS.iter().enumerate() {
+        assert!(rt; is_no_order(rt.alloc(), body), "body {n}");
+    }
+}
+
+/// The greatest number that a body may name.
+const GREATEST: u64 = 9_223_372_036_854_775_807;
+
+/// Bodies, and the session and the bytes that each reports.
+const REPORTS: &[(&[u8], Result<(u64, u64), Refusal>)] = &[
+    (
+        b"{\"session\":1,\"bytes\":1073741823}",
+        Ok((1, 1_073_741_823)),
+    ),
+    (
+        b"{\"session\":0,\"bytes\":9223372036854775807}",
+        Ok((0, GREATEST)),
+    ),
+    (
+        b"{\"session\":9223372036854775807,\"bytes\":0}",
+        Ok((GREATEST, 0)),
+    ),
+    (
+        b"{\"session\":1,\"bytes\":9223372036854775808}",
+        Err(Refusal::BadRequest),
+    ),
+    (b"{\"session\":1,\"bytes\":-1}", Err(Refusal::BadRequest)),
+    (b"{\"session\":1,\"bytes\":1.0}", Err(Refusal::BadRequest)),
+];
+
+const CLOSES: &[(&[u8], Result<u64, Refusal>)] = &[
+    (b"{\"session\":1}", Ok(1)),
+    (b"{\"session\":9223372036854775807}", Ok(GREATEST)),
+    (b"{\"session\":-0}", Err(Refusal::BadRequest)),
+    (b"{\"session\":null}", Err(Refusal::BadRequest)),
+];
+
+fn reported(alloc: Global, body: &[u8]) -> Result<(u64, u64), Refusal> {
+    let order = read_report(alloc, body)?;
+    Ok((order.session, order.bytes))
+}
+
+#[test]
+fn session_bodies(rt: HostRuntime) {
+    for (n, (body, wanted)) in REPORTS.iter().enumerate() {
+        assert!(rt; reported(rt.alloc(), body) == *wanted, "report {n}");
+    }
+    for (n, (body, wanted)) in CLOSES.iter().enumerate() {
+        assert!(rt; read_close(rt.alloc(), body) == *wanted, "close {n}");
+    }
 }

@@ -1,86 +1,100 @@
 //! What the words of a command line come to: an order, or what is told in its place.
 use portal_cli::{NoOrder, Order, read_words};
 use std::alloc::Global;
-use std::process::Abort;
 
-/// The text that is told where the words give no order.
-fn text_told(rt: &impl Abort, alloc: Global, words: &[&str], is_help: bool) -> String {
+/// Whether the words are that order.
+fn is_order(alloc: Global, words: &[&str], order: &Order<'static>) -> bool {
     match read_words(alloc, words) {
-        Err(NoOrder::Help(text)) => {
-            assert!(rt; is_help, "help at {words:?}");
-            text
-        }
-        Err(NoOrder::Fault(text)) => {
-            assert!(rt; !is_help, "a fault at {words:?}");
-            text
-        }
-        Err(NoOrder::NoMemory) => panic!(rt; "no memory at {words:?}"),
-        Ok(_) => panic!(rt; "an order at {words:?}"),
+        Ok(read) => read == *order,
+        Err(_) => false,
     }
+}
+
+/// Words that order an answer at a moment, whose seed is 00.
+const SPELLINGS: &[(&[&str], u64)] = &[
+    (
+        &["portal", "answer", "--now", "1583125693", "--seed", "00"],
+        1_583_125_693,
+    ),
+    (
+        &["/usr/bin/portal", "answer", "--seed=00", "--now=1583125693"],
+        1_583_125_693,
+    ),
+    (&["portal", "answer", "--seed", "00", "--now", "0"], 0),
+    (
+        &[
+            "portal",
+            "answer",
+            "--seed",
+            "00",
+            "--now",
+            "18446744073709551615",
+        ],
+        u64::MAX,
+    ),
+];
+
+fn is_answer(alloc: Global, words: &[&str], moment: u64) -> bool {
+    let order = Order::Answer {
+        db: None,
+        settings: None,
+        now: moment,
+        seed: "00",
+    };
+    is_order(alloc, words, &order)
 }
 
 #[test]
 fn orders(rt: HostRuntime) {
-    let spellings = [
-        (
-            ["portal", "answer", "--now", "1583125693", "--seed", "00"].as_slice(),
-            1_583_125_693,
-        ),
-        (
-            ["/usr/bin/portal", "answer", "--seed=00", "--now=1583125693"].as_slice(),
-            1_583_125_693,
-        ),
-        (
-            ["portal", "answer", "--seed", "00", "--now", "0"].as_slice(),
-            0,
-        ),
-        (
-            [
-                "portal",
-                "answer",
-                "--seed",
-                "00",
-                "--now",
-                "18446744073709551615",
-            ]
-            .as_slice(),
-            u64::MAX,
-        ),
-    ];
-    for (words, moment) in spellings {
-        match read_words(rt.alloc(), words) {
-            Ok(
-                Order::Answer {
-                    db,
-                    settings,
-                    now,
-                    seed,
-                },
-            ) => {
-                assert!(rt; db.is_none() && settings.is_none(), "at {words:?}");
-                assert!(rt; now == moment && seed == "00", "at {words:?}");
-            }
-            _ => panic!(rt; "no such order at {words:?}"),
-        }
+    for (n, (words, moment)) in SPELLINGS.iter().enumerate() {
+        assert!(rt; is_answer(rt.alloc(), words, *moment), "words {n}");
     }
 }
 
-#[test]
-fn orders_over_files(rt: HostRuntime) {
-    let lines = [
-        ["portal", "serve", "--db", "x", "--settings", "y"].as_slice(),
-        [
+const ORDERS: &[(&[&str], Order<'static>)] = &[
+    (
+        &["portal", "serve", "--db", "x", "--settings", "y"],
+        Order::Serve {
+            db: "x",
+            settings: "y",
+            port: 8080,
+            count: 1_000_000_000,
+        },
+    ),
+    (
+        &[
             "portal",
             "serve",
             "--port=65535",
             "--count=1",
             "--settings=y",
             "--db=x",
-        ]
-        .as_slice(),
-        ["portal", "print", "b1", "--db", "x", "--settings", "y"].as_slice(),
-        ["portal", "print", "--db", "x", "--settings", "y", "b1"].as_slice(),
-        [
+        ],
+        Order::Serve {
+            db: "x",
+            settings: "y",
+            port: 65_535,
+            count: 1,
+        },
+    ),
+    (
+        &["portal", "print", "b1", "--db", "x", "--settings", "y"],
+        Order::Print {
+            db: "x",
+            settings: "y",
+            batch: "b1",
+        },
+    ),
+    (
+        &["portal", "print", "--db", "x", "--settings", "y", "b1"],
+        Order::Print {
+            db: "x",
+            settings: "y",
+            batch: "b1",
+        },
+    ),
+    (
+        &[
             "portal",
             "takings",
             "--db",
@@ -89,10 +103,23 @@ fn orders_over_files(rt: HostRuntime) {
             "--settings",
             "y",
             "to",
-        ]
-        .as_slice(),
-        ["portal", "check", "--db", "x", "--settings", "y"].as_slice(),
-        [
+        ],
+        Order::Takings {
+            db: "x",
+            settings: "y",
+            from: "from",
+            to: "to",
+        },
+    ),
+    (
+        &["portal", "check", "--db", "x", "--settings", "y"],
+        Order::Check {
+            db: "x",
+            settings: "y",
+        },
+    ),
+    (
+        &[
             "portal",
             "answer",
             "--db",
@@ -103,249 +130,186 @@ fn orders_over_files(rt: HostRuntime) {
             "1",
             "--seed",
             "00",
-        ]
-        .as_slice(),
-    ];
-    let mut orders = [None; 7];
-    for at in 0..7usize {
-        match read_words(rt.alloc(), lines[at]) {
-            Ok(order) => orders[at] = Some(order),
-            Err(_) => panic!(rt; "no order at {at}"),
-        }
-    }
-    let (db, settings) = ("x", "y");
-    let wanted = [
-        Order::Serve {
-            db,
-            settings,
-            port: 8080,
-            count: 1_000_000_000,
-        },
-        Order::Serve {
-            db,
-            settings,
-            port: 65_535,
-            count: 1,
-        },
-        Order::Print {
-            db,
-            settings,
-            batch: "b1",
-        },
-        Order::Print {
-            db,
-            settings,
-            batch: "b1",
-        },
-        Order::Takings {
-            db,
-            settings,
-            from: "from",
-            to: "to",
-        },
-        Order::Check { db, settings },
+        ],
         Order::Answer {
-            db: Some(db),
-            settings: Some(settings),
+            db: Some("x"),
+            settings: Some("y"),
             now: 1,
             seed: "00",
         },
-    ];
-    for at in 0..7usize {
-        assert!(rt; orders[at] == Some(wanted[at]), "at {at}");
+    ),
+];
+
+#[test]
+fn orders_over_files(rt: HostRuntime) {
+    for (n, (words, order)) in ORDERS.iter().enumerate() {
+        assert!(rt; is_order(rt.alloc(), words, order), "words {n}");
     }
+}
+
+/// Words, whether what is told of them is help, and what it names.
+const TOLD: &[(&[&str], bool, &str)] = &[
+    (
+        &["portal", "--help"],
+        true,
+        "portal answer --now 1583125693",
+    ),
+    (&["portal", "--help"], true, "portal serve --db portal.db"),
+    (
+        &["portal", "answer", "--help"],
+        true,
+        "portal answer --now 1583125693",
+    ),
+    (&["portal", "answer", "--help"], true, "253370764799"),
+    (&["portal", "answer", "--help"], true, "--seed <HEX>"),
+    (&["portal"], false, "subcommand"),
+    (&["portal", "ask"], false, "ask"),
+    (&["portal", "serve"], false, "--db <PATH>"),
+    (
+        &["portal", "serve", "--help"],
+        true,
+        "portal serve --db portal.db",
+    ),
+    (&["portal", "serve", "--help"], true, "locked"),
+    (&["portal", "print", "--help"], true, "portal print b1"),
+    (&["portal", "print", "--help"], true, "portal: file"),
+    (
+        &["portal", "takings", "--help"],
+        true,
+        "portal takings 2020-03-01",
+    ),
+    (&["portal", "check", "--help"], true, "portal check --db"),
+    (
+        &["portal", "print", "--db", "x", "--settings", "y"],
+        false,
+        "<BATCH>",
+    ),
+    (
+        &["portal", "print", "b1", "--settings", "y"],
+        false,
+        "--db <PATH>",
+    ),
+    (
+        &["portal", "check", "--db", "x"],
+        false,
+        "--settings <PATH>",
+    ),
+    (
+        &[
+            "portal",
+            "takings",
+            "1970-01-01",
+            "--db",
+            "x",
+            "--settings",
+            "y",
+        ],
+        false,
+        "<TO>",
+    ),
+    (
+        &[
+            "portal",
+            "serve",
+            "--db",
+            "x",
+            "--settings",
+            "y",
+            "--port",
+            "0",
+        ],
+        false,
+        "0",
+    ),
+    (
+        &[
+            "portal",
+            "serve",
+            "--db",
+            "x",
+            "--settings",
+            "y",
+            "--port",
+            "65536",
+        ],
+        false,
+        "65536",
+    ),
+    (
+        &[
+            "portal",
+            "serve",
+            "--db",
+            "x",
+            "--settings",
+            "y",
+            "--count",
+            "1000000001",
+        ],
+        false,
+        "1000000001",
+    ),
+    (&["portal", "answer", "--now", "1"], false, "--seed <HEX>"),
+    (&["portal", "answer", "--seed", "00"], false, "--now <N>"),
+    (
+        &["portal", "answer", "--seed", "00", "--now", "-1"],
+        false,
+        "-1",
+    ),
+    (
+        &["portal", "answer", "--seed", "00", "--now", "1.5"],
+        false,
+        "1.5",
+    ),
+    (
+        &[
+            "portal",
+            "answer",
+            "--seed",
+            "00",
+            "--now",
+            "18446744073709551616",
+        ],
+        false,
+        "18446744073709551616",
+    ),
+    (
+        &[
+            "portal", "answer", "--now", "1", "--now", "2", "--seed", "00",
+        ],
+        false,
+        "--now <N>",
+    ),
+    (
+        &[
+            "portal", "answer", "--now", "1", "--seed", "00", "--port", "1",
+        ],
+        false,
+        "--port",
+    ),
+    (
+        &["portal", "answer", "--now", "1", "--seed", "00", "more"],
+        false,
+        "more",
+    ),
+];
+
+/// Whether help, or what is wrong with the words, is told, and names that.
+fn is_told(alloc: Global, words: &[&str], is_help: bool, named: &str) -> bool {
+    match read_words(alloc, words) {
+        Err(NoOrder::Help(text)) => is_help && is_text(text.as_str(), true, named),
+        Err(NoOrder::Fault(text)) => !is_help && is_text(text.as_str(), false, named),
+        _ => false,
+    }
+}
+
+fn is_text(text: &str, is_help: bool, named: &str) -> bool {
+    text.starts_with("error: ") != is_help && text.contains(named)
 }
 
 #[test]
 fn texts_told(rt: HostRuntime) {
-    let told = [
-        (
-            ["portal", "--help"].as_slice(),
-            true,
-            "portal answer --now 1583125693",
-        ),
-        (
-            ["portal", "--help"].as_slice(),
-            true,
-            "portal serve --db portal.db",
-        ),
-        (
-            ["portal", "answer", "--help"].as_slice(),
-            true,
-            "portal answer --now 1583125693",
-        ),
-        (
-            ["portal", "answer", "--help"].as_slice(),
-            true,
-            "253370764799",
-        ),
-        (
-            ["portal", "answer", "--help"].as_slice(),
-            true,
-            "--seed <HEX>",
-        ),
-        (["portal"].as_slice(), false, "subcommand"),
-        (["portal", "ask"].as_slice(), false, "ask"),
-        (["portal", "serve"].as_slice(), false, "--db <PATH>"),
-        (
-            ["portal", "serve", "--help"].as_slice(),
-            true,
-            "portal serve --db portal.db",
-        ),
-        (["portal", "serve", "--help"].as_slice(), true, "locked"),
-        (
-            ["portal", "print", "--help"].as_slice(),
-            true,
-            "portal print b1",
-        ),
-        (
-            ["portal", "print", "--help"].as_slice(),
-            true,
-            "portal: file",
-        ),
-        (
-            ["portal", "takings", "--help"].as_slice(),
-            true,
-            "portal takings 2020-03-01",
-        ),
-        (
-            ["portal", "check", "--help"].as_slice(),
-            true,
-            "portal check --db",
-        ),
-        (
-            ["portal", "print", "--db", "x", "--settings", "y"].as_slice(),
-            false,
-            "<BATCH>",
-        ),
-        (
-            ["portal", "print", "b1", "--settings", "y"].as_slice(),
-            false,
-            "--db <PATH>",
-        ),
-        (
-            ["portal", "check", "--db", "x"].as_slice(),
-            false,
-            "--settings <PATH>",
-        ),
-        (
-            [
-                "portal",
-                "takings",
-                "1970-01-01",
-                "--db",
-                "x",
-                "--settings",
-                "y",
-            ]
-            .as_slice(),
-            false,
-            "<TO>",
-        ),
-        (
-            [
-                "portal",
-                "serve",
-                "--db",
-                "x",
-                "--settings",
-                "y",
-                "--port",
-                "0",
-            ]
-            .as_slice(),
-            false,
-            "0",
-        ),
-        (
-            [
-                "portal",
-                "serve",
-                "--db",
-                "x",
-                "--settings",
-                "y",
-                "--port",
-                "65536",
-            ]
-            .as_slice(),
-            false,
-            "65536",
-        ),
-        (
-            [
-                "portal",
-                "serve",
-                "--db",
-                "x",
-                "--settings",
-                "y",
-                "--count",
-                "1000000001",
-            ]
-            .as_slice(),
-            false,
-            "1000000001",
-        ),
-        (
-            ["portal", "answer", "--now", "1"].as_slice(),
-            false,
-            "--seed <HEX>",
-        ),
-        (
-            ["portal", "answer", "--seed", "00"].as_slice(),
-            false,
-            "--now <N>",
-        ),
-        (
-            ["portal", "answer", "--seed", "00", "--now", "-1"].as_slice(),
-            false,
-            "-1",
-        ),
-        (
-            ["portal", "answer", "--seed", "00", "--now", "1.5"].as_slice(),
-            false,
-            "1.5",
-        ),
-        (
-            [
-                "portal",
-                "answer",
-                "--seed",
-                "00",
-                "--now",
-                "18446744073709551616",
-            ]
-            .as_slice(),
-            false,
-            "18446744073709551616",
-        ),
-        (
-            [
-                "portal", "answer", "--now", "1", "--now", "2", "--seed", "00",
-            ]
-            .as_slice(),
-            false,
-            "--now <N>",
-        ),
-        (
-            [
-                "portal", "answer", "--now", "1", "--seed", "00", "--port", "1",
-            ]
-            .as_slice(),
-            false,
-            "--port",
-        ),
-        (
-            ["portal", "answer", "--now", "1", "--seed", "00", "more"].as_slice(),
-            false,
-            "more",
-        ),
-    ];
-    for (words, is_help, named) in told {
-        let text = text_told(&rt, rt.alloc(), words, is_help);
-        let is_told = text.as_str().starts_with("error: ") != is_help
-            && text.as_str().contains(named);
-        assert!(rt; is_told, "at {words:?}");
+    for (n, (words, is_help, named)) in TOLD.iter().enumerate() {
+        assert!(rt; is_told(rt.alloc(), words, *is_help, named), "words {n}");
     }
 }

@@ -1,7 +1,7 @@
 //! What the bytes of a request say, or what is wrong with their shape.
+use crate::requests::Repeated;
 use portal_head::{HeadFault, is_decided, parse_request};
 use std::alloc::Global;
-use std::test::Fail;
 
 /// The request of a guest's device: 70 bytes.
 pub const CAPTIVE: &[u8] =
@@ -14,7 +14,7 @@ pub const SALE: &[u8] =
 const BAD: Option<HeadFault> = Some(HeadFault::BadRequest);
 
 /// Requests, each with the fault of its shape where it has one.
-pub const SHAPES: [(&[u8], Option<HeadFault>); 23] = [
+pub const SHAPES: &[(&[u8], Option<HeadFault>)] = &[
     (CAPTIVE, None),
     (SALE, None),
     (b"", BAD),
@@ -79,91 +79,175 @@ pub const SHAPES: [(&[u8], Option<HeadFault>); 23] = [
     (b"\r\nGET / HTTP/1.1\r\nHost: a\r\n\r\n", None),
 ];
 
-/// The front of a request, a field's bytes so many times, and its end.
-pub fn repeated(
-    alloc: Global,
-    front: &[u8],
-    times: usize,
-    field: &[u8],
-    end: &[u8],
-) -> Result<Vec<u8>, Fail> {
-    let mut bytes = front.to_vec(alloc)?;
-    for _ in 0..times {
-        bytes.extend_from_slice(field)?;
-    }
-    bytes.extend_from_slice(end)?;
-    Ok(bytes)
-}
-
-pub fn fault_of(bytes: &[u8]) -> Option<HeadFault> {
-    parse_request(bytes).err()
+/// Whether the request has that fault, or with none is right.
+pub fn has_fault(bytes: &[u8], fault: Option<HeadFault>) -> bool {
+    parse_request(bytes).err() == fault
 }
 
 #[test]
 fn hostile_requests(rt: HostRuntime) {
-    for (bytes, fault) in SHAPES {
-        assert_eq!(rt; fault_of(bytes), fault, "{bytes:?}");
+    for (n, (bytes, fault)) in SHAPES.iter().enumerate() {
+        assert!(rt; has_fault(bytes, *fault), "shape {n}");
     }
 }
+
+/// The request of a guest's device without the end of its head.
+const OPEN: &[u8] = b"GET /captive HTTP/1.1\r\nHost: api\r\nPortal-Device: 02:00:00:00:00:01\r\n";
+
+/// That with a field that has no value yet.
+const NAMED: &[u8] =
+    b"GET /captive HTTP/1.1\r\nHost: api\r\nPortal-Device: 02:00:00:00:00:01\r\nX: ";
+
+/// A head of 8,192 bytes, with one long field.
+const LONG: Repeated = Repeated {
+    front: NAMED,
+    times: 8_117,
+    piece: b"a",
+    end: b"\r\n\r\n",
+};
+
+const LONGER: Repeated = Repeated {
+    times: 8_118,
+    ..LONG
+};
+
+/// A head with 32 fields.
+const MANY: Repeated = Repeated {
+    front: OPEN,
+    times: 30,
+    piece: b"X: a\r\n",
+    end: b"\r\n",
+};
+
+const MORE: Repeated = Repeated { times: 31, ..MANY };
 
 /// Heads at their largest, each with its length, and with one byte or one field more.
-#[test]
-fn hostile_requests_in_size(rt: HostRuntime) -> Result<(), Fail> {
-    let alloc = rt.alloc();
-    let start = &CAPTIVE[..68];
-    let long = repeated(alloc, start, 1, b"X: ", b"")?;
-    let cases: [(&[u8], usize, &[u8], &[u8], usize, Option<HeadFault>); 4] = [
-        (long.as_slice(), 8117, b"a", b"\r\n\r\n", 8192, None),
-        (long.as_slice(), 8118, b"a", b"\r\n\r\n", 8193, BAD),
-        (start, 30, b"X: a\r\n", b"\r\n", 250, None),
-        (start, 31, b"X: a\r\n", b"\r\n", 256, BAD),
-    ];
-    for (front, times, field, end, len, fault) in cases {
-        let bytes = repeated(alloc, front, times, field, end)?;
-        assert_eq!(rt; bytes.len(), len);
-        assert_eq!(rt; fault_of(bytes.as_slice()), fault, "{len}");
-        assert!(rt; is_decided(bytes.as_slice()), "{len}");
-    }
-    Ok(())
+const SIZES: &[(Repeated, usize, Option<HeadFault>)] = &[
+    (LONG, 8192, None),
+    (LONGER, 8193, BAD),
+    (MANY, 250, None),
+    (MORE, 256, BAD),
+];
+
+/// Whether the head has that length and that fault, and is decided.
+fn has_size(alloc: Global, parts: &Repeated, len: usize, fault: Option<HeadFault>) -> Option<bool> {
+    let bytes = parts.bytes(alloc)?;
+    let is_sized = bytes.len() == len && is_decided(bytes.as_slice());
+    Some(is_sized && has_fault(bytes.as_slice(), fault))
 }
 
-/// What a request says: method, target, token, device and the length of the body.
 #[test]
-fn hostile_requests_in_values(rt: HostRuntime) -> Result<(), Fail> {
-    let alloc = rt.alloc();
-    let head =
-        b"POST / HTTP/1.1\r\nHost: a\r\nContent-Length: 65536\r\n\r\n{\"code\":\"2222-2222-2222\"}";
-    let largest = repeated(alloc, head, 65_511, b" ", b"")?;
-    let target = repeated(alloc, b"GET /", 8_000, b"a", b" HTTP/1.0\r\n\r\n")?;
-    let cases: [(&[u8], &[u8], usize, Option<&[u8]>, Option<&[u8]>, usize); 6] = [
-        (CAPTIVE, b"GET", 8, None, Some(b"02:00:00:00:00:01"), 0),
-        (SALE, b"POST", 11, Some(b"desk-token"), None, 25),
-        (
-            b"GET / HTTP/1.1\r\nHost: a\r\nPortal-Device: x\r\nportal-device: y\r\n\r\n",
-            b"GET",
-            1,
-            None,
-            None,
-            0,
-        ),
-        (
-            b"GET / HTTP/1.1\r\nHost: a\r\nContent-Length: 5\r\n\r\nhello and more",
-            b"GET",
-            1,
-            None,
-            None,
-            5,
-        ),
-        (largest.as_slice(), b"POST", 1, None, None, 65_536),
-        (target.as_slice(), b"GET", 8_001, None, None, 0),
-    ];
-    for (bytes, method, target, token, device, body) in cases {
-        let request = parse_request(bytes).ok().ok_or("refused")?;
-        assert_eq!(rt; request.method, method);
-        assert_eq!(rt; request.target.len(), target);
-        assert_eq!(rt; request.token, token);
-        assert_eq!(rt; request.device, device);
-        assert_eq!(rt; request.body.len(), body);
+fn hostile_requests_in_size(rt: HostRuntime) {
+    for (parts, len, fault) in SIZES {
+        assert!(rt;
+            has_size(rt.alloc(), parts, *len, *fault) == Some(true),
+            "{len}"
+        );
     }
-    Ok(())
+}
+
+/// What a request says: its method, the length of its target, its token, its device and the length of its body.
+#[derive(Clone, Copy)]
+struct Said {
+    method: &'static [u8],
+    target: usize,
+    token: Option<&'static [u8]>,
+    device: Option<&'static [u8]>,
+    body: usize,
+}
+
+const GET: Said = Said {
+    method: b"GET",
+    target: 1,
+    token: None,
+    device: None,
+    body: 0,
+};
+
+const REQUESTS: &[(&[u8], Said)] = &[
+    (
+        CAPTIVE,
+        Said {
+            target: 8,
+            device: Some(b"02:00:00:00:00:01"),
+            ..GET
+        },
+    ),
+    (
+        SALE,
+        Said {
+            method: b"POST",
+            target: 11,
+            token: Some(b"desk-token"),
+            body: 25,
+            ..GET
+        },
+    ),
+    (
+        b"GET / HTTP/1.1\r\nHost: a\r\nPortal-Device: x\r\nportal-device: y\r\n\r\n",
+        GET,
+    ),
+    (
+        b"GET / HTTP/1.1\r\nHost: a\r\nContent-Length: 5\r\n\r\nhello and more",
+        Said { body: 5, ..GET },
+    ),
+];
+
+/// A body and a target at their longest.
+const LONG_REQUESTS: &[(Repeated, Said)] = &[
+    (
+        Repeated {
+            front: b"POST / HTTP/1.1\r\nHost: a\r\nContent-Length: 65536\r\n\r\n{\"code\":\"2222-2222-2222\"}",
+            times: 65_511,
+            piece: b" ",
+            end: b"",
+        },
+        Said {
+            method: b"POST",
+            body: 65_536,
+            ..GET
+        },
+    ),
+    (
+        Repeated {
+            front: b"GET /",
+            times: 8_000,
+            piece: b"a",
+            end: b" HTTP/1.0\r\n\r\n",
+        },
+        Said {
+            target: 8_001,
+            ..GET
+        },
+    ),
+];
+
+fn says(bytes: &[u8], said: &Said) -> bool {
+    match parse_request(bytes) {
+        Ok(request) => {
+            request.method == said.method
+                && request.target.len() == said.target
+                && request.token == said.token
+                && request.device == said.device
+                && request.body.len() == said.body
+        }
+        Err(_) => false,
+    }
+}
+
+fn says_at_length(alloc: Global, parts: &Repeated, said: &Said) -> bool {
+    match parts.bytes(alloc) {
+        Some(bytes) => says(bytes.as_slice(), said),
+        None => false,
+    }
+}
+
+#[test]
+fn hostile_requests_in_values(rt: HostRuntime) {
+    for (n, (bytes, said)) in REQUESTS.iter().enumerate() {
+        assert!(rt; says(bytes, said), "request {n}");
+    }
+    for (n, (parts, said)) in LONG_REQUESTS.iter().enumerate() {
+        assert!(rt; says_at_length(rt.alloc(), parts, said), "request {n}");
+    }
 }

@@ -1,6 +1,5 @@
 //! Requests, and the response to one of them.
 use std::alloc::Global;
-use std::test::Fail;
 
 /// The moment of the request in the case of an unknown device: 2020-03-02 05:08:13 UTC.
 pub const MOMENT: u64 = 1_583_125_693;
@@ -23,12 +22,53 @@ pub const DESK: &str = "Portal-Token: desk-token\r\n";
 pub const GATE: &str = "Portal-Token: gate-token\r\n";
 
 /// A request with that body, by its line and its fields.
-pub fn request(alloc: Global, line: &str, fields: &str, body: &[u8]) -> Result<Vec<u8>, Fail> {
+pub fn request(alloc: Global, line: &str, fields: &str, body: &[u8]) -> Option<Vec<u8>> {
     let size = body.len();
     let head = format!(in alloc;
         "{line} HTTP/1.1\r\nHost: api\r\n{fields}Content-Length: {size}\r\n\r\n"
-    )?;
+    ).ok()?;
     let mut request = head.into_bytes();
-    request.extend_from_slice(body)?;
-    Ok(request)
+    request.extend_from_slice(body).ok()?;
+    Some(request)
+}
+
+/// A front, one piece so many times, and an end.
+#[derive(Clone, Copy)]
+pub struct Repeated {
+    pub front: &'static [u8],
+    pub times: usize,
+    pub piece: &'static [u8],
+    pub end: &'static [u8],
+}
+
+/// The body of a code that spaces fill up to 65,536 bytes, the most that comes in.
+pub const LARGEST_BODY: Repeated = Repeated {
+    front: b"{\"code\":\"2222-2222-2222\"}",
+    times: 65_511,
+    piece: b" ",
+    end: b"",
+};
+
+impl Repeated {
+    pub fn bytes(&self, alloc: Global) -> Option<Vec<u8>> {
+        let mut bytes = self.front.to_vec(alloc).ok()?;
+        for _ in 0..self.times {
+            bytes.extend_from_slice(self.piece).ok()?;
+        }
+        bytes.extend_from_slice(self.end).ok()?;
+        Some(bytes)
+    }
+}
+
+/// A body whose code is 200 nested lists.
+pub fn list_body(alloc: Global) -> Option<Vec<u8>> {
+    let mut body = b"{\"code\":".to_vec(alloc).ok()?;
+    for _ in 0..200 {
+        body.push(b'[').ok()?;
+    }
+    for _ in 0..200 {
+        body.push(b']').ok()?;
+    }
+    body.push(b'}').ok()?;
+    Some(body)
 }
