@@ -1,9 +1,9 @@
 //! The bodies that go out and come in, as JSON texts.
-use crate::requests::{LARGEST_BODY, list_body};
+use crate::requests::{LARGEST_BODY, LISTS};
 use portal_codes::Code;
 use portal_json::{
-    answer_text, captive_text, error_text, read_batch, read_close, read_redeem, read_refund,
-    read_report, read_sale, sessions_text, voucher_text,
+    ReportOrder, answer_text, captive_text, error_text, read_batch, read_close, read_redeem,
+    read_refund, read_report, read_sale, sessions_text, voucher_text,
 };
 use portal_model::captive::{Captive, OpenSession};
 use portal_model::change::Answer;
@@ -101,17 +101,15 @@ const STATES: &[(Captive, &str, Option<&str>, &str)] = &[
     ),
 ];
 
-fn is_state(alloc: Global, state: &Captive, portal: &str, venue: Option<&str>, text: &str) -> bool {
-    is_text(captive_text(alloc, state, portal, venue).ok(), text)
+fn is_state(alloc: Global, row: &(Captive, &str, Option<&str>, &str)) -> bool {
+    let (state, portal, venue, text) = *row;
+    is_text(captive_text(alloc, &state, portal, venue).ok(), text)
 }
 
 #[test]
 fn captive_states(rt: HostRuntime) {
-    for (n, (state, portal, venue, text)) in STATES.iter().enumerate() {
-        assert!(rt;
-            is_state(rt.alloc(), state, portal, *venue, text),
-            "state {n}"
-        );
+    for (n, row) in STATES.iter().enumerate() {
+        assert!(rt; is_state(rt.alloc(), row), "state {n}");
     }
 }
 
@@ -134,13 +132,8 @@ fn with_url(alloc: Global, url: &str) -> Option<String> {
 fn is_longest_state(alloc: Global) -> Option<bool> {
     let url = longest_url(alloc)?;
     let wanted = with_url(alloc, url.as_str())?;
-    Some(is_state(
-        alloc,
-        &BOTH,
-        url.as_str(),
-        Some(url.as_str()),
-        wanted.as_str(),
-    ))
+    let row = (BOTH, url.as_str(), Some(url.as_str()), wanted.as_str());
+    Some(is_state(alloc, &row))
 }
 
 #[test]
@@ -309,30 +302,36 @@ fn refusals(rt: HostRuntime) {
     }
 }
 
+/// A session of that device: the bytes and the seconds that are left, and its number.
+type Listed = (Option<u64>, u64, u64);
+
+/// How many sessions of a kind are listed, and the text of each: none, one, and lists of 50 and 500 at their longest,
+/// of which the first has 58 bytes and more.
+const LISTED: &[(Listed, &str, usize)] = &[
+    (TIMED_SESSION, TIMED_TEXT, 0),
+    (TIMED_SESSION, TIMED_TEXT, 1),
+    (LONG_SESSION, LONG_TEXT, 50),
+    (LONG_SESSION, LONG_TEXT, 500),
+];
+
+const TIMED_SESSION: Listed = (None, 2600, 1);
+
 const TIMED_TEXT: &str =
     "{\"device\":\"02:00:00:00:00:01\",\"seconds-remaining\":2600,\"session\":1}";
 
-/// A session that is limited in time, so many times.
-fn timed_sessions(alloc: Global, count: usize) -> Option<Vec<OpenSession>> {
-    let session = OpenSession {
-        bytes: None,
-        device: Device::read("02:00:00:00:00:01").ok()?,
-        seconds: Some(2600),
-        number: 1,
-    };
-    vec![in alloc; session; count].ok()
-}
+const LONG_SESSION: Listed = (Some(9_000_000_000_000_000), LAST, 9_007_199_254_740_991);
 
 const LONG_TEXT: &str =
     "{\"bytes-remaining\":9000000000000000,\"device\":\"02:00:00:00:00:01\",\"seconds-remaining\":253370764799,\"session\":9007199254740991}";
 
-/// A session at its longest, so many times.
-fn long_sessions(alloc: Global, count: usize) -> Option<Vec<OpenSession>> {
+/// A session of that kind, so many times.
+fn sessions(alloc: Global, listed: Listed, count: usize) -> Option<Vec<OpenSession>> {
+    let (bytes, seconds, number) = listed;
     let session = OpenSession {
-        bytes: Some(9_000_000_000_000_000),
+        bytes,
         device: Device::read("02:00:00:00:00:01").ok()?,
-        seconds: Some(LAST),
-        number: 9_007_199_254_740_991,
+        seconds: Some(seconds),
+        number,
     };
     vec![in alloc; session; count].ok()
 }
@@ -348,38 +347,21 @@ fn list_text(alloc: Global, text: &str, count: usize) -> Option<String> {
     Some(list)
 }
 
-/// Whether the list has so many sessions of that text.
-fn is_list(
-    alloc: Global,
-    sessions: Option<Vec<OpenSession>>,
-    text: &str,
-    count: usize,
-) -> Option<bool> {
-    let sessions = sessions?;
+/// Whether the list of so many sessions of that kind has that text so many times.
+fn is_list(alloc: Global, row: &(Listed, &str, usize)) -> Option<bool> {
+    let (listed, text, count) = *row;
+    let sessions = sessions(alloc, listed, count)?;
     let wanted = list_text(alloc, text, count)?;
-    let told = sessions_text(alloc, sessions.as_slice()).ok();
-    Some(is_text(told, wanted.as_str()))
+    Some(is_text(
+        sessions_text(alloc, sessions.as_slice()).ok(),
+        wanted.as_str(),
+    ))
 }
 
-const LONG_COUNTS: &[usize] = &[50, 500];
-
-/// None, one, and lists of 50 and 500 at their longest: the first sessions of 58 bytes and more.
 #[test]
 fn open_sessions(rt: HostRuntime) {
-    let alloc = rt.alloc();
-    for count in 0..2 {
-        let sessions = timed_sessions(alloc, count);
-        assert!(rt;
-            is_list(alloc, sessions, TIMED_TEXT, count) == Some(true),
-            "{count}"
-        );
-    }
-    for count in LONG_COUNTS {
-        let sessions = long_sessions(alloc, *count);
-        assert!(rt;
-            is_list(alloc, sessions, LONG_TEXT, *count) == Some(true),
-            "{count}"
-        );
+    for (n, row) in LISTED.iter().enumerate() {
+        assert!(rt; is_list(rt.alloc(), row) == Some(true), "list {n}");
     }
 }
 
@@ -551,7 +533,7 @@ fn is_largest_read(alloc: Global) -> Option<bool> {
 }
 
 fn are_lists_refused(alloc: Global) -> Option<bool> {
-    let body = list_body(alloc)?;
+    let body = LISTS.bytes(alloc)?;
     is_code(alloc, body.as_slice(), BAD)
 }
 
@@ -561,103 +543,103 @@ fn hostile_requests_in_bodies(rt: HostRuntime) {
     assert!(rt; are_lists_refused(rt.alloc()) == Some(true));
 }
 
-/// Bodies, and the batch, the plan and the count that each orders.
-const ORDERS: &[(&[u8], &str, &str, u64)] = &[
+/// A batch, a plan and a count.
+type Ordered = (&'static str, &'static str, u64);
+
+/// Bodies, and what each orders, where it orders a batch.
+const ORDERS: &[(&[u8], Option<Ordered>)] = &[
     (
         b"{\"batch\":\"b1\",\"plan\":\"hour\",\"count\":1}",
-        "b1",
-        "hour",
-        1,
+        Some(("b1", "hour", 1)),
     ),
     (
         b"{\"batch\":\"abcdefghijklmnopqrstuvwxyz-01234\",\"plan\":\"a\",\"count\":500}",
-        LONG_ID,
-        "a",
-        500,
+        Some((LONG_ID, "a", 500)),
     ),
+    (b"{\"batch\":\"b1\",\"plan\":\"hour\"}", None),
+    (b"{\"batch\":\"b1\",\"plan\":\"hour\",\"count\":0}", None),
+    (b"{\"batch\":\"b1\",\"plan\":\"hour\",\"count\":501}", None),
+    (b"{\"batch\":\"b1\",\"plan\":\"hour\",\"count\":-1}", None),
+    (b"{\"batch\":\"b1\",\"plan\":\"hour\",\"count\":1.0}", None),
+    (b"{\"batch\":\"b1\",\"plan\":\"hour\",\"count\":1e2}", None),
+    (
+        b"{\"batch\":\"b1\",\"plan\":\"hour\",\"count\":\"1\"}",
+        None,
+    ),
+    (b"{\"batch\":\"B1\",\"plan\":\"hour\",\"count\":1}", None),
+    (b"{\"batch\":\"b1\",\"plan\":\"\",\"count\":1}", None),
 ];
 
-const NO_ORDERS: &[&[u8]] = &[
-    b"{\"batch\":\"b1\",\"plan\":\"hour\"}",
-    b"{\"batch\":\"b1\",\"plan\":\"hour\",\"count\":0}",
-    b"{\"batch\":\"b1\",\"plan\":\"hour\",\"count\":501}",
-    b"{\"batch\":\"b1\",\"plan\":\"hour\",\"count\":-1}",
-    b"{\"batch\":\"b1\",\"plan\":\"hour\",\"count\":1.0}",
-    b"{\"batch\":\"b1\",\"plan\":\"hour\",\"count\":1e2}",
-    b"{\"batch\":\"b1\",\"plan\":\"hour\",\"count\":\"1\"}",
-    b"{\"batch\":\"B1\",\"plan\":\"hour\",\"count\":1}",
-    b"{\"batch\":\"b1\",\"plan\":\"\",\"count\":1}",
-];
-
-fn is_order(alloc: Global, body: &[u8], batch: &str, plan: &str, count: u64) -> bool {
-    match read_batch(alloc, body) {
-        Ok(order) => {
+/// Whether the body orders that, or with none is refused.
+fn is_order(alloc: Global, body: &[u8], ordered: Option<Ordered>) -> bool {
+    match (read_batch(alloc, body), ordered) {
+        (Ok(order), Some((batch, plan, count))) => {
             order.batch.text() == batch && order.plan.text() == plan && order.count == count
         }
-        Err(_) => false,
+        (Err(refusal), None) => refusal == Refusal::BadRequest,
+        _ => false,
     }
-}
-
-fn is_no_order(alloc: Global, body: &[u8]) -> bool {
-    read_batch(alloc, body).err() == Some(Refusal::BadRequest)
 }
 
 #[test]
 fn batch_bodies(rt: HostRuntime) {
-    for (n, (body, batch, plan, count)) in ORDERS.iter().enumerate() {
-        assert!(rt;
-            is_order(rt.alloc(), body, batch, plan, *count),
-            "order {n}"
-        );
+    for (n, (body, ordered)) in ORDERS.iter().enumerate() {
+        assert!(rt; is_order(rt.alloc(), body, *ordered), "body {n}");
     }
-    for (n, body) in NO_ORDERS.iter().enumerate() {
-        assert!(rt; is_no_order(rt.alloc(), body), "body {n}");
-    }
+}
+
+/// What a body says of a session.
+#[derive(Clone, Copy)]
+enum Told {
+    /// A session and its bytes.
+    Report(u64, u64),
+    NoReport,
+    Close(u64),
+    NoClose,
 }
 
 /// The greatest number that a body may name.
 const GREATEST: u64 = 9_223_372_036_854_775_807;
 
-/// Bodies, and the session and the bytes that each reports.
-const REPORTS: &[(&[u8], Result<(u64, u64), Refusal>)] = &[
+const SESSIONS: &[(&[u8], Told)] = &[
     (
         b"{\"session\":1,\"bytes\":1073741823}",
-        Ok((1, 1_073_741_823)),
+        Told::Report(1, 1_073_741_823),
     ),
     (
         b"{\"session\":0,\"bytes\":9223372036854775807}",
-        Ok((0, GREATEST)),
+        Told::Report(0, GREATEST),
     ),
     (
         b"{\"session\":9223372036854775807,\"bytes\":0}",
-        Ok((GREATEST, 0)),
+        Told::Report(GREATEST, 0),
     ),
     (
         b"{\"session\":1,\"bytes\":9223372036854775808}",
-        Err(Refusal::BadRequest),
+        Told::NoReport,
     ),
-    (b"{\"session\":1,\"bytes\":-1}", Err(Refusal::BadRequest)),
-    (b"{\"session\":1,\"bytes\":1.0}", Err(Refusal::BadRequest)),
+    (b"{\"session\":1,\"bytes\":-1}", Told::NoReport),
+    (b"{\"session\":1,\"bytes\":1.0}", Told::NoReport),
+    (b"{\"session\":1}", Told::Close(1)),
+    (b"{\"session\":9223372036854775807}", Told::Close(GREATEST)),
+    (b"{\"session\":-0}", Told::NoClose),
+    (b"{\"session\":null}", Told::NoClose),
 ];
 
-const CLOSES: &[(&[u8], Result<u64, Refusal>)] = &[
-    (b"{\"session\":1}", Ok(1)),
-    (b"{\"session\":9223372036854775807}", Ok(GREATEST)),
-    (b"{\"session\":-0}", Err(Refusal::BadRequest)),
-    (b"{\"session\":null}", Err(Refusal::BadRequest)),
-];
-
-fn reported(alloc: Global, body: &[u8]) -> Result<(u64, u64), Refusal> {
-    let order = read_report(alloc, body)?;
-    Ok((order.session, order.bytes))
+fn is_told(alloc: Global, body: &[u8], told: Told) -> bool {
+    match told {
+        Told::Report(session, bytes) => {
+            read_report(alloc, body) == Ok(ReportOrder { session, bytes })
+        }
+        Told::NoReport => read_report(alloc, body) == Err(Refusal::BadRequest),
+        Told::Close(session) => read_close(alloc, body) == Ok(session),
+        Told::NoClose => read_close(alloc, body) == Err(Refusal::BadRequest),
+    }
 }
 
 #[test]
 fn session_bodies(rt: HostRuntime) {
-    for (n, (body, wanted)) in REPORTS.iter().enumerate() {
-        assert!(rt; reported(rt.alloc(), body) == *wanted, "report {n}");
-    }
-    for (n, (body, wanted)) in CLOSES.iter().enumerate() {
-        assert!(rt; read_close(rt.alloc(), body) == *wanted, "close {n}");
+    for (n, (body, told)) in SESSIONS.iter().enumerate() {
+        assert!(rt; is_told(rt.alloc(), body, *told), "body {n}");
     }
 }

@@ -10,17 +10,39 @@ fn is_order(alloc: Global, words: &[&str], order: &Order<'static>) -> bool {
     }
 }
 
-/// Words that order an answer at a moment, whose seed is 00.
-const SPELLINGS: &[(&[&str], u64)] = &[
+/// The answer at a moment, whose seed is 00.
+const FIRST: Order<'static> = Order::Answer {
+    db: None,
+    settings: None,
+    now: 1_583_125_693,
+    seed: "00",
+};
+
+const ZERO: Order<'static> = Order::Answer {
+    db: None,
+    settings: None,
+    now: 0,
+    seed: "00",
+};
+
+const LAST: Order<'static> = Order::Answer {
+    db: None,
+    settings: None,
+    now: u64::MAX,
+    seed: "00",
+};
+
+/// Words, and the order that each of them gives.
+const ANSWERS: &[(&[&str], Order<'static>)] = &[
     (
         &["portal", "answer", "--now", "1583125693", "--seed", "00"],
-        1_583_125_693,
+        FIRST,
     ),
     (
         &["/usr/bin/portal", "answer", "--seed=00", "--now=1583125693"],
-        1_583_125_693,
+        FIRST,
     ),
-    (&["portal", "answer", "--seed", "00", "--now", "0"], 0),
+    (&["portal", "answer", "--seed", "00", "--now", "0"], ZERO),
     (
         &[
             "portal",
@@ -30,24 +52,14 @@ const SPELLINGS: &[(&[&str], u64)] = &[
             "--now",
             "18446744073709551615",
         ],
-        u64::MAX,
+        LAST,
     ),
 ];
 
-fn is_answer(alloc: Global, words: &[&str], moment: u64) -> bool {
-    let order = Order::Answer {
-        db: None,
-        settings: None,
-        now: moment,
-        seed: "00",
-    };
-    is_order(alloc, words, &order)
-}
-
 #[test]
 fn orders(rt: HostRuntime) {
-    for (n, (words, moment)) in SPELLINGS.iter().enumerate() {
-        assert!(rt; is_answer(rt.alloc(), words, *moment), "words {n}");
+    for (n, (words, order)) in ANSWERS.iter().enumerate() {
+        assert!(rt; is_order(rt.alloc(), words, order), "words {n}");
     }
 }
 

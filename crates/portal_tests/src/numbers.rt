@@ -1,32 +1,32 @@
 //! The numbers of requests that act once.
 use portal_ledger::request::RequestNumber;
 
-const BAD: &[&str] = &[
-    "",
-    "0123456789012345678901234567890123456",
-    "a_1",
-    "a 1",
-    "a.1",
-    "\u{e4}1",
-    "a1\n",
+/// Texts, and whether each is a number.
+const NUMBERS: &[(&str, bool)] = &[
+    ("", false),
+    ("0123456789012345678901234567890123456", false),
+    ("a_1", false),
+    ("a 1", false),
+    ("a.1", false),
+    ("\u{e4}1", false),
+    ("a1\n", false),
+    ("a1", true),
+    ("-", true),
+    ("AZaz09-", true),
+    ("012345678901234567890123456789012345", true),
 ];
 
-const GOOD: &[&str] = &["a1", "-", "AZaz09-", "012345678901234567890123456789012345"];
-
-/// Whether the text is read as a number, which has that text.
-fn is_number(text: &str) -> bool {
+/// Whether the text is read as a number, which has that text, or as none.
+fn is_read(text: &str, is_number: bool) -> bool {
     match RequestNumber::read(text) {
-        Some(number) => number.text() == text,
-        None => false,
+        Some(number) => is_number && number.text() == text,
+        None => !is_number,
     }
 }
 
 #[test]
 fn bad_numbers(rt: HostRuntime) {
-    for text in BAD {
-        assert!(rt; RequestNumber::read(text).is_none(), "{text}");
-    }
-    for text in GOOD {
-        assert!(rt; is_number(text), "{text}");
+    for (text, is_number) in NUMBERS {
+        assert!(rt; is_read(text, *is_number), "{text}");
     }
 }

@@ -41,14 +41,6 @@ pub struct Repeated {
     pub end: &'static [u8],
 }
 
-/// The body of a code that spaces fill up to 65,536 bytes, the most that comes in.
-pub const LARGEST_BODY: Repeated = Repeated {
-    front: b"{\"code\":\"2222-2222-2222\"}",
-    times: 65_511,
-    piece: b" ",
-    end: b"",
-};
-
 impl Repeated {
     pub fn bytes(&self, alloc: Global) -> Option<Vec<u8>> {
         let mut bytes = self.front.to_vec(alloc).ok()?;
@@ -60,15 +52,19 @@ impl Repeated {
     }
 }
 
+/// The body of a code that spaces fill up to 65,536 bytes, the most that comes in.
+pub const LARGEST_BODY: Repeated = Repeated {
+    front: b"{\"code\":\"2222-2222-2222\"}",
+    times: 65_511,
+    piece: b" ",
+    end: b"",
+};
+
 /// A body whose code is 200 nested lists.
-pub fn list_body(alloc: Global) -> Option<Vec<u8>> {
-    let mut body = b"{\"code\":".to_vec(alloc).ok()?;
-    for _ in 0..200 {
-        body.push(b'[').ok()?;
-    }
-    for _ in 0..200 {
-        body.push(b']').ok()?;
-    }
-    body.push(b'}').ok()?;
-    Some(body)
-}
+pub const LISTS: Repeated = Repeated {
+    front: b"{\"code\":",
+    times: 200,
+    piece: b"[",
+    end: b"]]]]]]]]]]]]]]]]]]]]]]]]]]]]]]]]]]]]]]]]]]]]]]]]]]]]]]]]]]]]]]]]]]]]]]]]]]]]]]]]]]]]]]]]]]]]]]]]]]]]\
+        ]]]]]]]]]]]]]]]]]]]]]]]]]]]]]]]]]]]]]]]]]]]]]]]]]]]]]]]]]]]]]]]]]]]]]]]]]]]]]]]]]]]]]]]]]]]]]]]]]]]]}",
+};

@@ -31,16 +31,18 @@ fn is_found(routes: &Routes, path: &[u8], route: Route) -> bool {
     }
 }
 
-fn is_asked(route: Route, method: &str, caller: Caller) -> bool {
-    route.method().as_str() == method && route.caller() == caller
+fn is_row(routes: &Routes, row: &(&str, Route, &str, Caller)) -> bool {
+    let (path, route, method, caller) = *row;
+    is_found(routes, path.as_bytes(), route)
+        && route.method().as_str() == method
+        && route.caller() == caller
 }
 
 #[test]
 fn callers_and_routes(rt: HostRuntime) {
     let routes = Routes::new(rt.alloc()).expect(&rt, "routes");
-    for (path, route, method, caller) in ROUTES {
-        assert!(rt; is_found(&routes, path.as_bytes(), *route), "{path}");
-        assert!(rt; is_asked(*route, method, *caller), "{path}");
+    for (n, row) in ROUTES.iter().enumerate() {
+        assert!(rt; is_row(&routes, row), "route {n}");
     }
 }
 
@@ -84,41 +86,58 @@ fn is_longest_found(alloc: Global, routes: &Routes) -> bool {
     }
 }
 
+fn is_lost(routes: &Routes, path: &[u8]) -> bool {
+    routes.find(path).is_none()
+}
+
 #[test]
 fn no_route(rt: HostRuntime) {
     let routes = Routes::new(rt.alloc()).expect(&rt, "routes");
     for (n, path) in NO_ROUTES.iter().enumerate() {
-        assert!(rt; routes.find(path).is_none(), "path {n}");
+        assert!(rt; is_lost(&routes, path), "path {n}");
     }
     assert!(rt; is_longest_found(rt.alloc(), &routes));
 }
 
-/// A path ends at the first question mark.
-const TARGETS: &[(&[u8], &[u8], Option<&[u8]>)] = &[
+/// Where bytes are cut.
+#[derive(Clone, Copy)]
+enum Cut {
+    /// A target, at the end of its path.
+    Target,
+    /// At the first such sign.
+    At(u8),
+}
+
+/// Bytes, where they are cut, and what stands before it and after it. A path ends at the first question mark, a key at
+/// the first sign of equality.
+const CUTS: &[(&[u8], Cut, &[u8], Option<&[u8]>)] = &[
     (
         b"/desk/takings?from=2020-03-01&to=2020-03-02?",
+        Cut::Target,
         b"/desk/takings",
         Some(b"from=2020-03-01&to=2020-03-02?"),
     ),
-    (b"/captive?", b"/captive", Some(b"")),
-    (b"/captive", b"/captive", None),
-    (b"?", b"", Some(b"")),
+    (b"/captive?", Cut::Target, b"/captive", Some(b"")),
+    (b"/captive", Cut::Target, b"/captive", None),
+    (b"?", Cut::Target, b"", Some(b"")),
+    (b"from=a=b", Cut::At(b'='), b"from", Some(b"a=b")),
+    (b"from", Cut::At(b'='), b"from", None),
+    (b"&to=b", Cut::At(b'&'), b"", Some(b"to=b")),
 ];
 
-/// A key ends at the first sign of equality.
-const CUTS: &[(&[u8], u8, &[u8], Option<&[u8]>)] = &[
-    (b"from=a=b", b'=', b"from", Some(b"a=b")),
-    (b"from", b'=', b"from", None),
-    (b"&to=b", b'&', b"", Some(b"to=b")),
-];
+fn is_cut(row: &(&[u8], Cut, &[u8], Option<&[u8]>)) -> bool {
+    let (bytes, cut, front, back) = *row;
+    let (before, after) = match cut {
+        Cut::Target => split_target(bytes),
+        Cut::At(sign) => cut_at(bytes, sign),
+    };
+    before == front && after == back
+}
 
 #[test]
 fn targets(rt: HostRuntime) {
-    for (n, (target, path, query)) in TARGETS.iter().enumerate() {
-        assert!(rt; split_target(target) == (*path, *query), "target {n}");
-    }
-    for (n, (bytes, sign, front, back)) in CUTS.iter().enumerate() {
-        assert!(rt; cut_at(bytes, *sign) == (*front, *back), "cut {n}");
+    for (n, row) in CUTS.iter().enumerate() {
+        assert!(rt; is_cut(row), "cut {n}");
     }
 }
 

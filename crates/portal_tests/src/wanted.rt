@@ -1,8 +1,8 @@
 //! What the checks make of whole requests, one of each route, before any desk is asked.
-use crate::requests::{DESK, GATE, GUEST, LARGEST_BODY, list_body, request};
+use crate::requests::{DESK, GATE, GUEST, LISTS, Repeated, request};
 use portal_checks::{Wanted, check_request};
 use portal_codes::Code;
-use portal_files::sample_settings;
+use portal_files::{Settings, sample_settings};
 use portal_ledger::caller::Caller;
 use portal_ledger::request::RequestMark;
 use portal_model::command::Command;
@@ -30,7 +30,7 @@ enum Told {
 enum Order {
     /// So many plans.
     Load(usize),
-    /// The batch, the plan and the codes.
+    /// The batch, the plan and the two codes.
     Issue(&'static str, &'static str, &'static [&'static str]),
     Sell(&'static str),
     /// The device and the code.
@@ -65,12 +65,10 @@ fn is_code(code: &Code, text: &str) -> bool {
 }
 
 fn are_codes(codes: &[Code], texts: &[&str]) -> bool {
-    for (code, text) in codes.iter().zip(texts) {
-        if !is_code(code, text) {
-            return false;
-        }
+    match (codes, texts) {
+        ([first, second], [one, other]) => is_code(first, one) && is_code(second, other),
+        _ => false,
     }
-    codes.len() == texts.len()
 }
 
 fn is_ordered(command: &Command, order: &Order) -> bool {
@@ -142,21 +140,28 @@ fn is_refused(told: &Told, word: &str) -> bool {
 }
 
 /// Whether the checks make that of a request whose codes come from the seed of zeros.
-fn is_checked(alloc: Global, request: &[u8], told: &Told) -> Option<bool> {
-    let settings = sample_settings(alloc).ok()?;
-    let routes = Routes::new(alloc).ok()?;
-    Some(
-        match check_request(alloc, &settings, &routes, [0; 32], request) {
-            Ok(wanted) => is_wanted(&wanted, told),
-            Err(denied) => is_refused(told, denied.refusal().word()),
-        },
-    )
+fn is_made(alloc: Global, checks: (&Settings, &Routes), request: &[u8], told: &Told) -> bool {
+    let (settings, routes) = checks;
+    match check_request(alloc, settings, routes, [0; 32], request) {
+        Ok(wanted) => is_wanted(&wanted, told),
+        Err(denied) => is_refused(told, denied.refusal().word()),
+    }
+}
+
+/// The same by the sample settings.
+fn is_checked(alloc: Global, request: &[u8], told: &Told) -> bool {
+    match (sample_settings(alloc), Routes::new(alloc)) {
+        (Ok(settings), Ok(routes)) => is_made(alloc, (&settings, &routes), request, told),
+        _ => false,
+    }
 }
 
 /// The same of a request, by its line, its fields and its body.
-fn is_told(alloc: Global, line: &str, fields: &str, body: &[u8], told: &Told) -> Option<bool> {
-    let request = request(alloc, line, fields, body)?;
-    is_checked(alloc, request.as_slice(), told)
+fn is_told(alloc: Global, line: &str, fields: &str, body: &[u8], told: &Told) -> bool {
+    match request(alloc, line, fields, body) {
+        Some(request) => is_checked(alloc, request.as_slice(), told),
+        None => false,
+    }
 }
 
 const HOUR: &[u8] =
@@ -244,13 +249,15 @@ const ROUTES: &[(&str, &str, &[u8], Told)] = &[
     ("GET /gateway/sessions", GATE, b"", Told::Sessions),
 ];
 
+fn is_route(alloc: Global, row: &(&str, &str, &[u8], Told)) -> bool {
+    let (line, fields, body, told) = *row;
+    is_told(alloc, line, fields, body, &told)
+}
+
 #[test]
 fn one_of_each_route(rt: HostRuntime) {
-    for (line, fields, body, told) in ROUTES {
-        assert!(rt;
-            is_told(rt.alloc(), line, fields, body, told) == Some(true),
-            "{line}"
-        );
+    for (n, row) in ROUTES.iter().enumerate() {
+        assert!(rt; is_route(rt.alloc(), row), "route {n}");
     }
 }
 
@@ -321,83 +328,104 @@ fn numbered(alloc: Global, caller: &str, number: &str) -> Option<String> {
 }
 
 /// Whether the request under the number of that mark is ordered so, and bears the mark.
-fn bears(
-    alloc: Global,
-    line: &str,
-    caller: &str,
-    body: &[u8],
-    order: &Order,
-    mark: &Mark,
-) -> Option<bool> {
-    let (_, number, _, _, _) = *mark;
-    let fields = numbered(alloc, caller, number)?;
-    let told = Told::Act(*order, Some(*mark));
-    is_told(alloc, line, fields.as_str(), body, &told)
+fn bears(alloc: Global, row: &(&str, &str, &[u8], Order, Mark)) -> bool {
+    let (line, caller, body, order, mark) = *row;
+    match numbered(alloc, caller, mark.1) {
+        Some(fields) => {
+            let told = Told::Act(order, Some(mark));
+            is_told(alloc, line, fields.as_str(), body, &told)
+        }
+        None => false,
+    }
 }
 
 #[test]
 fn marks_of_requests(rt: HostRuntime) {
-    for (line, caller, body, order, mark) in MARKS {
-        let is_borne = bears(rt.alloc(), line, caller, body, order, mark);
-        assert!(rt; is_borne == Some(true), "{line}");
+    for (n, row) in MARKS.iter().enumerate() {
+        assert!(rt; bears(rt.alloc(), row), "mark {n}");
     }
 }
 
 const FIRST: Told = Told::Act(Order::Sell("2222-2222-2222"), None);
 
-/// Requests whose bodies have odd lengths, which a check of the shape alone decides.
-const LENGTHS: &[(&[u8], Told)] = &[
-    (
-        b"POST /desk/sales HTTP/1.1\r\nHost: api\r\nPortal-Token: desk-token\r\nContent-Length: 0000000025\r\n\r\n{\"code\":\"2222-2222-2222\"}",
-        FIRST,
-    ),
-    (
-        b"POST /desk/sales HTTP/1.1\r\nHost: api\r\nContent-Length: 999999999999999999999999999999\r\n\r\n",
-        Told::Refused("too_large"),
-    ),
+/// A sale by the desk whose body has the greatest length that comes in.
+const LARGEST: Repeated = Repeated {
+    front: b"POST /desk/sales HTTP/1.1\r\nHost: api\r\nPortal-Token: desk-token\r\nContent-Length: 65536\r\n\r\n{\"code\":\"2222-2222-2222\"}",
+    times: 65_511,
+    piece: b" ",
+    end: b"",
+};
+
+/// One whose body is a byte longer.
+const LARGER: Repeated = Repeated {
+    front: b"POST /desk/sales HTTP/1.1\r\nHost: api\r\nPortal-Token: desk-token\r\nContent-Length: 65537\r\n\r\n{\"code\":\"2222-2222-2222\"}",
+    times: 65_512,
+    ..LARGEST
+};
+
+/// One whose length is spelled with zeros.
+const ZEROS: Repeated = Repeated {
+    front: b"POST /desk/sales HTTP/1.1\r\nHost: api\r\nPortal-Token: desk-token\r\nContent-Length: 0000000025\r\n\r\n{\"code\":\"2222-2222-2222\"}",
+    times: 0,
+    ..LARGEST
+};
+
+/// A sale by nobody, of which no body comes in.
+const NINES: Repeated = Repeated {
+    front: b"POST /desk/sales HTTP/1.1\r\nHost: api\r\nContent-Length: 999999999999999999999999999999\r\n\r\n",
+    times: 0,
+    ..LARGEST
+};
+
+const NOBODY: Repeated = Repeated {
+    front: b"POST /desk/sales HTTP/1.1\r\nHost: api\r\nContent-Length: 25\r\n\r\n{\"code\":\"2222-2222-2222\"}",
+    times: 0,
+    ..LARGEST
+};
+
+/// That without its last byte.
+const CUT_OFF: Repeated = Repeated {
+    front: b"POST /desk/sales HTTP/1.1\r\nHost: api\r\nContent-Length: 25\r\n\r\n{\"code\":\"2222-2222-2222\"",
+    times: 0,
+    ..LARGEST
+};
+
+/// Requests with bodies of odd lengths, which a check of the shape alone decides.
+const LENGTHS: &[(Repeated, Told)] = &[
+    (ZEROS, FIRST),
+    (NINES, Told::Refused("too_large")),
+    (LARGEST, FIRST),
+    (LARGER, Told::Refused("too_large")),
+    (NOBODY, Told::Refused("forbidden")),
+    (CUT_OFF, Told::Refused("bad_request")),
 ];
 
-/// Whether a sale has that body of the greatest length, and one byte more is too large.
-fn is_limit(alloc: Global) -> Option<bool> {
-    let mut body = LARGEST_BODY.bytes(alloc)?;
-    let is_sized = body.len() == 65_536;
-    let is_largest = is_told(alloc, "POST /desk/sales", DESK, body.as_slice(), &FIRST)?;
-    body.push(b' ').ok()?;
-    let larger = Told::Refused("too_large");
-    let is_larger = is_told(alloc, "POST /desk/sales", DESK, body.as_slice(), &larger)?;
-    Some(is_sized && is_largest && is_larger)
-}
-
-/// Whether a sale by nobody is forbidden, and without its last byte a bad request.
-fn is_cut_off(alloc: Global) -> Option<bool> {
-    let body = b"{\"code\":\"2222-2222-2222\"}";
-    let mut short = request(alloc, "POST /desk/sales", "", body)?;
-    let is_forbidden = is_checked(alloc, short.as_slice(), &Told::Refused("forbidden"))?;
-    let _last = short.pop();
-    let is_bad = is_checked(alloc, short.as_slice(), &Told::Refused("bad_request"))?;
-    Some(is_forbidden && is_bad)
+fn is_decided(alloc: Global, parts: &Repeated, told: &Told) -> bool {
+    match parts.bytes(alloc) {
+        Some(request) => is_checked(alloc, request.as_slice(), told),
+        None => false,
+    }
 }
 
 #[test]
 fn bodies_of_odd_lengths(rt: HostRuntime) {
-    for (n, (request, told)) in LENGTHS.iter().enumerate() {
-        assert!(rt;
-            is_checked(rt.alloc(), request, told) == Some(true),
-            "request {n}"
-        );
+    for (n, (parts, told)) in LENGTHS.iter().enumerate() {
+        assert!(rt; is_decided(rt.alloc(), parts, told), "length {n}");
     }
-    assert!(rt; is_limit(rt.alloc()) == Some(true));
-    assert!(rt; is_cut_off(rt.alloc()) == Some(true));
 }
 
 /// Whether a sale of 200 nested lists is a bad request.
-fn are_lists_refused(alloc: Global) -> Option<bool> {
-    let body = list_body(alloc)?;
-    let bad = Told::Refused("bad_request");
-    is_told(alloc, "POST /desk/sales", DESK, body.as_slice(), &bad)
+fn are_lists_refused(alloc: Global) -> bool {
+    match LISTS.bytes(alloc) {
+        Some(body) => {
+            let bad = Told::Refused("bad_request");
+            is_told(alloc, "POST /desk/sales", DESK, body.as_slice(), &bad)
+        }
+        None => false,
+    }
 }
 
 #[test]
 fn nested_lists(rt: HostRuntime) {
-    assert!(rt; are_lists_refused(rt.alloc()) == Some(true));
+    assert!(rt; are_lists_refused(rt.alloc()));
 }
