@@ -1,4 +1,4 @@
-//! The codes of a seed and the order of a batch. The codes come from another program: its own ChaCha20, the sums by hand.
+//! The codes of a seed and the order of a batch. The codes come from another program: its own ChaCha20, sums by hand.
 use portal_batches::{codes_of, read_issue};
 use portal_codes::Code;
 use portal_model::command::Command;

@@ -66,7 +66,7 @@ const MOST: Captive = Captive {
     extend: Some(true),
 };
 
-/// States, the URLs of the portal and the venue, and the text: the keys in byte order, each only where the state has it.
+/// States, the URLs of the portal and the venue, and the text: the keys in byte order, each where the state has it.
 /// A quotation mark in a URL is written with a backslash (RFC 8259, section 7).
 const STATES: &[(Captive, &str, Option<&str>, &str)] = &[
     (
