@@ -22,8 +22,6 @@ use portal_store::StoreDesk;
 use sqlite::{MemStore, Unknown};
 use std::alloc::Global;
 use std::io::Write;
-use std::process::Abort;
-use std::test::Fail;
 
 /// The desks in memory of the program, as a place without files.
 #[derive(Drop)]
@@ -58,39 +56,37 @@ impl Place for InMemory {
 }
 
 /// A desk that was told nothing yet, with the sample settings.
-fn new_desk<P: Place>(alloc: Global) -> Result<P::Fresh, Fail> {
-    match P::open_fresh(alloc, sample_settings(alloc)?) {
-        Ok(desk) => Ok(desk),
-        Err(Fault::NoMemory) => Err("no memory for a desk".into()),
-        Err(_) => Err("no desk".into()),
+fn new_desk<P: Place>(alloc: Global) -> Option<P::Fresh> {
+    let settings = sample_settings(alloc).ok()?;
+    P::open_fresh(alloc, settings).ok()
+}
+
+/// Requests as they arrive at their moments.
+fn arrivals(alloc: Global, requests: &[(u64, &[u8])]) -> Option<Vec<Arrival>> {
+    let mut arrivals = Vec::new(alloc);
+    for (at, request) in requests {
+        let bytes = request.to_vec(alloc).ok()?;
+        arrivals.push(Arrival::new(*at, [0; 32], bytes)?).ok()?;
     }
+    Some(arrivals)
 }
 
 /// What the desk answers to requests that arrive at moments, one after another.
-fn answers_of<D: Desk>(
-    alloc: Global,
-    desk: &mut D,
-    requests: &[(u64, &[u8])],
-) -> Result<Vec<Vec<u8>>, Fail> {
-    let routes = Routes::new(alloc)?;
-    let mut arrivals = Vec::new(alloc);
-    for (at, request) in requests {
-        let bytes = request.to_vec(alloc)?;
-        arrivals.push(Arrival::new(*at, [0; 32], bytes).ok_or("a moment past the greatest")?)?;
-    }
+fn answers_of<D: Desk>(alloc: Global, desk: &mut D, arrivals: &[Arrival]) -> Option<Vec<Vec<u8>>> {
+    let routes = Routes::new(alloc).ok()?;
     let mut out = Vec::new(alloc);
-    run(desk, alloc, &routes, arrivals.as_slice(), &mut out)?;
-    Ok(out)
+    run(desk, alloc, &routes, arrivals, &mut out).ok()?;
+    Some(out)
 }
 
-fn answers_at<P: Place>(alloc: Global, requests: &[(u64, &[u8])]) -> Result<Vec<Vec<u8>>, Fail> {
+fn answers_at<P: Place>(alloc: Global, arrivals: &[Arrival]) -> Option<Vec<Vec<u8>>> {
     let mut desk = new_desk::<P>(alloc)?;
-    let answers = answers_of(alloc, &mut desk, requests);
+    let answers = answers_of(alloc, &mut desk, arrivals);
     P::close_fresh(desk);
     answers
 }
 
-fn met_at<P: Place>(alloc: Global, peers: &[Peer<'_>]) -> Result<Vec<Met>, Fail> {
+fn met_at<P: Place>(alloc: Global, peers: &[Peer<'_>]) -> Option<Vec<Met>> {
     let mut desk = new_desk::<P>(alloc)?;
     let met = meet_all(alloc, &mut desk, peers);
     P::close_fresh(desk);
@@ -102,7 +98,7 @@ fn served_at<P: Place, H: Host, W: Write>(
     host: &mut H,
     count: u64,
     output: &mut W,
-) -> Result<(u8, Vec<u8>), Fail> {
+) -> Option<(u8, Vec<u8>)> {
     let mut desk = new_desk::<P>(alloc)?;
     let ended = serving::served(alloc, &mut desk, host, count, output);
     P::close_fresh(desk);
@@ -110,46 +106,61 @@ fn served_at<P: Place, H: Host, W: Write>(
 }
 
 /// A file of plans as it would be kept.
-fn plans_prepared<D: Desk>(alloc: Global, desk: &mut D) -> Result<Prepared, Fail> {
-    Ok(desk.prepare(alloc, moment(0)?, command(alloc, Order::Plans(PLANS))?)?)
+fn plans_prepared<D: Desk>(alloc: Global, desk: &mut D) -> Option<Prepared> {
+    let plans = command(alloc, Order::Plans(PLANS)).ok()?;
+    desk.prepare(alloc, moment(0).ok()?, plans).ok()
 }
 
-/// Stops the desk: the same plans are prepared twice and kept twice, so that the store meets rows that it has.
-fn stop<D: Desk>(rt: &impl Abort, alloc: Global, desk: &mut D) -> Result<(), Fail> {
+/// Whether the desk stops where the same plans are prepared twice and kept twice: the store meets rows that it has.
+fn stops<D: Desk>(alloc: Global, desk: &mut D) -> Option<bool> {
     let first = plans_prepared(alloc, desk)?;
     let second = plans_prepared(alloc, desk)?;
-    desk.finish(first)?;
-    assert_eq!(rt; desk.finish(second).err(), Some(Refusal::Stopped));
-    assert!(rt; desk.is_stopped());
-    Ok(())
+    let is_kept = desk.finish(first).is_ok();
+    let is_refused = desk.finish(second).err() == Some(Refusal::Stopped);
+    Some(is_kept && is_refused && desk.is_stopped())
 }
 
-fn check_stopped_desk<D: Desk>(rt: &impl Abort, alloc: Global, desk: &mut D) -> Result<(), Fail> {
-    stop(rt, alloc, desk)?;
-    serving::check_stopped(rt, alloc, desk)?;
-    subcommands::check_stopped(rt, alloc, desk)
+/// Whether serving by a desk that has stopped ends, and each subcommand says so.
+fn is_stopped_told<D: Desk>(alloc: Global, desk: &mut D) -> Option<bool> {
+    let is_stopped = stops(alloc, desk)?;
+    let is_served = serving::is_stopped_told(alloc, desk)?;
+    Some(is_stopped && is_served && subcommands::is_stopped_told(alloc, desk)?)
 }
 
-fn check_stopped_at<P: Place>(rt: &impl Abort, alloc: Global) -> Result<(), Fail> {
+fn is_stopped_told_at<P: Place>(alloc: Global) -> Option<bool> {
     let mut desk = new_desk::<P>(alloc)?;
-    let outcome = check_stopped_desk(rt, alloc, &mut desk);
+    let is_told = is_stopped_told(alloc, &mut desk);
     P::close_fresh(desk);
-    outcome
+    is_told
 }
 
 /// What a new desk answers to requests that arrive at moments, one after another.
-pub fn answers_in_memory(alloc: Global, requests: &[(u64, &[u8])]) -> Result<Vec<Vec<u8>>, Fail> {
-    answers_at::<InMemory>(alloc, requests)
+pub fn answers_in_memory(alloc: Global, requests: &[(u64, &[u8])]) -> Option<Vec<Vec<u8>>> {
+    let arrivals = arrivals(alloc, requests)?;
+    answers_at::<InMemory>(alloc, arrivals.as_slice())
 }
 
 /// What a new desk answers to a request.
-pub fn answer(alloc: Global, request: &[u8]) -> Result<Vec<u8>, Fail> {
-    let mut out = answers_in_memory(alloc, [(MOMENT, request)].as_slice())?;
-    Ok(out.pop().ok_or("no response")?)
+pub fn answer(alloc: Global, request: &[u8]) -> Option<Vec<u8>> {
+    let mut answers = answers_in_memory(alloc, &[(MOMENT, request)])?;
+    answers.pop()
+}
+
+/// Whether a new desk answers the request with a response that begins and ends so.
+pub fn is_answered(alloc: Global, request: &[u8], front: &str, end: &str) -> Option<bool> {
+    let response = answer(alloc, request)?;
+    let is_begun = response.as_slice().starts_with(front.as_bytes());
+    Some(is_begun && response.as_slice().ends_with(end.as_bytes()))
+}
+
+/// Whether a new desk answers the request with this response.
+pub fn is_whole(alloc: Global, request: &[u8], wanted: &str) -> Option<bool> {
+    let response = answer(alloc, request)?;
+    Some(response.as_slice() == wanted.as_bytes())
 }
 
 /// One exchange of a new desk with each peer, in their order.
-pub fn met_in_memory(alloc: Global, peers: &[Peer<'_>]) -> Result<Vec<Met>, Fail> {
+pub fn met_in_memory(alloc: Global, peers: &[Peer<'_>]) -> Option<Vec<Met>> {
     met_at::<InMemory>(alloc, peers)
 }
 
@@ -159,12 +170,12 @@ pub fn served_in_memory<H: Host, W: Write>(
     host: &mut H,
     count: u64,
     output: &mut W,
-) -> Result<(u8, Vec<u8>), Fail> {
+) -> Option<(u8, Vec<u8>)> {
     served_at::<InMemory, H, W>(alloc, host, count, output)
 }
 
 /// Serving ends where the desk has stopped, and each subcommand says so.
 #[test]
-fn stopped_desk(rt: HostRuntime) -> Result<(), Fail> {
-    check_stopped_at::<InMemory>(&rt, rt.alloc())
+fn stopped_desk(rt: HostRuntime) {
+    assert!(rt; is_stopped_told_at::<InMemory>(rt.alloc()) == Some(true));
 }

@@ -1,5 +1,5 @@
-//! Where a store stands while steps are taken: in memory, or in files that are closed after each group of steps and opened
-//! again.
+//! Where a store stands while steps are taken: in memory, or in files that are closed after each group of steps and
+//! opened again.
 //!
 //! Only the functions of this file name a connection over a store of one kind.
 use crate::jobs::{Job, run};

@@ -36,9 +36,9 @@ pub fn good_shelf(alloc: Global) -> Shelf {
 
 impl Shelf {
     /// The place of these files, whose desks are those in memory of another place.
-    pub fn place<P: Place>(self) -> GivenPlace<P> {
+    pub fn place<P: Place>(&self) -> GivenPlace<P> {
         GivenPlace {
-            shelf: self,
+            shelf: *self,
             of: PhantomData,
         }
     }

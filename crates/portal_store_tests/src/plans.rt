@@ -3,7 +3,6 @@ use crate::desks::answers_in_memory;
 use crate::requests::{DESK, request};
 use portal_http::Arrival;
 use std::alloc::Global;
-use std::test::Fail;
 
 const HOUR_AND_GIG: &str = "[[plan]]\n\
     id = \"hour\"\n\
@@ -50,18 +49,14 @@ const CHEAPER_DAY: &str = "[[plan]]\n\
     shelf_days = 30\n\
     extend = true\n";
 
-/// What a new desk answers to plans files that arrive at moments, one after another.
-fn load(alloc: Global, files: &[(u64, &str)]) -> Result<Vec<Vec<u8>>, Fail> {
-    let mut requests = Vec::new(alloc);
-    for (_, file) in files {
-        requests.push(request(alloc, "POST /desk/plans", DESK, file.as_bytes())?)?;
-    }
-    let mut arrivals: Vec<(u64, &[u8])> = Vec::new(alloc);
-    for ((moment, _), request) in files.iter().zip(&requests) {
-        arrivals.push((*moment, request.as_slice()))?;
-    }
-    answers_in_memory(alloc, arrivals.as_slice())
-}
+const UNLIMITED: &str = "[[plan]]\n\
+    id = \"free\"\n\
+    price = 0\n\
+    uses = 1\n\
+    seconds = 0\n\
+    bytes = 0\n\
+    shelf_days = 1\n\
+    extend = true\n";
 
 /// The whole response to a file with two plans, at the moment 0.
 const LOADED: &str = "HTTP/1.1 200 OK\r\n\
@@ -82,62 +77,89 @@ const DIFFERS: &str = "HTTP/1.1 409 Conflict\r\n\
     \r\n\
     {\"error\":\"plan_differs\"}";
 
+/// A plans file, the moment at which it comes, and how its answer begins and ends.
+type Load = (&'static str, u64, &'static str, &'static str);
+
 /// A refused file loads nothing: the new plan beside the one that differs may still come with other terms.
-#[test]
-fn plans_repeated(rt: HostRuntime) -> Result<(), Fail> {
-    let files: [(u64, &str); 5] = [
-        (0, HOUR_AND_GIG),
-        (0, HOUR_AND_GIG),
-        (0, DEARER_HOUR_AND_DAY),
-        (0, CHEAPER_DAY),
-        (0, HOUR_AND_GIG),
-    ];
-    let answers = load(rt.alloc(), files.as_slice())?;
-    let wanted = [LOADED, LOADED, DIFFERS, "\r\n\r\n{\"plans\":1}", LOADED];
-    assert_eq!(rt; answers.len(), 5);
-    for (answer, wanted) in answers.iter().zip(wanted) {
-        assert!(rt; answer.as_slice().ends_with(wanted.as_bytes()), "{wanted}");
+const REPEATED: &[Load] = &[
+    (HOUR_AND_GIG, 0, LOADED, LOADED),
+    (HOUR_AND_GIG, 0, LOADED, LOADED),
+    (DEARER_HOUR_AND_DAY, 0, DIFFERS, DIFFERS),
+    (
+        CHEAPER_DAY,
+        0,
+        "HTTP/1.1 200 OK\r\n",
+        "\r\n\r\n{\"plans\":1}",
+    ),
+    (HOUR_AND_GIG, 0, LOADED, LOADED),
+];
+
+const FILES: &[Load] = &[
+    (
+        "",
+        0,
+        "HTTP/1.1 400 Bad Request\r\n",
+        "\r\n\r\n{\"error\":\"bad_plans\"}",
+    ),
+    (
+        UNLIMITED,
+        0,
+        "HTTP/1.1 400 Bad Request\r\n",
+        "\r\n\r\n{\"error\":\"bad_plans\"}",
+    ),
+    (HOUR_AND_GIG, 0, LOADED, LOADED),
+    (
+        HOUR_AND_GIG,
+        253_370_764_799,
+        "HTTP/1.1 200 OK\r\nDate: Thu, 31 Dec 9998 23:59:59 GMT\r\n",
+        "\r\n\r\n{\"plans\":2}",
+    ),
+];
+
+/// What a new desk answers to the files, one after another.
+fn loaded(alloc: Global, files: &[Load]) -> Option<Vec<Vec<u8>>> {
+    let mut requests = Vec::new(alloc);
+    for (file, _, _, _) in files {
+        requests
+            .push(request(alloc, "POST /desk/plans", DESK, file.as_bytes())?)
+            .ok()?;
     }
-    Ok(())
+    let mut arrivals: Vec<(u64, &[u8])> = Vec::new(alloc);
+    for ((_, at, _, _), request) in files.iter().zip(&requests) {
+        arrivals.push((*at, request.as_slice())).ok()?;
+    }
+    answers_in_memory(alloc, arrivals.as_slice())
+}
+
+/// Whether a new desk answers the files as they say, one after another.
+fn are_answered(alloc: Global, files: &[Load]) -> Option<bool> {
+    let answers = loaded(alloc, files)?;
+    for (answer, (_, _, front, end)) in answers.iter().zip(files) {
+        let is_told = answer.as_slice().starts_with(front.as_bytes())
+            && answer.as_slice().ends_with(end.as_bytes());
+        if !is_told {
+            return Some(false);
+        }
+    }
+    Some(answers.len() == files.len())
 }
 
 #[test]
-fn plans_files(rt: HostRuntime) -> Result<(), Fail> {
-    let unlimited =
-        "[[plan]]\nid = \"free\"\nprice = 0\nuses = 1\nseconds = 0\nbytes = 0\nshelf_days = 1\nextend = true\n";
-    let files: [(u64, &str); 4] = [
-        (0, ""),
-        (0, unlimited),
-        (0, HOUR_AND_GIG),
-        (253_370_764_799, HOUR_AND_GIG),
-    ];
-    let answers = load(rt.alloc(), files.as_slice())?;
-    let wanted = [
-        (
-            "HTTP/1.1 400 Bad Request\r\n",
-            "\r\n\r\n{\"error\":\"bad_plans\"}",
-        ),
-        (
-            "HTTP/1.1 400 Bad Request\r\n",
-            "\r\n\r\n{\"error\":\"bad_plans\"}",
-        ),
-        (LOADED, ""),
-        (
-            "HTTP/1.1 200 OK\r\nDate: Thu, 31 Dec 9998 23:59:59 GMT\r\n",
-            "\r\n\r\n{\"plans\":2}",
-        ),
-    ];
-    assert_eq!(rt; answers.len(), 4);
-    for (answer, (front, end)) in answers.iter().zip(wanted) {
-        assert!(rt; answer.as_slice().starts_with(front.as_bytes()), "{front}");
-        assert!(rt; answer.as_slice().ends_with(end.as_bytes()), "{end}");
-    }
-    Ok(())
+fn plans_repeated(rt: HostRuntime) {
+    assert!(rt; are_answered(rt.alloc(), REPEATED) == Some(true));
 }
 
 #[test]
-fn moment_and_number_limits(rt: HostRuntime) {
-    let alloc = rt.alloc();
-    assert!(rt; Arrival::new(253_370_764_800, [0; 32], Vec::new(alloc)).is_none());
-    assert!(rt; Arrival::new(253_370_764_799, [0; 32], Vec::new(alloc)).is_some());
+fn plans_files(rt: HostRuntime) {
+    assert!(rt; are_answered(rt.alloc(), FILES) == Some(true));
+}
+
+fn is_moment(alloc: Global, seconds: u64) -> bool {
+    Arrival::new(seconds, [0; 32], Vec::new(alloc)).is_some()
+}
+
+#[test]
+fn moment_limits(rt: HostRuntime) {
+    assert!(rt; is_moment(rt.alloc(), 253_370_764_799));
+    assert!(rt; !is_moment(rt.alloc(), 253_370_764_800));
 }

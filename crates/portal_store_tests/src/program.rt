@@ -1,7 +1,7 @@
 //! The program over words, a reader and two writers: what goes out, and the status with which it ends.
 use crate::desks::InMemory;
 use crate::places::{Line, good_shelf};
-use crate::requests::{CAPTIVE, MOMENT};
+use crate::requests::{CAPTIVE, MOMENT, REQUEST};
 use portal_ends::Fault;
 use portal_program::answering::{Request, answer};
 use portal_program::place::Place;
@@ -11,10 +11,6 @@ use portal_program::words::words_of;
 use std::alloc::Global;
 use std::env::{Env, FillError};
 use std::io::{self, Error, ErrorKind, Read, Write};
-use std::test::Fail;
-
-const REQUEST: &str =
-    "GET /captive HTTP/1.1\r\nHost: api\r\nPortal-Device: 02:00:00:00:00:01\r\n\r\n";
 
 const LAST_MOMENT: u64 = 253_370_764_799;
 
@@ -143,7 +139,7 @@ fn status_of<P: Place>(
     output: &mut FailingWriter,
     errors: &mut Vec<u8>,
 ) -> u8 {
-    let mut input = REQUEST.as_bytes();
+    let mut input = REQUEST;
     run_program(
         good_shelf(alloc).place::<P>(),
         &Line { is_free: true },
@@ -162,340 +158,356 @@ fn is_framed(bytes: &[u8], front: &str, end: &str) -> bool {
         && bytes.ends_with(end.as_bytes())
 }
 
+/// The moment, the request, the status, and how the response begins and ends.
+const REQUESTS: &[(u64, &[u8], u8, &str, &str)] = &[
+    (MOMENT, REQUEST, 0, CAPTIVE, ""),
+    (
+        0,
+        REQUEST,
+        0,
+        "HTTP/1.1 200 OK\r\nDate: Thu, 01 Jan 1970 00:00:00 GMT\r\n",
+        "",
+    ),
+    (
+        LAST_MOMENT,
+        REQUEST,
+        0,
+        "HTTP/1.1 200 OK\r\nDate: Thu, 31 Dec 9998 23:59:59 GMT\r\n",
+        "",
+    ),
+    (
+        MOMENT,
+        b"",
+        1,
+        "HTTP/1.1 400 Bad Request\r\n",
+        "{\"error\":\"bad_request\"}",
+    ),
+    (
+        MOMENT,
+        b"GET /captive HTTP/1.1\r\nHost: api\r\n\r\n",
+        1,
+        "HTTP/1.1 400 Bad Request\r\n",
+        "{\"error\":\"bad_device\"}",
+    ),
+    (
+        MOMENT,
+        b"GET /desk//x HTTP/1.1\r\nHost: api\r\n\r\n",
+        1,
+        "HTTP/1.1 404 Not Found\r\n",
+        "{\"error\":\"no_route\"}",
+    ),
+    (
+        MOMENT,
+        b"POST /desk/plans HTTP/1.1\r\nHost: api\r\n\r\n",
+        1,
+        "HTTP/1.1 403 Forbidden\r\n",
+        "{\"error\":\"forbidden\"}",
+    ),
+];
+
+/// Whether the request is read whole, and answered so.
+fn is_answered(
+    alloc: Global,
+    now: u64,
+    request: &[u8],
+    status: u8,
+    front: &str,
+    end: &str,
+) -> bool {
+    let mut input = request;
+    let mut output = Vec::new(alloc);
+    let is_ended = ends_so(alloc, now, SEED, &mut input, &mut output, status, "");
+    is_ended && input.is_empty() && is_framed(output.as_slice(), front, end)
+}
+
 #[test]
 fn one_request(rt: HostRuntime) {
-    let alloc = rt.alloc();
-    let bad_device = "GET /captive HTTP/1.1\r\nHost: api\r\n\r\n";
-    let no_route = "GET /desk//x HTTP/1.1\r\nHost: api\r\n\r\n";
-    let forbidden = "POST /desk/plans HTTP/1.1\r\nHost: api\r\n\r\n";
-    let cases = [
-        (MOMENT, REQUEST, 0, CAPTIVE, ""),
-        (
-            0,
-            REQUEST,
-            0,
-            "HTTP/1.1 200 OK\r\nDate: Thu, 01 Jan 1970 00:00:00 GMT\r\n",
-            "",
-        ),
-        (
-            LAST_MOMENT,
-            REQUEST,
-            0,
-            "HTTP/1.1 200 OK\r\nDate: Thu, 31 Dec 9998 23:59:59 GMT\r\n",
-            "",
-        ),
-        (
-            MOMENT,
-            "",
-            1,
-            "HTTP/1.1 400 Bad Request\r\n",
-            "{\"error\":\"bad_request\"}",
-        ),
-        (
-            MOMENT,
-            bad_device,
-            1,
-            "HTTP/1.1 400 Bad Request\r\n",
-            "{\"error\":\"bad_device\"}",
-        ),
-        (
-            MOMENT,
-            no_route,
-            1,
-            "HTTP/1.1 404 Not Found\r\n",
-            "{\"error\":\"no_route\"}",
-        ),
-        (
-            MOMENT,
-            forbidden,
-            1,
-            "HTTP/1.1 403 Forbidden\r\n",
-            "{\"error\":\"forbidden\"}",
-        ),
-    ];
-    for (now, request, status, front, end) in cases {
-        let mut input = request.as_bytes();
-        let mut output = Vec::new(alloc);
-        let is_answered = ends_so(alloc, now, SEED, &mut input, &mut output, status, "")
-            && is_framed(output.as_slice(), front, end)
-            && input.is_empty();
-        assert!(rt; is_answered, "at {now} {request:?}");
+    for (n, (now, request, status, front, end)) in REQUESTS.iter().enumerate() {
+        let is_answered = is_answered(rt.alloc(), *now, request, *status, front, end);
+        assert!(rt; is_answered, "request {n}");
     }
+}
+
+/// Moments and seeds that are none.
+const NONE: &[(u64, &str)] = &[
+    (253_370_764_800, SEED),
+    (u64::MAX, SEED),
+    (MOMENT, ""),
+    (MOMENT, "00"),
+    (
+        MOMENT,
+        "00000000000000000000000000000000000000000000000000000000000000000",
+    ),
+    (
+        MOMENT,
+        "0123456789abcdefABCDEF0000000000000000000000000000000000000000gg",
+    ),
+];
+
+/// Whether they are refused before a byte is read or written.
+fn is_refused(alloc: Global, now: u64, seed: &str) -> bool {
+    let mut input = REQUEST;
+    let mut output = Vec::new(alloc);
+    let said = "portal: usage\n";
+    let is_ended = ends_so(alloc, now, seed, &mut input, &mut output, 2, said);
+    is_ended && output.is_empty() && input.len() == REQUEST.len()
 }
 
 #[test]
 fn usage_faults(rt: HostRuntime) {
-    let alloc = rt.alloc();
-    let cases = [
-        (LAST_MOMENT + 1, SEED),
-        (u64::MAX, SEED),
-        (MOMENT, ""),
-        (MOMENT, "00"),
-        (
-            MOMENT,
-            "00000000000000000000000000000000000000000000000000000000000000000",
-        ),
-        (
-            MOMENT,
-            "0123456789abcdefABCDEF0000000000000000000000000000000000000000gg",
-        ),
-    ];
-    for (now, seed) in cases {
-        let mut input = REQUEST.as_bytes();
-        let mut output = Vec::new(alloc);
-        let is_refused = ends_so(
-            alloc,
-            now,
-            seed,
-            &mut input,
-            &mut output,
-            2,
-            "portal: usage\n",
-        ) && output.is_empty()
-            && input.len() == REQUEST.len();
-        assert!(rt; is_refused, "at {now} {seed}");
+    for (now, seed) in NONE {
+        assert!(rt; is_refused(rt.alloc(), *now, seed), "at {now} {seed}");
     }
 }
 
-#[test]
-fn cut_connections(rt: HostRuntime) {
-    let alloc = rt.alloc();
-    for reads_left in 0..70usize {
-        let mut input = FailingReader {
-            bytes: REQUEST.as_bytes(),
-            reads_left,
-        };
-        let mut output = Vec::new(alloc);
-        let is_cut = ends_so(
-            alloc,
-            MOMENT,
-            SEED,
-            &mut input,
-            &mut output,
-            3,
-            "portal: cut\n",
-        ) && output.is_empty();
-        assert!(rt; is_cut, "after {reads_left} reads");
-    }
+/// Whether a request of which so many bytes are read ends so, and so many bytes are written.
+fn is_read(alloc: Global, reads_left: usize, status: u8, said: &str, written: usize) -> bool {
     let mut input = FailingReader {
-        bytes: REQUEST.as_bytes(),
-        reads_left: 70,
+        bytes: REQUEST,
+        reads_left,
     };
     let mut output = Vec::new(alloc);
-    assert!(rt; ends_so(alloc, MOMENT, SEED, &mut input, &mut output, 0, ""));
-    for room in 0..=224usize {
-        for fails in [false, true] {
-            let mut input = REQUEST.as_bytes();
-            let mut output = FailingWriter {
-                taken: Vec::new(alloc),
-                room,
-                fails,
-            };
-            let (status, said) = if room < 224 {
-                (3, "portal: cut\n")
-            } else {
-                (0, "")
-            };
-            let is_cut = ends_so(alloc, MOMENT, SEED, &mut input, &mut output, status, said)
-                && output.taken.len() == room
-                && CAPTIVE.as_bytes().starts_with(output.taken.as_slice());
-            assert!(rt; is_cut, "at {room}");
-        }
+    let is_ended = ends_so(alloc, MOMENT, SEED, &mut input, &mut output, status, said);
+    is_ended && output.len() == written
+}
+
+#[test]
+fn requests_cut_off(rt: HostRuntime) {
+    for reads_left in 0..70 {
+        let is_cut = is_read(rt.alloc(), reads_left, 3, "portal: cut\n", 0);
+        assert!(rt; is_cut, "after {reads_left} reads");
     }
+    assert!(rt; is_read(rt.alloc(), 70, 0, "", 224));
+}
+
+/// Whether the response is begun, and it ends so, where there is room for so many bytes. Then a write fails, or takes
+/// nothing.
+fn is_written(alloc: Global, room: usize, fails: bool, status: u8, said: &str) -> bool {
+    let mut input = REQUEST;
+    let mut output = FailingWriter {
+        taken: Vec::new(alloc),
+        room,
+        fails,
+    };
+    let is_ended = ends_so(alloc, MOMENT, SEED, &mut input, &mut output, status, said);
+    is_ended
+        && output.taken.len() == room
+        && CAPTIVE.as_bytes().starts_with(output.taken.as_slice())
+}
+
+#[test]
+fn responses_cut_off(rt: HostRuntime) {
+    for room in 0..224 {
+        assert!(rt;
+            is_written(rt.alloc(), room, true, 3, "portal: cut\n"),
+            "at {room}"
+        );
+    }
+    assert!(rt; is_written(rt.alloc(), 224, true, 0, ""));
+}
+
+#[test]
+fn responses_not_taken(rt: HostRuntime) {
+    for room in 0..224 {
+        assert!(rt;
+            is_written(rt.alloc(), room, false, 3, "portal: cut\n"),
+            "at {room}"
+        );
+    }
+    assert!(rt; is_written(rt.alloc(), 224, false, 0, ""));
+}
+
+/// Words, the room for the output, the status, and how the output and the errors begin.
+type Call = (
+    &'static [&'static str],
+    usize,
+    u8,
+    &'static str,
+    &'static str,
+);
+
+const ANSWERS: &[Call] = &[
+    (
+        &["portal", "answer", "--now", "1583125693", "--seed", SEED],
+        1000,
+        0,
+        CAPTIVE,
+        "",
+    ),
+    (
+        &["portal", "answer", "--now", "253370764800", "--seed", SEED],
+        1000,
+        2,
+        "",
+        "portal: usage\n",
+    ),
+    (
+        &["portal", "answer", "--now", "1583125693", "--seed", "0"],
+        1000,
+        2,
+        "",
+        "portal: usage\n",
+    ),
+    (
+        &["portal", "answer", "--seed", SEED],
+        1000,
+        2,
+        "",
+        "error: ",
+    ),
+];
+
+const CALLS: &[Call] = &[
+    (
+        &["portal", "--help"],
+        10_000,
+        0,
+        "The voucher and session desk",
+        "",
+    ),
+    (&["portal", "--help"], 10, 3, "The vouche", "portal: cut\n"),
+    (&["portal"], 1000, 2, "", "error: "),
+    (&["portal", "check"], 1000, 2, "", "error: "),
+    (
+        &["portal", "check", "--db", "d", "--settings", "s"],
+        1000,
+        0,
+        "ok\n",
+        "",
+    ),
+    (
+        &["portal", "check", "--db", "d", "--settings", "s"],
+        2,
+        3,
+        "ok",
+        "portal: cut\n",
+    ),
+    (
+        &["portal", "print", "b1", "--db", "d", "--settings", "s"],
+        1000,
+        1,
+        "",
+        "portal: unknown_batch\n",
+    ),
+    (
+        &[
+            "portal",
+            "takings",
+            "1970-01-01",
+            "1970-01-01",
+            "--db",
+            "d",
+            "--settings",
+            "s",
+        ],
+        1000,
+        0,
+        "day ",
+        "",
+    ),
+    (
+        &[
+            "portal",
+            "takings",
+            "1970-01-02",
+            "1970-01-01",
+            "--db",
+            "d",
+            "--settings",
+            "s",
+        ],
+        1000,
+        2,
+        "",
+        "portal: usage\n",
+    ),
+    (
+        &[
+            "portal",
+            "serve",
+            "--db",
+            "d",
+            "--settings",
+            "s",
+            "--count",
+            "2",
+        ],
+        1000,
+        0,
+        "listening 127.0.0.1:8080\n",
+        "portal: network\nportal: network\n",
+    ),
+    (
+        &[
+            "portal",
+            "serve",
+            "--db",
+            "d",
+            "--settings",
+            "s",
+            "--port",
+            "1",
+        ],
+        10,
+        3,
+        "listening ",
+        "portal: cut\n",
+    ),
+];
+
+/// Whether the program ends as the call says.
+fn is_ended(alloc: Global, call: &Call) -> bool {
+    let (words, room, status, wrote, said) = call;
+    let mut output = FailingWriter {
+        taken: Vec::new(alloc),
+        room: *room,
+        fails: true,
+    };
+    let mut errors = Vec::new(alloc);
+    let ended = status_of::<InMemory>(alloc, words, &mut output, &mut errors);
+    ended == *status
+        && is_framed(output.taken.as_slice(), wrote, "")
+        && is_framed(errors.as_slice(), said, "")
 }
 
 #[test]
 fn words_to_status(rt: HostRuntime) {
-    let alloc = rt.alloc();
-    let lines = [
-        (
-            ["portal", "answer", "--now", "1583125693", "--seed", SEED].as_slice(),
-            1000,
-            0,
-            CAPTIVE,
-            "",
-        ),
-        (
-            ["portal", "--help"].as_slice(),
-            10_000,
-            0,
-            "The voucher and session desk",
-            "",
-        ),
-        (
-            ["portal", "--help"].as_slice(),
-            10,
-            3,
-            "The vouche",
-            "portal: cut\n",
-        ),
-        (
-            ["portal", "answer", "--now", "253370764800", "--seed", SEED].as_slice(),
-            1000,
-            2,
-            "",
-            "portal: usage\n",
-        ),
-        (
-            ["portal", "answer", "--now", "1583125693", "--seed", "0"].as_slice(),
-            1000,
-            2,
-            "",
-            "portal: usage\n",
-        ),
-        (
-            ["portal", "answer", "--seed", SEED].as_slice(),
-            1000,
-            2,
-            "",
-            "error: ",
-        ),
-        (["portal"].as_slice(), 1000, 2, "", "error: "),
-        (["portal", "check"].as_slice(), 1000, 2, "", "error: "),
-        (
-            ["portal", "check", "--db", "d", "--settings", "s"].as_slice(),
-            1000,
-            0,
-            "ok\n",
-            "",
-        ),
-        (
-            ["portal", "check", "--db", "d", "--settings", "s"].as_slice(),
-            2,
-            3,
-            "ok",
-            "portal: cut\n",
-        ),
-        (
-            ["portal", "print", "b1", "--db", "d", "--settings", "s"].as_slice(),
-            1000,
-            1,
-            "",
-            "portal: unknown_batch\n",
-        ),
-        (
-            [
-                "portal",
-                "takings",
-                "1970-01-01",
-                "1970-01-01",
-                "--db",
-                "d",
-                "--settings",
-                "s",
-            ]
-            .as_slice(),
-            1000,
-            0,
-            "day ",
-            "",
-        ),
-        (
-            [
-                "portal",
-                "takings",
-                "1970-01-02",
-                "1970-01-01",
-                "--db",
-                "d",
-                "--settings",
-                "s",
-            ]
-            .as_slice(),
-            1000,
-            2,
-            "",
-            "portal: usage\n",
-        ),
-        (
-            [
-                "portal",
-                "serve",
-                "--db",
-                "d",
-                "--settings",
-                "s",
-                "--count",
-                "2",
-            ]
-            .as_slice(),
-            1000,
-            0,
-            "listening 127.0.0.1:8080\n",
-            "portal: network\nportal: network\n",
-        ),
-        (
-            [
-                "portal",
-                "serve",
-                "--db",
-                "d",
-                "--settings",
-                "s",
-                "--port",
-                "1",
-            ]
-            .as_slice(),
-            10,
-            3,
-            "listening ",
-            "portal: cut\n",
-        ),
-    ];
-    for (words, room, status, wrote, said) in lines {
-        let mut output = FailingWriter {
-            taken: Vec::new(alloc),
-            room,
-            fails: true,
-        };
-        let mut errors = Vec::new(alloc);
-        let ended = status_of::<InMemory>(alloc, words, &mut output, &mut errors);
-        let is_well = ended == status
-            && is_framed(output.taken.as_slice(), wrote, "")
-            && is_framed(errors.as_slice(), said, "");
-        assert!(rt; is_well, "at {words:?}");
+    for (n, call) in ANSWERS.iter().enumerate() {
+        assert!(rt; is_ended(rt.alloc(), call), "answer {n}");
     }
+    for (n, call) in CALLS.iter().enumerate() {
+        assert!(rt; is_ended(rt.alloc(), call), "call {n}");
+    }
+}
+
+/// How many words there are, and whether the second is an umlaut.
+fn read_words(alloc: Global, words: &[&[u8]]) -> Result<(usize, bool), Fault> {
+    let words = words_of(&(GivenWords { words }, alloc))?;
+    let is_umlaut = match words.get(1) {
+        Some(word) => word.as_str() == "ä",
+        None => false,
+    };
+    Ok((words.len(), is_umlaut))
 }
 
 #[test]
 fn words_in_utf8(rt: HostRuntime) {
-    let alloc = rt.alloc();
-    let umlaut = [b"portal".as_slice(), b"\xc3\xa4".as_slice(), b"".as_slice()];
-    match words_of(&(
-        GivenWords {
-            words: umlaut.as_slice(),
-        },
-        alloc,
-    )) {
-        Ok(words) => {
-            assert_eq!(rt; words.len(), 3);
-            assert!(rt; words[1].as_str() == "ä");
-        }
-        Err(_) => panic!(rt; "the words are UTF-8"),
-    }
-    let latin = [b"portal".as_slice(), b"\xe4".as_slice()];
-    let first = [b"\xff".as_slice(), b"answer".as_slice()];
-    for words in [latin, first] {
-        match words_of(&(
-            GivenWords {
-                words: words.as_slice(),
-            },
-            alloc,
-        )) {
-            Ok(_) => panic!(rt; "the words are not UTF-8"),
-            Err(fault) => assert_eq!(rt; fault, Fault::Usage),
-        }
-    }
+    let umlaut: &[&[u8]] = &[b"portal", b"\xc3\xa4", b""];
+    assert!(rt; read_words(rt.alloc(), umlaut) == Ok((3, true)));
+    let latin: &[&[u8]] = &[b"portal", b"\xe4"];
+    assert!(rt; read_words(rt.alloc(), latin) == Err(Fault::Usage));
+    let first: &[&[u8]] = &[b"\xff", b"answer"];
+    assert!(rt; read_words(rt.alloc(), first) == Err(Fault::Usage));
 }
 
+/// The bytes 0 to 29, and then 254 and 255.
+const SEED_BYTES: [u8; 32] = [
+    0, 1, 2, 3, 4, 5, 6, 7, 8, 9, 10, 11, 12, 13, 14, 15, 16, 17, 18, 19, 20, 21, 22, 23, 24, 25,
+    26, 27, 28, 29, 254, 255,
+];
+
 #[test]
-fn seeds(rt: HostRuntime) -> Result<(), Fail> {
-    let seed = read_seed("000102030405060708090a0B0c0D0e0F101112131415161718191A1b1C1dFefF").ok_or(
-        "no seed",
-    )?;
-    for at in 0..30usize {
-        assert!(rt; usize::from(seed[at]) == at);
-    }
-    assert!(rt; seed[30] == 254 && seed[31] == 255);
-    Ok(())
+fn seeds(rt: HostRuntime) {
+    let seed = read_seed("000102030405060708090a0B0c0D0e0F101112131415161718191A1b1C1dFefF");
+    assert!(rt; seed == Some(SEED_BYTES));
 }

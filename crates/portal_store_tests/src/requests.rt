@@ -1,6 +1,5 @@
 //! Requests, and whole responses to them.
 use std::alloc::Global;
-use std::test::Fail;
 
 /// The moment of the request in the case of an unknown device: 2020-03-02 05:08:13 UTC.
 pub const MOMENT: u64 = 1_583_125_693;
@@ -37,12 +36,28 @@ pub const DESK: &str = "Portal-Token: desk-token\r\n";
 pub const GATE: &str = "Portal-Token: gate-token\r\n";
 
 /// A request with that body, by its line and its fields.
-pub fn request(alloc: Global, line: &str, fields: &str, body: &[u8]) -> Result<Vec<u8>, Fail> {
+pub fn request(alloc: Global, line: &str, fields: &str, body: &[u8]) -> Option<Vec<u8>> {
     let size = body.len();
     let head = format!(in alloc;
         "{line} HTTP/1.1\r\nHost: api\r\n{fields}Content-Length: {size}\r\n\r\n"
-    )?;
+    ).ok()?;
     let mut request = head.into_bytes();
-    request.extend_from_slice(body)?;
-    Ok(request)
+    request.extend_from_slice(body).ok()?;
+    Some(request)
+}
+
+/// Bytes, others so many times, and an end.
+pub fn repeated(
+    alloc: Global,
+    front: &[u8],
+    times: usize,
+    piece: &[u8],
+    end: &[u8],
+) -> Option<Vec<u8>> {
+    let mut bytes = front.to_vec(alloc).ok()?;
+    for _ in 0..times {
+        bytes.extend_from_slice(piece).ok()?;
+    }
+    bytes.extend_from_slice(end).ok()?;
+    Some(bytes)
 }

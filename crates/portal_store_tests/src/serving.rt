@@ -9,9 +9,7 @@ use portal_route::Routes;
 use portal_serve::{Host, bind_loopback, fresh_seed, moment_now, serve};
 use std::alloc::Global;
 use std::io::{self, ErrorKind, Write};
-use std::process::Abort;
 use std::rt::Clock;
-use std::test::Fail;
 use std::time::Duration;
 
 /// What a peer does.
@@ -78,11 +76,11 @@ impl<'p> Host for Script<'p> {
 }
 
 /// A host of these peers.
-fn played(alloc: Global, peers: &[Peer]) -> Script<'_> {
+fn played(alloc: Global, peers: &[Peer], clock: Result<(), Fault>) -> Script<'_> {
     Script {
         alloc,
         peers,
-        clock: Ok(()),
+        clock,
         accepts: 0,
         sent: Vec::new(alloc),
     }
@@ -95,97 +93,142 @@ pub fn served<D: Desk, H: Host, W: Write>(
     host: &mut H,
     count: u64,
     output: &mut W,
-) -> Result<(u8, Vec<u8>), Fail> {
-    let routes = Routes::new(alloc)?;
+) -> Option<(u8, Vec<u8>)> {
+    let routes = Routes::new(alloc).ok()?;
     let mut errors = Vec::new(alloc);
     let status = serve(desk, alloc, &routes, host, 8080, count, output, &mut errors);
-    Ok((status, errors))
+    Some((status, errors))
 }
 
-#[test]
-fn peers_one_after_another(rt: HostRuntime) -> Result<(), Fail> {
-    let alloc = rt.alloc();
-    let peers = [
-        Peer::Asks,
-        Peer::BreaksSending,
-        Peer::Gone,
-        Peer::Ends,
-        Peer::BreaksTaking,
-        Peer::Asks,
-    ];
-    let mut host = played(alloc, peers.as_slice());
-    let mut output = Vec::new(alloc);
-    let (status, errors) = served_in_memory(alloc, &mut host, 6, &mut output)?;
-    assert_eq!(rt; (status, host.accepts), (0, 6));
-    assert_eq!(rt; output.as_slice(), b"listening 127.0.0.1:8080\n".as_slice());
-    assert_eq!(rt;
-        errors.as_slice(),
-        b"portal: cut\nportal: network\nportal: cut\n".as_slice()
-    );
-    let begun = &CAPTIVE[..100];
-    let sent = format!(in alloc; "{CAPTIVE}{BAD_REQUEST}{begun}{CAPTIVE}")?;
-    assert_eq!(rt; host.sent.as_slice(), sent.as_bytes());
-    Ok(())
+/// What came of serving: the status, how often a connection was asked for, what peers were sent, and what was printed.
+#[derive(Drop)]
+struct Ended {
+    status: u8,
+    accepts: usize,
+    sent: Vec<u8>,
+    output: Vec<u8>,
+    errors: Vec<u8>,
 }
 
-#[test]
-fn ends_of_serving(rt: HostRuntime) -> Result<(), Fail> {
-    let alloc = rt.alloc();
-    let cases = [
-        (Ok(()), 0, 0, "", 0),
-        (Ok(()), 2, 0, "", 2),
-        (Err(Fault::File), 2, 3, "portal: file\n", 1),
-        (Err(Fault::NoMemory), 2, 3, "portal: no_memory\n", 1),
-    ];
-    for (clock, count, status, said, accepts) in cases {
-        let mut host = played(alloc, [Peer::Asks, Peer::Asks].as_slice());
-        host.clock = clock;
-        let mut output = Vec::new(alloc);
-        let (ended, errors) = served_in_memory(alloc, &mut host, count, &mut output)?;
-        assert_eq!(rt; (ended, host.accepts), (status, accepts), "{said}");
-        assert_eq!(rt; errors.as_slice(), said.as_bytes());
+impl Ended {
+    /// Whether it ended so, and printed that, the faults last.
+    fn is(&self, status: u8, accepts: usize, output: &[u8], errors: &str) -> bool {
+        self.status == status
+            && self.accepts == accepts
+            && self.output.as_slice() == output
+            && self.errors.as_slice() == errors.as_bytes()
     }
-    Ok(())
 }
 
-/// A desk that has stopped ends the program before another connection is waited for.
-pub fn check_stopped<D: Desk>(rt: &impl Abort, alloc: Global, desk: &mut D) -> Result<(), Fail> {
-    let mut host = played(alloc, [Peer::Asks].as_slice());
+/// A new desk serves so many connections of the peers, and so many bytes of output are taken.
+fn outcome(
+    alloc: Global,
+    peers: &[Peer],
+    clock: Result<(), Fault>,
+    count: u64,
+    room: usize,
+) -> Option<Ended> {
+    let mut host = played(alloc, peers, clock);
+    let mut output = takes(alloc, 10);
+    output.room = room;
+    let (status, errors) = served_in_memory(alloc, &mut host, count, &mut output)?;
+    Some(Ended {
+        status,
+        accepts: host.accepts,
+        sent: host.sent,
+        output: output.taken,
+        errors,
+    })
+}
+
+/// The line that tells the port.
+const LISTENING: &[u8] = b"listening 127.0.0.1:8080\n";
+
+const PEERS: &[Peer] = &[
+    Peer::Asks,
+    Peer::BreaksSending,
+    Peer::Gone,
+    Peer::Ends,
+    Peer::BreaksTaking,
+    Peer::Asks,
+];
+
+/// Whether each of these peers is sent what is due to it, and each that broke off is told of.
+fn are_served(alloc: Global) -> Option<bool> {
+    let ended = outcome(alloc, PEERS, Ok(()), 6, 1_000)?;
+    let begun = &CAPTIVE[..100];
+    let sent = format!(in alloc; "{CAPTIVE}{BAD_REQUEST}{begun}{CAPTIVE}").ok()?;
+    let errors = "portal: cut\nportal: network\nportal: cut\n";
+    Some(ended.is(0, 6, LISTENING, errors) && ended.sent.as_slice() == sent.as_bytes())
+}
+
+#[test]
+fn peers_one_after_another(rt: HostRuntime) {
+    assert!(rt; are_served(rt.alloc()) == Some(true));
+}
+
+/// The clock, the connections to be served, and what comes of it with two peers: status, faults, connections.
+const ENDS: &[(Result<(), Fault>, u64, u8, &str, usize)] = &[
+    (Ok(()), 0, 0, "", 0),
+    (Ok(()), 2, 0, "", 2),
+    (Err(Fault::File), 2, 3, "portal: file\n", 1),
+    (Err(Fault::NoMemory), 2, 3, "portal: no_memory\n", 1),
+];
+
+/// Whether serving two peers ends so.
+fn is_ended(
+    alloc: Global,
+    clock: Result<(), Fault>,
+    count: u64,
+    status: u8,
+    said: &str,
+    accepts: usize,
+) -> Option<bool> {
+    let ended = outcome(alloc, &[Peer::Asks, Peer::Asks], clock, count, 1_000)?;
+    Some(ended.is(status, accepts, LISTENING, said))
+}
+
+#[test]
+fn ends_of_serving(rt: HostRuntime) {
+    for (n, (clock, count, status, said, accepts)) in ENDS.iter().enumerate() {
+        let is_ended = is_ended(rt.alloc(), *clock, *count, *status, said, *accepts);
+        assert!(rt; is_ended == Some(true), "end {n}");
+    }
+}
+
+/// Whether a desk that has stopped ends the program before another connection is waited for.
+pub fn is_stopped_told<D: Desk>(alloc: Global, desk: &mut D) -> Option<bool> {
+    let mut host = played(alloc, &[Peer::Asks], Ok(()));
     let mut output = Vec::new(alloc);
     let (status, errors) = served(alloc, desk, &mut host, 1, &mut output)?;
-    assert_eq!(rt; (status, host.accepts), (3, 0));
-    assert_eq!(rt; output.as_slice(), b"listening 127.0.0.1:8080\n".as_slice());
-    assert_eq!(rt; errors.as_slice(), b"portal: stopped\n".as_slice());
-    Ok(())
+    let is_printed = output.as_slice() == LISTENING
+        && errors.as_slice() == b"portal: stopped\n".as_slice();
+    Some(is_printed && status == 3 && host.accepts == 0)
 }
 
-/// Nobody is served where the line that tells the port does not go out.
+/// Whether nobody is served where so many bytes of the line that tells the port are taken, and no more.
+fn is_cut(alloc: Global, room: usize) -> Option<bool> {
+    let ended = outcome(alloc, &[Peer::Asks], Ok(()), 1, room)?;
+    Some(ended.is(3, 0, LISTENING.get(..room)?, "portal: cut\n"))
+}
+
 #[test]
-fn line_cut_off(rt: HostRuntime) -> Result<(), Fail> {
-    let alloc = rt.alloc();
+fn line_cut_off(rt: HostRuntime) {
     for room in 0..25 {
-        let mut host = played(alloc, [Peer::Asks].as_slice());
-        let mut output = takes(alloc, 10);
-        output.room = room;
-        let (status, errors) = served_in_memory(alloc, &mut host, 1, &mut output)?;
-        assert_eq!(rt; (status, host.accepts), (3, 0), "{room}");
-        assert_eq!(rt; errors.as_slice(), b"portal: cut\n".as_slice());
-        assert_eq!(rt;
-            output.taken.as_slice(),
-            &b"listening 127.0.0.1:8080\n".as_slice()[..room]
-        );
+        assert!(rt; is_cut(rt.alloc(), room) == Some(true), "{room}");
     }
-    Ok(())
+}
+
+/// Whether a port that is taken cannot be had again.
+fn is_taken(rt: &HostRuntime) -> Option<bool> {
+    let listener = bind_loopback(rt, 0).ok()?;
+    let port = listener.local_addr().ok()?.port();
+    Some(matches!(bind_loopback(rt, port), Err(Fault::Network)))
 }
 
 #[test]
-fn port_taken_twice(rt: HostRuntime) -> Result<(), Fail> {
-    let Ok(listener) = bind_loopback(&rt, 0) else {
-        return Err(Fail::from("no port"));
-    };
-    let port = listener.local_addr()?.port();
-    assert!(rt; matches!(bind_loopback(&rt, port), Err(Fault::Network)));
-    Ok(())
+fn port_taken_twice(rt: HostRuntime) {
+    assert!(rt; is_taken(&rt) == Some(true));
 }
 
 /// A clock that answers so many seconds, or fails.
@@ -207,26 +250,38 @@ impl Clock for Fixed {
     }
 }
 
+/// What the clock answers, in milliseconds, and the moment.
+const MOMENTS: &[(Result<u64, ErrorKind>, Result<u64, Fault>)] = &[
+    (Ok(1_999), Ok(1)),
+    (Ok(253_370_764_799_000), Ok(253_370_764_799)),
+    (Ok(253_370_764_800_000), Ok(253_370_764_799)),
+    (Ok(u64::MAX), Ok(253_370_764_799)),
+    (Err(ErrorKind::InvalidData), Ok(0)),
+    (Err(ErrorKind::PermissionDenied), Err(Fault::File)),
+    (Err(ErrorKind::OutOfMemory), Err(Fault::NoMemory)),
+];
+
+fn moment_of(answer: Result<Duration, ErrorKind>) -> Result<u64, Fault> {
+    match moment_now(&Fixed { answer }) {
+        Ok(moment) => Ok(moment.get()),
+        Err(fault) => Err(fault),
+    }
+}
+
 #[test]
 fn moments_of_clocks(rt: HostRuntime) {
-    let cases = [
-        (Ok(Duration::from_millis(1_999)), Ok(1)),
-        (
-            Ok(Duration::from_secs(253_370_764_800)),
-            Ok(253_370_764_799),
-        ),
-        (Ok(Duration::MAX), Ok(253_370_764_799)),
-        (Err(ErrorKind::InvalidData), Ok(0)),
-        (Err(ErrorKind::PermissionDenied), Err(Fault::File)),
-        (Err(ErrorKind::OutOfMemory), Err(Fault::NoMemory)),
-    ];
-    for (answer, wanted) in cases {
-        let moment = match moment_now(&Fixed { answer }) {
-            Ok(moment) => Ok(moment.get()),
-            Err(fault) => Err(fault),
+    for (n, (answer, wanted)) in MOMENTS.iter().enumerate() {
+        let answer = match *answer {
+            Ok(milliseconds) => Ok(Duration::from_millis(milliseconds)),
+            Err(kind) => Err(kind),
         };
-        assert_eq!(rt; moment, wanted);
+        assert!(rt; moment_of(answer) == *wanted, "moment {n}");
     }
+    assert!(rt; moment_of(Ok(Duration::MAX)) == Ok(253_370_764_799));
+}
+
+#[test]
+fn seeds_differ(rt: HostRuntime) {
     let (one, other) = (fresh_seed(&rt), fresh_seed(&rt));
     assert!(rt; one.is_ok() && one != other);
 }

@@ -13,8 +13,6 @@ use portal_program::serving::{Listening, serve};
 use portal_program::takings::{read_range, takings, takings_at};
 use portal_route::Routes;
 use std::alloc::Global;
-use std::process::Abort;
-use std::test::Fail;
 
 const REQUEST: &str =
     "GET /captive HTTP/1.1\r\nHost: api\r\nPortal-Device: 02:00:00:00:00:01\r\n\r\n";
@@ -49,21 +47,78 @@ impl Ended {
     }
 }
 
-fn answered<P: Place>(place: Shelf, now: u64, seed: &str, files: bool) -> Ended {
-    let mut output = Vec::new(place.alloc);
-    let mut errors = Vec::new(place.alloc);
-    let request = Request {
-        db: if files { Some("portal.db") } else { None },
-        settings: if files { Some("portal.toml") } else { None },
+/// A subcommand and its words.
+#[derive(Clone, Copy)]
+enum Asked<'w> {
+    /// `answer`, its moment, its seed, and whether it is over files.
+    Answer(u64, &'w str, bool),
+    /// `print` and its batch.
+    Print(&'w str),
+    /// `takings`, its first and its last day.
+    Takings(&'w str, &'w str),
+    Check,
+    /// `serve`, where the port is free or not.
+    Serve(bool),
+}
+
+/// The status of `answer`, of the request of a guest.
+fn answered<P: Place>(
+    place: P,
+    alloc: Global,
+    request: &Request<'_>,
+    output: &mut Vec<u8>,
+    errors: &mut Vec<u8>,
+) -> u8 {
+    let mut input = REQUEST.as_bytes();
+    answer(place, alloc, request, &mut input, output, errors)
+}
+
+/// What `answer` is asked for, over files or without.
+fn wanted(now: u64, seed: &str, has_files: bool) -> Request<'_> {
+    Request {
+        db: if has_files { Some(FILES.db) } else { None },
+        settings: if has_files {
+            Some(FILES.settings)
+        } else {
+            None
+        },
         now,
         seed,
-    };
-    let mut input = REQUEST.as_bytes();
-    let status = answer(
-        place.place::<P>(),
-        place.alloc,
-        &request,
-        &mut input,
+    }
+}
+
+/// The status of the subcommand over the files of the place.
+fn status_of<P: Place>(
+    place: P,
+    alloc: Global,
+    asked: &Asked<'_>,
+    output: &mut Vec<u8>,
+    errors: &mut Vec<u8>,
+) -> u8 {
+    match asked {
+        Asked::Answer(now, seed, has_files) => {
+            let request = wanted(*now, seed, *has_files);
+            answered(place, alloc, &request, output, errors)
+        }
+        Asked::Print(batch) => print(place, alloc, FILES, batch, output, errors),
+        Asked::Takings(from, to) => takings(place, alloc, FILES, from, to, output, errors),
+        Asked::Check => check(place, alloc, FILES, output, errors),
+        Asked::Serve(is_free) => {
+            let at = Listening { port: 80, count: 1 };
+            let network = Line { is_free: *is_free };
+            serve(place, &network, alloc, FILES, at, output, errors)
+        }
+    }
+}
+
+/// What the subcommand prints over the shelf, and its status.
+fn outcome<P: Place>(shelf: &Shelf, asked: &Asked<'_>) -> Ended {
+    let mut output = Vec::new(shelf.alloc);
+    let mut errors = Vec::new(shelf.alloc);
+    let status = status_of(
+        shelf.place::<P>(),
+        shelf.alloc,
+        asked,
         &mut output,
         &mut errors,
     );
@@ -74,213 +129,190 @@ fn answered<P: Place>(place: Shelf, now: u64, seed: &str, files: bool) -> Ended 
     }
 }
 
-fn printed<P: Place>(place: Shelf, batch: &str) -> Ended {
-    let mut output = Vec::new(place.alloc);
-    let mut errors = Vec::new(place.alloc);
-    let status = print(
-        place.place::<P>(),
-        place.alloc,
-        FILES,
-        batch,
-        &mut output,
-        &mut errors,
-    );
-    Ended {
-        status,
-        output,
-        errors,
-    }
+/// Whether the subcommand over the shelf, with desks in memory, ends with a status and with these texts alone.
+fn ends(shelf: &Shelf, asked: &Asked<'_>, status: u8, output: &str, errors: &str) -> bool {
+    outcome::<InMemory>(shelf, asked).is(status, output, errors)
 }
 
-fn taken<P: Place>(place: Shelf, from: &str, to: &str) -> Ended {
-    let mut output = Vec::new(place.alloc);
-    let mut errors = Vec::new(place.alloc);
-    let status = takings(
-        place.place::<P>(),
-        place.alloc,
-        FILES,
-        from,
-        to,
-        &mut output,
-        &mut errors,
-    );
-    Ended {
-        status,
-        output,
-        errors,
+/// A settings file, the faults of reading it and of opening the database, and what is told first.
+const FAULTS: &[(&str, Option<Fault>, Option<Fault>, &str)] = &[
+    ("", Some(Fault::File), Some(Fault::Newer), "portal: file\n"),
+    (
+        "",
+        Some(Fault::NoMemory),
+        Some(Fault::Newer),
+        "portal: no_memory\n",
+    ),
+    ("", None, Some(Fault::Newer), "portal: settings\n"),
+    (
+        "zone = \"UTC0\"\n",
+        None,
+        Some(Fault::Newer),
+        "portal: settings\n",
+    ),
+    (SETTINGS, None, Some(Fault::NotOurs), "portal: not_ours\n"),
+    (SETTINGS, None, Some(Fault::Newer), "portal: newer\n"),
+    (SETTINGS, None, Some(Fault::File), "portal: file\n"),
+    (SETTINGS, None, Some(Fault::NoMemory), "portal: no_memory\n"),
+];
+
+/// Subcommands over files.
+const OVER_FILES: &[Asked<'static>] = &[
+    Asked::Answer(MOMENT, SEED, true),
+    Asked::Print("b1"),
+    Asked::Print("no id"),
+    Asked::Takings("1970-01-02", "1970-01-02"),
+    Asked::Check,
+    Asked::Serve(false),
+];
+
+/// What the words say comes before any file.
+const BAD_WORDS: &[Asked<'static>] = &[
+    Asked::Answer(253_370_764_800, SEED, true),
+    Asked::Answer(MOMENT, "00", true),
+    Asked::Takings("1970-01-02", "1970-01-01"),
+];
+
+fn all_end(shelf: &Shelf, all: &[Asked<'_>], status: u8, errors: &str) -> bool {
+    for asked in all {
+        if !ends(shelf, asked, status, "", errors) {
+            return false;
+        }
     }
+    true
 }
 
-fn checked<P: Place>(place: Shelf) -> Ended {
-    let mut output = Vec::new(place.alloc);
-    let mut errors = Vec::new(place.alloc);
-    let status = check(
-        place.place::<P>(),
-        place.alloc,
-        FILES,
-        &mut output,
-        &mut errors,
-    );
-    Ended {
-        status,
-        output,
-        errors,
-    }
-}
-
-fn served<P: Place>(place: Shelf, is_free: bool) -> Ended {
-    let mut output = Vec::new(place.alloc);
-    let mut errors = Vec::new(place.alloc);
-    let at = Listening { port: 80, count: 1 };
-    let network = Line { is_free };
-    let status = serve(
-        place.place::<P>(),
-        &network,
-        place.alloc,
-        FILES,
-        at,
-        &mut output,
-        &mut errors,
-    );
-    Ended {
-        status,
-        output,
-        errors,
-    }
-}
-
-fn check_first_fault<P: Place>(rt: &impl Abort, alloc: Global) {
-    let newer = Some(Fault::Newer);
-    let cases = [
-        ("", Some(Fault::File), newer, "portal: file\n"),
-        ("", Some(Fault::NoMemory), newer, "portal: no_memory\n"),
-        ("", None, newer, "portal: settings\n"),
-        ("zone = \"UTC0\"\n", None, newer, "portal: settings\n"),
-        (SETTINGS, None, Some(Fault::NotOurs), "portal: not_ours\n"),
-        (SETTINGS, None, newer, "portal: newer\n"),
-        (SETTINGS, None, Some(Fault::File), "portal: file\n"),
-        (SETTINGS, None, Some(Fault::NoMemory), "portal: no_memory\n"),
-    ];
-    for (text, reading, opening, said) in cases {
-        let place = Shelf {
-            alloc,
-            text,
-            reading,
-            opening,
-        };
-        assert!(rt;
-            answered::<P>(place, MOMENT, SEED, true).is(3, "", said),
-            "{said}"
-        );
-        assert!(rt; printed::<P>(place, "b1").is(3, "", said), "{said}");
-        assert!(rt; printed::<P>(place, "no id").is(3, "", said), "{said}");
-        assert!(rt;
-            taken::<P>(place, "1970-01-02", "1970-01-02").is(3, "", said),
-            "{said}"
-        );
-        assert!(rt; checked::<P>(place).is(3, "", said), "{said}");
-        assert!(rt; served::<P>(place, false).is(3, "", said), "{said}");
-        // what the words say comes before any file
-        let usage = "portal: usage\n";
-        assert!(rt;
-            answered::<P>(place, 253_370_764_800, SEED, true).is(2, "", usage),
-            "{said}"
-        );
-        assert!(rt;
-            answered::<P>(place, MOMENT, "00", true).is(2, "", usage),
-            "{said}"
-        );
-        assert!(rt;
-            taken::<P>(place, "1970-01-02", "1970-01-01").is(2, "", usage),
-            "{said}"
-        );
-        // neither file is asked for
-        assert!(rt;
-            answered::<P>(place, MOMENT, SEED, false).is(0, CAPTIVE, ""),
-            "{said}"
-        );
-    }
-}
-
+/// Neither file is asked for where none is named.
 #[test]
 fn first_fault(rt: HostRuntime) {
-    check_first_fault::<InMemory>(&rt, rt.alloc());
+    for (n, (text, reading, opening, said)) in FAULTS.iter().enumerate() {
+        let shelf = Shelf {
+            alloc: rt.alloc(),
+            text,
+            reading: *reading,
+            opening: *opening,
+        };
+        assert!(rt; all_end(&shelf, OVER_FILES, 3, said), "fault {n}");
+        assert!(rt;
+            all_end(&shelf, BAD_WORDS, 2, "portal: usage\n"),
+            "fault {n}"
+        );
+        let without = Asked::Answer(MOMENT, SEED, false);
+        assert!(rt; ends(&shelf, &without, 0, CAPTIVE, ""), "fault {n}");
+    }
 }
 
-fn check_no_fault<P: Place>(rt: &impl Abort, alloc: Global) {
-    let place = good_shelf(alloc);
-    assert!(rt; answered::<P>(place, MOMENT, SEED, true).is(0, CAPTIVE, ""));
-    for batch in ["b1", "", "B1", "no id", "012345678901234567890123456789012"] {
-        assert!(rt;
-            printed::<P>(place, batch).is(1, "", "portal: unknown_batch\n"),
-            "{batch}"
-        );
-    }
-    assert!(rt; taken::<P>(place, "1970-01-02", "1970-01-02").is(0, REPORT, ""));
-    assert!(rt; checked::<P>(place).is(0, "ok\n", ""));
-    assert!(rt; served::<P>(place, false).is(3, "", "portal: network\n"));
-    assert!(rt; served::<P>(place, true).is(0, "listening 127.0.0.1:80\n", "portal: network\n"));
-}
+/// Subcommands over files without a fault: the status, the output and the errors.
+const ENDS: &[(Asked<'static>, u8, &str, &str)] = &[
+    (Asked::Answer(MOMENT, SEED, true), 0, CAPTIVE, ""),
+    (Asked::Print("b1"), 1, "", "portal: unknown_batch\n"),
+    (Asked::Print(""), 1, "", "portal: unknown_batch\n"),
+    (Asked::Print("B1"), 1, "", "portal: unknown_batch\n"),
+    (Asked::Print("no id"), 1, "", "portal: unknown_batch\n"),
+    (
+        Asked::Print("012345678901234567890123456789012"),
+        1,
+        "",
+        "portal: unknown_batch\n",
+    ),
+    (Asked::Takings("1970-01-02", "1970-01-02"), 0, REPORT, ""),
+    (Asked::Check, 0, "ok\n", ""),
+    (Asked::Serve(false), 3, "", "portal: network\n"),
+    (
+        Asked::Serve(true),
+        0,
+        "listening 127.0.0.1:80\n",
+        "portal: network\n",
+    ),
+];
 
 #[test]
 fn no_fault(rt: HostRuntime) {
-    check_no_fault::<InMemory>(&rt, rt.alloc());
+    let shelf = good_shelf(rt.alloc());
+    for (n, (asked, status, output, errors)) in ENDS.iter().enumerate() {
+        assert!(rt; ends(&shelf, asked, *status, output, errors), "end {n}");
+    }
 }
+
+/// Ranges of days that are named, from one to the other.
+const RANGES: &[(&str, &str)] = &[
+    ("1969-01-01", "1969-01-01"),
+    ("9999-12-31", "9999-12-31"),
+    ("2020-01-01", "2020-12-31"),
+    ("2019-03-01", "2020-02-29"),
+];
+
+const NO_RANGES: &[(&str, &str)] = &[
+    ("1968-12-31", "1969-01-01"),
+    ("1970-01-02", "1970-01-01"),
+    ("2020-01-01", "2021-01-01"),
+    ("2021-02-29", "2021-03-01"),
+    ("2021-2-1", "2021-03-01"),
+    ("", "2021-03-01"),
+    ("2021-03-01", "10000-01-01"),
+];
 
 #[test]
 fn ranges(rt: HostRuntime) {
-    let named = [
-        ("1969-01-01", "1969-01-01"),
-        ("9999-12-31", "9999-12-31"),
-        ("2020-01-01", "2020-12-31"),
-        ("2019-03-01", "2020-02-29"),
-    ];
-    for (from, to) in named {
+    for (from, to) in RANGES {
         assert!(rt; read_range(from, to).is_some(), "{from} {to}");
     }
-    let none = [
-        ("1968-12-31", "1969-01-01"),
-        ("1970-01-02", "1970-01-01"),
-        ("2020-01-01", "2021-01-01"),
-        ("2021-02-29", "2021-03-01"),
-        ("2021-2-1", "2021-03-01"),
-        ("", "2021-03-01"),
-        ("2021-03-01", "10000-01-01"),
-    ];
-    for (from, to) in none {
+    for (from, to) in NO_RANGES {
         assert!(rt; read_range(from, to).is_none(), "{from} {to}");
     }
 }
 
-/// Each subcommand says that the desk has stopped.
-pub fn check_stopped<D: Desk>(rt: &impl Abort, alloc: Global, desk: &mut D) -> Result<(), Fail> {
-    let routes = Routes::new(alloc)?;
-    let said = "portal: stopped\n".as_bytes();
+/// Whether these printed nothing but that the desk has stopped.
+fn is_said(status: u8, output: &[u8], errors: &[u8]) -> bool {
+    status == 3 && output.is_empty() && errors == b"portal: stopped\n".as_slice()
+}
+
+fn is_print_stopped<D: Desk>(alloc: Global, desk: &mut D) -> bool {
     let mut output = Vec::new(alloc);
     let mut errors = Vec::new(alloc);
-    assert!(rt; print_at(desk, alloc, "b1", &mut output, &mut errors) == 3);
-    assert!(rt; errors.as_slice() == said);
+    let status = print_at(desk, alloc, "b1", &mut output, &mut errors);
+    is_said(status, output.as_slice(), errors.as_slice())
+}
+
+fn is_check_stopped<D: Desk>(alloc: Global, desk: &mut D) -> bool {
+    let mut output = Vec::new(alloc);
     let mut errors = Vec::new(alloc);
-    assert!(rt; check_at(desk, alloc, &mut output, &mut errors) == 3);
-    assert!(rt; errors.as_slice() == said);
-    let range = read_range("1970-01-02", "1970-01-02").ok_or("a range")?;
+    let status = check_at(desk, alloc, &mut output, &mut errors);
+    is_said(status, output.as_slice(), errors.as_slice())
+}
+
+fn are_takings_stopped<D: Desk>(alloc: Global, desk: &mut D) -> Option<bool> {
+    let range = read_range("1970-01-02", "1970-01-02")?;
+    let mut output = Vec::new(alloc);
     let mut errors = Vec::new(alloc);
-    assert!(rt; takings_at(desk, alloc, range, &mut output, &mut errors) == 3);
-    assert!(rt; errors.as_slice() == said && output.is_empty());
-    // a response of a desk that has stopped, and one that does not reach it
-    let moment = Moment::new(MOMENT).ok_or("a moment")?;
-    for (request, status) in [(REQUEST, 3), ("", 1)] {
-        let mut input = request.as_bytes();
-        let ended = answer_at(
-            desk,
-            alloc,
-            &routes,
-            moment,
-            [0; 32],
-            &mut input,
-            &mut output,
-        );
-        assert!(rt; ended == Ok(status), "{request}");
-    }
-    Ok(())
+    let status = takings_at(desk, alloc, range, &mut output, &mut errors);
+    Some(is_said(status, output.as_slice(), errors.as_slice()))
+}
+
+/// The status of `answer` at the desk, where no byte of the response is lost.
+fn answer_status<D: Desk>(alloc: Global, desk: &mut D, request: &str) -> Option<u8> {
+    let routes = Routes::new(alloc).ok()?;
+    let moment = Moment::new(MOMENT)?;
+    let mut input = request.as_bytes();
+    let mut output = Vec::new(alloc);
+    answer_at(
+        desk,
+        alloc,
+        &routes,
+        moment,
+        [0; 32],
+        &mut input,
+        &mut output,
+    )
+    .ok()
+}
+
+/// Whether each subcommand says that the desk has stopped. A request that does not reach it is answered as ever.
+pub fn is_stopped_told<D: Desk>(alloc: Global, desk: &mut D) -> Option<bool> {
+    let are_said = is_print_stopped(alloc, desk)
+        && is_check_stopped(alloc, desk)
+        && are_takings_stopped(alloc, desk)?;
+    let reached = answer_status(alloc, desk, REQUEST)?;
+    let unreached = answer_status(alloc, desk, "")?;
+    Some(are_said && reached == 3 && unreached == 1)
 }

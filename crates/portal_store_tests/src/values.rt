@@ -63,19 +63,25 @@ pub const SECOND_DEVICE: &str = "02:00:00:00:00:02";
 
 /// A plans file with an hour for 3.00 and three times a gigabyte for 5.00.
 pub const PLANS: &str =
-    "[[plan]]\nid = \"hour\"\nprice = 300\nuses = 1\nseconds = 3600\nbytes = 0\nshelf_days = 30\nextend = true\n\n[[plan]]\nid = \"gig\"\nprice = 500\nuses = 3\nseconds = 0\nbytes = 1073741824\nshelf_days = 30\nextend = false\n";
+    "[[plan]]\nid = \"hour\"\nprice = 300\nuses = 1\nseconds = 3600\nbytes = 0\nshelf_days = 30\n\
+    extend = true\n\n[[plan]]\nid = \"gig\"\nprice = 500\nuses = 3\nseconds = 0\n\
+    bytes = 1073741824\nshelf_days = 30\nextend = false\n";
 
 /// The hour at another price, and a new plan.
 pub const OTHER_PLANS: &str =
-    "[[plan]]\nid = \"hour\"\nprice = 301\nuses = 1\nseconds = 3600\nbytes = 0\nshelf_days = 30\nextend = true\n\n[[plan]]\nid = \"day\"\nprice = 100\nuses = 1\nseconds = 86400\nbytes = 0\nshelf_days = 30\nextend = true\n";
+    "[[plan]]\nid = \"hour\"\nprice = 301\nuses = 1\nseconds = 3600\nbytes = 0\nshelf_days = 30\n\
+    extend = true\n\n[[plan]]\nid = \"day\"\nprice = 100\nuses = 1\nseconds = 86400\nbytes = 0\n\
+    shelf_days = 30\nextend = true\n";
 
 /// Settings in UTC.
 pub const UTC: &str =
-    "zone = \"UTC0\"\nportal_url = \"https://wifi.example/portal\"\ndesk_token = \"desk-token\"\ngateway_token = \"gate-token\"\n";
+    "zone = \"UTC0\"\nportal_url = \"https://wifi.example/portal\"\ndesk_token = \"desk-token\"\n\
+    gateway_token = \"gate-token\"\n";
 
 /// Settings in central Europe, an hour ahead of UTC in winter.
 pub const EUROPE: &str =
-    "zone = \"CET-1CEST,M3.5.0,M10.5.0/3\"\nportal_url = \"https://wifi.example/portal\"\ndesk_token = \"desk-token\"\ngateway_token = \"gate-token\"\n";
+    "zone = \"CET-1CEST,M3.5.0,M10.5.0/3\"\nportal_url = \"https://wifi.example/portal\"\n\
+    desk_token = \"desk-token\"\ngateway_token = \"gate-token\"\n";
 
 pub fn id(text: &str) -> Result<Id, Trouble> {
     Id::read(text).ok_or(Trouble::BadValue)
