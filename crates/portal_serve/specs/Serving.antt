@@ -1,6 +1,8 @@
 -- What serving leaves of a desk, and what is printed as it goes on.
 use Rattle.std.specs.Prelude.{◌≡◌, ◌⊎◌, ℕ, ◌≤◌, List, [], ◌∷◌, length, Option, Some, None, true, false, Result, Ok, Err}
 use Rattle.std.specs.Io.KnownBytes.{Keeps}
+use Rattle.std.specs.declared.io.ErrorKind.{ErrorKind}
+use Rattle.std.specs.declared.io.ErrorKind.TheVariants as kind
 use Rattle.portal_model.specs.declared.refusal.Refusal.TheVariants.{Stopped}
 use Rattle.portal_ledger.specs.States.{State}
 use Rattle.portal_desk.specs.Calls.{is_over}
@@ -28,6 +30,11 @@ SaysOfEach (one ∷ before) printed printed_after =
 -- a fault of the clock or of the source of seeds
 abbrev pub IsOfHost : Fault → Type 0
 IsOfHost fault = (fault ≡ File) ⊎ (fault ≡ NoMemory)
+
+-- what a failure of either is told as: want of memory, or the file
+abbrev pub fault_of_host : ErrorKind → Fault
+fault_of_host kind.OutOfMemory = NoMemory
+fault_of_host _ = File
 
 -- By how it ended: all connections were served and the desk works; or the desk has stopped, or the host failed.
 abbrev pub EndsServing : State → Result (Unit {0}) Fault → Type 0

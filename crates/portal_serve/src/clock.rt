@@ -1,6 +1,6 @@
 //! The clock's moment.
 ghost use Rattle.std.specs.Prelude.{◌≡◌, min, IfErr};
-ghost use Rattle.portal_serve.specs.Serving.{IsOfHost};
+ghost use Rattle.portal_serve.specs.Serving.{fault_of_host, IsOfHost};
 
 use portal_ends::Fault;
 use portal_model::moment::Moment;
@@ -9,7 +9,8 @@ use std::rt::Clock;
 
 /// The fault of a clock or a source of seeds that failed: want of memory, or `File`.
 pub fn fault_of_host(kind: ErrorKind) -> Fault
-    ensures { IsOfHost result }
+    ensures kind { result ≡ fault_of_host kind }
+    ensures host { IsOfHost result }
 {
     match kind {
         ErrorKind::OutOfMemory => Fault::NoMemory,
