@@ -123,26 +123,51 @@ fn go_on(rt: &impl Abort, day: &Day, image: &Image, count: usize, to: usize) -> 
     Ok(())
 }
 
-/// Stops an opening of files in which `count` commands stand, and opens them again: the same stand there.
+/// Stops an opening of files in which `count` commands stand, and opens them again: the same stand there. Answers
+/// whether the opening was stopped.
 fn stop_opening(
     rt: &impl Abort,
     day: &Day,
     image: &Image,
     count: usize,
     limit: Limit,
-) -> Result<(), Fail> {
+) -> Result<bool, Fail> {
     let files = InFiles::of(day.alloc, image)?;
-    let Remains { ended, failed, .. } = files.stop(rt, UTC, Job::Play(&[]), limit)?;
+    let Remains {
+        is_closed,
+        ended,
+        failed,
+        ..
+    } = files.stop(rt, UTC, Job::Play(&[]), limit)?;
     for left in [ended, failed] {
         if !left.is(image) {
             assert_eq!(rt; found(rt, day, &left)?, count, "{limit:?}");
         }
     }
-    Ok(())
+    Ok(!is_closed)
 }
 
-/// Further stops come before this call of an opening.
-const OPENING: u64 = 32;
+/// More calls than a group of commands makes of a file, with the opening and the closing.
+const MANY: u64 = 1024;
+
+/// Further stops are so many calls apart.
+const STRIDE: usize = 8;
+
+/// Stops openings of the files at this call of the file, and at each that is a stride further, until one is not stopped.
+fn stop_openings(
+    rt: &impl Abort,
+    day: &Day,
+    image: &Image,
+    count: usize,
+    first: Limit,
+) -> Result<(), Fail> {
+    for calls in (first.calls..MANY).step_by(STRIDE) {
+        if !stop_opening(rt, day, image, count, Limit { calls, ..first })? {
+            return Ok(());
+        }
+    }
+    Err("it was never opened".into())
+}
 
 /// A group of commands that is stopped: the first of them, the files before, and files that stops left, with the
 /// number of the commands that stand in them.
@@ -159,8 +184,8 @@ impl Group<'_> {
         self.from.saturating_add(GROUP)
     }
 
-    /// How many commands stand in the files. They are gone on with, and opened with a further stop in each file, each
-    /// files at another call; files with the same bytes once.
+    /// How many commands stand in the files. They are gone on with, and opened with a further stop in each file, at
+    /// every eighth call, of each files from another on; files with the same bytes once.
     fn found(&mut self, rt: &impl Abort, image: Image) -> Result<usize, Fail> {
         for (seen, count) in &self.known {
             if seen.is(&image) {
@@ -169,9 +194,9 @@ impl Group<'_> {
         }
         let count = found(rt, self.day, &image)?;
         go_on(rt, self.day, &image, count, self.to())?;
-        let calls = self.known.len() as u64 % OPENING;
+        let calls = (self.known.len() % STRIDE) as u64;
         for part in [Part::Log, Part::Database] {
-            stop_opening(rt, self.day, &image, count, Limit { part, calls })?;
+            stop_openings(rt, self.day, &image, count, Limit { part, calls })?;
         }
         self.known.push((image, count))?;
         Ok(count)
@@ -217,9 +242,6 @@ fn acknowledged(told: Told) -> Result<(usize, bool), Fail> {
         _ => Err("neither stopped nor played".into()),
     }
 }
-
-/// More calls than a group of commands makes of a file, with the opening and the closing.
-const MANY: u64 = 1024;
 
 /// Stops the group at each call of the file, from none upward, until it is not stopped. Answers how often it was.
 fn stop_group(rt: &impl Abort, group: &mut Group<'_>, part: Part) -> Result<u64, Fail> {
