@@ -16,7 +16,7 @@ use Rattle.portal_http.specs.declared.exchanges.Done.{Done}
 use Rattle.portal_http.specs.declared.exchanges.Cut.{Cut}
 use Rattle.portal_http.specs.declared.exchanges.Cause.{Cause}
 use Rattle.portal_http.specs.declared.exchanges.Cause.TheVariants.{Read, NoRoom, Write}
-use Rattle.portal_serve.specs.Serving.{Serves}
+use Rattle.portal_serve.specs.Serving.{Serves, ComeWith}
 use Rattle.portal_serve.specs.Command.{IsUntold}
 
 -- ---- one exchange
@@ -25,15 +25,18 @@ module _ (settings : SettingsValue) (old new : State) (wire : Wire) (moment : �
   abbrev OneRun : List Arrived → List (List ℕ) → Type 0
   OneRun xs rs = Served settings old xs rs new
 
-  cut_serves : (cause : Cause) (written whole : ℕ) → CutsOff wire moment seed OneRun cause written whole → Serves 1 (λ xs rs. Run settings old xs rs new)
-  cut_serves Read written whole (none, empty, broken, kept, run) = ([], [], omega arith, run)
-  cut_serves NoRoom written whole (none, empty, full, kept, run) = ([], [], omega arith, run)
-  cut_serves Write written whole (response, size, less, (received, reads, run, out)) =
-      (record { moment = moment; seed = seed; bytes = received.bytes } ∷ [], response ∷ [], omega arith, run)
+  abbrev RunWith : List Arrived → List (List ℕ) → Type 0
+  RunWith xs rs = ComeWith moment seed xs × Run settings old xs rs new
 
-  pub exchange_serves : (result : Result Done Cut) → EndsExchange wire moment seed OneRun result → Serves 1 (λ xs rs. Run settings old xs rs new)
+  cut_serves : (cause : Cause) (written whole : ℕ) → CutsOff wire moment seed OneRun cause written whole → Serves 1 RunWith
+  cut_serves Read written whole (none, empty, broken, kept, run) = ([], [], omega arith, (tt, run))
+  cut_serves NoRoom written whole (none, empty, full, kept, run) = ([], [], omega arith, (tt, run))
+  cut_serves Write written whole (response, size, less, (received, reads, run, out)) =
+      (record { moment = moment; seed = seed; bytes = received.bytes } ∷ [], response ∷ [], omega arith, ((refl, refl, tt), run))
+
+  pub exchange_serves : (result : Result Done Cut) → EndsExchange wire moment seed OneRun result → Serves 1 RunWith
   exchange_serves (Ok done) (response, status, size, (received, reads, run, out)) =
-      (record { moment = moment; seed = seed; bytes = received.bytes } ∷ [], response ∷ [], omega arith, run)
+      (record { moment = moment; seed = seed; bytes = received.bytes } ∷ [], response ∷ [], omega arith, ((refl, refl, tt), run))
   exchange_serves (Err cut) off = cut_serves cut.cause cut.written cut.whole off
 
 -- ---- one run after another

@@ -1,5 +1,5 @@
 -- What serving leaves of a desk, and what is printed as it goes on.
-use Rattle.std.specs.Prelude.{◌≡◌, ◌⊎◌, ℕ, ◌≤◌, List, [], ◌∷◌, length, Option, Some, None, true, false, Result, Ok, Err}
+use Rattle.std.specs.Prelude.{◌≡◌, ◌⊎◌, ℕ, ◌≤◌, List, [], ◌∷◌, length, ⊤, Option, Some, None, true, false, Result, Ok, Err}
 use Rattle.std.specs.Io.KnownBytes.{Keeps}
 use Rattle.std.specs.declared.io.ErrorKind.{ErrorKind}
 use Rattle.std.specs.declared.io.ErrorKind.TheVariants as kind
@@ -15,6 +15,11 @@ use Rattle.portal_http.specs.Arrived.{Arrived}
 -- At so many connections: so many requests at most were served, where `IsRun` says what a run of such requests with such responses is.
 abbrev pub Serves : ℕ → (List Arrived → List (List ℕ) → Type 0) → Type 0
 Serves count IsRun = (arrivals : List Arrived) × (responses : List (List ℕ)) × (length arrivals ≤ count) × IsRun arrivals responses
+
+-- each of these requests came at that moment, and with that seed
+abbrev pub ComeWith : ℕ → List ℕ → List Arrived → Type 0
+ComeWith moment seed [] = ⊤
+ComeWith moment seed (one ∷ more) = (one.moment ≡ moment) × (one.seed ≡ seed) × ComeWith moment seed more
 
 -- what is printed of a connection: nothing, or the line of `cut` or of `network`, as far as it goes out
 abbrev pub Says : Option Fault → Option (List ℕ) → Option (List ℕ) → Type 0

@@ -3,7 +3,7 @@ ghost use Rattle.std.specs.Prelude.{◌≡◌, ℕ, List, Option};
 ghost use Rattle.portal_ledger.specs.States.{State};
 ghost use Rattle.portal_ends.specs.declared.fault.Fault.{Fault as Said};
 ghost use Rattle.portal_http.specs.Runs.{Run};
-ghost use Rattle.portal_serve.specs.Serving.{Serves, Says};
+ghost use Rattle.portal_serve.specs.Serving.{Serves, ComeWith, Says};
 
 use portal_desk::Desk;
 use portal_ends::Fault;
@@ -26,13 +26,13 @@ fn ask<D: Desk, R: Read, W: Write>(
     ensures told { D.settings desk.new ≡ D.settings desk.old }
     ensures honest { D.is_honest desk.new → D.is_honest desk.old }
     ensures served { D.is_honest desk.new → (old : State) → D.stands desk.old old → (new : State) × D.stands desk.new new
-        × Serves 1 (λ arrivals responses. Run (D.settings desk.old) old arrivals responses new) }
+        × Serves 1 (λ arrivals responses. ComeWith moment seed arrivals × Run (D.settings desk.old) old arrivals responses new) }
 {
     exchange(desk, alloc, routes, moment, seed, reader, writer)
 }
 
-/// Has one peer served: at most one request is carried out, as `exchange` says. Where the connection broke off,
-/// `portal: cut` is printed.
+/// Has one peer served: at most one request is carried out, as `exchange` says, at this moment and with this seed. Where
+/// the connection broke off, `portal: cut` is printed.
 pub fn serve_peer<D: Desk, R: Read, W: Write, E: Write>(
     desk: &mut D,
     alloc: Global,
@@ -47,7 +47,7 @@ pub fn serve_peer<D: Desk, R: Read, W: Write, E: Write>(
     ensures honest { D.is_honest desk.new → D.is_honest desk.old }
     ensures said { (said : Option Said) × Says said (E.contents errors.old) (E.contents errors.new) }
     ensures served { D.is_honest desk.new → (old : State) → D.stands desk.old old → (new : State) × D.stands desk.new new
-        × Serves 1 (λ arrivals responses. Run (D.settings desk.old) old arrivals responses new) }
+        × Serves 1 (λ arrivals responses. ComeWith moment seed arrivals × Run (D.settings desk.old) old arrivals responses new) }
 {
     match ask(desk, alloc, routes, moment, seed, reader, writer) {
         Ok(_) => {}

@@ -1,6 +1,8 @@
 //! What a desk answers at the largest that it takes.
+use crate::counter::{Ask, are_answered};
 use crate::desks::{answers_in_memory, is_answered, is_whole};
 use crate::requests::{CAPTIVE, DESK, MOMENT, REQUEST, repeated, request};
+use crate::values::PLANS;
 use std::alloc::Global;
 
 /// A plans file with so many plans.
@@ -29,6 +31,54 @@ fn are_loaded(alloc: Global) -> Option<bool> {
 #[test]
 fn five_hundred_plans(rt: HostRuntime) {
     assert!(rt; are_loaded(rt.alloc()) == Some(true));
+}
+
+/// A batch of 500 codes, its print file with the first three of them, and one voucher.
+const FIVE_HUNDRED: &[Ask] = &[
+    (
+        "POST /desk/plans",
+        PLANS,
+        0,
+        "HTTP/1.1 200 OK\r\n",
+        "\r\n\r\n{\"plans\":2}",
+    ),
+    (
+        "POST /desk/batches",
+        "{\"batch\":\"b1\",\"plan\":\"hour\",\"count\":500}",
+        1000,
+        "HTTP/1.1 200 OK\r\n",
+        "\r\n\r\n{\"batch\":\"b1\",\"count\":500,\"expires\":2593000}",
+    ),
+    (
+        "GET /desk/batches/b1/print",
+        "",
+        1000,
+        "HTTP/1.1 200 OK\r\n\
+        Date: Thu, 01 Jan 1970 00:16:40 GMT\r\n\
+        Content-Type: text/csv; charset=utf-8\r\n\
+        Content-Length: 26538\r\n\
+        Cache-Control: no-store\r\n\
+        Connection: close\r\n\
+        \r\n\
+        code,plan,seconds,bytes,price,expires\n\
+        3N55-WA4S-KH5V-JR49,hour,3600,,3.00,1970-01-31 00:16\n\
+        VX9P-KPN3-9M27-5E2M,hour,3600,,3.00,1970-01-31 00:16\n\
+        AXU5-SDWY-DBCH-DQCK,hour,3600,,3.00,1970-01-31 00:16\n",
+        ",hour,3600,,3.00,1970-01-31 00:16\n",
+    ),
+    (
+        "GET /desk/vouchers/3N55-WA4S-KH5V-JR49",
+        "",
+        1000,
+        "HTTP/1.1 200 OK\r\n",
+        "\r\n\r\n{\"batch\":\"b1\",\"code\":\"3N55-WA4S-KH5V-JR49\",\"expires\":2593000,\"plan\":\"hour\",\
+        \"redeemed\":0,\"refund\":null,\"sold\":null,\"uses\":1}",
+    ),
+];
+
+#[test]
+fn five_hundred_codes_printed(rt: HostRuntime) {
+    assert!(rt; are_answered(rt.alloc(), FIVE_HUNDRED) == Some(true));
 }
 
 fn are_captive(responses: &[Vec<u8>]) -> bool {

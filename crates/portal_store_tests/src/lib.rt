@@ -9,6 +9,8 @@ mod callers;
 #[cfg(test)]
 mod cases;
 #[cfg(test)]
+mod counter;
+#[cfg(test)]
 mod cut_off;
 #[cfg(test)]
 mod desks;

@@ -2,7 +2,7 @@
 use portal_ends::Fault;
 use portal_files::Settings;
 use portal_model::moment::Moment;
-use portal_program::place::Place;
+use portal_program::place::{Files, Place};
 use portal_program::serving::Network;
 use portal_serve::Host;
 use std::alloc::Global;
@@ -14,6 +14,12 @@ pub const SETTINGS: &str = "zone = \"UTC0\"\n\
     portal_url = \"https://wifi.example/portal\"\n\
     desk_token = \"desk-token\"\n\
     gateway_token = \"gate-token\"\n";
+
+/// The paths of the two files. There is no other.
+pub const FILES: Files<'static> = Files {
+    db: "portal.db",
+    settings: "portal.toml",
+};
 
 /// What stands for the files of a machine: a text, and the faults of reading and of opening.
 #[derive(Clone, Copy)]
@@ -58,7 +64,10 @@ impl<P: Place> Place for GivenPlace<P> {
 
     ghost is_fresh_honest = { λ desk. P.is_fresh_honest desk };
 
-    fn read(&self, alloc: Global, _path: &str) -> Result<Vec<u8>, Fault> {
+    fn read(&self, alloc: Global, path: &str) -> Result<Vec<u8>, Fault> {
+        if path != FILES.settings {
+            return Err(Fault::File);
+        }
         match self.shelf.reading {
             Some(Fault::NoMemory) => return Err(Fault::NoMemory),
             Some(_) => return Err(Fault::File),
@@ -70,7 +79,10 @@ impl<P: Place> Place for GivenPlace<P> {
         }
     }
 
-    fn open(self, _path: &str, settings: Settings) -> Result<P::Fresh, Fault> {
+    fn open(self, path: &str, settings: Settings) -> Result<P::Fresh, Fault> {
+        if path != FILES.db {
+            return Err(Fault::File);
+        }
         match self.shelf.opening {
             None => match P::open_fresh(self.shelf.alloc, settings) {
                 Ok(desk) => Ok(desk),

@@ -1,6 +1,5 @@
 //! Loading plans.
-use crate::desks::answers_in_memory;
-use crate::requests::{DESK, request};
+use crate::counter::are_answered;
 use portal_http::Arrival;
 use std::alloc::Global;
 
@@ -116,42 +115,24 @@ const FILES: &[Load] = &[
     ),
 ];
 
-/// What a new desk answers to the files, one after another.
-fn loaded(alloc: Global, files: &[Load]) -> Option<Vec<Vec<u8>>> {
-    let mut requests = Vec::new(alloc);
-    for (file, _, _, _) in files {
-        requests
-            .push(request(alloc, "POST /desk/plans", DESK, file.as_bytes())?)
+/// Whether a new desk answers the files as they say, one after another.
+fn are_loaded(alloc: Global, files: &[Load]) -> Option<bool> {
+    let mut asks = Vec::new(alloc);
+    for (file, at, front, end) in files {
+        asks.push(("POST /desk/plans", *file, *at, *front, *end))
             .ok()?;
     }
-    let mut arrivals: Vec<(u64, &[u8])> = Vec::new(alloc);
-    for ((_, at, _, _), request) in files.iter().zip(&requests) {
-        arrivals.push((*at, request.as_slice())).ok()?;
-    }
-    answers_in_memory(alloc, arrivals.as_slice())
-}
-
-/// Whether a new desk answers the files as they say, one after another.
-fn are_answered(alloc: Global, files: &[Load]) -> Option<bool> {
-    let answers = loaded(alloc, files)?;
-    for (answer, (_, _, front, end)) in answers.iter().zip(files) {
-        let is_told = answer.as_slice().starts_with(front.as_bytes())
-            && answer.as_slice().ends_with(end.as_bytes());
-        if !is_told {
-            return Some(false);
-        }
-    }
-    Some(answers.len() == files.len())
+    are_answered(alloc, asks.as_slice())
 }
 
 #[test]
 fn plans_repeated(rt: HostRuntime) {
-    assert!(rt; are_answered(rt.alloc(), REPEATED) == Some(true));
+    assert!(rt; are_loaded(rt.alloc(), REPEATED) == Some(true));
 }
 
 #[test]
 fn plans_files(rt: HostRuntime) {
-    assert!(rt; are_answered(rt.alloc(), FILES) == Some(true));
+    assert!(rt; are_loaded(rt.alloc(), FILES) == Some(true));
 }
 
 fn is_moment(alloc: Global, seconds: u64) -> bool {

@@ -1,13 +1,13 @@
 //! The subcommands over a place: which fault comes first, what is printed, and the status.
 use crate::desks::InMemory;
-use crate::places::{Line, SETTINGS, Shelf, good_shelf};
+use crate::places::{FILES, Line, SETTINGS, Shelf, good_shelf};
 use crate::requests::{CAPTIVE, MOMENT};
 use portal_desk::Desk;
 use portal_ends::Fault;
 use portal_model::moment::Moment;
 use portal_program::answering::{Request, answer, answer_at};
 use portal_program::checking::{check, check_at};
-use portal_program::place::{Files, Place};
+use portal_program::place::Place;
 use portal_program::printing::{print, print_at};
 use portal_program::serving::{Listening, serve};
 use portal_program::takings::{read_range, takings, takings_at};
@@ -18,11 +18,6 @@ const REQUEST: &str =
     "GET /captive HTTP/1.1\r\nHost: api\r\nPortal-Device: 02:00:00:00:00:01\r\n\r\n";
 
 const SEED: &str = "0000000000000000000000000000000000000000000000000000000000000000";
-
-const FILES: Files<'static> = Files {
-    db: "portal.db",
-    settings: "portal.toml",
-};
 
 /// The report over one day without sales.
 const REPORT: &str = "day            sold             sales refunded           refunds\n\
