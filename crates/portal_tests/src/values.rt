@@ -204,7 +204,7 @@ fn is_written(refusal: Refusal, number: u8, word: &str, status: u16) -> bool {
 }
 
 #[test]
-fn refusals(rt: HostRuntime) {
+fn words_of_refusals(rt: HostRuntime) {
     for (refusal, number, word, status) in REFUSALS {
         assert!(rt; is_written(*refusal, *number, word, *status), "{word}");
     }
