@@ -29,3 +29,7 @@ returns-clause-takings g c = λ honest old at.
 
 pub returns-clause-honest : goal.returns-clause-honest
 returns-clause-honest g c = λ honest. c.find_sales.ensures.honest (c.find_refunds.ensures.honest honest)
+
+pub returns-clause-rest : goal.returns-clause-rest
+returns-clause-rest g c =
+    (c.find_refunds.ensures.rest.0 ∙ c.find_sales.ensures.rest.0, c.find_refunds.ensures.rest.1 ∙ c.find_sales.ensures.rest.1)
