@@ -1,6 +1,6 @@
 //! The subcommands.
 ghost use Rattle.std.specs.Prelude.{◌≡◌, false, IfOk};
-ghost use Rattle.clap.specs.Words.{app_of};
+ghost use Rattle.clap.specs.Words.{app_of, rule_of, with_rule};
 ghost use Rattle.clap.specs.declared.builder.command.Command.TheViews.{out-Command as fields_of};
 ghost use Rattle.portal_cli.specs.CommandLine.{serve_subcommand, answer_subcommand, print_subcommand, takings_subcommand, check_subcommand, with_files, with_own_files, bare_command_line, answering_line, printing_line, command_line};
 
@@ -9,10 +9,25 @@ use crate::options::{
     port_option, seed_option, settings_option, to_word,
 };
 use crate::texts::{
-    ANSWER_EXAMPLES, CHECK_EXAMPLES, EXAMPLES, PRINT_EXAMPLES, SERVE_EXAMPLES, TAKINGS_EXAMPLES,
+    answer_examples, check_examples, examples, print_examples, serve_examples, takings_examples,
 };
-use clap::Command;
+use clap::{Arg, Command};
 use std::alloc::{AllocError, Global};
+
+/// A subcommand with two more options, which are its own.
+fn with_both<'a>(
+    command: Command<'a>,
+    first: Arg<'a>,
+    second: Arg<'a>,
+) -> Result<Command<'a>, AllocError>
+    requires own { (fields_of command).has_globals ≡ false }
+    requires own_first { first.global ≡ false }
+    requires own_second { second.global ≡ false }
+    ensures subcommand { IfOk result (λ c. app_of c ≡ with_rule (with_rule (app_of command.entry) (rule_of first.entry)) (rule_of second.entry)) }
+    ensures here { IfOk result (λ c. (fields_of c).has_globals ≡ false) }
+{
+    command.arg(first)?.arg(second)
+}
 
 /// A subcommand with `--db PATH` and `--settings PATH`.
 fn with_files<'a>(alloc: Global, command: Command<'a>) -> Result<Command<'a>, AllocError>
@@ -20,7 +35,7 @@ fn with_files<'a>(alloc: Global, command: Command<'a>) -> Result<Command<'a>, Al
     ensures subcommand { IfOk result (λ c. app_of c ≡ with_files (app_of command.entry)) }
     ensures here { IfOk result (λ c. (fields_of c).has_globals ≡ false) }
 {
-    command.arg(db_option(alloc))?.arg(settings_option(alloc))
+    with_both(command, db_option(alloc), settings_option(alloc))
 }
 
 /// A subcommand with `--db PATH` and `--settings PATH`, which may be left out.
@@ -29,9 +44,7 @@ fn with_own_files<'a>(alloc: Global, command: Command<'a>) -> Result<Command<'a>
     ensures subcommand { IfOk result (λ c. app_of c ≡ with_own_files (app_of command.entry)) }
     ensures here { IfOk result (λ c. (fields_of c).has_globals ≡ false) }
 {
-    command
-        .arg(own_db_option(alloc))?
-        .arg(own_settings_option(alloc))
+    with_both(command, own_db_option(alloc), own_settings_option(alloc))
 }
 
 /// `serve --db PATH --settings PATH --port N --count N`.
@@ -41,10 +54,9 @@ fn serve_subcommand<'a>(alloc: Global) -> Result<Command<'a>, AllocError>
 {
     let command = Command::new(alloc, "serve")
         .about("Serves connections on 127.0.0.1, one after another")
-        .after_help(SERVE_EXAMPLES);
-    with_files(alloc, command)?
-        .arg(port_option(alloc))?
-        .arg(count_option(alloc))
+        .after_help(serve_examples());
+    let command = with_files(alloc, command)?;
+    with_both(command, port_option(alloc), count_option(alloc))
 }
 
 /// `answer --db PATH --settings PATH --now N --seed HEX`.
@@ -54,10 +66,9 @@ fn answer_subcommand<'a>(alloc: Global) -> Result<Command<'a>, AllocError>
 {
     let command = Command::new(alloc, "answer")
         .about("Answers the request on standard input with a response on standard output")
-        .after_help(ANSWER_EXAMPLES);
-    with_own_files(alloc, command)?
-        .arg(now_option(alloc))?
-        .arg(seed_option(alloc))
+        .after_help(answer_examples());
+    let command = with_own_files(alloc, command)?;
+    with_both(command, now_option(alloc), seed_option(alloc))
 }
 
 /// `print BATCH --db PATH --settings PATH`.
@@ -67,7 +78,7 @@ fn print_subcommand<'a>(alloc: Global) -> Result<Command<'a>, AllocError>
 {
     let command = Command::new(alloc, "print")
         .about("Prints the print file of a batch, as CSV")
-        .after_help(PRINT_EXAMPLES);
+        .after_help(print_examples());
     with_files(alloc, command)?.arg(batch_word(alloc))
 }
 
@@ -78,10 +89,9 @@ fn takings_subcommand<'a>(alloc: Global) -> Result<Command<'a>, AllocError>
 {
     let command = Command::new(alloc, "takings")
         .about("Prints the takings of the days from FROM to TO")
-        .after_help(TAKINGS_EXAMPLES);
-    with_files(alloc, command)?
-        .arg(from_word(alloc))?
-        .arg(to_word(alloc))
+        .after_help(takings_examples());
+    let command = with_files(alloc, command)?;
+    with_both(command, from_word(alloc), to_word(alloc))
 }
 
 /// `check --db PATH --settings PATH`.
@@ -91,7 +101,7 @@ fn check_subcommand<'a>(alloc: Global) -> Result<Command<'a>, AllocError>
 {
     let command = Command::new(alloc, "check")
         .about("Checks the counters of the database file against its rows")
-        .after_help(CHECK_EXAMPLES);
+        .after_help(check_examples());
     with_files(alloc, command)
 }
 
@@ -101,7 +111,7 @@ fn bare_command_line<'a>(alloc: Global) -> Command<'a>
 {
     Command::new(alloc, "portal")
         .about("The voucher and session desk behind a captive portal")
-        .after_help(EXAMPLES)
+        .after_help(examples())
         .subcommand_required(true)
 }
 

@@ -1,5 +1,5 @@
-//! Tests of the desk over real stores, in memory and over files that are closed or stopped and opened again, of whole
-//! requests and of the program over such a desk, by the cases that the desk is described with.
+//! Tests of the tables and of the desk over real stores, in memory and over files that are closed or stopped and opened
+//! again, of whole requests and of the program over such a desk, by the cases that the desk is described with.
 #![tactic(auto)]
 
 #[cfg(test)]
@@ -16,6 +16,8 @@ mod cut_off;
 mod desks;
 #[cfg(test)]
 mod exchanges;
+#[cfg(test)]
+mod files;
 #[cfg(test)]
 mod hostile;
 #[cfg(test)]
@@ -50,6 +52,8 @@ mod stopped;
 mod stops;
 #[cfg(test)]
 mod subcommands;
+#[cfg(test)]
+mod tables;
 #[cfg(test)]
 mod told;
 #[cfg(test)]

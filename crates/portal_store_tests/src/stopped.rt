@@ -1,46 +1,13 @@
 //! A store in files in memory, which are closed after each job, or which stop answering.
 //!
 //! Only the functions of this file name a connection over files.
+use crate::files::{Image, Limit, remains};
 use crate::jobs::{Job, Told, run};
 use sqlite::{Connection, Files, Options};
-use sqlite_disk::{Crash, Disk, Fuse, Memory};
+use sqlite_disk::Disk;
 use std::alloc::Global;
 use std::process::Abort;
 use std::test::Fail;
-
-/// Which of the two files stops answering.
-#[derive(Clone, Copy, Debug)]
-pub enum Part {
-    Log,
-    Database,
-}
-
-/// A stop: the file answers so many calls, and none after.
-#[derive(Clone, Copy, Debug)]
-pub struct Limit {
-    pub part: Part,
-    pub calls: u64,
-}
-
-/// The bytes of both files.
-#[derive(Drop)]
-pub struct Image {
-    log: Vec<u8>,
-    db: Vec<u8>,
-}
-
-impl Image {
-    pub fn is(&self, other: &Image) -> bool {
-        self.log.as_slice() == other.log.as_slice() && self.db.as_slice() == other.db.as_slice()
-    }
-
-    pub fn copy(&self) -> Result<Image, Fail> {
-        Ok(Image {
-            log: self.log.clone()?,
-            db: self.db.clone()?,
-        })
-    }
-}
 
 /// What is left of files that stopped: what the job tells, whether they were closed, and their bytes where the process
 /// ends and where the power fails. Then writes that were not synced are lost.
@@ -57,16 +24,6 @@ pub struct Remains {
 pub struct InFiles {
     alloc: Global,
     image: Image,
-}
-
-type FileDisk = Fuse<Memory>;
-
-/// A file in memory with these bytes, all of them synced.
-fn file(alloc: Global, bytes: &[u8], calls: u64) -> Result<FileDisk, Fail> {
-    let mut file = Memory::new(alloc);
-    file.write_at(0, bytes)?;
-    file.sync()?;
-    Ok(Fuse::new(file, calls))
 }
 
 /// Opens the store, does the job and closes the store. Answers what the job tells, whether the store was closed, and
@@ -98,10 +55,7 @@ impl InFiles {
     pub fn new(alloc: Global) -> InFiles {
         InFiles {
             alloc,
-            image: Image {
-                log: Vec::new(alloc),
-                db: Vec::new(alloc),
-            },
+            image: Image::new(alloc),
         }
     }
 
@@ -113,20 +67,6 @@ impl InFiles {
         })
     }
 
-    fn files(&self, log: u64, db: u64) -> Result<Files<FileDisk>, Fail> {
-        Ok(Files {
-            log: file(self.alloc, &self.image.log, log)?,
-            db: file(self.alloc, &self.image.db, db)?,
-        })
-    }
-
-    fn image_of(&self, files: &Files<FileDisk>) -> Result<Image, Fail> {
-        Ok(Image {
-            log: Vec::from_slice(self.alloc, files.log.inner().bytes())?,
-            db: Vec::from_slice(self.alloc, files.db.inner().bytes())?,
-        })
-    }
-
     /// The bytes of the files.
     pub fn image(&self) -> Result<Image, Fail> {
         self.image.copy()
@@ -134,12 +74,12 @@ impl InFiles {
 
     /// Does the job with the store, and keeps the files.
     pub fn visit(&mut self, rt: &impl Abort, settings: &str, job: Job<'_>) -> Result<Told, Fail> {
-        let files = self.files(u64::MAX, u64::MAX)?;
+        let files = self.image.files(self.alloc)?;
         let (told, is_closed, files) = open(rt, self.alloc, files, settings, job)?;
         if !is_closed {
             return Err("the files are not closed".into());
         }
-        self.image = self.image_of(&files)?;
+        self.image = Image::of(self.alloc, &files)?;
         Ok(told)
     }
 
@@ -151,16 +91,9 @@ impl InFiles {
         job: Job<'_>,
         limit: Limit,
     ) -> Result<Remains, Fail> {
-        let files = match limit.part {
-            Part::Log => self.files(limit.calls, u64::MAX)?,
-            Part::Database => self.files(u64::MAX, limit.calls)?,
-        };
+        let files = self.image.stopping_files(self.alloc, limit)?;
         let (told, is_closed, files) = open(rt, self.alloc, files, settings, job)?;
-        let ended = self.image_of(&files)?;
-        let Files { mut log, mut db } = files;
-        log.crash();
-        db.crash();
-        let failed = self.image_of(&Files { log, db })?;
+        let (ended, failed) = remains(self.alloc, files)?;
         Ok(Remains {
             told,
             is_closed,

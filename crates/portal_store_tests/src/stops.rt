@@ -1,9 +1,10 @@
 //! A day at the desk that is stopped at each call of its files, opened again, also with a further stop, and gone on
 //! with: what stands there is the commands that were acknowledged, or one more, whole.
+use crate::files::{Image, Limit, Part};
 use crate::jobs::{Job, Told};
 use crate::script::{CLOSED_DAY, script};
 use crate::steps::{Step, outcome_of, wanted_of};
-use crate::stopped::{Image, InFiles, Limit, Part, Remains};
+use crate::stopped::{InFiles, Remains};
 use crate::values::{FIRST_DEVICE, SEED_CODE, UTC, code, device, id, moment};
 use portal_desk::Desk;
 use portal_model::refusal::Refusal;

@@ -1,11 +1,11 @@
 //! The largest batch, the greatest report, and one voucher that is redeemed often.
-use crate::asks::{Ask, Reply, answer, decide_batch, is_told, keep};
-use crate::cases::WORKED;
-use crate::jobs::Job;
-use crate::place::in_memory;
-use crate::reads::{read_codes, read_voucher};
-use crate::seen::Seen;
-use crate::values::{
+use crate::tables::asks::{Ask, Reply, answer, decide_batch, is_told, keep};
+use crate::tables::cases::WORKED;
+use crate::tables::jobs::Job;
+use crate::tables::place::in_memory;
+use crate::tables::reads::{read_codes, read_voucher};
+use crate::tables::seen::Seen;
+use crate::tables::values::{
     FIRST_DEVICE, HOUR, LAST_ONE_CODE, MINUTE, SECOND_DEVICE, Trouble, ZERO_SEED_CODE, id, moment,
 };
 use portal_codes::Code;

@@ -1,11 +1,12 @@
 //! A store that is stopped at a call of its files, and opened again: what stands there is what stood there before, or
 //! what the command makes of it, whole.
-use crate::asks::{Ask, Entry, Reply, answer, is_told};
-use crate::jobs::{Job, Told};
-use crate::once::{Once, Who, answer_once};
-use crate::place::{AT_END, Image, InFiles, Limit, Part, in_memory};
-use crate::reads::read_head;
-use crate::values::{
+use crate::files::{AT_END, Image, Limit, Part};
+use crate::tables::asks::{Ask, Entry, Reply, answer, is_told};
+use crate::tables::jobs::{Job, Told};
+use crate::tables::once::{Once, Who, answer_once};
+use crate::tables::place::{InFiles, in_memory};
+use crate::tables::reads::read_head;
+use crate::tables::values::{
     DAY, FIRST_DEVICE, GIG, HOUR, LAST_ONE_CODE, SECOND_DEVICE, SHORT_SEED_CODE, Trouble,
     ZERO_SEED_CODE, ZEROS_CODE,
 };

@@ -1,10 +1,10 @@
 //! The worked cases on the tables of a store in memory, and of files that are closed and opened again between any two
 //! steps.
-use crate::asks::{Ask, Entry, Reply};
-use crate::jobs::Job;
-use crate::place::{in_files, in_memory};
-use crate::seen::{BatchSeen, Seen, SessionSeen, VoucherSeen};
-use crate::values::{
+use crate::tables::asks::{Ask, Entry, Reply};
+use crate::tables::jobs::Job;
+use crate::tables::place::{in_files, in_memory};
+use crate::tables::seen::{BatchSeen, Seen, SessionSeen, VoucherSeen};
+use crate::tables::values::{
     DAY, FIRST_DEVICE, GIG, HOUR, LAST_ONE_CODE, LONG_ZEROS_CODE, MINUTE, SECOND_DEVICE,
     SHORT_SEED_CODE, Terms, ZERO_SEED_CODE, ZEROS_CODE,
 };
@@ -665,7 +665,7 @@ fn at_both(rt: &impl Abort, alloc: Global, jobs: &[Job<'_>]) -> Result<(), Fail>
 }
 
 #[test]
-fn issue_sell_redeem(rt: HostRuntime) -> Result<(), Fail> {
+fn worked_case(rt: HostRuntime) -> Result<(), Fail> {
     at_both(&rt, rt.alloc(), ISSUE_SELL_REDEEM)
 }
 

@@ -1,9 +1,9 @@
 //! What is read of the tables, told by texts.
-use crate::reads::{
+use crate::tables::reads::{
     Amounts, read_audit, read_batch, read_codes, read_head, read_held, read_last_session,
     read_open, read_plan, read_refunds, read_sales, read_session, read_voucher,
 };
-use crate::values::{Terms, Trouble, code, device, id, maybe, moment, plan};
+use crate::tables::values::{Terms, Trouble, code, device, id, maybe, moment, plan};
 use portal_core::{Batch, Captive, Head, Session, Voucher, captive_of, effective};
 use portal_tables::tables::Tables;
 use sqlite::Alter;

@@ -1,11 +1,11 @@
 //! Stores of the older layouts, made by hand: the first has no counters, and the first two keep no requests.
-use crate::asks::{Ask, Reply};
-use crate::jobs::Job;
-use crate::once::{Once, Who};
-use crate::place::in_files;
-use crate::seen::{BatchSeen, Seen, SessionSeen, VoucherSeen};
-use crate::sql::execute;
-use crate::values::{
+use crate::tables::asks::{Ask, Reply};
+use crate::tables::jobs::Job;
+use crate::tables::once::{Once, Who};
+use crate::tables::place::in_files;
+use crate::tables::seen::{BatchSeen, Seen, SessionSeen, VoucherSeen};
+use crate::tables::sql::execute;
+use crate::tables::values::{
     FIRST_DEVICE, GIG, HOUR, LAST_ONE_CODE, SECOND_DEVICE, SHORT_SEED_CODE, ZERO_SEED_CODE,
     ZEROS_CODE,
 };

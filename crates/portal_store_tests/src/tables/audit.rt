@@ -1,9 +1,9 @@
 //! Whether the counters of the tables are those that the rows come to.
-use crate::cases::WORKED;
-use crate::jobs::Job;
-use crate::place::in_memory;
-use crate::seen::{Seen, VoucherSeen};
-use crate::values::{HOUR, ZERO_SEED_CODE};
+use crate::tables::cases::WORKED;
+use crate::tables::jobs::Job;
+use crate::tables::place::in_memory;
+use crate::tables::seen::{Seen, VoucherSeen};
+use crate::tables::values::{HOUR, ZERO_SEED_CODE};
 use std::test::Fail;
 
 /// The voucher of the case, whose redemption is not counted.

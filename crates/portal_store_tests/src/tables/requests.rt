@@ -1,12 +1,12 @@
 //! Numbered requests: the mark and the answer are kept with the changes, and a request that comes again changes
 //! nothing.
-use crate::asks::{Ask, Reply};
-use crate::cases::WORKED;
-use crate::jobs::Job;
-use crate::once::{Once, Who};
-use crate::place::{in_files, in_memory};
-use crate::seen::Seen;
-use crate::values::{
+use crate::tables::asks::{Ask, Reply};
+use crate::tables::cases::WORKED;
+use crate::tables::jobs::Job;
+use crate::tables::once::{Once, Who};
+use crate::tables::place::{in_files, in_memory};
+use crate::tables::seen::Seen;
+use crate::tables::values::{
     FIRST_DEVICE, GIG, HOUR, LAST_ONE_CODE, SECOND_DEVICE, ZERO_SEED_CODE, ZEROS_CODE,
 };
 use portal_core::Refusal;

@@ -1,8 +1,8 @@
 //! A store in a file of the file system.
-use crate::cases::WORKED;
-use crate::jobs::Job;
-use crate::place::in_file;
-use crate::seen::Seen;
+use crate::tables::cases::WORKED;
+use crate::tables::jobs::Job;
+use crate::tables::place::in_file;
+use crate::tables::seen::Seen;
 use std::fs;
 use std::test::Fail;
 

@@ -1,10 +1,10 @@
 //! The lists of the tables.
-use crate::asks::{Ask, Reply};
-use crate::cases::WORKED;
-use crate::jobs::Job;
-use crate::place::in_memory;
-use crate::seen::{BatchSeen, Seen};
-use crate::values::{
+use crate::tables::asks::{Ask, Reply};
+use crate::tables::cases::WORKED;
+use crate::tables::jobs::Job;
+use crate::tables::place::in_memory;
+use crate::tables::seen::{BatchSeen, Seen};
+use crate::tables::values::{
     FIRST_DEVICE, GIG, HOUR, LAST_ONE_CODE, SECOND_DEVICE, ZERO_SEED_CODE, ZEROS_CODE,
 };
 use std::test::Fail;

@@ -1,11 +1,12 @@
 //! What is done with a connection, whatever store it is over.
-use crate::asks::{Entry, carry_out};
-use crate::large::{Large, check_large};
-use crate::old::make;
-use crate::once::{Once, send};
-use crate::seen::{Seen, check};
-use crate::sql::{check_rows, execute, whole};
-use crate::stops::{Deed, Outcome, carry_out_deed, carry_out_patiently};
+use crate::sql::whole;
+use crate::tables::asks::{Entry, carry_out};
+use crate::tables::large::{Large, check_large};
+use crate::tables::old::make;
+use crate::tables::once::{Once, send};
+use crate::tables::seen::{Seen, check};
+use crate::tables::sql::{check_rows, execute};
+use crate::tables::stops::{Deed, Outcome, carry_out_deed, carry_out_patiently};
 use portal_tables::adopt::Refused;
 use portal_tables::fault::OpenFault;
 use portal_tables::tables::Tables;

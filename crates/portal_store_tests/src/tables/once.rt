@@ -1,6 +1,6 @@
 //! Commands whose requests act once: a request that is sent again is answered from what is kept.
-use crate::asks::{Ask, Entry, decide, is_told, keep};
-use crate::values::{Trouble, device};
+use crate::tables::asks::{Ask, Entry, decide, is_told, keep};
+use crate::tables::values::{Trouble, device};
 use portal_core::Answer;
 use portal_ledger::caller::Caller;
 use portal_ledger::marked::MarkedChanges;

@@ -1,6 +1,6 @@
 //! Stores that are none of the product's, or newer.
-use crate::jobs::Job;
-use crate::place::{in_files, in_memory};
+use crate::tables::jobs::Job;
+use crate::tables::place::{in_files, in_memory};
 use portal_tables::fault::OpenFault;
 use std::test::Fail;
 

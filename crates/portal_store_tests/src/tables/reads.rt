@@ -1,5 +1,5 @@
 //! Each reader of the tables. These have no clause, so that the proof of a test does not carry the state of each call.
-use crate::values::Trouble;
+use crate::tables::values::Trouble;
 use portal_codes::Code;
 use portal_core::{Batch, Device, Head, Id, Moment, Plan, Session, Voucher};
 use portal_tables::tables::Tables;

@@ -1,10 +1,10 @@
 //! Stores in which other tables stand beside the product's.
-use crate::asks::{Ask, Reply};
-use crate::cases::WORKED;
-use crate::jobs::Job;
-use crate::place::{in_files, in_memory};
-use crate::seen::Seen;
-use crate::values::{LAST_ONE_CODE, SECOND_DEVICE};
+use crate::tables::asks::{Ask, Reply};
+use crate::tables::cases::WORKED;
+use crate::tables::jobs::Job;
+use crate::tables::place::{in_files, in_memory};
+use crate::tables::seen::Seen;
+use crate::tables::values::{LAST_ONE_CODE, SECOND_DEVICE};
 use portal_tables::fault::OpenFault;
 use std::alloc::Global;
 use std::process::Abort;

@@ -1,9 +1,9 @@
 //! Commands as a desk carries them out, by a decision over the records that are read and a commit. They are told by
 //! texts, as is what they answer.
-use crate::reads::{
+use crate::tables::reads::{
     read_batch, read_head, read_held, read_last_session, read_plan, read_session, read_voucher,
 };
-use crate::values::{Terms, Trouble, code, device, id, moment, plan};
+use crate::tables::values::{Terms, Trouble, code, device, id, moment, plan};
 use portal_codes::Code;
 use portal_core::{
     Answer, Changes, Moment, Plan, Refusal, decide_close, decide_issue, decide_plans,

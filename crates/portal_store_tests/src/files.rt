@@ -1,0 +1,101 @@
+//! The two files of a store, in memory: their bytes, and where they stop answering.
+use sqlite::Files;
+use sqlite_disk::{Crash, Disk, Fuse, Memory};
+use std::alloc::Global;
+use std::test::Fail;
+
+/// Which of the two files stops answering.
+#[derive(Clone, Copy, Debug)]
+pub enum Part {
+    Log,
+    Database,
+}
+
+/// A stop: the file answers so many calls, and none after.
+#[derive(Clone, Copy, Debug)]
+pub struct Limit {
+    pub part: Part,
+    pub calls: u64,
+}
+
+/// The process ends, with no call refused before: what was kept stands in the log alone.
+pub const AT_END: Limit = Limit {
+    part: Part::Log,
+    calls: u64::MAX,
+};
+
+pub type FileDisk = Fuse<Memory>;
+
+/// The bytes of both files.
+#[derive(Drop)]
+pub struct Image {
+    log: Vec<u8>,
+    db: Vec<u8>,
+}
+
+/// A file in memory with these bytes, all of them synced.
+fn file(alloc: Global, bytes: &[u8], calls: u64) -> Result<FileDisk, Fail> {
+    let mut file = Memory::new(alloc);
+    file.write_at(0, bytes)?;
+    file.sync()?;
+    Ok(Fuse::new(file, calls))
+}
+
+impl Image {
+    /// That of two new files.
+    pub fn new(alloc: Global) -> Image {
+        Image {
+            log: Vec::new(alloc),
+            db: Vec::new(alloc),
+        }
+    }
+
+    /// That of these files.
+    pub fn of(alloc: Global, files: &Files<FileDisk>) -> Result<Image, Fail> {
+        Ok(Image {
+            log: Vec::from_slice(alloc, files.log.inner().bytes())?,
+            db: Vec::from_slice(alloc, files.db.inner().bytes())?,
+        })
+    }
+
+    pub fn is(&self, other: &Image) -> bool {
+        self.log.as_slice() == other.log.as_slice() && self.db.as_slice() == other.db.as_slice()
+    }
+
+    pub fn copy(&self) -> Result<Image, Fail> {
+        Ok(Image {
+            log: self.log.clone()?,
+            db: self.db.clone()?,
+        })
+    }
+
+    /// Files with these bytes, which never stop.
+    pub fn files(&self, alloc: Global) -> Result<Files<FileDisk>, Fail> {
+        self.files_up_to(alloc, u64::MAX, u64::MAX)
+    }
+
+    /// Files with these bytes, which stop so.
+    pub fn stopping_files(&self, alloc: Global, limit: Limit) -> Result<Files<FileDisk>, Fail> {
+        match limit.part {
+            Part::Log => self.files_up_to(alloc, limit.calls, u64::MAX),
+            Part::Database => self.files_up_to(alloc, u64::MAX, limit.calls),
+        }
+    }
+
+    fn files_up_to(&self, alloc: Global, log: u64, db: u64) -> Result<Files<FileDisk>, Fail> {
+        Ok(Files {
+            log: file(alloc, &self.log, log)?,
+            db: file(alloc, &self.db, db)?,
+        })
+    }
+}
+
+/// What is left of files where the process ends, and where the power fails: then writes that were not synced are lost.
+pub fn remains(alloc: Global, files: Files<FileDisk>) -> Result<(Image, Image), Fail> {
+    let ended = Image::of(alloc, &files)?;
+    let Files { mut log, mut db } = files;
+    log.crash();
+    db.crash();
+    let failed = Image::of(alloc, &Files { log, db })?;
+    Ok((ended, failed))
+}

@@ -1,0 +1,19 @@
+//! Tests of the tables at real stores, in memory and over files.
+mod asks;
+mod audit;
+mod cases;
+mod file;
+mod foreign;
+mod jobs;
+mod large;
+mod lists;
+mod old;
+mod once;
+mod place;
+mod reads;
+mod requests;
+mod seen;
+mod shared;
+mod sql;
+mod stops;
+mod values;
