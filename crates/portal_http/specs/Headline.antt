@@ -2,7 +2,9 @@
 --
 -- A stop leaves the ledger before the run, then the commands that were answered 200, and at most one command more, which was answered
 -- `stopped`. Each response, but for those of `no_memory` and `stopped`, is the reply that the ledger so far gives at the moment handed
--- in.
+-- in. A stop within the run is one at its end: a store that has stopped changes nothing more, so the run ends with what the stop left.
+--
+-- A × B and (x : A) × B read: and, there is; A ⊎ B: or; ⊥: never; ¬ A: not. MatchBool b A B: A where b is true, else B.
 use Rattle.std.specs.Prelude.{◌≡◌, ◌⊎◌, ℕ, List, [], ◌∷◌, ◌++◌, length, take, Bool, Option, None, Result, Ok, codes, nat_eq}
 use Rattle.std.specs.List.{starts_with}
 use Rattle.std.specs.Bool.{MatchBool}
@@ -27,7 +29,7 @@ use Rattle.portal_http.specs.Replies.{IsRefusal, IsReply}
 abbrev pub is_ok : List ℕ → Bool
 is_ok response = starts_with nat_eq response (codes "HTTP/1.1 200 ")
 
--- the ledger with the command of a request, where that is a new one; a repetition and a request of another kind add nothing
+-- the ledger with the command of a request, where the command is new; a repetition and a request of another kind add nothing
 abbrev pub with_command : Ledger → Result Wanted Denied → ℕ → Ledger
 with_command L (Ok (Act command mark)) moment = new_by (repeat_in L mark) (taken_at L moment command mark) ++ L
 with_command L _ moment = L
@@ -44,7 +46,8 @@ Replies settings L a response after =
     ((wanted : Result Wanted Denied) × IsChecked settings a.seed a.bytes wanted × IsReply settings wanted L a.moment response after)
     ⊎ (IsRefusal NoMemory a.moment response ⊎ IsRefusal Stopped a.moment response)
 
--- Requests and their responses, one after another: the last ledger is the first with the acknowledged commands.
+-- Requests and their responses, one after another: each response is as above, and the last ledger is the first with the acknowledged
+-- commands.
 abbrev pub Leads : SettingsValue → Ledger → List Arrived → List (List ℕ) → Ledger → Type 0
 Leads settings L [] [] last = last ≡ L
 Leads settings L [] (r ∷ rs) last = ⊥
@@ -71,15 +74,15 @@ IsInDoubt settings L (a ∷ rest) (r ∷ rs) own =
 -- ---- what a stop leaves
 
 -- What is found after a stop: the ledger with the acknowledged commands, or with the one in doubt besides. It is sound, its history is
--- legal, and no code in it has more grants than its plan has uses.
+-- legal, and no code in it has more redemptions (grants) than its plan has uses.
 pub record IsFound (settings : SettingsValue) (L : Ledger) (arrivals : List Arrived) (responses : List (List ℕ)) (last found : Ledger) : Type 0 where
   pub is : (found ≡ last) ⊎ ((own : Accepted) × IsInDoubt settings L arrivals responses own × (found ≡ own ∷ last))
   pub sound : IsSound found
   pub legal : IsLegal (history_of found)
   pub grants : (code : List ℕ) → HasGrantsWithin (rows_of (history_of found)) code
 
--- The requests that were answered led from the ledger to another one, and each set of files that a stop may leave shows that one, or
--- it with the command in doubt.
+-- The requests that were answered led from the ledger to another one, and each set of files that a stop may leave shows what may be
+-- found then: that one, or it with the command in doubt, as above.
 abbrev pub Survives : (Files : Type 0) → (Files → Type 0) → (Files → Ledger → Type 0) → SettingsValue → Ledger → List Arrived → List (List ℕ) → Type 0
 Survives Files may_leave shows settings L arrivals responses =
     let answered = take (length responses) arrivals in

@@ -4,9 +4,9 @@ ghost use Rattle.portal_http.specs.Lives.{LifeIsKept};
 
 use portal_desk::Desk;
 
-/// Over a whole life of rounds, each ended by a stop, nothing that was acknowledged is lost. The last files show the
-/// commands of the first, then for each round the commands that were answered 200, in their order, and at most one
-/// more.
+/// Over a whole life of rounds, each with settings of its own and ended by a stop, nothing that was acknowledged is lost.
+/// The last files show what the first showed, then for each round the commands that were answered 200, in their order,
+/// and at most one more.
 pub fn life_is_kept<D: Desk>()
     ensures { LifeIsKept D.Files D.shows }
 {}

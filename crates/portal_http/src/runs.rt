@@ -16,13 +16,13 @@ use std::alloc::Global;
 
 /// Serves the requests in order and appends one response for each to `out`.
 ///
-/// Each response is the reply that the commands accepted by then give at the moment handed in, or that of
-/// `no_memory`, which has changed nothing, or that of `stopped`, after which the desk answers nothing else. The
-/// response and the room for it in `out` are taken before the desk is asked to keep a command, so want of memory
-/// never covers an accepted one.
+/// As long as the disk returns what was written to it, each response is the reply that the commands accepted by then
+/// give at the moment handed in, or that of `no_memory`, which has changed nothing, or that of `stopped`, after which
+/// each request that reaches the desk is answered `stopped` or `no_memory`. The response and the room for it in `out`
+/// are taken before the desk is asked to keep a command, so want of memory never covers an accepted one.
 ///
-/// A stop at the end of the run, wherever it ends, leaves the commands of before with those that were answered 200,
-/// and at most one more: the command that was first answered `stopped`.
+/// A stop at the end of the run, wherever it ends, then leaves the commands of before with those that were answered
+/// 200, and at most one more: the command that was first answered `stopped`.
 ///
 /// Refusal: `NoMemory` alone, where no response could be made: that request changed nothing, and the run ends there.
 pub fn run<D: Desk>(

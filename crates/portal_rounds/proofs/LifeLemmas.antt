@@ -35,32 +35,32 @@ module _ (settings : SettingsValue) where
   left_by L arrivals responses new found (doubts last leads own doubted is) may =
       (last, leads, elim (subst (λ (s : State). MayStand s found) is may) [ inl same ↦ inl same | inr one ↦ inr (own, doubted, one) ])
 
-  abbrev Kept : Image → Ledger → List Round → Type 0
-  Kept last L rounds = (found : Ledger) × ImageShows last found × IsKept Image ImageShows settings L rounds found
+abbrev Kept : Image → Ledger → List Round → Type 0
+Kept last L rounds = (found : Ledger) × ImageShows last found × IsKept L rounds found
 
-  kept : (first last : Image) (L : Ledger) (rounds : List Round) → ImageShows first L → Life settings first rounds last → ∥ Kept last L rounds ∥₁
-  kept first last L [] shown lived = let r : Kept last L [] = (L, subst (λ (i : Image). ImageShows i L) (sym lived) shown, refl) in ∣ r ∣₁
-  kept first last L (missed ∷ rounds) shown (mid, allows, rest) = ∥∥₁_elim (allows L shown) squash₁ (λ here. kept mid last L rounds here rest)
-  kept first last L (ran xs rs ∷ rounds) shown (mid, allows, rest) = ∥∥₁_elim (allows L shown) squash₁ (λ it.
-      let left = left_by L xs rs it.0 it.2 (ends settings L (take (length rs) xs) rs it.0 it.1) it.3 in
-      ∥∥₁_map (kept mid last it.2 rounds it.4 rest)
-      (λ more. let r : Kept last L (ran xs rs ∷ rounds) = (more.0, more.1, (left.0, it.2, left.1, left.2, more.2)) in r))
+kept : (first last : Image) (L : Ledger) (rounds : List Round) → ImageShows first L → Life first rounds last → ∥ Kept last L rounds ∥₁
+kept first last L [] shown lived = let r : Kept last L [] = (L, subst (λ (i : Image). ImageShows i L) (sym lived) shown, refl) in ∣ r ∣₁
+kept first last L (missed ∷ rounds) shown (mid, allows, rest) = ∥∥₁_elim (allows L shown) squash₁ (λ here. kept mid last L rounds here rest)
+kept first last L (ran settings xs rs ∷ rounds) shown (mid, allows, rest) = ∥∥₁_elim (allows L shown) squash₁ (λ it.
+    let left = left_by settings L xs rs it.0 it.2 (ends settings L (take (length rs) xs) rs it.0 it.1) it.3 in
+    ∥∥₁_map (kept mid last it.2 rounds it.4 rest)
+    (λ more. let r : Kept last L (ran settings xs rs ∷ rounds) = (more.0, more.1, (left.0, it.2, left.1, left.2, more.2)) in r))
 
-  found_after : (last : Image) (L : Ledger) (rounds : List Round) → Kept last L rounds → (found : Ledger) × ImageShows last found × IsFoundAfter settings L rounds found
-  found_after last L rounds (found, shown, is) =
-      let sound = image_sound last found shown in
-      let legal = the_sound_is_legal found sound in (
-        found,
-        shown,
-        record {
-          kept = is;
-          sound = sound;
-          legal = legal;
-          grants = grants_bounded (history_of found) legal;
-          once = the_marked_once found sound;
-          told = life_told settings Image ImageShows L found rounds is;
-        },
-      )
+found_after : (last : Image) (L : Ledger) (rounds : List Round) → Kept last L rounds → (found : Ledger) × ImageShows last found × IsFoundAfter L rounds found
+found_after last L rounds (found, shown, is) =
+    let sound = image_sound last found shown in
+    let legal = the_sound_is_legal found sound in (
+      found,
+      shown,
+      record {
+        kept = is;
+        sound = sound;
+        legal = legal;
+        grants = grants_bounded (history_of found) legal;
+        once = the_marked_once found sound;
+        told = life_told L found rounds is;
+      },
+    )
 
 pub the_life_is_kept : LifeIsKept
-the_life_is_kept settings first last L rounds shown lived = ∥∥₁_map (kept settings first last L rounds shown lived) (λ it. found_after settings last L rounds it)
+the_life_is_kept first last L rounds shown lived = ∥∥₁_map (kept first last L rounds shown lived) (λ it. found_after last L rounds it)

@@ -1,14 +1,12 @@
 -- From what each step of a round leaves to what the round does.
-use Rattle.std.proofs.Common.{◌≡◌, ◌∙◌, inl, inr, ℕ, List, [], ◌++◌, sym, subst, append-nil}
+use Rattle.std.proofs.Common.{◌≡◌, ◌∙◌, inl, inr, ℕ, List, ◌++◌, sym, subst}
 use Rattle.std.specs.Prelude.{◌<◌, length, Result, MatchResult, Vec}
 use Rattle.std.proofs.lemmas.List.{length-map}
 use Rattle.std.specs.declared.alloc.Global.{Global}
 use Rattle.std.proofs.lemmas.List.{append_cancel_left}
 use Rattle.std.proofs.Math.Logic.{∥∥₁_map}
 use Rattle.sqlite_disk.specs.declared.Disk.{Ghosts}
-use Rattle.sqlite_disk.specs.declared.Files.{Files}
 use Rattle.sqlite_wal.specs.Recovery.{Image}
-use Rattle.sqlite_wal.specs.Files.{outcomes}
 use Rattle.sqlite_store.specs.declared.store.FileStore.{FileStore}
 use Rattle.sqlite.specs.Held.{Held}
 use Rattle.sqlite.specs.State.{HasCleanDisk}
@@ -20,14 +18,14 @@ use Rattle.portal_files.specs.SettingsFile.{SettingsValue}
 use Rattle.portal_tables.specs.Adopting.{FailsToAdopt}
 use Rattle.portal_tables.specs.declared.adopt.Refused.{Refused}
 use Rattle.portal_tables.specs.Images.{ImageHolds, ImageShows}
-use Rattle.portal_tables.specs.TablesAt.{ConnAt, ConnIsHonest, ConnLeaves, ConnMayLeave, FilesShow, Files as Tables}
+use Rattle.portal_tables.specs.TablesAt.{ConnIsHonest, ConnLeaves, ConnMayLeave, FilesShow, Files as Tables}
 use Rattle.portal_tables.proofs.StandingLemmas.{conn_leaves}
 use Rattle.sqlite_trees.specs.declared.store.Store as stores
 use Rattle.portal_store.specs.declared.desks.StoreDesk.{StoreDesk}
 use Rattle.portal_store.specs.DeskAt.{DeskAt, DeskMayLeave}
 use Rattle.portal_store.specs.Laws.{left_by}
 use Rattle.portal_http.specs.Arrived.{Arrived}
-use Rattle.portal_http.specs.Lives.{missed, ran}
+use Rattle.portal_http.specs.Lives.{ran}
 use Rattle.portal_http.specs.Runs.{Served, bytes_of}
 use Rattle.portal_model.specs.declared.refusal.Refusal.{Refusal}
 use Rattle.portal_rounds.specs.Life.{Allows}
@@ -86,7 +84,7 @@ module _ (settings : SettingsValue) (before after : Image) (xs : List Arrived) (
   RunsFrom L = (s : State) × (responses : List (Vec ℕ Global)) × (new ≡ old ++ responses) × Served settings (running L) xs (bytes_of responses) s
       × ∥ ((found : Ledger) × MayStand s found × ImageShows after found) ∥₁
 
-  pub allowed : (responses : List (Vec ℕ Global)) → new ≡ old ++ responses → ((L : Ledger) → ImageShows before L → RunsFrom L) → Allows settings before (ran xs (bytes_of responses)) after
+  pub allowed : (responses : List (Vec ℕ Global)) → new ≡ old ++ responses → ((L : Ledger) → ImageShows before L → RunsFrom L) → Allows before (ran settings xs (bytes_of responses)) after
   allowed responses grown runs L shown =
       let (s, mine, same, served, left) = runs L shown in
       let one : mine ≡ responses = append_cancel_left old mine responses (sym same ∙ grown) in

@@ -24,7 +24,7 @@ use Rattle.portal_http.specs.Replies.{IsRefusal, IsAnswer, IsVerdict, IsCommand,
 use Rattle.portal_http.specs.Headline.{is_ok, with_command, Acknowledges, Replies, Leads, IsInDoubt}
 use Rattle.portal_http.specs.Lives.{Round, missed, ran, IsKept}
 use Rattle.portal_http.proofs.Lines.{refused_off}
-use Rattle.portal_rounds.specs.Told.{IsAsHeld, AreAsHeld, AllAsHeld}
+use Rattle.portal_rounds.specs.Told.{AreAsHeld, AllAsHeld}
 
 -- what is held in the one is held in the other
 abbrev pub Stays : Ledger → Ledger → Type 0
@@ -128,23 +128,22 @@ module _ (settings : SettingsValue) where
   all_told F [] (r ∷ rs) told = tt
   all_told F (a ∷ xs) (r ∷ rs) told = (told.0, all_told F xs rs told.1)
 
-  doubt_stays : (last next : Ledger) (InDoubt : Accepted → Type 0) → ((next ≡ last) ⊎ ((own : Accepted) × InDoubt own × (next ≡ own ∷ last))) → Stays last next
-  doubt_stays last next InDoubt (inl same) = stays_same last next same
-  doubt_stays last next InDoubt (inr (own, doubted, same)) = λ mark k held. ap (λ (x : Ledger). held_in x mark) same ∙ stays_with last own mark k held
+doubt_stays : (last next : Ledger) (InDoubt : Accepted → Type 0) → ((next ≡ last) ⊎ ((own : Accepted) × InDoubt own × (next ≡ own ∷ last))) → Stays last next
+doubt_stays last next InDoubt (inl same) = stays_same last next same
+doubt_stays last next InDoubt (inr (own, doubted, same)) = λ mark k held. ap (λ (x : Ledger). held_in x mark) same ∙ stays_with last own mark k held
 
-  module _ (Files : Type 0) (shows : Files → Ledger → Type 0) where
-    kept_stays : (L found : Ledger) (rounds : List Round) → IsKept Files shows settings L rounds found → Stays L found
-    kept_stays L found [] kept = stays_same L found kept
-    kept_stays L found (missed ∷ rounds) kept = kept_stays L found rounds kept
-    kept_stays L found (ran xs rs ∷ rounds) (last, next, leads, is, rest) = λ mark k held.
-        kept_stays next found rounds rest mark k
-        (doubt_stays last next (IsInDoubt settings L (take (length rs) xs) rs) is mark k (leads_stay L last (take (length rs) xs) rs leads mark k held))
+kept_stays : (L found : Ledger) (rounds : List Round) → IsKept L rounds found → Stays L found
+kept_stays L found [] kept = stays_same L found kept
+kept_stays L found (missed ∷ rounds) kept = kept_stays L found rounds kept
+kept_stays L found (ran settings xs rs ∷ rounds) (last, next, leads, is, rest) = λ mark k held.
+    kept_stays next found rounds rest mark k
+    (doubt_stays last next (IsInDoubt settings L (take (length rs) xs) rs) is mark k (leads_stay settings L last (take (length rs) xs) rs leads mark k held))
 
-    pub life_told : (L found : Ledger) (rounds : List Round) → IsKept Files shows settings L rounds found → AllAsHeld settings found rounds
-    life_told L found [] kept = tt
-    life_told L found (missed ∷ rounds) kept = life_told L found rounds kept
-    life_told L found (ran xs rs ∷ rounds) (last, next, leads, is, rest) = (
-      all_told found xs rs (run_told L last found (take (length rs) xs) rs leads
-          (λ m k held. kept_stays next found rounds rest m k (doubt_stays last next (IsInDoubt settings L (take (length rs) xs) rs) is m k held))),
-      life_told next found rounds rest,
-    )
+pub life_told : (L found : Ledger) (rounds : List Round) → IsKept L rounds found → AllAsHeld found rounds
+life_told L found [] kept = tt
+life_told L found (missed ∷ rounds) kept = life_told L found rounds kept
+life_told L found (ran settings xs rs ∷ rounds) (last, next, leads, is, rest) = (
+  all_told settings found xs rs (run_told settings L last found (take (length rs) xs) rs leads
+      (λ m k held. kept_stays next found rounds rest m k (doubt_stays last next (IsInDoubt settings L (take (length rs) xs) rs) is m k held))),
+  life_told next found rounds rest,
+)

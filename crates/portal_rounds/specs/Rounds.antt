@@ -26,13 +26,14 @@ module _ {D : Type 0} {g : Ghosts D} where
   IsHonestMissed (Unopened error left) = IsCleanLeft left
   IsHonestMissed (Refused fault files) = AreClean g files.log files.db
 
-  -- No desk came up: what a stop leaves of the files shows what they showed. So it is of files that were not opened,
-  -- where they showed it also as a stop might have left them before.
+  -- No desk came up: what a stop leaves of the files shows what they showed. The same holds of files that were not
+  -- opened, as `LeftoverShows` says it, where they showed it also as a stop might have left them before.
   abbrev pub StillShows : Files D → Missed D g → Type 0
   StillShows before (Unopened error left) = (L : Ledger) → AreAt g before L → LeftoverShows (image_of g before) left L
   StillShows before (Refused fault files) =
       (image : Image) → outcomes g files.log files.db image → (L : Ledger) → ImageShows (image_of g before) L → ∥ ImageShows image L ∥₁
 
+  -- the same of a round, however it ended
   abbrev pub IsHonest : {R : Type 0} → Result (R × Files D) (Missed D g) → Type 0
   IsHonest (Ok ended) = AreClean g ended.1.log ended.1.db
   IsHonest (Err missed) = IsHonestMissed missed
@@ -42,5 +43,5 @@ module _ {D : Type 0} {g : Ghosts D} where
   abbrev pub Ends : {U : Type 0} → SettingsValue → Files D → List Arrived → List (List ℕ) → Result (Result U Refusal × Files D) (Missed D g) → Type 0
   Ends settings before arrivals responses (Ok ended) =
       AreAnswered arrivals responses ended.0
-      × ((image : Image) → outcomes g ended.1.log ended.1.db image → Allows settings (image_of g before) (ran arrivals responses) image)
+      × ((image : Image) → outcomes g ended.1.log ended.1.db image → Allows (image_of g before) (ran settings arrivals responses) image)
   Ends settings before arrivals responses (Err missed) = (responses ≡ []) × StillShows before missed

@@ -1,4 +1,4 @@
--- What was told of requests that act once: each 200 to one has the answer that is kept under its number.
+-- What was told of requests that act once: each 200 to one has the answer that is kept under its caller and number.
 use Rattle.std.specs.Prelude.{◌≡◌, ℕ, true, List, [], ◌∷◌, Some, Ok}
 use Rattle.portal_model.specs.declared.command.Command.{Command}
 use Rattle.portal_ledger.specs.Mark.{Mark}
@@ -12,7 +12,7 @@ use Rattle.portal_http.specs.Headline.{is_ok}
 use Rattle.portal_http.specs.Lives.{Round, missed, ran}
 use Rattle.portal_http.specs.Replies.{IsAnswer}
 
--- the response to a request with a number, where it is a 200, has the answer that the ledger holds under that number
+-- the response to a request with a number, where it is a 200, has the answer that the ledger holds under its caller and number
 abbrev pub IsAsHeld : SettingsValue → Ledger → Arrived → List ℕ → Type 0
 IsAsHeld settings L a response = is_ok response ≡ true → (command : Command) (mark : Mark) → IsChecked settings a.seed a.bytes (Ok (Act command (Some mark)))
     → (kept : KeptRequest) × (held_in L mark ≡ Some kept) × IsAnswer kept.answer a.moment response
@@ -24,7 +24,7 @@ AreAsHeld settings L [] (r ∷ rs) = Unit {0}
 AreAsHeld settings L (a ∷ rest) (r ∷ rs) = IsAsHeld settings L a r × AreAsHeld settings L rest rs
 
 -- of all rounds
-abbrev pub AllAsHeld : SettingsValue → Ledger → List Round → Type 0
-AllAsHeld settings L [] = Unit {0}
-AllAsHeld settings L (missed ∷ rounds) = AllAsHeld settings L rounds
-AllAsHeld settings L (ran arrivals responses ∷ rounds) = AreAsHeld settings L arrivals responses × AllAsHeld settings L rounds
+abbrev pub AllAsHeld : Ledger → List Round → Type 0
+AllAsHeld L [] = Unit {0}
+AllAsHeld L (missed ∷ rounds) = AllAsHeld L rounds
+AllAsHeld L (ran settings arrivals responses ∷ rounds) = AreAsHeld settings L arrivals responses × AllAsHeld L rounds

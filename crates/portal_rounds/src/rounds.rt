@@ -1,5 +1,5 @@
 //! One round of a desk.
-ghost use Rattle.std.specs.Prelude.{◌≡◌, ◌++◌, ℕ, IsTrue, List};
+ghost use Rattle.std.specs.Prelude.{◌≡◌, ◌++◌, ℕ, IfErr, IfOk, IsTrue, List};
 ghost use Rattle.std.specs.Prelude.{Vec as Items};
 ghost use Rattle.std.specs.declared.alloc.Global.{Global as Heap};
 ghost use Rattle.sqlite_wal.specs.Recovery.{Image};
@@ -42,7 +42,8 @@ pub fn round<D: Disk + Drop>(
 ) -> Result<(Result<(), Refusal>, Files<D>), Missed<D>>
     requires log { IsTrue (D.Disk.is_usable files.log) }
     requires db { IsTrue (D.Disk.is_usable files.db) }
-    ensures { IsHonest result → (L : Ledger) → ImageShows (image_of D.Disk files) L
+    ensures err { IfOk result (λ ended. IfErr ended.0 (λ r. r ≡ Refusal.NoMemory)) }
+    ensures ends { IsHonest result → (L : Ledger) → ImageShows (image_of D.Disk files) L
         → (responses : List (Items ℕ Heap)) × (out.new.items ≡ out.old.items ++ responses)
         × Ends settings files arrivals.now (bytes_of responses) result }
 {
@@ -60,6 +61,7 @@ fn serve_round<D: Disk + Drop>(
     arrivals: &[Arrival],
     out: &mut Vec<Vec<u8>>,
 ) -> (Result<(), Refusal>, Files<D>)
+    ensures err { IfErr result.0 (λ r. r ≡ Refusal.NoMemory) }
     ensures honest { AreClean D.Disk result.1.log result.1.db → DeskIsHonest over_files desk }
     ensures served { AreClean D.Disk result.1.log result.1.db → (L : Ledger) → DeskAt over_files desk (running L)
         → (new : State) × (responses : List (Items ℕ Heap)) × (out.new.items ≡ out.old.items ++ responses)

@@ -8,8 +8,8 @@ use Rattle.portal_http.specs.Runs.{Served, bytes_of}
 use Rattle.portal_rounds.proofs.RoundLemmas.{allowed, answered}
 use Rattle.portal_rounds.proofs.rounds.round.Goals as goal
 
-pub returns-in-Ok : goal.returns-in-Ok
-returns-in-Ok g c honest L shown =
+pub returns-in-Ok-clause-ends : goal.returns-in-Ok-clause-ends
+returns-in-Ok-clause-ends g c honest L shown =
     let before = image_of g.D.Disk c.args.files in
     let from = λ (K : Ledger) (here : ImageShows before K). c.serve_round.ensures.served honest K (c.in-Ok.ensures.stands K here (c.serve_round.ensures.honest honest)) in
     let first = from L shown in (
@@ -23,5 +23,5 @@ returns-in-Ok g c honest L shown =
       ),
     )
 
-pub returns-in-Err : goal.returns-in-Err
-returns-in-Err g c honest L shown = ([], sym (append-nil c.args.out.now.items), (refl, c.in-Err.ensures.missed honest))
+pub returns-in-Err-clause-ends : goal.returns-in-Err-clause-ends
+returns-in-Err-clause-ends g c honest L shown = ([], sym (append-nil c.args.out.now.items), (refl, c.in-Err.ensures.missed honest))
