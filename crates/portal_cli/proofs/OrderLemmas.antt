@@ -7,11 +7,11 @@ use Rattle.clap.specs.Words.{IsAmong, Row, Text, fault_of, first_of, subcommand_
 use Rattle.clap.specs.declared.parser.matches.ArgMatches.{ArgMatches}
 use Rattle.clap.specs.declared.parser.matches.ArgMatches.TheViews.{out-ArgMatches}
 use Rattle.clap.specs.declared.error.kind.ErrorKind.{ErrorKind}
-use Rattle.clap.specs.declared.error.kind.ErrorKind.TheVariants.{DisplayHelp, OutOfMemory}
+use Rattle.clap.specs.declared.error.kind.ErrorKind.TheVariants.{DisplayHelp, DisplayVersion, OutOfMemory}
 use Rattle.portal_cli.specs.declared.order.Order.{Order}
 use Rattle.portal_cli.specs.declared.order.Order.TheVariants.{Serve, Answer, Print, Takings, Check}
 use Rattle.portal_cli.specs.declared.order.NoOrder.{NoOrder}
-use Rattle.portal_cli.specs.declared.order.NoOrder.TheVariants.{Help, Fault, NoMemory}
+use Rattle.portal_cli.specs.declared.order.NoOrder.TheVariants.{Help, Version, Fault, NoMemory}
 use Rattle.portal_cli.specs.CommandLine.{command_line}
 use Rattle.portal_cli.specs.Orders.{GivesFiles, GivesNumber, GivesText, IsAnswer, IsCheck, IsNoHelp, IsNone, IsNoOrder, IsOrder, IsPrint, IsServe, IsTakings, Tells, TellsKind, WritesNumber}
 
@@ -127,11 +127,14 @@ pub tells : (words : List Text) (kind : ErrorKind) (told : NoOrder) → TellsKin
 tells words kind NoMemory is among = tt
 tells words kind (Help text) is (inl full) = let same : DisplayHelp ≡ OutOfMemory = sym is ∙ full in absurd (cc (same))
 tells words kind (Help text) is (inr here) = subst (λ (k : ErrorKind). IsAmong k (fault_of command_line words)) is here
-tells words kind (Fault text) is (inl full) = absurd (is.1 full)
-tells words kind (Fault text) is (inr here) = inl (kind, here, is.0)
+tells words kind Version is (inl full) = let same : DisplayVersion ≡ OutOfMemory = sym is ∙ full in absurd (cc (same))
+tells words kind Version is (inr here) = subst (λ (k : ErrorKind). IsAmong k (fault_of command_line words)) is here
+tells words kind (Fault text) is (inl full) = absurd (is.2 full)
+tells words kind (Fault text) is (inr here) = inl (kind, here, is.0, is.1)
 
 -- what is told where the words name no order
 pub told_none : (words : List Text) (told : NoOrder) → IsNoHelp told → IsNoOrder (subcommand_of command_line words) → Tells words told
 told_none words NoMemory is none = tt
 told_none words (Help text) is none = absurd is
+told_none words Version is none = absurd is
 told_none words (Fault text) is none = inr none

@@ -118,9 +118,9 @@ takings_subcommand = with_rule (with_rule (with_files (new_app (codes "takings")
 abbrev pub check_subcommand : App
 check_subcommand = with_files (new_app (codes "check"))
 
--- the program without its subcommands, of which it wants one
+-- the program without its subcommands, of which it wants one; `--version` asks for its version
 abbrev pub bare_command_line : App
-bare_command_line = on_top (λ s. record s { subcommand_required = true }) (new_app (codes "portal"))
+bare_command_line = on_top (λ s. record s { subcommand_required = true; has_version = true }) (new_app (codes "portal"))
 
 -- with the subcommands that answer requests
 abbrev pub answering_line : App

@@ -4,11 +4,11 @@ use Rattle.std.specs.Borrow.{Bor}
 use Rattle.std.specs.Str.Parse.{IsNumeral, digits_value, without_leading_plus}
 use Rattle.clap.specs.Words.{IsAmong, Row, Text, fault_of, first_of, one_of, subcommand_of}
 use Rattle.clap.specs.declared.error.kind.ErrorKind.{ErrorKind}
-use Rattle.clap.specs.declared.error.kind.ErrorKind.TheVariants.{DisplayHelp, OutOfMemory}
+use Rattle.clap.specs.declared.error.kind.ErrorKind.TheVariants.{DisplayHelp, DisplayVersion, OutOfMemory}
 use Rattle.portal_cli.specs.declared.order.Order.{Order}
 use Rattle.portal_cli.specs.declared.order.Order.TheVariants.{Serve, Answer, Print, Takings, Check}
 use Rattle.portal_cli.specs.declared.order.NoOrder.{NoOrder}
-use Rattle.portal_cli.specs.declared.order.NoOrder.TheVariants.{Help, Fault, NoMemory}
+use Rattle.portal_cli.specs.declared.order.NoOrder.TheVariants.{Help, Version, Fault, NoMemory}
 use Rattle.portal_cli.specs.CommandLine.{command_line}
 
 -- the text writes the number in decimal digits, with or without a plus before them
@@ -80,23 +80,26 @@ IsNoOrder found = (order : Order) → ¬ (IsOrder found order)
 abbrev pub Orders : List Text → Order → Type 0
 Orders words order = (fault_of command_line words ≡ []) × IsOrder (subcommand_of command_line words) order
 
--- Help where help is the first thing that the words come to, a fault where another thing is or they name no order. Want of
--- memory may come at any words.
+-- Help, or the version, where that is the first thing that the words ask for; a fault where another thing is or they name no
+-- order. Out of memory may come at any words.
 abbrev pub Tells : List Text → NoOrder → Type 0
 Tells words NoMemory = ⊤
 Tells words (Help text) = IsAmong DisplayHelp (fault_of command_line words)
+Tells words Version = IsAmong DisplayVersion (fault_of command_line words)
 Tells words (Fault text) =
-    ((kind : ErrorKind) × IsAmong kind (fault_of command_line words) × (kind ≢ DisplayHelp))
+    ((kind : ErrorKind) × IsAmong kind (fault_of command_line words) × (kind ≢ DisplayHelp) × (kind ≢ DisplayVersion))
     ⊎ IsNoOrder (subcommand_of command_line words)
 
 -- what is told of an error of that kind
 abbrev pub TellsKind : ErrorKind → NoOrder → Type 0
 TellsKind kind NoMemory = ⊤
 TellsKind kind (Help text) = kind ≡ DisplayHelp
-TellsKind kind (Fault text) = (kind ≢ DisplayHelp) × (kind ≢ OutOfMemory)
+TellsKind kind Version = kind ≡ DisplayVersion
+TellsKind kind (Fault text) = (kind ≢ DisplayHelp) × (kind ≢ DisplayVersion) × (kind ≢ OutOfMemory)
 
--- a fault, or want of memory
+-- a fault, or out of memory
 abbrev pub IsNoHelp : NoOrder → Type 0
 IsNoHelp NoMemory = ⊤
 IsNoHelp (Help text) = ⊥
+IsNoHelp Version = ⊥
 IsNoHelp (Fault text) = ⊤

@@ -11,6 +11,7 @@ use crate::options::{
 use crate::texts::{
     answer_examples, check_examples, examples, print_examples, serve_examples, takings_examples,
 };
+use crate::version::version_line;
 use clap::{Arg, Command};
 use std::alloc::{AllocError, Global};
 
@@ -111,6 +112,7 @@ fn bare_command_line<'a>(alloc: Global) -> Command<'a>
 {
     Command::new(alloc, "portal")
         .about("The voucher and session desk behind a captive portal")
+        .version(version_line())
         .after_help(examples())
         .subcommand_required(true)
 }

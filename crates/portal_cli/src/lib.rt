@@ -7,6 +7,8 @@ mod line;
 mod options;
 mod order;
 mod texts;
+mod version;
 
 pub use crate::line::read_words;
 pub use crate::order::{NoOrder, Order};
+pub use crate::version::version_line;

@@ -42,7 +42,7 @@ fn order_of<'a>(matches: &ArgMatches<'a>) -> Option<Order<'a>>
     }
 }
 
-/// What is told of an error.
+/// Converts an error of clap into help, the version, a message or out of memory.
 fn told(alloc: Global, error: &Error) -> NoOrder
     ensures { TellsKind (kind_of error.now) result }
 {
@@ -52,15 +52,16 @@ fn told(alloc: Global, error: &Error) -> NoOrder
     match error.kind() {
         ErrorKind::OutOfMemory => NoOrder::NoMemory,
         ErrorKind::DisplayHelp => NoOrder::Help(text),
+        ErrorKind::DisplayVersion => NoOrder::Version,
         _ => NoOrder::Fault(text),
     }
 }
 
-/// What is told where the words are right and yet name no order.
+/// The message where the words are right and name no subcommand.
 fn told_nothing(alloc: Global) -> NoOrder
     ensures { IsNoHelp result }
 {
-    match String::from_str(alloc, "error: the command line names no order\n") {
+    match String::from_str(alloc, "error: no subcommand given\n") {
         Ok(text) => NoOrder::Fault(text),
         Err(_) => NoOrder::NoMemory,
     }
@@ -68,8 +69,8 @@ fn told_nothing(alloc: Global) -> NoOrder
 
 /// Reads the words of a command line, of which the first is the program's own name.
 ///
-/// An `Err` is what is told instead: help where it was asked for, what is wrong with the words, or
-/// that there was no memory to read them.
+/// An `Err` is what the program says instead: help or the version where the words ask for it, what is
+/// wrong with them, or out of memory.
 pub fn read_words<'a, S: AsStr>(alloc: Global, words: &'a [S]) -> Result<Order<'a>, NoOrder>
     ensures order { IfOk result (Orders (map S.text words.entry.now)) }
     ensures told { IfErr result (Tells (map S.text words.entry.now)) }

@@ -15,7 +15,7 @@ pub(crate) fn db_option<'a>(alloc: Global) -> Arg<'a>
     Arg::new(alloc, "db")
         .long("db")
         .value_name("PATH")
-        .help("The database file, which is made where it is missing")
+        .help("The database file, created if it is missing")
         .required(true)
 }
 
@@ -25,7 +25,7 @@ pub(crate) fn own_db_option<'a>(alloc: Global) -> Arg<'a>
     ensures here { result.global ≡ false }
 {
     Arg::new(alloc, "db").long("db").value_name("PATH").help(
-        "The database file, which is made where it is missing; else an empty store in memory",
+        "The database file, created if it is missing; without it an empty database in memory",
     )
 }
 
@@ -49,7 +49,7 @@ pub(crate) fn own_settings_option<'a>(alloc: Global) -> Arg<'a>
     Arg::new(alloc, "settings")
         .long("settings")
         .value_name("PATH")
-        .help("The settings file; else the sample settings")
+        .help("The settings file; without it the sample settings")
 }
 
 /// `--port N`, which may be left out.
@@ -75,7 +75,7 @@ pub(crate) fn count_option<'a>(alloc: Global) -> Arg<'a>
         .value_name("N")
         .value_parser(ValueParser::unsigned(1, 1000000000))
         .default_value("1000000000")
-        .help("How many connections are served, 1 to 1000000000")
+        .help("The number of connections to serve, 1 to 1000000000")
 }
 
 /// `--now N`.
@@ -87,7 +87,7 @@ pub(crate) fn now_option<'a>(alloc: Global) -> Arg<'a>
         .long("now")
         .value_name("N")
         .value_parser(ValueParser::unsigned(0, u64::MAX))
-        .help("The moment at which the request comes: whole UTC seconds, 0 to 253370764799")
+        .help("The time of the request, in seconds since 1970 (UTC), 0 to 253370764799")
         .required(true)
 }
 
@@ -99,7 +99,7 @@ pub(crate) fn seed_option<'a>(alloc: Global) -> Arg<'a>
     Arg::new(alloc, "seed")
         .long("seed")
         .value_name("HEX")
-        .help("The 32 bytes from which codes are made, as 64 hexadecimal digits")
+        .help("The 32 bytes from which new codes are made, as 64 hexadecimal digits")
         .required(true)
 }
 
@@ -110,7 +110,7 @@ pub(crate) fn batch_word<'a>(alloc: Global) -> Arg<'a>
 {
     Arg::new(alloc, "batch")
         .value_name("BATCH")
-        .help("The batch's id")
+        .help("The id of the batch")
         .required(true)
 }
 

@@ -38,13 +38,15 @@ pub enum Order<'a> {
     },
 }
 
-/// What is told where the words give no order.
+/// What the program says where the words give no order.
 #[derive(Debug, Drop)]
 pub enum NoOrder {
-    /// Help, for standard output: it was asked for.
+    /// Help, for standard output: the words ask for it.
     Help(String),
+    /// The version (`version_line`), for standard output: the words ask for it.
+    Version,
     /// What is wrong with the words, for standard error.
     Fault(String),
-    /// There was no memory to read the words.
+    /// Out of memory.
     NoMemory,
 }

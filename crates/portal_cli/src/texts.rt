@@ -1,4 +1,4 @@
-//! What stands below the help of the program and of each subcommand.
+//! The texts below the help of the program and of each subcommand.
 //!
 //! Each text is that of a function, and not a constant, so that the proofs of the commands do not carry it along.
 
@@ -10,9 +10,12 @@ Examples:
   portal answer --now 1583125693 \\
     --seed 0000000000000000000000000000000000000000000000000000000000000000 < request
 
-Status 0: done. 1: refused, or the counters differ. 2: the words are wrong, or a value is out of its
-limits (`portal: usage`). 3: a fault of a file, of the network, of the output or of memory, or the desk
-has stopped. A fault is one line on standard error, `portal: ` and a word."
+Exit codes:
+  0  done; of `answer`: the response is a 200
+  1  the request was refused, or the counters differ
+  2  the command line is invalid, or a value is out of range (`portal: usage`)
+  3  an error of a file, the network, the output or memory, or the server has stopped
+An error is one line on standard error: `portal: ` and a word."
 }
 
 pub(crate) fn serve_examples() -> &'static str {
@@ -20,29 +23,29 @@ pub(crate) fn serve_examples() -> &'static str {
 Example:
   portal serve --db portal.db --settings portal.toml --port 8080
 
-It listens on 127.0.0.1 alone, prints `listening 127.0.0.1:8080`, and serves one connection after
-another. The database file is locked as long as it runs: `print`, `takings` and `check` then say
-`portal: file`. Killing it loses nothing that was answered.
+The server listens on 127.0.0.1 alone, prints `listening 127.0.0.1:8080`, and serves one connection
+after another. It locks the database while it runs: `print`, `takings` and `check` then end with
+`portal: file`. Killing the server loses nothing that was acknowledged.
 
-The status is 0 after so many connections, and 3 where the port cannot be had (`portal: network`), a
-file, the clock or memory fails, or the desk has stopped (`portal: stopped`). A connection that breaks
-off is told by `portal: cut` or `portal: network`, and the next is served."
+Exit codes: 0 after N connections; 3 if the port cannot be opened (`portal: network`), if a file, the
+clock or memory fails, or if the server has stopped after an error of the database
+(`portal: stopped`). A connection that breaks off prints `portal: cut` or `portal: network`, and the
+next one is served."
 }
 
 pub(crate) fn answer_examples() -> &'static str {
     "\
-Example, of a device that was never seen:
+Example, for a device that has no session:
   printf 'GET /captive HTTP/1.1\\r\\nHost: api\\r\\nPortal-Device: 02:00:00:00:00:01\\r\\n\\r\\n' |
     portal answer --now 1583125693 \\
     --seed 0000000000000000000000000000000000000000000000000000000000000000
 
-A request is HTTP/1.0 or HTTP/1.1, with CR LF at the end of each line of its head. A moment is at most
-253370764799, the end of the year 9998, and a seed has 64 hexadecimal digits: past these limits, and at
-a word that is not UTF-8, the program says `portal: usage` and ends with status 2.
+A request is HTTP/1.0 or HTTP/1.1; each line of its head ends in CR LF. The time is at most
+253370764799 (end of the year 9998), and a seed has 64 hexadecimal digits. Other values, and an argument
+that is not UTF-8, give `portal: usage` and exit code 2.
 
-The status is 0 where that of the response is 200, 1 where the request was refused, 2 where the words
-are wrong or a value is out of its limits, and 3 where reading, writing, a file or memory failed or the
-desk has stopped."
+Exit codes: 0 if the response is a 200; 1 if the request was refused; 2 if the command line is invalid
+or a value is out of range; 3 if reading, writing, a file or memory failed, or the server has stopped."
 }
 
 pub(crate) fn print_examples() -> &'static str {
@@ -50,8 +53,8 @@ pub(crate) fn print_examples() -> &'static str {
 Example:
   portal print b1 --db portal.db --settings portal.toml > b1.csv
 
-The status is 1 where there is no such batch (`portal: unknown_batch`). While `portal serve` runs over
-the file, it is locked (`portal: file`, status 3): ask the server then."
+Exit code 1 if there is no such batch (`portal: unknown_batch`). While `portal serve` runs, the database
+is locked (`portal: file`, exit code 3): use `GET /desk/batches/b1/print` then."
 }
 
 pub(crate) fn takings_examples() -> &'static str {
@@ -59,9 +62,9 @@ pub(crate) fn takings_examples() -> &'static str {
 Example:
   portal takings 2020-03-01 2020-03-31 --db portal.db --settings portal.toml
 
-Both days are in the report, by the zone of the settings. They are at most 366 days, of the years 1969
-to 9999 (`portal: usage`, status 2). While `portal serve` runs over the file, it is locked (`portal:
-file`, status 3): ask the server then."
+The report includes both days, in the time zone of the settings. A range has at most 366 days, in the
+years 1969 to 9999 (otherwise `portal: usage`, exit code 2). While `portal serve` runs, the database is
+locked (`portal: file`, exit code 3): use `GET /desk/takings` then."
 }
 
 pub(crate) fn check_examples() -> &'static str {
@@ -69,6 +72,6 @@ pub(crate) fn check_examples() -> &'static str {
 Example:
   portal check --db portal.db --settings portal.toml
 
-It prints `ok`, status 0, or `differs`, status 1. While `portal serve` runs over the file, it is locked
-(`portal: file`, status 3)."
+Prints `ok` (exit code 0) or `differs` (exit code 1). While `portal serve` runs, the database is locked
+(`portal: file`, exit code 3)."
 }

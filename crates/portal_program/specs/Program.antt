@@ -8,6 +8,7 @@ use Rattle.portal_cli.specs.declared.order.Order.TheVariants as order
 use Rattle.portal_cli.specs.declared.order.NoOrder.{NoOrder}
 use Rattle.portal_cli.specs.declared.order.NoOrder.TheVariants as told
 use Rattle.portal_cli.specs.Orders.{Orders, Tells}
+use Rattle.portal_cli.specs.Version.{version_line}
 use Rattle.portal_ends.specs.declared.fault.Fault.{Fault}
 use Rattle.portal_ends.specs.declared.fault.Fault.TheVariants.{Usage, NoMemory}
 use Rattle.portal_ends.specs.Ends.{EndsPrinting, EndsWith}
@@ -22,9 +23,10 @@ abbrev pub fault_of_words : ErrorKind → Fault
 fault_of_words InvalidData = Usage
 fault_of_words _ = NoMemory
 
--- help ends the program with 0, a fault in the words with 2 and want of memory with 3
+-- help and the version end the program with 0, a fault in the words with 2 and out of memory with 3
 abbrev pub EndsTelling : NoOrder → Outlets → ℕ → Type 0
 EndsTelling (told.Help text) o status = EndsPrinting (string_bytes text) 0 o status
+EndsTelling told.Version o status = EndsPrinting version_line 0 o status
 EndsTelling (told.Fault text) o status = (status ≡ 2) × Keeps o.output o.output_after × Prints o.errors o.errors_after (string_bytes text)
 EndsTelling told.NoMemory o status = EndsWith (Err NoMemory) o status
 

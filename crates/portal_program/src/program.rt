@@ -11,21 +11,22 @@ use crate::place::{Files, Place};
 use crate::printing::print;
 use crate::serving::{Listening, Network, serve};
 use crate::takings::takings;
-use portal_cli::{NoOrder, Order, read_words};
+use portal_cli::{NoOrder, Order, read_words, version_line};
 use portal_ends::{Fault, print_all};
 use portal_head::write_response;
 use std::alloc::Global;
 use std::convert::AsStr;
 use std::io::{Read, Write};
 
-/// Prints what is told in place of an order, and gives the status: 0 at help, which goes to `output`, 2
-/// at a fault in the words, which goes to `errors`, and 3 where there was no memory to read them or
-/// the help cannot be printed.
+/// Prints what the program says in place of an order, and gives the status: 0 at help and the version,
+/// which go to `output`, 2 at a fault in the words, which goes to `errors`, and 3 where memory ran out
+/// or the text for `output` cannot be printed.
 fn tell<W: Write, E: Write>(told: &NoOrder, output: &mut W, errors: &mut E) -> u8
     ensures { EndsTelling told.now (record { output = W.contents output.old; output_after = W.contents output.new; errors = E.contents errors.old; errors_after = E.contents errors.new }) result }
 {
     match told {
         NoOrder::Help(text) => print_all(text.as_bytes(), 0, output, errors),
+        NoOrder::Version => print_all(version_line().as_bytes(), 0, output, errors),
         NoOrder::Fault(text) => tell_fault(text.as_bytes(), errors),
         NoOrder::NoMemory => Fault::NoMemory.report(errors),
     }

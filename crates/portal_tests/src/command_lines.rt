@@ -159,7 +159,7 @@ fn orders_over_files(rt: HostRuntime) {
     }
 }
 
-/// Words, whether what is told of them is help, and what it names.
+/// Words, whether the answer to them is help, and what it names.
 const TOLD: &[(&[&str], bool, &str)] = &[
     (
         &["portal", "--help"],
@@ -177,6 +177,7 @@ const TOLD: &[(&[&str], bool, &str)] = &[
     (&["portal"], false, "subcommand"),
     (&["portal", "ask"], false, "ask"),
     (&["portal", "serve"], false, "--db <PATH>"),
+    (&["portal", "serve", "--version"], false, "--version"),
     (
         &["portal", "serve", "--help"],
         true,
@@ -306,7 +307,7 @@ const TOLD: &[(&[&str], bool, &str)] = &[
     ),
 ];
 
-/// Whether help, or what is wrong with the words, is told, and names that.
+/// Whether the answer is help, or a message of what is wrong with the words, and names that.
 fn is_told(alloc: Global, words: &[&str], is_help: bool, named: &str) -> bool {
     match read_words(alloc, words) {
         Err(NoOrder::Help(text)) => is_help && is_text(text.as_str(), true, named),
@@ -323,5 +324,23 @@ fn is_text(text: &str, is_help: bool, named: &str) -> bool {
 fn texts_told(rt: HostRuntime) {
     for (n, (words, is_help, named)) in TOLD.iter().enumerate() {
         assert!(rt; is_told(rt.alloc(), words, *is_help, named), "words {n}");
+    }
+}
+
+/// Words that ask for the version.
+const VERSIONS: &[&[&str]] = &[
+    &["portal", "--version"],
+    &["portal", "-V"],
+    &["portal", "--version", "serve"],
+];
+
+fn is_version(alloc: Global, words: &[&str]) -> bool {
+    matches!(read_words(alloc, words), Err(NoOrder::Version))
+}
+
+#[test]
+fn versions(rt: HostRuntime) {
+    for (n, words) in VERSIONS.iter().enumerate() {
+        assert!(rt; is_version(rt.alloc(), words), "words {n}");
     }
 }
