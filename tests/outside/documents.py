@@ -1,0 +1,104 @@
+"""The examples of the documents, run as they are written: the first request of README.md, the worked day of docs/TUTORIAL.md, and the
+table of the twelve endpoints of docs/API.md.
+
+    documents.py PROGRAM
+"""
+
+from __future__ import annotations
+
+import os
+import re
+import subprocess
+import sys
+import tempfile
+
+from cases import OTHER, PLANS, Store, code
+from desk import DESK, GATEWAY, guest
+
+HERE = os.path.dirname(os.path.abspath(__file__))
+CALLERS = {"desk": DESK, "gateway": GATEWAY, "guest": guest(1)}
+
+
+def read(*path: str) -> str:
+    with open(os.path.join(HERE, "../..", *path), encoding="utf-8") as file:
+        return file.read()
+
+
+def blocks(text: str, kind: str) -> list[str]:
+    return re.findall(rf"^```{kind}\n(.*?)^```$", text, re.M | re.S)
+
+
+def expect(what: str, came: object, wanted: object) -> None:
+    """Ends the test where the two differ, and prints both."""
+    if came != wanted:
+        sys.exit(f"outside: {what}\n  expected: {wanted!r}\n  came:     {came!r}")
+
+
+def first_request(program: str, text: str) -> None:
+    """The lines are run by a shell in an empty folder, in which ./portal is the program."""
+    lines, wanted = blocks(text, "sh")[0], blocks(text, "text")[0]
+    with tempfile.TemporaryDirectory() as folder:
+        os.symlink(program, os.path.join(folder, "portal"))
+        done = subprocess.run(["bash", "-eu", "-c", lines], cwd=folder, capture_output=True, check=False)
+    expect("README.md, status of the first request", done.returncode, 0)
+    expect("README.md, response to the first request", done.stdout.decode().replace("\r\n", "\n"), wanted.removesuffix("\n"))
+    said = re.search(r"prints (\d+) bytes", text)
+    expect("README.md, 'prints N bytes'", said and int(said[1]), len(done.stdout))
+
+
+def worked_day(text: str) -> None:
+    """The tutorial's blocks are the day that tests/outside/run runs, with a blank line between, and what it prints."""
+    expect("docs/TUTORIAL.md, the commands (sh blocks)", "\n".join(blocks(text, "sh")), read("tests/worked-day/day"))
+    expect("docs/TUTORIAL.md, the outputs (text blocks)", "".join(blocks(text, "text")), read("tests/worked-day/expected"))
+
+
+def endpoints(program: str, text: str) -> int:
+    """Each row of the table, in its order, at one store; the voucher that is refunded is one of the program's own."""
+    rows = re.findall(r"^\| (GET|POST) (\S+) \| (\w+) \| (\d+) \| (.*?) \| (.*) \|$", text, re.M)
+    expect("docs/API.md, rows of the table of endpoints", len(rows), 12)
+    store = Store(program)
+    for method, path, caller, now, asked, wanted in rows:
+        quoted = re.findall(r"`([^`]*)`", asked)
+        body, target = ("", quoted[0]) if method == "GET" and quoted else ((quoted or [""])[0], path)
+        if asked.startswith("a plans file"):
+            body = PLANS
+        if target == "/desk/refunds":
+            body, wanted = refunded(store, body, wanted)
+        status, said = store.ask(int(now), method, target, CALLERS[caller], body)
+        expect(f"docs/API.md, status of {method} {target}", status, 200)
+        expect(f"docs/API.md, answer of {method} {target}", shown(said, wanted), wanted)
+    return len(rows)
+
+
+def refunded(store: Store, body: str, wanted: str) -> tuple[str, str]:
+    """A voucher of `gig`, sold, and redeemed once on another device, in place of the one that the document names."""
+    order = '{"batch":"g1","plan":"gig","count":1}'
+    assert store.ask(2000, "POST", "/desk/batches", DESK, order, seed=OTHER)[0] == 200
+    text = store.ask(2000, "GET", "/desk/batches/g1/print", DESK)[1].splitlines()[1].split(",")[0]
+    assert store.ask(2000, "POST", "/desk/sales", DESK, code(text))[0] == 200
+    assert store.ask(2000, "POST", "/portal/redeem", guest(2), code(text))[0] == 200
+    named = re.search(r'"code":"([^"]*)"', body)
+    assert named, body
+    return body.replace(named[1], text), wanted.replace(named[1], text)
+
+
+def shown(said: str, wanted: str) -> str:
+    """What was answered, in the words of the table: whole, or a print file of one code, or the last line of a report."""
+    lines = said.splitlines() or [""]
+    if wanted.startswith("`"):
+        return f"`{said}`"
+    if "print file" in wanted:
+        return wanted if len(lines) == 2 and lines[0] == "code,plan,seconds,bytes,price,expires" else said
+    return re.sub(r"`[^`]*`", lambda _: f"`{lines[-1]}`", wanted)
+
+
+def main() -> None:
+    program = os.path.abspath(sys.argv[1])
+    first_request(program, read("README.md"))
+    worked_day(read("docs/TUTORIAL.md"))
+    count = endpoints(program, read("docs/API.md"))
+    print(f"outside: the README's first request, the tutorial's day and the {count} endpoints of API.md answer as documented")
+
+
+if __name__ == "__main__":
+    main()
