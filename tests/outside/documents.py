@@ -1,5 +1,5 @@
-"""The examples of the documents, run as they are written: the first request of README.md, the worked day of docs/TUTORIAL.md, and the
-table of the twelve endpoints of docs/API.md.
+"""The examples of the documents, run as they are written: the first request of README.md, the worked day of
+docs/TUTORIAL.md, and the tables of docs/API.md: the twelve endpoints, and the errors.
 
     documents.py PROGRAM
 """
@@ -70,6 +70,17 @@ def endpoints(program: str, text: str) -> int:
     return len(rows)
 
 
+def errors(text: str) -> int:
+    """The table of errors has each refusal of the specification, with its status."""
+    spec = read("crates/portal_model/specs/Refusal.antt")
+    words = dict(re.findall(r'^word_of (\w+) = codes "(\w+)"$', spec, re.M))
+    statuses = dict(re.findall(r"^status_of (\w+) = (\d+)$", spec, re.M))
+    wanted = sorted((statuses[name], word) for name, word in words.items())
+    rows = sorted(re.findall(r"^\| (\d{3}) \| `(\w+)` \|", text, re.M))
+    expect("docs/API.md, the table of errors (status, word)", rows, wanted)
+    return len(rows)
+
+
 def refunded(store: Store, body: str, wanted: str) -> tuple[str, str]:
     """A voucher of `gig`, sold, and redeemed once on another device, in place of the one that the document names."""
     order = '{"batch":"g1","plan":"gig","count":1}'
@@ -96,8 +107,9 @@ def main() -> None:
     program = os.path.abspath(sys.argv[1])
     first_request(program, read("README.md"))
     worked_day(read("docs/TUTORIAL.md"))
-    count = endpoints(program, read("docs/API.md"))
-    print(f"outside: the README's first request, the tutorial's day and the {count} endpoints of API.md answer as documented")
+    described = read("docs/API.md")
+    print(f"outside: the README's first request, the tutorial's day, the {endpoints(program, described)} endpoints of API.md "
+          f"and its {errors(described)} errors are as documented")
 
 
 if __name__ == "__main__":

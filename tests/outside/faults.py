@@ -1,8 +1,10 @@
-"""Each word and each status of the program, on files that are made for it: settings, database files of others, counters
-that differ, a disk that is full, little memory. At the end each word of the README's table must have been seen.
+"""Each word and each exit code of the program, on files that are made for it: settings, database files of others, counters
+that differ, a disk that is full, little memory. In the end each word of the tables of docs/CLI.md must have come up, and no other.
 
     faults.py PROGRAM [--list]      --list: a line for each word and status, with a call that ended so
 """
+
+from __future__ import annotations
 
 import os
 import re
@@ -12,31 +14,38 @@ import sqlite3
 import subprocess
 import sys
 import tempfile
+from collections.abc import Iterator
+from typing import Any
 
 from desk import DESK, PLANS, SETTINGS, guest, request
 
 SEED = "0" * 64
-README = os.path.join(os.path.dirname(os.path.abspath(__file__)), "../../README.md")
+DOCUMENT = os.path.join(os.path.dirname(os.path.abspath(__file__)), "../../docs/CLI.md")
+VERSION = os.path.join(os.path.dirname(DOCUMENT), "../VERSION")
 MEBIBYTE = 1 << 20
+Said = tuple[int, str, str]
+Wanted = tuple[int, str | None, str | None]
+Limit = tuple[int, int]
 
 
-def run(program, folder, *words, data=b"", source=None, output=subprocess.PIPE, limit=None):
+def run(program: str, folder: str, *words: str | bytes, data: bytes = b"", source: int | None = None,
+        output: Any = subprocess.PIPE, limit: Limit | None = None) -> Said:
     """The status, standard output and standard error. `limit`: a resource and how much of it the program may have."""
-    how = {"cwd": folder, "stdout": output, "stderr": subprocess.PIPE, "check": False, "timeout": 60}
-    how |= {"stdin": source} if source else {"input": data}
+    how: dict[str, Any] = {"cwd": folder, "stdout": output, "stderr": subprocess.PIPE, "check": False, "timeout": 60}
+    how["stdin" if source else "input"] = source or data
     if limit:       # the signal of a file that grows too long stays ignored, as it is in this process
         how |= {"restore_signals": False, "preexec_fn": lambda: resource.setrlimit(limit[0], (limit[1], limit[1]))}
     done = subprocess.run([program, *words], **how)
     return done.returncode, (done.stdout or b"").decode(), done.stderr.decode()
 
 
-def free_port():
+def free_port() -> str:
     with socket.socket() as free:
         free.bind(("127.0.0.1", 0))
         return str(free.getsockname()[1])
 
 
-def files(folder):
+def files(folder: str) -> None:
     """The files that the cases name."""
     texts = {"settings": SETTINGS, "open": SETTINGS.replace("https:", "http:"), "text": "no database"}
     for name, text in texts.items():
@@ -50,7 +59,7 @@ def files(folder):
         made.close()
 
 
-def filled(program, folder):
+def filled(program: str, folder: str) -> None:
     """A database file with a batch of one code, and a copy in which a counter is another."""
     answer = ("answer", "--db", "portal.db", "--settings", "settings", "--seed", SEED, "--now")
     run(program, folder, *answer, "0", data=request("POST", "/desk/plans", DESK, PLANS))
@@ -63,15 +72,17 @@ def filled(program, folder):
     copy.close()
 
 
-def at(db="portal.db", settings="settings"):
+def at(db: str = "portal.db", settings: str = "settings") -> tuple[str, ...]:
     return ("--db", db, "--settings", settings)
 
 
-def cases():
+def cases() -> Iterator[tuple[tuple[str | bytes, ...], Wanted]]:
     """The words, and what they come to: status, standard output (None: any), standard error (None: any)."""
     moment = ("--now", "1583125693", "--seed", SEED)
     yield ("--help",), (0, None, "")
     yield ("check", "--help"), (0, None, "")
+    with open(VERSION, encoding="utf-8") as file:
+        yield ("--version",), (0, f"portal {file.read().strip()} (database schema version 4)\n", "")
     yield ("check",), (2, "", None)
     yield ("sell",), (2, "", None)
     yield ("serve", *at(), "--port", "0"), (2, "", None)
@@ -102,27 +113,32 @@ def cases():
     yield ("answer", "--now", "253370764799", "--seed", SEED), (1, None, "")
 
 
-def is_as(said, wanted):
+def is_as(said: Said, wanted: Wanted) -> bool:
     return all(want is None or want == got for got, want in zip(said, wanted))
 
 
 class Shown:
     """The calls that were made, and the words that they ended with, each with its status."""
 
-    def __init__(self, program, folder):
-        self.program, self.folder, self.count, self.words = program, folder, 0, {}
+    def __init__(self, program: str, folder: str) -> None:
+        self.program, self.folder, self.count = program, folder, 0
+        self.words: dict[tuple[int, str], str] = {}
+        self.messages: set[str] = set()
 
-    def call(self, words, wanted, **more):
+    def call(self, words: tuple[str | bytes, ...], wanted: Wanted, **more: Any) -> Said:
         said = run(self.program, self.folder, *words, **more)
-        assert is_as(said, wanted), (words, said, wanted)
+        if not is_as(said, wanted):
+            sys.exit(f"outside: {words}\n  expected: {wanted}\n  came:     {said}\n  (exit code, output, errors; None: any)")
         self.note(words, said)
         return said
 
-    def note(self, words, said):
+    def note(self, words: tuple[str | bytes, ...], said: Said) -> None:
         self.count += 1
         status, output, errors = said
         last = (errors.splitlines() or [""])[-1]
         told = last.removeprefix("portal: ") if last.startswith("portal: ") else ""
+        if told:
+            self.messages.add(told)
         if output == "differs\n":
             told = "differs"
         if '"error":' in output:
@@ -130,19 +146,19 @@ class Shown:
         self.words.setdefault((status, told), " ".join(str(word) for word in words))
 
 
-def everything(shown):
+def everything(shown: Shown) -> None:
     for words, wanted in cases():
         shown.call(words, wanted)
 
 
-def answered(shown):
+def answered(shown: Shown) -> None:
     """The status of `answer` is 0 with a 200 and 1 with a refusal."""
     words = ("answer", "--now", "1000", "--seed", SEED, *at())
     for body, status in (('{"code":"3N55-WA4S-KH5V-JR49"}', 0), ('{"code":"2222-2222-2222"}', 1)):
         shown.call(words, (status, None, ""), data=request("POST", "/desk/sales", DESK, body))
 
 
-def cut(shown):
+def cut(shown: Shown) -> None:
     """What is printed goes nowhere, and what is read is a folder."""
     answer = ("answer", "--now", "1", "--seed", SEED)
     day = ("takings", "2020-03-01", "2020-03-01", *at())
@@ -155,13 +171,13 @@ def cut(shown):
     os.close(folder)
 
 
-def taken(shown):
+def taken(shown: Shown) -> None:
     """A port that another program holds, and a file that another process holds."""
     with socket.socket() as other:
         other.bind(("127.0.0.1", 0))
         other.listen()
         shown.call(("serve", *at(), "--port", str(other.getsockname()[1])), (3, "", "portal: network\n"))
-    how = {"cwd": shown.folder, "stdout": subprocess.PIPE, "stderr": subprocess.DEVNULL}
+    how: dict[str, Any] = {"cwd": shown.folder, "stdout": subprocess.PIPE, "stderr": subprocess.DEVNULL}
     with subprocess.Popen([shown.program, "serve", *at(), "--port", free_port()], **how) as holds:
         holds.stdout.readline()
         for words in (("check", *at()), ("print", "b1", *at()), ("takings", "2020-03-01", "2020-03-01", *at()),
@@ -170,12 +186,12 @@ def taken(shown):
         holds.kill()
 
 
-def length_of(shown, name):
+def length_of(shown: Shown, name: str) -> int:
     return max(os.path.getsize(os.path.join(shown.folder, name + end)) for end in ("", "-wal")
                if os.path.exists(os.path.join(shown.folder, name + end)))
 
 
-def stopped(shown):
+def stopped(shown: Shown) -> None:
     """A full disk, here a limit to the length of files: the desk stops and says so, and its file is good afterwards."""
     seed = ("--now", "1000", "--seed", "1" * 64, *at("full.db"))
     order = request("POST", "/desk/batches", DESK, '{"batch":"b1","plan":"hour","count":500}')
@@ -190,11 +206,11 @@ def stopped(shown):
     shown.call(("answer", *seed), (0, None, ""), data=order)
 
 
-def serves_until_it_stops(shown, order, limit):
+def serves_until_it_stops(shown: Shown, order: bytes, limit: Limit) -> None:
     port = free_port()
     words = ("serve", *at("full.db"), "--port", port)
-    how = {"cwd": shown.folder, "stdout": subprocess.PIPE, "stderr": subprocess.PIPE, "restore_signals": False,
-           "preexec_fn": lambda: resource.setrlimit(limit[0], (limit[1], limit[1]))}
+    how: dict[str, Any] = {"cwd": shown.folder, "stdout": subprocess.PIPE, "stderr": subprocess.PIPE, "restore_signals": False,
+                           "preexec_fn": lambda: resource.setrlimit(limit[0], (limit[1], limit[1]))}
     with subprocess.Popen([shown.program, *words], **how) as desk:
         desk.stdout.readline()
         with socket.create_connection(("127.0.0.1", int(port)), timeout=10) as peer:
@@ -206,7 +222,7 @@ def serves_until_it_stops(shown, order, limit):
     shown.note(words, said)
 
 
-def little_memory(shown):
+def little_memory(shown: Shown) -> None:
     """With ever less memory a call does what it does with enough, or says `no_memory`, or `cut` once it has begun."""
     words = ("answer", "--now", "1000", "--seed", SEED, *at())
     ends = [(0, ""), (3, "portal: no_memory\n"), (3, "portal: cut\n")]
@@ -219,16 +235,37 @@ def little_memory(shown):
     assert said[0] == 0, said
 
 
-def wanted_words():
-    """The words of the README's table of statuses, each with its status; a refusal's own word stands for all."""
-    with open(README, encoding="utf-8") as file:
-        rows = re.findall(r"^\| ([0-3]) \| (.*) \|$", file.read(), re.M)
-    assert [status for status, _ in rows] == list("0123"), rows
-    words = {(3, word) for word in re.findall(r"`([a-z_]+)`", rows[3][1]) if word not in ("portal",)}
-    return words | {(2, "usage"), (1, "differs"), (1, "unknown_batch"), (1, "unknown_code"), (0, "")}
+def documented() -> tuple[set[tuple[int, str]], set[str]]:
+    """The words of the document's table of exit codes, each with its code (the word of an error stands for all), and those of its
+    table of messages."""
+    with open(DOCUMENT, encoding="utf-8") as file:
+        text = file.read()
+    rows = re.findall(r"^\| ([0-3]) \| (.*) \|$", text, re.M)
+    if [status for status, _ in rows] != list("0123"):
+        sys.exit(f"outside: docs/CLI.md, table of exit codes\n  expected: rows 0, 1, 2, 3\n  came:     {rows}")
+    words = {(3, word) for word in re.findall(r"`([a-z_]+)`", rows[3][1])}
+    messages = set(re.findall(r"^\| `portal: ([a-z_]+)` \|", text, re.M))
+    return words | {(2, "usage"), (1, "differs"), (1, "unknown_batch"), (1, "unknown_code"), (0, "")}, messages
 
 
-def main():
+def compare(shown: Shown) -> int:
+    """What the document names and what came up are the same words."""
+    words, messages = documented()
+    threes = {pair for pair in shown.words if pair[0] == 3 and pair[1]}
+    faults = [f"named in docs/CLI.md, and did not come up: exit code {status}, word {word!r}"
+              for status, word in sorted(words - set(shown.words))]
+    faults += [f"came up, and is not in the table of exit codes of docs/CLI.md: {status} {word!r}"
+               for status, word in sorted(threes - words)]
+    faults += [f"came up, and is not in the table of messages of docs/CLI.md: {word!r}"
+               for word in sorted(shown.messages - messages)]
+    faults += [f"in the table of messages of docs/CLI.md, and did not come up: {word!r}"
+               for word in sorted(messages - shown.messages)]
+    if faults:
+        sys.exit("\n".join(f"outside: {fault}" for fault in faults))
+    return len(words) + len(messages)
+
+
+def main() -> None:
     with tempfile.TemporaryDirectory() as folder:
         shown = Shown(sys.argv[1], folder)
         files(folder)
@@ -240,10 +277,8 @@ def main():
     if "--list" in sys.argv:
         for (status, word), call in sorted(shown.words.items()):
             print(status, word or "-", ":", call)
-    missing = wanted_words() - set(shown.words)
-    assert not missing, missing
-    print(f"outside: {shown.count} calls, each with its words and its status, and the files of others unchanged; "
-          f"each of the README's {len(wanted_words())} words was seen")
+    print(f"outside: {shown.count} calls, each with its words and its exit code, and the files of others unchanged; "
+          f"the {compare(shown)} words of the tables of CLI.md came up, and no other")
 
 
 main()
