@@ -179,6 +179,7 @@ def taken(shown: Shown) -> None:
         shown.call(("serve", *at(), "--port", str(other.getsockname()[1])), (3, "", "portal: network\n"))
     how: dict[str, Any] = {"cwd": shown.folder, "stdout": subprocess.PIPE, "stderr": subprocess.DEVNULL}
     with subprocess.Popen([shown.program, "serve", *at(), "--port", free_port()], **how) as holds:
+        assert holds.stdout
         holds.stdout.readline()
         for words in (("check", *at()), ("print", "b1", *at()), ("takings", "2020-03-01", "2020-03-01", *at()),
                       ("answer", "--now", "1", "--seed", SEED, *at()), ("serve", *at(), "--port", free_port())):
@@ -212,6 +213,7 @@ def serves_until_it_stops(shown: Shown, order: bytes, limit: Limit) -> None:
     how: dict[str, Any] = {"cwd": shown.folder, "stdout": subprocess.PIPE, "stderr": subprocess.PIPE, "restore_signals": False,
                            "preexec_fn": lambda: resource.setrlimit(limit[0], (limit[1], limit[1]))}
     with subprocess.Popen([shown.program, *words], **how) as desk:
+        assert desk.stdout and desk.stderr
         desk.stdout.readline()
         with socket.create_connection(("127.0.0.1", int(port)), timeout=10) as peer:
             peer.sendall(order)
