@@ -23,6 +23,7 @@ PYTHON = "/usr/bin/python3"
 NFT, AGENT, KERNEL = "gateway/portal.nft", "gateway/portal_gateway.py", "gateway/kernel_gate.py"
 GUESTS, FRONT, COUNTER = "front/nginx-guests.conf", "front/portal_front.py", "counter/portal_counter.py"
 CLIENT, BACKUP = "lib/desk_client.py", "backup/portal-backup"
+DESCRIPTION = "../docs/openapi.yaml"    # beside the kit in the repository
 
 
 @dataclass(frozen=True)
@@ -172,7 +173,7 @@ UNITS = (
          "test_counter.Words", "test_every_refusal_has_its_cause_and_what_to_do"),
     Edit("a_refusal_of_another_status", "lib/refusals.py", 'Refusal(18, "expired", 410', 'Refusal(18, "expired", 409',
          "openapi_test.Described", "test_the_table_of_refusals"),
-    Edit("a_route_told_wrongly", "openapi.yaml", "  /desk/closes:", "  /desk/close:",
+    Edit("a_route_told_wrongly", DESCRIPTION, "  /desk/closes:", "  /desk/close:",
          "openapi_test.Described", "test_the_table_of_routes"),
     Edit("secrets_for_all", "setup", 'self.write(path, secrets.token_urlsafe(32) + "\\n", 0o600)',
          'self.write(path, secrets.token_urlsafe(32) + "\\n")', "test_setup.Made", "test_secrets_are_apart_and_shut"),
@@ -223,7 +224,7 @@ UNITS = (
          "test_counter.Pages", "test_what_was_typed_is_shown_as_words"),
     Edit("data_left_is_not_shown", FRONT, ', "data left": (volume, told.get("bytes-remaining"))}', "}",
          "test_front.Pages", "test_the_state_in_words"),
-    Edit("an_answer_told_wrongly", "openapi.yaml", "uses_left: {type: integer, minimum: 0, maximum: 99999}",
+    Edit("an_answer_told_wrongly", DESCRIPTION, "uses_left: {type: integer, minimum: 0, maximum: 99999}",
          "uses_left: {type: integer, minimum: 0, maximum: 1}", "openapi_test.Described", "test_live_answers_fit"),
 )
 
@@ -249,6 +250,11 @@ def tried(edit: Edit, portal: str) -> str:
         kit = pathlib.Path(folder) / "field"
         pathlib.Path(folder).chmod(0o755)
         shutil.copytree(FIELD, kit, ignore=shutil.ignore_patterns("__pycache__", "shots"))
+        if (FIELD / DESCRIPTION).is_file():
+            (kit / DESCRIPTION).parent.mkdir()
+            shutil.copy(FIELD / DESCRIPTION, kit / DESCRIPTION)
+        elif edit.where.startswith("openapi_test."):
+            return "SURVIVED docs/openapi.yaml is not here: the kit stands outside its repository"
         text = (kit / edit.file).read_text()
         for old, new in ((edit.old, edit.new), *((edit.also,) if edit.also else ())):
             if old not in text:

@@ -18,6 +18,7 @@ from refusals import BY_WORD, TABLE
 
 NEEDED = ("yaml", "jsonschema")
 MISSING = [name for name in NEEDED if importlib.util.find_spec(name) is None]
+DESCRIPTION = FIELD.parent / "docs/openapi.yaml"        # of the repository; a kit that is installed alone has none
 ANYWHERE = {"no_route", "bad_method"}       # answers to what is no route of the table
 ONE, TWO, THREE = ("02:00:00:00:00:01", "02:00:00:00:00:02", "02:00:00:00:00:03")
 UNKNOWN = "2222-2222-2222-2222"
@@ -30,12 +31,13 @@ def walk(node: Any, path: tuple[Any, ...] = ()) -> Iterator[tuple[tuple[Any, ...
             yield from walk(value, (*path, key))
 
 
+@unittest.skipUnless(DESCRIPTION.is_file(), "docs/openapi.yaml is not here: the kit stands outside its repository")
 @unittest.skipIf(MISSING, f"not installed: {', '.join(MISSING)}")
 class Described(unittest.TestCase):
     @classmethod
     def setUpClass(cls) -> None:
         import yaml
-        cls.api = yaml.safe_load((FIELD / "openapi.yaml").read_text())
+        cls.api = yaml.safe_load(DESCRIPTION.read_text())
         cls.seen: dict[tuple[Routes, int], int] = {}
 
     def target(self, node: Any) -> Any:
