@@ -14,7 +14,7 @@ import sys
 import time
 import tomllib
 import urllib.parse
-from collections.abc import Callable
+from collections.abc import Callable, Sequence
 from dataclasses import dataclass
 from typing import Any
 
@@ -55,7 +55,7 @@ def form_of(action: str, number: str, **hidden: str) -> str:
     return f'<form method="post" action="{action}">{fields}'
 
 
-def table(kind: str, head: tuple[str, ...], rows: list[tuple[str, ...]]) -> str:
+def table(kind: str, head: tuple[str, ...], rows: Sequence[tuple[str, ...]]) -> str:
     """Cells are HTML; a cell tells its column's name on narrow screens."""
     names = "".join(f"<th>{name}</th>" for name in head)
     cells = ("".join(f'<td data-label="{name}">{cell}</td>' for name, cell in zip(head, row)) for row in rows)

@@ -11,6 +11,7 @@ import os
 import pathlib
 import socketserver
 import urllib.parse
+from typing import Any
 
 
 class BadForm(Exception):
@@ -91,6 +92,8 @@ class Page(http.server.BaseHTTPRequestHandler):
 
 class UnixServer(socketserver.ThreadingMixIn, socketserver.UnixStreamServer):
     daemon_threads, request_queue_size = True, 64
+    front: Any      # what the pages ask: one of these two
+    counter: Any
 
     @classmethod
     def bound(cls, path: str, page: type[Page]) -> UnixServer:

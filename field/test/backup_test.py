@@ -139,7 +139,8 @@ class Copies(unittest.TestCase):
             with DeskProcess() as desk:
                 desk.load()
                 words = [sys.executable, FIELD / "backup/portal-backup", desk.book, desk.folder / "copies"]
-                done = subprocess.run(words, capture_output=True, text=True, env=self.spied(desk.folder, cp))
+                env = self.spied(desk.folder, cp)
+                done = subprocess.run([str(word) for word in words], capture_output=True, text=True, env=env)
                 order = (desk.folder / "order").read_text().splitlines()
                 self.assertEqual(done.returncode, status, done.stderr)
                 self.assertEqual([line.removeprefix("systemctl ").split()[0] for line in order], asked)

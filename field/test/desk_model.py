@@ -149,21 +149,23 @@ class Model:
         need(v.refund is None, "refunded")
         need(at < v.expires, "expired")
         need(v.redeemed < v.plan.uses, "used_up")
-        extended = s is not None and s.is_open(at)
-        if extended:
+        open_one = s if s is not None and s.is_open(at) else None
+        if open_one:
+            s = open_one
             need(s.plan.extend, "no_extend")
             need((s.plan.seconds > 0, s.plan.bytes > 0) == (v.plan.seconds > 0, v.plan.bytes > 0), "shape_differs")
             need(s.allowance + v.plan.bytes <= MOST_BYTES, "allowance_full")
-        need((s.ends if extended else at) + v.plan.seconds <= GREATEST, "moment_range")
+        need((open_one.ends if open_one else at) + v.plan.seconds <= GREATEST, "moment_range")
         need(self.grants < MOST_GRANTS, "numbers_full")
-        if extended:
+        if open_one:
+            s = open_one
             s.ends, s.allowance = s.ends + v.plan.seconds, s.allowance + v.plan.bytes
         else:
             s = Session(len(self.sessions) + 1, device, v.plan, at + v.plan.seconds, v.plan.bytes)
             self.sessions.append(s)
             self.of_device[device] = s
         v.redeemed, self.grants = v.redeemed + 1, self.grants + 1
-        return {"extended": extended, "session": s.number, "uses_left": v.plan.uses - v.redeemed}
+        return {"extended": open_one is not None, "session": s.number, "uses_left": v.plan.uses - v.redeemed}
 
     def session(self, number: int) -> Session:
         need(1 <= number <= len(self.sessions), "unknown_session")

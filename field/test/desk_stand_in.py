@@ -23,6 +23,7 @@ import sys
 import time
 import tomllib
 from dataclasses import dataclass
+from typing import Any
 
 sys.path.insert(0, str(pathlib.Path(__file__).resolve().parent.parent / "lib"))
 from desk_model import ID, Json, Model, No, Plan, checked, need, print_file, read_code, takings  # noqa: E402
@@ -58,8 +59,10 @@ class Request:
         head, end, _ = data[:8192].partition(b"\r\n\r\n")
         first, *lines = head.split(b"\r\n")
         line, found = REQUEST_LINE.fullmatch(first), [FIELD_LINE.fullmatch(text) for text in lines]
-        need(bool(end and line and all(found) and len(found) <= 32), "bad_request")
-        fields = [(m[1].decode().lower(), m[2].decode("latin-1")) for m in found]
+        need(bool(end and all(found) and len(found) <= 32), "bad_request")
+        if not line:
+            raise No("bad_request")
+        fields = [(m[1].decode().lower(), m[2].decode("latin-1")) for m in found if m]
         request = cls(line[1].decode(), line[2], fields, b"")
         hosts = len(request.values("host"))
         need(hosts == 1 or hosts == 0 and line[3] == b"0", "bad_request")
@@ -125,7 +128,8 @@ def compact(value: Json) -> bytes:
 
 class StandIn:
     def __init__(self, db: str, settings: Json) -> None:
-        self.settings, self.model, self.kept = settings, Model(), {}
+        self.settings, self.model = settings, Model()
+        self.kept: dict[tuple[str, str | None], tuple[list[Any], Json]] = {}
         self.book = sqlite3.connect(db, isolation_level=None)
         for pragma in ("locking_mode=EXCLUSIVE", "journal_mode=WAL", "synchronous=FULL"):
             self.book.execute("PRAGMA " + pragma)
@@ -133,7 +137,7 @@ class StandIn:
         for at, kind, words, mark in self.book.execute("SELECT at, kind, words, mark FROM accepted ORDER BY n"):
             self.keep(json.loads(mark), self.model.act(kind, json.loads(words), at))
 
-    def keep(self, mark: list[str] | None, answer: Json) -> None:
+    def keep(self, mark: list[Any] | None, answer: Json) -> None:
         if mark:
             self.kept[mark[0], mark[1]] = mark[2:], answer
 
@@ -142,7 +146,7 @@ class StandIn:
         try:
             request = Request.read(data)
             path = request.target.partition(b"?")[0].decode("utf-8", "replace")
-            found = [(ROUTES[PATHS[p]], PATHS[p], p.fullmatch(path).groups()) for p in PATHS if p.fullmatch(path)]
+            found = [(ROUTES[PATHS[p]], PATHS[p], m.groups()) for p in PATHS if (m := p.fullmatch(path))]
             need(bool(found), "no_route")
             (method, caller, kind), route, part = found[0]
             allow = method
@@ -170,7 +174,7 @@ class StandIn:
         need(len(numbers) <= 1 and all(NUMBER.fullmatch(number) for number in numbers), "bad_request")
         return who, numbers[0] if numbers else None
 
-    def act(self, kind: str, words: Json, at: int, who: str, mark: list[str]) -> Json:
+    def act(self, kind: str, words: Json, at: int, who: str, mark: list[Any]) -> Json:
         number, *what = mark
         if (who, number) in self.kept:
             was, answer = self.kept[who, number]

@@ -237,7 +237,7 @@ def refused(edit: Edit, kit: pathlib.Path, portal: str) -> str:
         done = subprocess.run(words, capture_output=True, text=True, cwd=kit / "test", timeout=120, env=env)
         good = done.returncode != 0 and "FAIL: " in done.stderr and "ERROR: " not in done.stderr
         return "refused" if good else "SURVIVED " + done.stderr[-300:]
-    words = [PYTHON, kit / "test/e2e.py", *(["--portal", portal] if portal else []), "--only", edit.where]
+    words = [PYTHON, str(kit / "test/e2e.py"), *(["--portal", portal] if portal else []), "--only", edit.where]
     done = subprocess.run(words, capture_output=True, text=True, timeout=300)
     fails = [line.removeprefix("FAIL ") for line in done.stdout.splitlines() if line.startswith("FAIL")]
     if any(line.partition("  [")[0] == edit.check for line in fails):

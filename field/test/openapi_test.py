@@ -34,11 +34,14 @@ def walk(node: Any, path: tuple[Any, ...] = ()) -> Iterator[tuple[tuple[Any, ...
 @unittest.skipUnless(DESCRIPTION.is_file(), "docs/openapi.yaml is not here: the kit stands outside its repository")
 @unittest.skipIf(MISSING, f"not installed: {', '.join(MISSING)}")
 class Described(unittest.TestCase):
+    api: dict[str, Any]
+    seen: dict[tuple[Routes, int], int]
+
     @classmethod
     def setUpClass(cls) -> None:
-        import yaml
+        import yaml     # type: ignore[import]
         cls.api = yaml.safe_load(DESCRIPTION.read_text())
-        cls.seen: dict[tuple[Routes, int], int] = {}
+        cls.seen = {}
 
     def target(self, node: Any) -> Any:
         while isinstance(node, dict) and "$ref" in node:

@@ -21,6 +21,7 @@ import struct
 import sys
 import threading
 import time
+from collections.abc import Callable
 
 STOPPED = (b"HTTP/1.1 503 Service Unavailable\r\nContent-Type: application/json\r\nContent-Length: 19\r\n"
            b"Connection: close\r\n\r\n" + b'{"error":"stopped"}')
@@ -196,7 +197,8 @@ def slow(host: str, count: str, seconds: str) -> None:
     time.sleep(float(seconds))
 
 
-WORK = {work.__name__: work for work in (serve, stopped, door, knock, names, tcp, first, stream, many, slow)}
+PARTS: tuple[Callable[..., None], ...] = (serve, stopped, door, knock, names, tcp, first, stream, many, slow)
+WORK = {work.__name__: work for work in PARTS}
 
 if __name__ == "__main__":
     WORK[sys.argv[1]](*sys.argv[2:])

@@ -39,7 +39,7 @@ def main() -> int:
     for test, why in told.skipped:
         print(f"passed over: {test.id()}: {why}")
     bad = len(told.failures) + len(told.errors)
-    print(f"{told.good} passed, {bad} failed")
+    print(f"{told.good if isinstance(told, Result) else 0} passed, {bad} failed")
     return int(bad > 0)
 
 

@@ -7,6 +7,7 @@ import socket
 import threading
 import time
 import unittest
+from typing import Any
 
 from desk_process import Desk, DeskProcess, NoAnswer, Refused, Routes
 from desk_client import REQUEST_NUMBER, new_number
@@ -17,7 +18,7 @@ HEAD = b"HTTP/1.1 %d X\r\nContent-Length: %d\r\nConnection: close\r\n\r\n%s"
 
 
 class Answers(unittest.TestCase):
-    def told(self, answer: bytes, wait: float = 0.0) -> Exception | dict[str, object]:
+    def told(self, answer: bytes, wait: float = 0.0) -> Any:
         """What the client makes of one answer."""
         door = socket.create_server(("127.0.0.1", 0))
         held = threading.Event()

@@ -11,6 +11,7 @@ import threading
 import time
 import unittest
 import urllib.parse
+from typing import Any
 
 from desk_process import FIELD, Desk, DeskProcess, Relay, Routes     # which says where the parts stand
 
@@ -39,7 +40,7 @@ class Pages(unittest.TestCase):
         self.addCleanup(server.server_close)
         self.addCleanup(server.shutdown)
 
-    def ask(self, path: str, origin: str | None = "https://counter.example", **form: object) -> tuple[int, str]:
+    def ask(self, path: str, origin: str | None = "https://counter.example", **form: Any) -> tuple[int, str]:
         link = UnixLink(self.path)
         fields = {"Host": "counter.example", **({"Origin": origin} if origin else {})}
         link.request("POST" if form else "GET", path, urllib.parse.urlencode(form) if form else None, fields)
@@ -57,17 +58,17 @@ class Pages(unittest.TestCase):
         self.assertEqual(text.count('method="post"'), 3)
 
     def test_a_day_at_the_counter(self) -> None:
-        for path, form, words in (
-                ("/issue", {"batch": "b1", "plan": "gigabyte", "count": 2}, "Batch b1: 2 codes, good until "),
-                ("/issue", {"batch": "b1", "plan": "hour", "count": 2}, "A batch of this name was issued already.")):
-            self.assertIn(words, self.ask(path, **form, request=str(time.monotonic_ns()))[1])
+        for plan, told in (("gigabyte", "Batch b1: 2 codes, good until "),
+                           ("hour", "A batch of this name was issued already.")):
+            form = {"batch": "b1", "plan": plan, "count": "2", "request": str(time.monotonic_ns())}
+            self.assertIn(told, self.ask("/issue", **form)[1])
         code = self.desk.desk.ask(Routes.PRINT, "b1").decode().splitlines()[1].partition(",")[0]
         day = time.strftime("%Y-%m-%d", time.gmtime())
         for path, form, words in (
                 ("/sell", {"code": code}, ("Sold: " + code, "Take 5.00")),
                 ("/sell", {"code": code}, ("Do not take money twice",)),
                 ("/refund", {"code": code}, ("Give back 5.00",)),
-                ("/close", {"session": 1}, ("There never was a session of this number.",)),
+                ("/close", {"session": "1"}, ("There never was a session of this number.",)),
                 ("/close", {"session": "x"}, ("The request was not understood.",))):
             text = self.ask(path, **form, request=str(time.monotonic_ns()))[1]
             for word in words:

@@ -72,7 +72,10 @@ class Pages(unittest.TestCase):
         self.addCleanup(self.server.server_close)
         self.addCleanup(self.server.shutdown)
         self.device: str | None = MAC
-        self.enterContext(mock.patch.object(portal_front, "device_at", lambda address, lan: self.device))
+        self.enterContext(mock.patch.object(portal_front, "device_at", self.device_at))
+
+    def device_at(self, _address: str, _lan: str) -> str | None:
+        return self.device
 
     def ask(self, method: str, path: str, **form: str) -> tuple[int, str, str]:
         link = UnixLink(self.path)
@@ -85,7 +88,7 @@ class Pages(unittest.TestCase):
 
     def number(self, text: str) -> str:
         found = re.search(r'name="request" value="([A-Za-z0-9-]{1,36})"', text)
-        self.assertIsNotNone(found)
+        assert found, text
         return found[1]
 
     def test_the_device_is_named_to_nginx(self) -> None:

@@ -7,9 +7,9 @@ import pathlib
 import tempfile
 import unittest
 from collections.abc import Iterable
-from typing import Any
+from typing import Any, cast
 
-from desk_process import NoAnswer, Refused, Routes
+from desk_process import Desk, NoAnswer, Refused, Routes
 from passing import Passing, RulesAreGone
 from portal_gateway import Agent
 
@@ -84,7 +84,7 @@ class Polls(unittest.TestCase):
         self.agent = self.fresh()
 
     def fresh(self, snapshot: str | None = None) -> Agent:
-        return Agent(self.desk, self.gate, snapshot, quiet=30.0, now=lambda: self.time)
+        return Agent(cast(Desk, self.desk), self.gate, snapshot, quiet=30.0, now=lambda: self.time)
 
     def poll(self, seconds: float = 1.0) -> bool:
         self.time += seconds

@@ -6,7 +6,7 @@ import re
 import unittest
 
 from desk_process import FIELD
-from must_fail import PACKETS, UNITS
+from must_fail import DESCRIPTION, PACKETS, UNITS
 
 
 class Promises(unittest.TestCase):
@@ -19,6 +19,8 @@ class Promises(unittest.TestCase):
 
     def test_each_edit_fits(self) -> None:
         for edit in (*UNITS, *PACKETS):
+            if edit.file == DESCRIPTION and not (FIELD / DESCRIPTION).is_file():
+                continue        # the kit stands outside its repository
             text = (FIELD / edit.file).read_text()
             for old, new in ((edit.old, edit.new), *((edit.also,) if edit.also else ())):
                 self.assertIn(old, text, edit.name)

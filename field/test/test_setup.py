@@ -4,7 +4,6 @@ from __future__ import annotations
 
 import configparser
 import importlib.machinery
-import importlib.util
 import pathlib
 import re
 import shutil
@@ -12,13 +11,15 @@ import subprocess
 import sys
 import tempfile
 import tomllib
+import types
 import unittest
+from typing import Any
 
 from desk_process import FIELD
 
 loader = importlib.machinery.SourceFileLoader("field_setup", str(FIELD / "setup"))
-spec = importlib.util.spec_from_loader("field_setup", loader)
-setup = importlib.util.module_from_spec(spec)
+setup: Any = types.ModuleType(loader.name)
+setup.__file__ = loader.path
 sys.modules["field_setup"] = setup
 sys.dont_write_bytecode = True
 loader.exec_module(setup)
@@ -55,7 +56,7 @@ class Made(unittest.TestCase):
     def make(self) -> None:
         words = [sys.executable, FIELD / "setup", "--root", self.root, "--field", "/usr/share/portal/field",
                  FIELD / "settings/field.toml"]
-        subprocess.run(words, check=True, capture_output=True)
+        subprocess.run([str(word) for word in words], check=True, capture_output=True)
 
     def files(self) -> dict[str, bytes]:
         return {str(p.relative_to(self.root)): p.read_bytes() for p in self.root.rglob("*") if p.is_file()}
@@ -91,13 +92,13 @@ class Made(unittest.TestCase):
             path = pathlib.Path(folder) / "field.toml"
             path.write_text(SAMPLE.replace("desk_port = 8080", "desk_port = 0"))
             words = [sys.executable, FIELD / "setup", "--root", pathlib.Path(folder) / "root", path]
-            done = subprocess.run(words, capture_output=True, text=True)
+            done = subprocess.run([str(word) for word in words], capture_output=True, text=True)
             self.assertEqual((done.returncode, (pathlib.Path(folder) / "root").exists()), (1, False))
             self.assertIn("desk_port = 0: from 1 to 65535", done.stderr)
 
     def unit(self, name: str) -> configparser.ConfigParser:
         unit = configparser.ConfigParser(strict=False, interpolation=None)
-        unit.optionxform = str
+        unit.optionxform = str      # type: ignore[assignment, method-assign]
         unit.read(self.root / "etc/systemd/system" / name)
         return unit
 
