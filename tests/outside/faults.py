@@ -81,8 +81,6 @@ def cases() -> Iterator[tuple[tuple[str | bytes, ...], Wanted]]:
     moment = ("--now", "1583125693", "--seed", SEED)
     yield ("--help",), (0, None, "")
     yield ("check", "--help"), (0, None, "")
-    with open(VERSION, encoding="utf-8") as file:
-        yield ("--version",), (0, f"portal {file.read().strip()} (database schema version 4)\n", "")
     yield ("check",), (2, "", None)
     yield ("sell",), (2, "", None)
     yield ("serve", *at(), "--port", "0"), (2, "", None)
@@ -144,6 +142,17 @@ class Shown:
         if '"error":' in output:
             told = output.split('"')[-2]
         self.words.setdefault((status, told), " ".join(str(word) for word in words))
+
+
+def version(shown: Shown) -> None:
+    """The release is that of the file VERSION, and the schema version that of the database that the program has made."""
+    with open(VERSION, encoding="utf-8") as file:
+        release = file.read().strip()
+    with sqlite3.connect(os.path.join(shown.folder, "off.db")) as made:
+        [(schema,)] = made.execute("SELECT layout FROM portal_head")
+    made.close()
+    for word in ("--version", "-V"):
+        shown.call((word,), (0, f"portal {release} (database schema version {schema})\n", ""))
 
 
 def everything(shown: Shown) -> None:
@@ -273,7 +282,7 @@ def main() -> None:
         files(folder)
         filled(shown.program, folder)
         before = [open(os.path.join(folder, name), "rb").read() for name in ("other.db", "later.db", "text")]
-        for part in (everything, answered, cut, taken, stopped, little_memory):
+        for part in (version, everything, answered, cut, taken, stopped, little_memory):
             part(shown)
         assert before == [open(os.path.join(folder, name), "rb").read() for name in ("other.db", "later.db", "text")]
     if "--list" in sys.argv:
