@@ -1,4 +1,4 @@
-# Read by ./test-edits and ./test-times: a copy of the repository's crates to try things on. It is kept from one call to the next,
+# Read by tools/test-edits and tools/test-times: a copy of the repository's crates to try things on. It is kept from one call to the next,
 # so that the libraries below a crate are not proved each time; to remove it costs time alone.
 # The reader has set top, the repository's folder.
 : "${top:?}"
