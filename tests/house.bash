@@ -17,7 +17,7 @@ is() {
   fi
 }
 
-# The stand-in writes each build to FAKE/calls, with its start and its end to FAKE/spans, each question for the kit to FAKE/versions, and
+# The stand-in writes each build to FAKE/calls, with its start, its end and its jobs to FAKE/spans, each question for the kit to FAKE/versions, and
 # what was left on standard input to FAKE/eaten. FAKE/during is run in the repository, FAKE/refuses names a crate that fails, FAKE/slow
 # says how long the others take.
 make_fake_rt() {
@@ -28,7 +28,9 @@ make_fake_rt() {
 [[ $1 != version ]] || { echo asked >>"$FAKE/versions"; cat "$FAKE/kit"; exit; }
 name=${PWD##*/}
 echo "$1 $name" >>"$FAKE/calls"
-echo "start $name" >>"$FAKE/spans"
+[[ $* =~ --jobs\ ([0-9]+) ]]
+jobs=${BASH_REMATCH[1]-}
+echo "start $name $jobs" >>"$FAKE/spans"
 cat >>"$FAKE/eaten"
 [[ ! -f $FAKE/during ]] || (cd ../.. && bash "$FAKE/during")
 echo "rt says this of $name"
@@ -39,7 +41,7 @@ mkdir -p out/rlib
   { echo '#!/usr/bin/env bash'; echo "echo '$(cat src/main.rt)'" '"$@"'; echo 'cat'; echo 'exit 7'; } >out/portal
   chmod +x out/portal
 }
-echo "end $name" >>"$FAKE/spans"
+echo "end $name $jobs" >>"$FAKE/spans"
 RT
   chmod +x "$FAKE/rt"
 }
@@ -85,15 +87,16 @@ sha256() {
   echo "${sum%% *}"
 }
 
-# Puts a stand-in for the shipped program into dist/, built from the house's sources as they are.
+# Puts a stand-in for the shipped program into dist/, built from the house's sources as they are. It begins
+# with these words.
 make_shipped() {
   local dist="$house/dist/x86_64-linux"
   mkdir -p "$dist"
-  cat >"$room/shipped" <<'PROGRAM'
+  cat >"$room/shipped" <<PROGRAM
 #!/usr/bin/env bash
-echo ran >>"$FAKE/ran"
-[[ $* != --version ]] || { echo 'portal 1.0.0 (database schema version 4)'; exit; }
-echo 'the shipped program' "$@"
+echo ran >>"\$FAKE/ran"
+[[ \$* != --version ]] || { echo 'portal 1.0.0 (database schema version 4)'; exit; }
+echo '${1-the shipped program}' "\$@"
 cat
 exit 5
 PROGRAM
