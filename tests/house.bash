@@ -17,9 +17,9 @@ is() {
   fi
 }
 
-# The stand-in writes each build to FAKE/calls, with its start, its end and its jobs to FAKE/spans, each question for the kit to FAKE/versions, and
-# what was left on standard input to FAKE/eaten. FAKE/during is run in the repository, FAKE/refuses names a crate that fails, FAKE/slow
-# says how long the others take.
+# The stand-in writes each build to FAKE/calls, with its start, its end and its jobs to FAKE/spans, each question
+# for the kit to FAKE/versions, and what was left on standard input to FAKE/eaten. FAKE/during is run in the
+# repository, FAKE/refuses names a crate that fails, FAKE/slow says how long the others take.
 make_fake_rt() {
   mkdir -p "$FAKE" "$TMPDIR"
   echo 'kit one' >"$FAKE/kit"
@@ -87,16 +87,19 @@ sha256() {
   echo "${sum%% *}"
 }
 
-# Puts a stand-in for the shipped program into dist/, built from the house's sources as they are. It begins
-# with these words.
+# Puts a stand-in for the shipped program into dist/, built from the house's sources as they are.
 make_shipped() {
+  make_shipped_saying 'the shipped program'
+}
+
+make_shipped_saying() {
   local dist="$house/dist/x86_64-linux"
   mkdir -p "$dist"
   cat >"$room/shipped" <<PROGRAM
 #!/usr/bin/env bash
 echo ran >>"\$FAKE/ran"
 [[ \$* != --version ]] || { echo 'portal 1.0.0 (database schema version 4)'; exit; }
-echo '${1-the shipped program}' "\$@"
+echo '$1' "\$@"
 cat
 exit 5
 PROGRAM

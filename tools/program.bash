@@ -1,4 +1,5 @@
-# Read by portal, tools/build, tools/ship and tests/shipped: the sum of the sources, the shipped program, and the one that was built here.
+# Read by portal, tools/build, tools/ship and tests/shipped: the sum of the sources, the shipped program, and the
+# one that was built here.
 # The reader has set top, the repository's folder.
 : "${top:?}"
 me=${me:-portal}
@@ -65,7 +66,8 @@ sha256_of() {
   echo "${sum%% *}"
 }
 
-# Whether out/portal was built from these sources by this kit. Without rt no other kit can be meant, and none could build it again.
+# Whether out/portal was built from these sources by this kit. Without rt any kit will do: none could build it
+# again.
 is_current() {
   local sources='' kit=''
   [[ -x $built && -f $record ]] || return 1
@@ -90,12 +92,13 @@ is_shipped() {
   [[ -x $1 && -r $1 && $(sha256_of "$1") == "${shipped[sha256]-}" ]]
 }
 
-# Unpacks the shipped program to this path, if it is not there already. The file takes its name when it is whole and has the right sum.
+# Unpacks the shipped program to this path, if it is not there already. The file takes its name when it is whole
+# and has the right sum.
 unpack_shipped() {
   local new said sum
   ! is_shipped "$1" || return 0
   [[ $1 != /portal-shipped ]] || {
-    say "$top/out cannot be written, nor a folder of the user's cache (XDG_CACHE_HOME may name one): the program cannot be unpacked"
+    say "the program cannot be unpacked: neither $top/out nor a folder of the user's cache can be written"
     exit 3
   }
   new=$(mktemp "$1.XXXXXX") || exit 3
@@ -107,7 +110,7 @@ unpack_shipped() {
   sum=$(sha256_of "$new")
   [[ $sum == "${shipped[sha256]-}" ]] || {
     rm -f "$new"
-    say "$dist/portal.gz is not the program that portal.txt names: its SHA-256 is $sum, and portal.txt says ${shipped[sha256]-nothing}"
+    say "$dist/portal.gz does not match portal.txt: its SHA-256 is $sum, and portal.txt says ${shipped[sha256]-nothing}"
     exit 3
   }
   chmod 755 "$new"
