@@ -18,8 +18,9 @@ is() {
 }
 
 # The stand-in writes each build to FAKE/calls, with its start, its end and its jobs to FAKE/spans, each question
-# for the kit to FAKE/versions, and what was left on standard input to FAKE/eaten. FAKE/during is run in the
-# repository, FAKE/refuses names a crate that fails, FAKE/slow says how long the others take.
+# for the kit to FAKE/versions, what was left on standard input to FAKE/eaten, and to FAKE/wrong what the real one
+# would lose time by: another one in the same folder, and a library below that is not there. FAKE/during is run in
+# the repository, FAKE/refuses names a crate that fails, FAKE/slow says how long the others take.
 make_fake_rt() {
   mkdir -p "$FAKE" "$TMPDIR"
   echo 'kit one' >"$FAKE/kit"
@@ -32,11 +33,18 @@ echo "$1 $name" >>"$FAKE/calls"
 jobs=${BASH_REMATCH[1]-}
 echo "start $name $jobs" >>"$FAKE/spans"
 cat >>"$FAKE/eaten"
+exec {lock}<../..
+flock -n "$lock" || echo "$name: another one in $PWD" >>"$FAKE/wrong"
+for lower in $(sed -n "s/^$name://p" ../../crates.txt); do
+  [[ ! -d ../$lower || -e ../$lower/out/rlib/lib ]] || echo "$name: no $lower" >>"$FAKE/wrong"
+done
 [[ ! -f $FAKE/during ]] || (cd ../.. && bash "$FAKE/during")
 echo "rt says this of $name"
 [[ ! -f $FAKE/refuses || $(<"$FAKE/refuses") != "$name" ]] || exit 1
 [[ ! -f $FAKE/slow ]] || sleep "$(<"$FAKE/slow")"
-mkdir -p out/rlib
+[[ ! -e out/incremental/own ]] || echo "kept $(<out/incremental/own)" >>"$FAKE/spans"
+mkdir -p out/rlib out/incremental
+touch out/incremental/work out/rlib/lib
 [[ $1 != run ]] || {
   { echo '#!/usr/bin/env bash'; echo "echo '$(cat src/main.rt)'" '"$@"'; echo 'cat'; echo 'exit 7'; } >out/portal
   chmod +x out/portal
@@ -64,7 +72,7 @@ make_house() {
     echo "code of $name" >"$house/crates/$name/src/lib.rt"
   done >"$house/crates.txt"
   echo 'the program' >"$house/crates/portal/src/main.rt"
-  rm -f "$FAKE"/{calls,spans,eaten,versions,during,refuses,slow,ran}
+  rm -f "$FAKE"/{calls,spans,eaten,versions,wrong,during,refuses,slow,ran}
 }
 
 make_small_house() {
