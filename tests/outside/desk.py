@@ -59,8 +59,11 @@ class Desk:
         self.process.wait()
         self.process.stdout.close()
 
-    def run(self, *words):
-        return subprocess.run(self.words(*words), cwd=self.folder, capture_output=True, text=True, check=False)
+    def run(self, *words, data=b""):
+        """A subcommand, with the bytes of its standard input."""
+        done = subprocess.run(self.words(*words), cwd=self.folder, capture_output=True, input=data, check=False)
+        done.stdout, done.stderr = done.stdout.decode(), done.stderr.decode()
+        return done
 
     def connect(self):
         return socket.create_connection(("127.0.0.1", self.port), timeout=10)
