@@ -8,6 +8,7 @@ import socket
 import sqlite3
 import subprocess
 import tempfile
+import threading
 import time
 from contextlib import closing
 from datetime import datetime, timedelta, timezone
@@ -110,7 +111,11 @@ class Server:
         with open(self.errors, "w", encoding="utf-8") as errors:
             process = subprocess.Popen(words, cwd=folder, stdout=subprocess.PIPE, stderr=errors, text=True)
         assert process.stdout is not None
-        return process, port, process.stdout.readline()
+        too_late = threading.Timer(SECONDS, process.kill)
+        too_late.start()
+        line = process.stdout.readline()
+        too_late.cancel()
+        return process, port, line
 
     def ask(self, sent: bytes) -> bytes:
         """The response, its Date masked where it is the clock's."""
