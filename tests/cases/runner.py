@@ -12,7 +12,6 @@ import threading
 import time
 from contextlib import closing
 from datetime import datetime, timedelta, timezone
-from email.utils import parsedate_to_datetime
 from pathlib import Path
 
 from reader import Answer, Ask, Call, Case, File, Serve, Sql, Step
@@ -91,6 +90,12 @@ def compare(wanted: list[str], came: list[str]) -> None:
         raise Differs(wanted, came)
 
 
+def compare_bytes(wanted: bytes, came: bytes) -> None:
+    compare(shown(wanted), shown(came))
+    if wanted != came:
+        raise Differs([repr(wanted)], [repr(came)])
+
+
 class Server:
     """`portal serve` over the files of the case, on a port that was free."""
 
@@ -124,9 +129,8 @@ class Server:
             peer.sendall(sent)
             peer.shutdown(socket.SHUT_WR)
             came = b"".join(iter(lambda: peer.recv(65536), b""))
-        match = re.search(rb"\r\n(Date: (\w{3}, \d\d \w{3} \d{4} \d\d:\d\d:\d\d GMT))\r\n", came)
-        if match and int(before) <= parsedate_to_datetime(match[2].decode()).timestamp() <= time.time():
-            return came.replace(match[1], MASKED, 1)
+        for now in range(int(before), int(time.time()) + 1):
+            came = came.replace(b"\r\n" + date_line(now) + b"\r\n", b"\r\n" + MASKED + b"\r\n", 1)
         return came
 
     def end(self) -> None:
@@ -179,13 +183,11 @@ class Run:
         if ask.now is None:
             if self.server is None:
                 raise Differs(["a server: the step `serve`"], ["none"])
-            compare(shown(wanted), shown(self.server.ask(ask.sent)))
+            compare_bytes(wanted, self.server.ask(ask.sent))
             return
         files = [] if self.case.in_memory else ["--db", "portal.db", "--settings", "settings.toml"]
         done = self.process(["answer", "--now", str(ask.now), "--seed", ask.seed, *files], ask.sent)
-        compare(shown(wanted), shown(done.stdout))
-        if done.stdout != wanted:
-            raise Differs([repr(wanted)], [repr(done.stdout)])
+        compare_bytes(wanted, done.stdout)
         code = 0 if wanted.startswith(b"HTTP/1.1 200 ") else 1
         compare([f"exit {code}"], [f"exit {done.returncode}", *shown(done.stderr)][:2 if done.stderr else 1])
 
