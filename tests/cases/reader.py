@@ -268,7 +268,7 @@ def ask_of(item: Item) -> Ask:
 
 
 def seed_of(item: Item, text: str) -> str:
-    if not re.fullmatch(r"[0-9a-f]{2}|[0-9a-f]{64}", text):
+    if not re.fullmatch(r"[0-9a-fA-F]{2}|[0-9a-fA-F]{64}", text):
         raise BadCase(item.line, "a seed is 64 hexadecimal digits, or 2 that stand for 32 equal bytes")
     return text * 32 if len(text) == 2 else text
 
