@@ -14,7 +14,8 @@ ALPHABET = "23456789ABCDEFGHJKMNPQRSTUVWXYZ"
 LENGTH = 15
 CONSTANTS = (0x61707865, 0x3320646E, 0x79622D32, 0x6B206574)
 MASK = 0xFFFFFFFF
-ROUNDS = ((0, 4, 8, 12), (1, 5, 9, 13), (2, 6, 10, 14), (3, 7, 11, 15), (0, 5, 10, 15), (1, 6, 11, 12), (2, 7, 8, 13), (3, 4, 9, 14))
+COLUMNS = ((0, 4, 8, 12), (1, 5, 9, 13), (2, 6, 10, 14), (3, 7, 11, 15))
+DIAGONALS = ((0, 5, 10, 15), (1, 6, 11, 12), (2, 7, 8, 13), (3, 4, 9, 14))
 
 
 def quarter(state: list[int], a: int, b: int, c: int, d: int) -> None:
@@ -31,7 +32,7 @@ def words_of(key: bytes) -> Iterator[int]:
         start = [*CONSTANTS, *struct.unpack("<8I", key), block & MASK, block >> 32, 0, 0]
         state = list(start)
         for _ in range(10):
-            for places in ROUNDS:
+            for places in COLUMNS + DIAGONALS:
                 quarter(state, *places)
         yield from ((word + first) & MASK for word, first in zip(state, start))
         block += 1

@@ -1,4 +1,4 @@
-"""Reads a case: a plain-text file of steps, each with what is expected of it. README.md in this folder describes the format."""
+"""Reads a case: a text file of steps with their expected results. README.md in this folder describes the format."""
 
 from __future__ import annotations
 
@@ -140,7 +140,20 @@ def read_case(path: Path) -> Case:
         add_item(case, item)
     if not case.steps:
         raise BadCase(len(lines), "no step")
+    check_server(case)
     return case
+
+
+def check_server(case: Case) -> None:
+    """`serve` and `stop` take turns, and requests without a moment come between them."""
+    runs = False
+    for step in case.steps:
+        if isinstance(step, Serve):
+            if step.starts == runs:
+                raise BadCase(step.line, "the server runs already" if runs else "no server runs")
+            runs = step.starts
+        if isinstance(step, Ask) and step.now is None and not runs:
+            raise BadCase(step.line, "a request without a moment goes to a server, and none runs")
 
 
 def items_of(lines: list[str], start: int) -> list[Item]:
@@ -254,10 +267,12 @@ def ask_of(item: Item) -> Ask:
     match = SENT.fullmatch(item.text)
     if match:
         now = int(match[1]) if match[1] else None
-        return Ask(item.line, item.shown, now, "00" * 32, bytes_of(item.line, item.block or []), answer_of(item))
+        sent = bytes_of(item.line, item.block or [])
+        return Ask(item.line, item.shown, now, "00" * 32, sent, answer_of(item))
     match = REQUEST.fullmatch(item.text)
     if not match:
-        raise BadCase(item.line, "no request: `[at MOMENT [seed HEX]] CALLER METHOD PATH [BODY]` or `[at MOMENT] send`")
+        form = "`[at MOMENT [seed HEX]] CALLER METHOD PATH [BODY]` or `[at MOMENT] send`"
+        raise BadCase(item.line, f"no request: {form}")
     now, seed = int(match[1]) if match[1] else None, seed_of(item, match[2] or "00")
     body = body_of(item, match[6], item.block)
     head = [f"{match[4]} {match[5]} HTTP/1.1", "Host: api", *caller_field(match[3]), *item.fields]
@@ -274,8 +289,10 @@ def seed_of(item: Item, text: str) -> str:
 
 
 def caller_field(caller: str) -> list[str]:
-    known: dict[str, list[str]] = {"desk": ["Portal-Token: desk-token"], "gateway": ["Portal-Token: gate-token"], "nobody": []}
-    return known[caller] if caller in known else [f"Portal-Device: 02:00:00:00:00:0{caller[-1]}"]
+    if caller == "nobody":
+        return []
+    tokens = {"desk": "desk-token", "gateway": "gate-token"}
+    return [f"Portal-Token: {tokens[caller]}" if caller in tokens else f"Portal-Device: 02:00:00:00:00:0{caller[-1]}"]
 
 
 def body_of(item: Item, text: str | None, block: list[str] | None) -> bytes:
@@ -291,7 +308,7 @@ def answer_of(item: Item) -> Answer:
     if word == "bytes" and not text and item.wanted is not None:
         return Answer(0, b"", bytes_of(item.line, item.wanted))
     if not re.fullmatch(r"[1-5]\d\d", word):
-        raise BadCase(item.line, "a response is expected as `-> STATUS BODY`, or as `-> bytes` and indented lines")
+        raise BadCase(item.line, "a response is expected as `-> STATUS BODY` or `-> bytes` with indented lines")
     return Answer(int(word), body_of(item, text, item.wanted))
 
 
@@ -347,5 +364,5 @@ def sql_of(item: Item) -> Sql:
         return Sql(item.line, item.shown, text, [])
     rows = [item.arrow] if item.arrow else item.wanted
     if not rows or (item.arrow and item.wanted is not None):
-        raise BadCase(item.line, "rows are expected as `-> ROW`, as `->` with an indented line each, or as `-> no rows`")
+        raise BadCase(item.line, "rows are expected as `-> ROW`, `->` with indented lines, or `-> no rows`")
     return Sql(item.line, item.shown, text, rows)

@@ -1,4 +1,4 @@
-"""Runs a case over the built program: its files in a folder of their own, one process a request, or a server."""
+"""Runs a case with the built program: files in a folder of their own, and a process for each request, or a server."""
 
 from __future__ import annotations
 
@@ -18,10 +18,20 @@ from reader import Answer, Ask, Call, Case, File, Serve, Sql, Step
 
 SECONDS = 60
 PHRASES = {
-    200: "OK", 400: "Bad Request", 403: "Forbidden", 404: "Not Found", 405: "Method Not Allowed", 409: "Conflict",
-    410: "Gone", 413: "Payload Too Large", 501: "Not Implemented", 503: "Service Unavailable",
+    200: "OK",
+    400: "Bad Request",
+    403: "Forbidden",
+    404: "Not Found",
+    405: "Method Not Allowed",
+    409: "Conflict",
+    410: "Gone",
+    413: "Payload Too Large",
+    501: "Not Implemented",
+    503: "Service Unavailable",
 }
 GET_PATHS = ("/captive", "/desk/batches/{}/print", "/desk/vouchers/{}", "/desk/takings", "/gateway/sessions")
+DAYS = ("Mon", "Tue", "Wed", "Thu", "Fri", "Sat", "Sun")
+MONTHS = ("Jan", "Feb", "Mar", "Apr", "May", "Jun", "Jul", "Aug", "Sep", "Oct", "Nov", "Dec")
 MASKED = b"Date: (the clock's)"
 
 
@@ -55,13 +65,12 @@ def kind_of(status: int, path: str) -> str:
 
 def date_line(now: int) -> bytes:
     moment = datetime(1970, 1, 1, tzinfo=timezone.utc) + timedelta(seconds=now)
-    days, months = "Mon Tue Wed Thu Fri Sat Sun".split(), "Jan Feb Mar Apr May Jun Jul Aug Sep Oct Nov Dec".split()
-    day = f"{days[moment.weekday()]}, {moment.day:02} {months[moment.month - 1]} {moment.year:04}"
+    day = f"{DAYS[moment.weekday()]}, {moment.day:02} {MONTHS[moment.month - 1]} {moment.year:04}"
     return f"Date: {day} {moment:%H:%M:%S} GMT".encode()
 
 
 def response(ask: Ask) -> bytes:
-    """All bytes of the response that is expected: the status and the body of the case, and the fields by rule."""
+    """All bytes of the expected response: the status and the body of the case, and the fields by rule."""
     wanted: Answer = ask.wanted
     if wanted.whole is not None:
         return wanted.whole
@@ -82,7 +91,11 @@ def shown(data: bytes) -> list[str]:
     """Bytes as lines. The end of a line of a head is not shown, all else that is no text is."""
     head, gap, body = data.partition(b"\r\n\r\n")
     lines = head.split(b"\r\n") + ([b"", *body.split(b"\n")] if gap else [])
-    return [line.decode("utf-8", "backslashreplace").replace("\r", "\\r").replace("\t", "\\t") for line in lines]
+    return [text_of(line) for line in lines]
+
+
+def text_of(data: bytes) -> str:
+    return data.decode("utf-8", "backslashreplace").replace("\r", "\\r").replace("\t", "\\t")
 
 
 def compare(wanted: list[str], came: list[str]) -> None:
@@ -90,10 +103,16 @@ def compare(wanted: list[str], came: list[str]) -> None:
         raise Differs(wanted, came)
 
 
-def compare_bytes(wanted: bytes, came: bytes) -> None:
-    compare(shown(wanted), shown(came))
+def compare_bytes(wanted: bytes, came: bytes, wanted_end: list[str], came_end: list[str]) -> None:
+    """Bytes as lines, and the lines that follow them."""
+    compare([*shown(wanted), *wanted_end], [*shown(came), *came_end])
     if wanted != came:
         raise Differs([repr(wanted)], [repr(came)])
+
+
+def outcome(done: subprocess.CompletedProcess[bytes], output: list[str]) -> list[str]:
+    """The exit code of a process, its output and its errors."""
+    return [f"exit {done.returncode}", *output, *(f"! {line}" for line in lines_of(done.stderr))]
 
 
 class Server:
@@ -106,7 +125,7 @@ class Server:
             if line == f"listening 127.0.0.1:{self.port}\n":
                 return
             self.end()
-        raise Differs(["listening 127.0.0.1:PORT"], [line.rstrip("\n"), self.errors.read_text(encoding="utf-8")])
+        raise Differs(["listening 127.0.0.1:PORT"], [line.rstrip("\n"), *lines_of(self.errors.read_bytes())])
 
     def start(self, program: str, folder: Path) -> tuple[subprocess.Popen[str], int, str]:
         with socket.socket() as free:
@@ -153,7 +172,8 @@ class Run:
         if self.case.plans is None:
             return
         body = self.case.plans.encode()
-        head = f"POST /desk/plans HTTP/1.1\r\nHost: api\r\nPortal-Token: {self.token()}\r\nContent-Length: {len(body)}\r\n\r\n"
+        fields = f"Host: api\r\nPortal-Token: {self.token()}\r\nContent-Length: {len(body)}\r\n"
+        head = f"POST /desk/plans HTTP/1.1\r\n{fields}\r\n"
         count = self.case.plans.count("[[plan]]")
         wanted = Answer(200, b'{"plans":%d}' % count)
         self.ask(Ask(1, [], 0, "00" * 32, head.encode() + body, wanted))
@@ -175,27 +195,25 @@ class Run:
             self.serve(step)
 
     def process(self, words: list[str], sent: bytes) -> subprocess.CompletedProcess[bytes]:
-        words = [self.program, *words]
-        return subprocess.run(words, cwd=self.folder, input=sent, capture_output=True, timeout=SECONDS, check=False)
+        return subprocess.run(
+            [self.program, *words], cwd=self.folder, input=sent, capture_output=True, timeout=SECONDS, check=False
+        )
 
     def ask(self, ask: Ask) -> None:
         wanted = response(ask)
-        if ask.now is None:
-            if self.server is None:
-                raise Differs(["a server: the step `serve`"], ["none"])
-            compare_bytes(wanted, self.server.ask(ask.sent))
+        if self.server is not None and ask.now is None:
+            compare_bytes(wanted, self.server.ask(ask.sent), [], [])
             return
         files = [] if self.case.in_memory else ["--db", "portal.db", "--settings", "settings.toml"]
         done = self.process(["answer", "--now", str(ask.now), "--seed", ask.seed, *files], ask.sent)
-        compare_bytes(wanted, done.stdout)
         code = 0 if wanted.startswith(b"HTTP/1.1 200 ") else 1
-        compare([f"exit {code}"], [f"exit {done.returncode}", *shown(done.stderr)][:2 if done.stderr else 1])
+        compare_bytes(wanted, done.stdout, [f"exit {code}"], outcome(done, []))
 
     def call(self, call: Call) -> None:
         done = self.process(call.words, b"")
-        output, errors = lines_of(done.stdout), lines_of(done.stderr)
-        wanted = [f"exit {call.code}", *covered(call.output, output), *[f"! {line}" for line in covered(call.errors, errors)]]
-        compare(wanted, [f"exit {done.returncode}", *output, *[f"! {line}" for line in errors]])
+        output, errors = lines_of(done.stdout), covered(call.errors, lines_of(done.stderr))
+        wanted = [f"exit {call.code}", *covered(call.output, output), *(f"! {line}" for line in errors)]
+        compare(wanted, outcome(done, output))
 
     def sql(self, sql: Sql) -> None:
         try:
@@ -219,7 +237,7 @@ class Run:
 
 def lines_of(data: bytes) -> list[str]:
     """Output as lines; one that does not end is shown so."""
-    lines = data.decode("utf-8", "backslashreplace").replace("\r", "\\r").split("\n")
+    lines = text_of(data).split("\n")
     return lines[:-1] if lines[-1] == "" else [*lines[:-1], lines[-1] + " (no end of line)"]
 
 
