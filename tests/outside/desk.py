@@ -5,6 +5,7 @@ import os
 import signal
 import socket
 import subprocess
+import threading
 
 SETTINGS = """zone = "UTC0"
 portal_url = "https://wifi.example/portal"
@@ -51,7 +52,10 @@ class Desk:
     def start(self, *words):
         how = {"cwd": self.folder, "stdout": subprocess.PIPE, "stderr": subprocess.DEVNULL, "text": True}
         self.process = subprocess.Popen(self.words("serve", "--port", str(self.port), *words), **how)
+        patience = threading.Timer(30, self.process.kill)
+        patience.start()
         line = self.process.stdout.readline()
+        patience.cancel()
         assert line == f"listening 127.0.0.1:{self.port}\n", line
 
     def kill(self):
