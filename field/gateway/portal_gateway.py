@@ -139,6 +139,14 @@ def complain(text: str) -> None:
     print("gateway:", text, file=sys.stderr, flush=True)
 
 
+def tell_systemd(word: bytes) -> None:
+    """READY=1, and after each poll WATCHDOG=1: an agent that hangs is killed and started again."""
+    path = os.environ.get("NOTIFY_SOCKET", "")
+    if path:
+        with socket.socket(socket.AF_UNIX, socket.SOCK_DGRAM) as s:
+            s.sendto(word, "\0" + path[1:] if path.startswith("@") else path)
+
+
 def knock_socket(path: str) -> socket.socket:
     """Where the front end knocks after a redemption, so that the guest need not wait for the next poll."""
     pathlib.Path(path).unlink(missing_ok=True)
@@ -166,9 +174,11 @@ def main() -> None:
     desk = Desk(conf["desk_port"], credential("gateway_token"), timeout=conf["poll_seconds"] * 2)
     agent = Agent(desk, KernelGate(conf["lan"], conf["grace_seconds"]), conf.get("snapshot"), conf["quiet_seconds"])
     knocks = knock_socket(conf["knock"])
+    tell_systemd(b"READY=1")
     while True:
         start = time.monotonic()
         agent.try_poll()
+        tell_systemd(b"WATCHDOG=1")
         time.sleep(0.05)        # knocks cannot make it spin
         wait(knocks, max(0.0, conf["poll_seconds"] - (time.monotonic() - start)))
 
