@@ -117,14 +117,15 @@ class Copies(unittest.TestCase):
         with DeskProcess() as desk:
             self.backup(desk)
             copy, = (desk.folder / "copies").iterdir()
-            (desk.folder / "systemctl").write_text("#!/bin/sh\nexit 0\n")
-            (desk.folder / "systemctl").chmod(0o755)
             before = desk.book.read_bytes()
             words = [FIELD / "backup/portal-restore", copy, desk.book]
-            env = {**os.environ, "PATH": f"{desk.folder}:{os.environ['PATH']}"}
-            done = subprocess.run(words, capture_output=True, text=True, env=env)
-            self.assertEqual((done.returncode, desk.book.read_bytes() == before), (1, True))
-            self.assertIn("stop portal.service first", done.stderr)
+            for state in ("active", "activating"):      # the second is a server that systemd starts again each second
+                (desk.folder / "systemctl").write_text(f"#!/bin/sh\necho {state}\n")
+                (desk.folder / "systemctl").chmod(0o755)
+                env = {**os.environ, "PATH": f"{desk.folder}:{os.environ['PATH']}"}
+                done = subprocess.run(words, capture_output=True, text=True, env=env)
+                self.assertEqual((done.returncode, desk.book.read_bytes() == before), (1, True), state)
+                self.assertIn("stop portal.service first", done.stderr)
 
     def spied(self, folder: pathlib.Path, cp: str) -> dict[str, str]:
         """A `systemctl` that only says what it was asked, and a `cp` that says so first."""
@@ -134,8 +135,8 @@ class Copies(unittest.TestCase):
         return {**os.environ, "PATH": f"{folder}:{os.environ['PATH']}"}
 
     def test_the_service_is_frozen_and_goes_on_whatever_happens(self) -> None:
-        for cp, status, asked in (('exec /bin/cp "$@"', 0, ["freeze", "cp", "cp", "thaw"]),
-                                  ("exit 1", 3, ["freeze", "cp", "thaw"])):
+        for cp, status, asked in (('exec /bin/cp "$@"', 0, ["show", "freeze", "cp", "cp", "thaw"]),
+                                  ("exit 1", 3, ["show", "freeze", "cp", "thaw"])):
             with DeskProcess() as desk:
                 desk.load()
                 words = [sys.executable, FIELD / "backup/portal-backup", desk.book, desk.folder / "copies"]

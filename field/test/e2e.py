@@ -88,7 +88,7 @@ def first_voucher(house: House, check: Checks) -> None:
     status, body, _ = house.clerk("sell", code=codes[0])
     check("a second sale is refused, with what to do", status == 409 and "Do not take money twice" in body, status)
     house.curl("clerk", f"https://{COUNTER}/voucher?code={codes[0]}", *CLERK)
-    log = (house.root / "portal-counter.log").read_text()
+    log = (house.root / "log/counter.log").read_text()
     check("the counter's log tells who did what, and no code", "clerk [" in log and "POST /sell 200" in log
           and "GET /voucher 200" in log and codes[0] not in log)
     status, body, _ = house.redeem("guest1", "2222-2222-2222-2222")
@@ -344,7 +344,7 @@ def guessed(house: House, check: Checks) -> None:
     body = ("-d", json.dumps({"code": "2222-2222-2222-2222"}))
     statuses = [house.curl("guest2", REDEEM, *body)[0] for _ in range(8)]
     check("a program's guesses are counted with them", statuses.count(429) >= 6, statuses)
-    logs = "".join(log.read_text() for log in house.root.glob("*.log") if log.stem in ("nginx-error", "portal-guests"))
+    logs = "".join((house.root / name).read_text() for name in ("nginx-error.log", "log/guests.log"))
     check("no guest's address stands in nginx's logs", house.address("guest2") not in logs, logs[:200])
 
 
@@ -428,10 +428,10 @@ def main() -> int:
             except (OSError, subprocess.SubprocessError, ValueError, LookupError, TypeError, AssertionError) as fault:
                 print(traceback.format_exc(limit=-2))
                 check(f"{name} went through", False, repr(fault))       # the next steps are still of use
-        for log in sorted(house.root.glob("*.log")):
+        for log in sorted((*house.root.glob("*.log"), *house.root.glob("log/*.log"))):
             text = log.read_text()
             good = "Traceback" not in text
-            check(f"no fault in {log.stem}'s log", good, "" if good else text[-1500:])
+            check(f"no fault in {log.relative_to(house.root)}", good, "" if good else text[-1500:])
     print(f"{check.passed} passed, {check.failed} failed")
     return int(check.failed > 0)
 

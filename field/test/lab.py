@@ -137,8 +137,9 @@ class Lab:
         with open(etc / "plans.toml", "a") as plans:
             plans.write(SMALL_PLAN)
         (etc / "counter.passwords").write_text("clerk:{PLAIN}clerk\n")
+        (root / "log").mkdir()      # nginx's logs, apart from what the services say
         for conf in (root / "etc/nginx/conf.d").iterdir():
-            conf.write_text(conf.read_text().replace("/var/log/nginx", str(root)))
+            conf.write_text(conf.read_text().replace("/var/log/portal", str(root / "log")))
         for name, (user, group, _) in USERS.items():
             for folder in (root / f"creds-{name}", root / f"run/portal-{name}"):
                 folder.mkdir(parents=True)

@@ -75,7 +75,7 @@ PACKETS = (
          "in_doubt", "without an answer the form comes back with its number"),
     Edit("forms_without_limit", GUESTS, "        limit_req zone=portal_codes burst=6 nodelay;\n        limit_req",
          "        limit_req", "guessed", "of 20 guesses at once most are told to wait"),
-    Edit("guests_in_the_log", GUESTS, "    error_log /var/log/nginx/portal-guests.log crit;\n", "",
+    Edit("guests_in_the_log", GUESTS, "    error_log /var/log/portal/guests.log alert;\n", "",
          "guessed", "no guest's address stands in nginx's logs"),
     Edit("bodies_handed_on_as_they_come", GUESTS, "proxy_request_buffering on;", "proxy_request_buffering off;",
          "slow", "slow guests delay nobody"),
