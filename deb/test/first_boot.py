@@ -1,0 +1,241 @@
+"""The first boot: from nothing to a venue that runs; parts that die and hang, networks that go, copies, logs."""
+
+from __future__ import annotations
+
+import os
+import pathlib
+import re
+import shutil
+import subprocess
+import time
+
+from machine import (
+    COPIES, COUNTER, DATABASE, HERE, NAME, OUTSIDE, PARTS, SESSIONS, UNITS, Gap, active, apt, captive, certificate,
+    check, check_all_active, clerk, code, copies, count_outside, counter, curl, forward, install, journal, lease, passes,
+    redeem, sh, show, told, until, versions, within)
+
+SLOW = HERE / "slow"        # a folder with a `cp` that takes its time
+LOGS = pathlib.Path("/var/log/portal")
+
+
+def install_and_set_up() -> None:
+    sh("systemctl", "stop", "venue-watch")
+    check.note(f"{sh('systemctl --version').stdout.splitlines()[0]}, kernel {os.uname().release}")
+    done = install(versions()[0])
+    check("one command installs all: apt install ./portal_VERSION_amd64.deb", done.returncode == 0, told(done, 100))
+    count_outside()
+    states = [active(unit) for unit in PARTS]
+    check("nothing of it runs, and nothing is forwarded, before it is set up",
+          set(states) == {"inactive"} and forward() == "0", states)
+    done = sh("portal-setup")
+    check("set-up says what is missing", done.returncode == 1 and "clerk" in done.stderr and "cert" in done.stderr, told(done))
+    certificate()
+    path = pathlib.Path("/etc/portal/field.toml")
+    path.write_text(path.read_text().replace('house = "Sample Library"', 'house = "Test Library"'))
+    start = time.monotonic()
+    done = sh("portal-setup", "--clerk", "clerk", input="secret\n")
+    check("one settings file and one command open the venue", done.returncode == 0,
+          f"{time.monotonic() - start:.1f} s; {told(done)}")
+    check_all_active("every unit is active")
+    failed = sh("systemctl --failed --no-legend --plain").stdout.split()
+    check("no unit failed", not failed, failed)
+    check("the agent polls", until(SESSIONS.exists) is not None)
+
+
+def first_guest() -> None:
+    lease("-O", "114")
+    words = pathlib.Path("/run/lease").read_text() if os.path.exists("/run/lease") else ""
+    check("a guest gets a lease with option 114", "opt114" in words, re.findall("(?:ip|opt114)=.*", words))
+    check("nothing passes before a code", not passes())
+    status, _, head = curl("guest", f"http://{OUTSIDE}/x")
+    check("plain HTTP leads to the portal", status == 302 and NAME in head, status)
+    start = time.monotonic()
+    status = redeem(code())
+    took = until(passes, 5)
+    check("a voucher is issued, sold, redeemed, and packets pass", status == 303 and took is not None,
+          f"{status}, {time.monotonic() - start:.2f} s in all")
+    check("the API says so", captive().get("captive") is False, captive())
+    for unit in (*PARTS[:1], *PARTS[2:], "portal-backup"):
+        done = sh("systemd-analyze", "security", "--no-pager", unit + ".service")
+        found = re.search(r"exposure level for \S+: ([0-9.]+) (\w+)", done.stdout)
+        check.note(f"systemd-analyze security {unit}: {found[1]} {found[2]}" if found else f"{unit}: {told(done)}")
+
+
+def parts_are_killed() -> None:
+    for unit in ("portal", "portal-gateway", "portal-front", "portal-counter"):
+        pid = show(unit, "MainPID")
+        with Gap() as gap:
+            sh("systemctl", "kill", "-s", "KILL", unit)
+            took = until(lambda: show(unit, "MainPID") not in (pid, "0") and active(unit) == "active", 15)
+            good = until(lambda: captive().get("captive") is False and counter("")[0] == 200, 15)
+        check(f"kill -9 of {unit}: it starts again, and the guest's session goes on",
+              took is not None and good is not None and passes(),
+              f"again after {took} s, all answers {good} s later, longest gap of packets {gap.seconds} s")
+
+
+def agent_hangs_and_stops() -> None:
+    pid = show("portal-gateway", "MainPID")
+    with Gap() as gap:
+        sh("systemctl", "kill", "-s", "STOP", "portal-gateway")
+        took = until(lambda: show("portal-gateway", "MainPID") not in (pid, "0") and passes(), 40)
+    check("an agent that hangs is ended and started again", took is not None,
+          f"{took} s; longest gap of packets {gap.seconds} s")
+    if took is None:
+        sh("systemctl", "kill", "-s", "KILL", "portal-gateway")
+        until(passes, 10)
+    sh("systemctl stop portal-gateway")
+    took = until(lambda: not passes(), 10)
+    check("with the agent stopped the gateway blocks by itself", took is not None, f"{took} s")
+    sh("systemctl start portal-gateway")
+    check("and opens again", until(passes, 10) is not None)
+
+
+def rules_go() -> None:
+    """A firewall of the venue's own is flushed and loaded again."""
+    sh("nft flush ruleset")
+    took = until(lambda: forward() == "0", 5)
+    check("with the rules flushed nothing is forwarded", took is not None and not passes(), f"{took} s")
+    sh("systemctl reload portal-rules@lan0")
+    took = until(passes, 10)
+    check("with the rules loaded again the session goes on", took is not None, f"{took} s")
+    sh("systemctl restart nftables")
+    took = until(lambda: passes() and active("portal-rules@lan0") == "active", 15)
+    check("`systemctl restart nftables` (a firewall of the venue's own loaded again): the session goes on",
+          took is not None, f"{took} s; rules {active('portal-rules@lan0')}, nftables {active('nftables')}, forward {forward()}")
+    if took is None:
+        sh("systemctl restart portal-rules@lan0")
+        until(passes, 10)
+
+
+def lan_goes() -> None:
+    """The guests' device is taken away and comes back, or comes late."""
+    sh("ip link del lan0")
+    time.sleep(1.5)
+    gone = active("portal-rules@lan0")
+    sh("/opt/venue/venue-net lan")
+    took = until(lambda: active("portal-rules@lan0") == "active" and passes(), 15)
+    check("lan0 goes and comes again (a plug): guests pass again without a hand", took is not None,
+          f"{took} s; rules when it was gone: {gone}, now {active('portal-rules@lan0')}; forward {forward()}")
+    if took is None:
+        sh("systemctl start portal-rules@lan0")
+        until(passes, 10)
+    check("and a guest gets a lease there", lease().returncode == 0, f"dnsmasq {active('dnsmasq')}")
+    sh("ip link del lan0; systemctl stop nginx dnsmasq; systemctl start nginx; systemctl start dnsmasq")
+    time.sleep(4)
+    sh("/opt/venue/venue-net lan")
+    served = until(lambda: active("nginx") == active("dnsmasq") == "active" and captive().get("captive") is not None, 15)
+    check("lan0 comes after nginx and dnsmasq were started: both serve it", served is not None,
+          f"{served} s; nginx {active('nginx')}, dnsmasq {active('dnsmasq')}")
+    sh("systemctl restart dnsmasq nginx; systemctl start portal-rules@lan0")
+    until(passes, 10)
+
+
+def nightly_copy() -> None:
+    rows = sh("systemctl list-timers --no-legend portal-backup.timer").stdout.strip()
+    check("the timer has its next time", "03:30" in rows, rows)
+    with Gap() as gap:
+        start = time.monotonic()
+        done = sh("systemctl start portal-backup.service")
+        took = time.monotonic() - start
+    check("a copy as the timer makes it: freeze, copy, thaw, check", done.returncode == 0 and len(copies()) == 1
+          and show("portal", "FreezerState") == "running" and active("portal") == "active",
+          f"{took:.2f} s, longest gap of packets {gap.seconds} s, {journal('portal-backup')[-3:]}")
+
+
+def copy_is_ended_in_the_middle() -> None:
+    """By `systemctl stop` (as at a shutdown)."""
+    SLOW.mkdir(exist_ok=True)
+    (SLOW / "cp").write_text('#!/bin/sh\nsleep 20\nexec /bin/cp "$@"\n')
+    (SLOW / "cp").chmod(0o755)
+    job = subprocess.Popen(["systemd-run", "--unit=slow-backup", "--wait", f"--setenv=PATH={SLOW}:/usr/sbin:/usr/bin",
+                            "/usr/sbin/portal-backup", str(DATABASE), str(COPIES)], stdout=-3, stderr=-3)
+    frozen = until(lambda: show("portal", "FreezerState") == "frozen", 8)
+    sh("systemctl stop slow-backup")
+    job.wait()
+    state = show("portal", "FreezerState")
+    check("a backup that is stopped in the middle leaves the server running", frozen is not None and state == "running",
+          f"frozen after {frozen} s, then {state}")
+    thaw(state)
+
+
+def thaw(state: str) -> None:
+    """After a check that failed: what comes next needs a server that runs."""
+    if state != "running":
+        sh("systemctl thaw portal; systemctl restart portal")
+        until(passes, 15)
+
+
+def restore_is_refused() -> None:
+    copy = copies()[-1]
+    done = sh("portal-restore", copy, DATABASE)
+    check("a restore under a running server is refused",
+          done.returncode == 1 and "stop portal.service first" in done.stderr, told(done))
+    # the case that a restore is for: the database is damaged, the server ends at once, systemd starts it every second
+    sh("systemctl stop portal; mkdir -p /run/kept; mv /var/lib/portal/book.db* /run/kept/")
+    sh(f"head -c 8192 /dev/urandom > {DATABASE}; chown portal: {DATABASE}; systemctl start portal")
+    until(lambda: show("portal", "SubState") == "auto-restart", 10)
+    state = f"{show('portal', 'ActiveState')}/{show('portal', 'SubState')}"
+    done = sh("portal-restore", copy, DATABASE)
+    check("a restore under a server that is started again and again is refused", done.returncode == 1,
+          f"the server is {state}; {told(done)}")
+    sh("systemctl stop portal")
+
+
+def copies_without_a_server() -> None:
+    before = len(copies())
+    done = sh("systemctl start portal-backup.service")
+    check("with the server stopped a damaged database is not kept as a copy, and said to be",
+          done.returncode != 0 and len(copies()) == before, journal("portal-backup")[-4:])
+    sh("rm -f /var/lib/portal/book.db*; mv /run/kept/book.db* /var/lib/portal/")
+    done = sh("systemctl start portal-backup.service")
+    check("with the server stopped a copy is made all the same", done.returncode == 0 and len(copies()) == before + 1,
+          journal("portal-backup")[-4:])
+
+
+def restore() -> None:
+    """A voucher that is sold after the copy is unknown once it is restored."""
+    text = LATER["code"]
+    done = sh("portal-restore", copies()[0], DATABASE)
+    sh("systemctl start portal")
+    until(lambda: captive().get("captive") is not None, 10)
+    look, took = counter(f"voucher?code={text}")[0], until(passes, 10)
+    check("after a restore the session of before the copy goes on, a voucher of after it is unknown", done.returncode == 0
+          and captive().get("captive") is False and look == 404 and took is not None,
+          f"{told(done)}; voucher {look}, passes after {took} s")
+    own = sh("stat", "-c", "%U:%G:%a", DATABASE).stdout.strip()
+    check.note(f"restored database: {own}, beside it: {' '.join(os.listdir(DATABASE.parent))}")
+
+
+LATER: dict[str, str] = {}
+
+
+def sell_after_the_copy() -> None:
+    LATER["code"] = code()
+
+
+def log_sizes() -> dict[str, int]:
+    clerk("sell", code="2222-2222-2222-2222")
+    return {path.name: path.stat().st_size for path in LOGS.glob("counter.log*")}
+
+
+def logs_rotate() -> None:
+    done = sh("logrotate -d /etc/logrotate.conf 2>&1")
+    faults = [line for line in done.stdout.splitlines() if line.startswith("error")]
+    check("log rotation reads every file", not faults, faults[:3])
+    sh("systemctl start logrotate.service")
+    check("logrotate.service does not fail", show("logrotate", "Result") == "success", show("logrotate", "Result"))
+    sh("logrotate -f /etc/logrotate.conf 2>&1")
+    took = until(lambda: log_sizes().get("counter.log", 0) > 0, 5)
+    check("after a rotation nginx writes to the new file", took is not None, log_sizes())
+    sh("systemctl reset-failed logrotate")
+
+
+def before_the_reboot() -> None:
+    check("the session is open at the end of the first boot", passes())
+    shutil.rmtree(SLOW, ignore_errors=True)
+    pathlib.Path("/run/venue-watch").unlink(missing_ok=True)
+
+
+STEPS = (install_and_set_up, first_guest, parts_are_killed, agent_hangs_and_stops, rules_go, lan_goes, nightly_copy,
+         copy_is_ended_in_the_middle, sell_after_the_copy, restore_is_refused, copies_without_a_server, restore,
+         logs_rotate, before_the_reboot)

@@ -1,0 +1,262 @@
+"""What the booted test does on its machine, and what it sees there: services, a guest, a clerk, packets."""
+
+from __future__ import annotations
+
+import glob
+import hashlib
+import json
+import os
+import pathlib
+import re
+import subprocess
+import time
+from collections.abc import Callable
+from typing import Any
+
+HERE = pathlib.Path("/opt/venue")
+LOG = pathlib.Path("/var/log/venue-test.log")
+DATABASE, COPIES = pathlib.Path("/var/lib/portal/book.db"), pathlib.Path("/var/backups/portal")
+SESSIONS = pathlib.Path("/run/portal-gateway/sessions.json")
+COUNTER, NAME, OUTSIDE = "counter.example", "wifi.example", "203.0.113.2"
+PARTS = ("portal", "portal-rules@lan0", "portal-gateway", "portal-front", "portal-counter")
+UNITS = (*PARTS, "nginx", "dnsmasq", "portal-backup.timer")
+WITNESS = ("add table inet w; delete table inet w; add table inet w; "
+           "add chain inet w i { type filter hook input priority 0; }; "
+           "add rule inet w i udp dport 9 counter; add rule inet w i udp dport 9 drop")
+Answer = tuple[int, str, str]       # status, body, head
+Done = subprocess.CompletedProcess[str]
+
+
+class Checks:
+    """ok or FAIL, the check, what was seen; on standard output and in LOG."""
+
+    def __init__(self) -> None:
+        self.passed, self.failed = 0, 0
+
+    def __call__(self, what: str, good: object, seen: object = "") -> None:
+        self.passed, self.failed = self.passed + bool(good), self.failed + (not good)
+        self.say(f"{'ok  ' if good else 'FAIL'} {what}{f'  [{seen}]' if seen != '' else ''}")
+
+    def note(self, what: object) -> None:
+        self.say(f"note {what}")
+
+    def say(self, line: str) -> None:
+        print(line, flush=True)
+        with LOG.open("a") as log:
+            print(line, file=log)
+
+
+check = Checks()
+
+
+def sh(*words: object, **more: Any) -> Done:
+    """A command; one word alone is a line for the shell."""
+    line = ["sh", "-c", str(words[0])] if len(words) == 1 else [str(word) for word in words]
+    return subprocess.run(line, capture_output=True, text=True, **more)
+
+
+def told(done: Done, length: int = 300) -> str:
+    """The end of what a command wrote, in one line."""
+    return (done.stdout + done.stderr).strip().replace("\n", "; ")[-length:]
+
+
+def until(true: Callable[[], object], seconds: float = 10.0) -> float | None:
+    """Seconds until it was so, or None."""
+    start = time.monotonic()
+    while time.monotonic() - start < seconds:
+        if true():
+            return round(time.monotonic() - start, 2)
+        time.sleep(0.05)
+    return None
+
+
+# Services
+
+def active(unit: str) -> str:
+    return sh("systemctl", "is-active", unit).stdout.strip()
+
+
+def show(unit: str, key: str) -> str:
+    return sh("systemctl", "show", "-p", key, "--value", unit).stdout.strip()
+
+
+def journal(unit: str) -> list[str]:
+    return sh("journalctl", "-b", "-u", unit, "-o", "cat", "--no-pager").stdout.splitlines()
+
+
+def all_run() -> bool:
+    return all(active(unit) == "active" for unit in UNITS)
+
+
+def check_all_active(what: str) -> None:
+    until(all_run, 20)
+    states = {unit: active(unit) for unit in UNITS}
+    check(what, set(states.values()) == {"active"},
+          {unit: state for unit, state in states.items() if state != "active"} or f"all {len(UNITS)}")
+
+
+def forward() -> str:
+    return pathlib.Path("/proc/sys/net/ipv4/ip_forward").read_text().strip()
+
+
+# Packages
+
+def versions() -> tuple[str, str]:
+    """This version and the later one."""
+    found = sorted(re.findall(r"portal_([0-9.]+)_", " ".join(path.name for path in HERE.glob("*.deb"))),
+                   key=lambda version: [int(part) for part in version.split(".")])
+    return found[0], found[-1]
+
+
+def apt(*words: str) -> Done:
+    return sh("apt-get", "-y", "--no-install-recommends", "-o", "Dpkg::Use-Pty=0", *words,
+              env={**os.environ, "DEBIAN_FRONTEND": "noninteractive"})
+
+
+def install(version: str, *more: str) -> Done:
+    return apt(*more, "install", f"{HERE}/portal_{version}_amd64.deb")
+
+
+def installed() -> str:
+    return sh("dpkg-query", "-W", "-f", "${Version} ${Status}", "portal").stdout
+
+
+def certificate() -> None:
+    os.makedirs("/etc/portal/tls", exist_ok=True)
+    for name in ("cert.pem", "key.pem"):
+        pathlib.Path("/etc/portal/tls", name).write_bytes((HERE / name).read_bytes())
+
+
+def tokens() -> list[str]:
+    folder = pathlib.Path("/etc/portal/credentials")
+    return [hashlib.sha256((folder / name).read_bytes()).hexdigest() for name in ("desk_token", "gateway_token")]
+
+
+# A guest and a clerk
+
+def within(space: str, *words: object, **more: Any) -> Done:
+    return sh("nsenter", f"--net=/run/netns/{space}", *words, **more)
+
+
+def curl(space: str, url: str, *words: object) -> Answer:
+    """Status 0 where there was no answer."""
+    done = within(space, "curl", "-s", "-i", "--max-time", 12, "--cacert", HERE / "ca.pem",
+                  "--resolve", NAME + ":443:10.77.0.1", "--resolve", COUNTER + ":443:10.88.0.1", *words, url)
+    head, _, body = done.stdout.replace("\r\n", "\n").partition("\n\n")
+    parts = head.split(None, 2)
+    return (int(parts[1]) if len(parts) > 1 else 0), body, head
+
+
+def counter(page: str) -> Answer:
+    return curl("clerk", f"https://{COUNTER}/{page}", "-u", "clerk:secret")
+
+
+def clerk(page: str, **form: object) -> Answer:
+    form = {"request": f"t-{time.monotonic_ns()}", **form}
+    words = [word for key, value in form.items() for word in ("--data-urlencode", f"{key}={value}")]
+    return curl("clerk", f"https://{COUNTER}/{page}", "-u", "clerk:secret", "-H", f"Origin: https://{COUNTER}", *words)
+
+
+def one_code(plan: str) -> str:
+    batch = f"{plan}-{time.monotonic_ns() % 10**9}"
+    clerk("issue", plan=plan, batch=batch, count=1)
+    found = re.findall(r"<b>([0-9A-Z-]{14,19})</b>", counter(f"sheet?batch={batch}")[1])
+    if found:
+        clerk("sell", code=found[0])
+    return found[0] if found else ""
+
+
+def code(plan: str = "hour") -> str:
+    """A code that was issued, printed and sold; a server that is just starting is asked again."""
+    for _ in range(6):
+        text = one_code(plan)
+        if text:
+            return text
+        time.sleep(0.5)
+    return ""
+
+
+def redeem(text: str) -> int:
+    page = curl("guest", f"https://{NAME}/portal")[1]
+    number = re.search(r'name="request" value="([A-Za-z0-9-]+)"', page)
+    return curl("guest", f"https://{NAME}/portal", "--data-urlencode", f"code={text}",
+                "--data-urlencode", f"request={number[1] if number else ''}")[0]
+
+
+def captive() -> dict[str, Any]:
+    status, body, _ = curl("guest", f"https://{NAME}/captive")
+    return json.loads(body) if status == 200 else {"status": status}
+
+
+def sessions() -> list[int]:
+    return [row["session"] for row in json.loads(SESSIONS.read_text())["sessions"]]
+
+
+def lease(*more: str) -> Done:
+    """A lease by DHCP; the guest then goes back to its own address."""
+    done = within("guest", "busybox", "udhcpc", "-i", "eth0", "-f", "-q", "-n", "-t", "5", *more, "-s", HERE / "udhcpc")
+    within("guest", "ip", "addr", "replace", "10.77.0.49/22", "dev", "eth0")
+    return done
+
+
+def copies() -> list[str]:
+    """The nightly copies, the oldest first."""
+    return sorted(glob.glob(str(COPIES / "[0-9]*Z*")))
+
+
+# Packets
+
+def count_outside() -> None:
+    within("outside", "nft", WITNESS)
+
+
+def arrived() -> int:
+    found = re.search(r"counter packets (\d+)", within("outside", "nft", "list", "table", "inet", "w").stdout)
+    return int(found[1]) if found else -1
+
+
+def passes() -> bool:
+    before = arrived()
+    send = f"import socket;s=socket.socket(2,2);[s.sendto(b'x',('{OUTSIDE}',9)) for _ in range(3)]"
+    within("guest", "python3", "-c", send)
+    time.sleep(0.05)
+    return arrived() > before
+
+
+class Gap:
+    """The longest gap between packets that arrive outside, while something is done."""
+    HEAR = """
+import signal, socket, time
+s = socket.socket(2, 2); s.bind(('', 19)); s.settimeout(0.1)
+gap, last, stop = 0.0, time.monotonic(), []
+signal.signal(signal.SIGTERM, lambda *_: stop.append(1))
+while not stop:
+    try: s.recv(99)
+    except TimeoutError: continue
+    now = time.monotonic(); gap = max(gap, now - last); last = now
+print(f'{max(gap, time.monotonic() - last):.2f}')
+"""
+    SEND = f"""
+import socket, time
+s = socket.socket(2, 2)
+while True:
+    try: s.sendto(b'x' * 20, ('{OUTSIDE}', 19))
+    except OSError: pass
+    time.sleep(.01)
+"""
+    seconds = 0.0
+
+    def __enter__(self) -> Gap:
+        self.send = subprocess.Popen(["nsenter", "--net=/run/netns/guest", "python3", "-c", self.SEND])
+        time.sleep(0.3)
+        self.hear = subprocess.Popen(["nsenter", "--net=/run/netns/outside", "python3", "-c", self.HEAR],
+                                     stdout=subprocess.PIPE, text=True)
+        time.sleep(0.3)
+        return self
+
+    def __exit__(self, *_: object) -> None:
+        time.sleep(1.5)
+        self.hear.terminate()
+        self.seconds = float(self.hear.communicate()[0])
+        self.send.kill()
+        self.send.wait()
