@@ -10,9 +10,9 @@ import subprocess
 import time
 
 from machine import (
-    COPIES, COUNTER, DATABASE, HERE, NAME, OUTSIDE, PARTS, SESSIONS, UNITS, Gap, active, apt, captive, certificate,
-    check, check_all_active, clerk, code, copies, count_outside, counter, curl, forward, install, journal, lease, passes,
-    redeem, sh, show, told, until, versions, within)
+    COPIES, DATABASE, HERE, NAME, OUTSIDE, PARTS, SESSIONS, Gap, active, captive, certificate, check, check_all_active,
+    clerk, code, copies, count_outside, counter, curl, forward, install, journal, lease, parts, passes, redeem, sh, show,
+    told, until, versions)
 
 SLOW = HERE / "slow"        # a folder with a `cp` that takes its time
 LOGS = pathlib.Path("/var/log/portal")
@@ -140,22 +140,56 @@ def nightly_copy() -> None:
     check("a copy as the timer makes it: freeze, copy, thaw, check", done.returncode == 0 and len(copies()) == 1
           and show("portal", "FreezerState") == "running" and active("portal") == "active",
           f"{took:.2f} s, longest gap of packets {gap.seconds} s, {journal('portal-backup')[-3:]}")
+    found = sorted(path.name for path in COPIES.iterdir())
+    sums = sh(f"cd {COPIES} && sha256sum --check --strict *.sha256").returncode
+    check("it is one file with its SHA-256 beside it", len(found) == 2 and found[1] == found[0] + ".sha256" and sums == 0, found)
 
 
-def copy_is_ended_in_the_middle() -> None:
-    """By `systemctl stop` (as at a shutdown)."""
+def drill() -> None:
+    """One hour was sold so far, at the 3.00 of the sample plans."""
+    done = sh("portal-restore", "--drill")
+    today = time.strftime("%Y-%m-%d", time.gmtime())
+    check("a restore drill prints the takings of the last day, while the server serves",
+          done.returncode == 0 and re.search(rf"(?m)^{today} +1 +3\.00 ", done.stdout), told(done))
+
+
+def slow_cp() -> None:
     SLOW.mkdir(exist_ok=True)
     (SLOW / "cp").write_text('#!/bin/sh\nsleep 20\nexec /bin/cp "$@"\n')
     (SLOW / "cp").chmod(0o755)
+
+
+def copy_is_stopped_in_the_middle() -> None:
+    """By `systemctl stop` (as at a shutdown)."""
+    slow_cp()
     job = subprocess.Popen(["systemd-run", "--unit=slow-backup", "--wait", f"--setenv=PATH={SLOW}:/usr/sbin:/usr/bin",
                             "/usr/sbin/portal-backup", str(DATABASE), str(COPIES)], stdout=-3, stderr=-3)
     frozen = until(lambda: show("portal", "FreezerState") == "frozen", 8)
     sh("systemctl stop slow-backup")
     job.wait()
     state = show("portal", "FreezerState")
-    check("a backup that is stopped in the middle leaves the server running", frozen is not None and state == "running",
-          f"frozen after {frozen} s, then {state}")
+    check("a backup that is stopped in the middle leaves the server running, and nothing else",
+          frozen is not None and state == "running" and not parts(), f"frozen after {frozen} s, then {state}; {parts()}")
     thaw(state)
+
+
+def copy_is_killed_in_the_middle() -> None:
+    """All of the nightly unit at once, so that nothing of it can thaw the server."""
+    folder = pathlib.Path("/run/systemd/system/portal-backup.service.d")
+    folder.mkdir(parents=True)
+    (folder / "slow.conf").write_text(f"[Service]\nEnvironment=PATH={SLOW}:/usr/sbin:/usr/bin\n")
+    sh("systemctl daemon-reload; systemctl --no-block start portal-backup.service")
+    frozen = until(lambda: show("portal", "FreezerState") == "frozen", 8)
+    sh("systemctl kill -s KILL portal-backup.service")
+    took = until(lambda: show("portal", "FreezerState") == "running", 5)
+    check("a backup that is killed in the middle leaves the server running", frozen is not None and took is not None,
+          f"frozen after {frozen} s, on again {took} s after the kill; left behind {parts()}")
+    thaw(show("portal", "FreezerState"))
+    left = parts()
+    shutil.rmtree(folder)
+    sh("systemctl daemon-reload; systemctl reset-failed portal-backup.service")
+    done = sh("systemctl start portal-backup.service")
+    check("the next backup removes what it left behind", done.returncode == 0 and left and not parts(), f"{left} -> {parts()}")
 
 
 def thaw(state: str) -> None:
@@ -167,7 +201,7 @@ def thaw(state: str) -> None:
 
 def restore_is_refused() -> None:
     copy = copies()[-1]
-    done = sh("portal-restore", copy, DATABASE)
+    done = sh("portal-restore", copy)
     check("a restore under a running server is refused",
           done.returncode == 1 and "stop portal.service first" in done.stderr, told(done))
     # the case that a restore is for: the database is damaged, the server ends at once, systemd starts it every second
@@ -175,7 +209,7 @@ def restore_is_refused() -> None:
     sh(f"head -c 8192 /dev/urandom > {DATABASE}; chown portal: {DATABASE}; systemctl start portal")
     until(lambda: show("portal", "SubState") == "auto-restart", 10)
     state = f"{show('portal', 'ActiveState')}/{show('portal', 'SubState')}"
-    done = sh("portal-restore", copy, DATABASE)
+    done = sh("portal-restore", copy)
     check("a restore under a server that is started again and again is refused", done.returncode == 1,
           f"the server is {state}; {told(done)}")
     sh("systemctl stop portal")
@@ -192,10 +226,24 @@ def copies_without_a_server() -> None:
           journal("portal-backup")[-4:])
 
 
+def disk_is_full() -> None:
+    """A disk on which there is no room for the copy."""
+    small = pathlib.Path("/run/small")
+    small.mkdir()
+    sh("mount", "-t", "tmpfs", "-o", "size=48k", "tmpfs", small)
+    (small / "book.db").write_bytes(b"what was there" * 1000)
+    before = {path.name: path.read_bytes() for path in small.iterdir()}
+    done = sh("portal-restore", copies()[0], small / "book.db")
+    after = {path.name: path.read_bytes() for path in small.iterdir() if path.is_file()}
+    check("a restore onto a full disk says so, and leaves what was there", done.returncode == 1 and "No space" in done.stderr
+          and after == before and len(list(small.iterdir())) == 1, f"{told(done)}; {os.listdir(small)}")
+    sh("umount", small)
+
+
 def restore() -> None:
     """A voucher that is sold after the copy is unknown once it is restored."""
     text = LATER["code"]
-    done = sh("portal-restore", copies()[0], DATABASE)
+    done = sh("portal-restore", copies()[0])
     sh("systemctl start portal")
     until(lambda: captive().get("captive") is not None, 10)
     look, took = counter(f"voucher?code={text}")[0], until(passes, 10)
@@ -237,5 +285,5 @@ def before_the_reboot() -> None:
 
 
 STEPS = (install_and_set_up, first_guest, parts_are_killed, agent_hangs_and_stops, rules_go, lan_goes, nightly_copy,
-         copy_is_ended_in_the_middle, sell_after_the_copy, restore_is_refused, copies_without_a_server, restore,
-         logs_rotate, before_the_reboot)
+         drill, sell_after_the_copy, copy_is_stopped_in_the_middle, copy_is_killed_in_the_middle, restore_is_refused,
+         copies_without_a_server, disk_is_full, restore, logs_rotate, before_the_reboot)

@@ -201,7 +201,12 @@ def lease(*more: str) -> Done:
 
 def copies() -> list[str]:
     """The nightly copies, the oldest first."""
-    return sorted(glob.glob(str(COPIES / "[0-9]*Z*")))
+    return sorted(glob.glob(str(COPIES / "[0-9]*Z.db")))
+
+
+def parts() -> list[str]:
+    """What a backup that was killed leaves behind."""
+    return glob.glob(str(COPIES / ".part-*"))
 
 
 # Packets

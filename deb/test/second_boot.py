@@ -33,7 +33,7 @@ def after_the_boot() -> None:
 
 
 def kept_by_the_upgrade() -> list[pathlib.Path]:
-    return sorted(COPIES.glob(f"before-{versions()[1]}-*"))
+    return sorted(COPIES.glob(f"before-{versions()[1]}-*.db"))
 
 
 def upgrade() -> None:
@@ -47,7 +47,7 @@ def upgrade() -> None:
     check("the same tokens, the same settings file, the same session", tokens() == before
           and HERS.read_bytes() == settings and captive().get("captive") is False and sessions() == open_then)
     kept = kept_by_the_upgrade()
-    check("the database of before the upgrade was kept", len(kept) == 1 and (kept[0] / "book.db").exists(), kept)
+    check("the database of before the upgrade was kept", len(kept) == 1 and os.path.exists(f"{kept[0]}.sha256"), kept)
 
 
 def way_back() -> None:
@@ -57,7 +57,7 @@ def way_back() -> None:
           done.returncode != 0 and "schema version" in done.stderr + done.stdout and versions()[1] in installed(), installed())
     check("and the venue still runs", until(passes, 10) is not None and active("portal") == "active")
     sh("systemctl stop portal")
-    back = sh("portal-restore", kept, DATABASE)
+    back = sh("portal-restore", kept)
     done = install(versions()[0], "--allow-downgrades")
     sh("systemctl start portal")
     took = until(lambda: passes() and all_run(), 20)

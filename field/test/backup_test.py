@@ -1,14 +1,20 @@
-"""Copies of the book while the desk serves and sells: each opens and holds what was acknowledged before it was made.
+"""Copies of the database while the server serves and sells, each one file that holds what was acknowledged; restores.
 
-Run by itself it takes FIELD_PORTAL for the desk; else the stand-in answers.
+Run by itself it takes FIELD_PORTAL for the server; else the stand-in answers.
 """
 
 from __future__ import annotations
 
+import contextlib
 import os
 import pathlib
+import re
+import shutil
+import signal
+import sqlite3
 import subprocess
 import sys
+import tempfile
 import threading
 import time
 import unittest
@@ -17,14 +23,57 @@ from unittest import mock
 from desk_process import FIELD, PORTAL, DeskProcess, Refused, Routes
 
 COPIES = 3
+SLOW_CP = 'touch "$(dirname "$0")/begun"\nexec sleep 20'
+Done = subprocess.CompletedProcess[str]
 
 
-class Copies(unittest.TestCase):
-    def backup(self, desk: DeskProcess, *more: str) -> subprocess.CompletedProcess[str]:
-        words = [sys.executable, FIELD / "backup/portal-backup", "--pid", desk.job.pid, "--portal", PORTAL, *more,
-                 desk.book, desk.folder / "copies"]
-        return subprocess.run([str(word) for word in words], capture_output=True, text=True)
+def stub(folder: pathlib.Path, name: str, line: str) -> None:
+    """A program of this name that comes first in the path of `with_stubs`."""
+    (folder / name).write_text(f"#!/bin/sh\n{line}\n")
+    (folder / name).chmod(0o755)
 
+
+def with_stubs(folder: pathlib.Path) -> dict[str, str]:
+    return {**os.environ, "PATH": f"{folder}:{os.environ['PATH']}"}
+
+
+def systemctl(folder: pathlib.Path, state: str) -> None:
+    """A `systemctl` that writes down what it was asked, for a server in this state."""
+    stub(folder, "systemctl", f'echo "$1" >> {folder}/order\n[ "$1" != show ] || echo {state}')
+
+
+def files(folder: pathlib.Path) -> dict[str, bytes]:
+    return {path.name: path.read_bytes() for path in folder.iterdir() if path.name.startswith("book.db") and path.is_file()}
+
+
+class Case(unittest.TestCase):
+    def run_it(self, name: str, *words: object, folder: pathlib.Path | None = None) -> Done:
+        line = [sys.executable, str(FIELD / "backup" / name), *map(str, words)]
+        return subprocess.run(line, capture_output=True, text=True, env=with_stubs(folder) if folder else None)
+
+    def backup(self, desk: DeskProcess, *more: object) -> Done:
+        return self.run_it("portal-backup", "--pid", desk.job.pid, "--portal", PORTAL, *more, desk.book, desk.folder / "copies")
+
+    def copied(self, desk: DeskProcess, *more: object) -> pathlib.Path:
+        done = self.backup(desk, *more)
+        self.assertEqual((done.returncode, done.stderr), (0, ""))
+        return pathlib.Path(done.stdout.strip())
+
+    def restore(self, desk: DeskProcess, *words: object, folder: pathlib.Path | None = None) -> Done:
+        return self.run_it("portal-restore", "--settings", desk.settings, "--portal", PORTAL, *words, folder=folder)
+
+    def end(self, desk: DeskProcess) -> None:
+        desk.job.kill()
+        desk.job.wait()
+
+    def has(self, desk: DeskProcess, batch: str) -> bool:
+        try:
+            return len(desk.desk.ask(Routes.PRINT, batch).splitlines()) == 2
+        except Refused:
+            return False
+
+
+class Copies(Case):
     def sells(self, desk: DeskProcess, told: list[str], stop: threading.Event) -> None:
         while not stop.is_set():
             name = f"b{len(told)}"
@@ -43,10 +92,8 @@ class Copies(unittest.TestCase):
                 for _ in range(COPIES):
                     self.waits(told, len(told) + 10)
                     before = list(told)
-                    done = self.backup(desk, "--check", str(desk.settings))
-                    self.assertEqual((done.returncode, done.stderr), (0, ""))
-                    self.holds(pathlib.Path(done.stdout.strip()), before)
-                    self.waits(told, len(told) + 1)     # the desk goes on
+                    self.holds(self.copied(desk, "--check", desk.settings), before)
+                    self.waits(told, len(told) + 1)     # the server goes on
             finally:
                 stop.set()
                 worker.join()
@@ -54,111 +101,258 @@ class Copies(unittest.TestCase):
     def waits(self, told: list[str], count: int) -> None:
         end = time.monotonic() + 10
         while len(told) < count:
-            self.assertLess(time.monotonic(), end, "the desk sells no more")
+            self.assertLess(time.monotonic(), end, "the server sells no more")
             time.sleep(0.01)
 
     def holds(self, copy: pathlib.Path, names: list[str]) -> None:
-        """Served from a copy of the copy, as opening writes, every batch that was acknowledged is there."""
+        """Served from a copy of this one file, as opening writes, every batch that was acknowledged is there."""
         self.assertGreater(len(names), 0)
-        self.assertEqual(copy.stat().st_mode & 0o777, 0o700)
+        self.assertEqual(copy.stat().st_mode & 0o777, 0o600)
+        words = ["sha256sum", "--check", "--status", f"{copy.name}.sha256"]
+        self.assertEqual(subprocess.run(words, cwd=copy.parent).returncode, 0)
+        with contextlib.closing(sqlite3.connect(f"file:{copy}?mode=ro&immutable=1", uri=True)) as base:
+            self.assertEqual(base.execute("PRAGMA integrity_check").fetchall(), [("ok",)])
         with DeskProcess() as trial:
-            trial.job.kill()
-            trial.job.wait()
-            for end in ("", "-wal"):
-                if (copy / f"book.db{end}").exists():
-                    pathlib.Path(f"{trial.book}{end}").write_bytes((copy / f"book.db{end}").read_bytes())
+            self.end(trial)
+            for path in trial.folder.glob("book.db*"):
+                path.unlink()
+            shutil.copy(copy, trial.book)
             with DeskProcess(trial.book) as again:
                 self.assertEqual([name for name in names if not self.has(again, name)], [])
 
-    def has(self, desk: DeskProcess, batch: str) -> bool:
-        try:
-            return len(desk.desk.ask(Routes.PRINT, batch).splitlines()) == 2
-        except Refused:
-            return False
-
     def test_a_copy_is_made_while_the_desk_is_held_still(self) -> None:
-        """A `cp` that says what the desk's process was doing when it ran."""
+        """A `cp` that says what the server's process was doing when it ran."""
         with DeskProcess() as desk:
-            spy = desk.folder / "cp"
-            spy.write_text(f"#!/bin/sh\ncut -d' ' -f3 /proc/{desk.job.pid}/stat >> {desk.folder}/seen\n"
-                           'exec /bin/cp "$@"\n')
-            spy.chmod(0o755)
-            with mock.patch.dict(os.environ, PATH=f"{desk.folder}:{os.environ['PATH']}"):
+            desk.load()
+            stub(desk.folder, "cp", f"cut -d' ' -f3 /proc/{desk.job.pid}/stat >> {desk.folder}/seen\nexec /bin/cp \"$@\"")
+            with mock.patch.dict(os.environ, with_stubs(desk.folder)):
                 self.assertEqual(self.backup(desk).returncode, 0)
             seen = (desk.folder / "seen").read_text().split()
             self.assertTrue(seen and set(seen) == {"T"}, seen)
 
+    def order(self, desk: DeskProcess) -> list[str]:
+        return (desk.folder / "order").read_text().split()
+
+    def test_the_service_is_frozen_and_goes_on_whatever_happens(self) -> None:
+        for cp, status in (('exec /bin/cp "$@"', 0), ("exit 1", 3)):
+            with DeskProcess() as desk:
+                desk.load()
+                systemctl(desk.folder, "active")
+                stub(desk.folder, "cp", f"echo cp >> {desk.folder}/order\n{cp}")
+                done = self.run_it("portal-backup", desk.book, desk.folder / "copies", folder=desk.folder)
+                self.assertEqual(done.returncode, status, done.stderr)
+                asked = ["show", "freeze", *["cp"] * (2 if status == 0 else 1), "thaw"]
+                self.assertEqual(self.order(desk), asked)
+                self.assertEqual(len(list((desk.folder / "copies").iterdir())), 2 if status == 0 else 0)
+
+    def test_a_backup_that_is_ended_in_the_middle_thaws(self) -> None:
+        """By a stop, and by a kill that it cannot see."""
+        for number in (signal.SIGTERM, signal.SIGKILL):
+            with DeskProcess() as desk:
+                systemctl(desk.folder, "active")
+                stub(desk.folder, "cp", SLOW_CP)
+                words = [sys.executable, str(FIELD / "backup/portal-backup"), str(desk.book), str(desk.folder / "copies")]
+                job = subprocess.Popen(words, env=with_stubs(desk.folder), stdin=subprocess.DEVNULL)
+                self.comes(lambda: (desk.folder / "begun").exists(), "cp")
+                job.send_signal(number)
+                job.wait(10)
+                self.comes(lambda: self.order(desk) == ["show", "freeze", "thaw"], f"thaw after signal {number}")
+                left = list((desk.folder / "copies").iterdir())
+                self.assertEqual(len(left), int(number == signal.SIGKILL), left)
+
+    def comes(self, true: object, what: str) -> None:
+        assert callable(true)
+        end = time.monotonic() + 10
+        while not true():
+            self.assertLess(time.monotonic(), end, f"waited in vain for {what}")
+            time.sleep(0.02)
+
+    def test_what_a_killed_backup_left_is_removed(self) -> None:
+        with DeskProcess() as desk:
+            left = desk.folder / "copies/.part-old"
+            left.mkdir(parents=True)
+            (left / "copy.db").write_bytes(b"half")
+            self.copied(desk)
+            self.assertFalse(left.exists())
+
+    def test_a_server_that_does_not_run_is_not_frozen(self) -> None:
+        for state in ("inactive", "failed"):
+            with DeskProcess() as desk:
+                desk.load()
+                self.end(desk)
+                systemctl(desk.folder, state)
+                done = self.run_it("portal-backup", desk.book, desk.folder / "copies", folder=desk.folder)
+                self.assertEqual((done.returncode, done.stderr, self.order(desk)), (0, "", ["show"]))
+
+    def test_one_that_runs_without_systemd_is_not_copied_as_it_writes(self) -> None:
+        with DeskProcess() as desk:
+            systemctl(desk.folder, "inactive")
+            done = self.run_it("portal-backup", desk.book, desk.folder / "copies", folder=desk.folder)
+            self.assertEqual((done.returncode, list((desk.folder / "copies").iterdir())), (3, []))
+            self.assertIn("another process has", done.stderr)
+
+    def test_the_newest_copies_are_kept(self) -> None:
+        with DeskProcess() as desk:
+            earlier = desk.folder / "copies/20200101T033000.000000Z"     # by a version that made folders
+            earlier.mkdir(parents=True)
+            told = [str(self.copied(desk, "--keep", 2)) for _ in range(4)]
+            kept = sorted(str(path) for path in (desk.folder / "copies").iterdir())
+            self.assertEqual(kept, sorted([*told[2:], *(f"{path}.sha256" for path in told[2:])]))
+
+    def test_a_copy_that_does_not_check_is_not_kept(self) -> None:
+        with DeskProcess() as desk:
+            done = self.backup(desk, "--check", desk.folder / "no-settings")
+            self.assertEqual((done.returncode, done.stdout), (1, ""))
+            self.assertEqual(list((desk.folder / "copies").iterdir()), [])
+            with self.assertRaises(Refused):        # and the server goes on
+                desk.desk.ask(Routes.PRINT, "b1")
+
+    def test_a_database_without_its_log_is_no_copy(self) -> None:
+        """To the program it is an empty database, and checks."""
+        with DeskProcess() as desk:
+            desk.load()
+            self.end(desk)
+            pathlib.Path(f"{desk.book}-wal").unlink()
+            systemctl(desk.folder, "inactive")
+            done = self.run_it("portal-backup", "--portal", PORTAL, "--check", desk.settings, desk.book,
+                               desk.folder / "copies", folder=desk.folder)
+            self.assertEqual((done.returncode, list((desk.folder / "copies").iterdir())), (1, []))
+            self.assertIn("its log is missing", done.stderr)
+
+
+class Restores(Case):
     def test_a_copy_is_restored_and_the_gateways_counts_dropped(self) -> None:
         """With an `nft` and a `systemctl` that only say what they were asked."""
         with DeskProcess() as desk:
             desk.load()
-            self.backup(desk)
-            copy, = (desk.folder / "copies").iterdir()
+            copy = self.copied(desk)
             desk.issued("hour", "later")
-            for name, status in (("nft", 0), ("systemctl", 3)):
-                stub = desk.folder / name
-                stub.write_text(f'#!/bin/sh\necho "{name} $*" >> {desk.folder}/asked\nexit {status}\n')
-                stub.chmod(0o755)
-            desk.job.kill()
-            desk.job.wait()
-            words = [FIELD / "backup/portal-restore", copy, desk.book]
-            env = {**os.environ, "PATH": f"{desk.folder}:{os.environ['PATH']}"}
-            subprocess.run(words, check=True, capture_output=True, env=env)
+            stub(desk.folder, "nft", f'echo "nft $*" >> {desk.folder}/asked')
+            stub(desk.folder, "systemctl", "echo inactive")
+            self.end(desk)
+            before = files(desk.folder)
+            done = self.restore(desk, copy, desk.book, folder=desk.folder)
+            self.assertEqual((done.returncode, done.stderr), (0, ""))
             asked = (desk.folder / "asked").read_text()
             for name in ("inet portal alive", "inet portal up", "netdev portal down"):
                 self.assertIn("flush set " + name, asked)
             aside, = desk.folder.glob("book.db.before-*")
-            self.assertTrue((aside / "book.db").exists())
+            self.assertEqual(files(aside), before)
+            self.assertIn(str(aside), done.stdout)
+            self.assertEqual(files(desk.folder), {"book.db": copy.read_bytes()})     # and no log of before
             with DeskProcess(desk.book) as again:
                 self.assertFalse(self.has(again, "later"))
                 self.assertEqual(len(again.issued("hour", "b1")), 1)
 
+    def test_both_files_of_an_earlier_copy_are_restored(self) -> None:
+        """A folder with the database and its log, as portal-backup made them before it folded the log in."""
+        with DeskProcess() as desk:
+            desk.load()
+            desk.issued("hour", "b1")
+            self.end(desk)
+            shutil.copytree(desk.folder, desk.folder / "earlier", ignore=lambda _, names: set(names) - {"book.db", "book.db-wal"})
+            pathlib.Path(f"{desk.book}-wal").unlink()
+            stub(desk.folder, "systemctl", "echo inactive")
+            done = self.restore(desk, desk.folder / "earlier", desk.book, folder=desk.folder)
+            self.assertEqual((done.returncode, done.stderr), (0, ""))
+            with DeskProcess(desk.book) as again:
+                self.assertTrue(self.has(again, "b1"))
+
+    def refuses(self, desk: DeskProcess, copy: pathlib.Path, word: str) -> None:
+        """The copy is refused with this word, and nothing is replaced."""
+        before = files(desk.folder)
+        done = self.restore(desk, copy, desk.book, folder=desk.folder)
+        self.assertEqual((done.returncode, files(desk.folder) == before), (1, True))
+        self.assertIn(word, done.stderr)
+        self.assertEqual([path.name for path in desk.folder.glob("*restore*")] + list(desk.folder.glob("book.db.before-*")), [])
+
+    def test_a_copy_is_checked_before_anything_is_replaced(self) -> None:
+        with DeskProcess() as desk:
+            desk.load()
+            copy = self.copied(desk)
+            self.end(desk)
+            stub(desk.folder, "systemctl", "echo inactive")
+            whole, sums = copy.read_bytes(), pathlib.Path(f"{copy}.sha256")
+            self.refuses(desk, copy.with_name("none.db"), "there is no file")
+            copy.write_bytes(whole[:-4096])
+            self.refuses(desk, copy, "SHA-256")
+            sums.unlink()
+            self.refuses(desk, copy, "SQLite")
+            copy.write_bytes(b"")
+            self.refuses(desk, copy, "empty")
+            copy.write_bytes(whole)
+            desk.settings.unlink()
+            self.refuses(desk, copy, "`portal check` says")
+
     def test_nothing_is_restored_under_a_running_desk(self) -> None:
+        """Nor under one that systemd starts again each second, nor one that runs without systemd."""
         with DeskProcess() as desk:
-            self.backup(desk)
-            copy, = (desk.folder / "copies").iterdir()
-            before = desk.book.read_bytes()
-            words = [FIELD / "backup/portal-restore", copy, desk.book]
-            for state in ("active", "activating"):      # the second is a server that systemd starts again each second
-                (desk.folder / "systemctl").write_text(f"#!/bin/sh\necho {state}\n")
-                (desk.folder / "systemctl").chmod(0o755)
-                env = {**os.environ, "PATH": f"{desk.folder}:{os.environ['PATH']}"}
-                done = subprocess.run(words, capture_output=True, text=True, env=env)
-                self.assertEqual((done.returncode, desk.book.read_bytes() == before), (1, True), state)
-                self.assertIn("stop portal.service first", done.stderr)
+            copy = self.copied(desk)
+            for state, word in (("active", "stop portal.service first"), ("activating", "stop portal.service first"),
+                                ("inactive", "another process has")):
+                stub(desk.folder, "systemctl", f"echo {state}")
+                self.refuses(desk, copy, word)
 
-    def spied(self, folder: pathlib.Path, cp: str) -> dict[str, str]:
-        """A `systemctl` that only says what it was asked, and a `cp` that says so first."""
-        for name, then in (("systemctl", "exit 0"), ("cp", cp)):
-            (folder / name).write_text(f'#!/bin/sh\necho "{name} $1" >> {folder}/order\n{then}\n')
-            (folder / name).chmod(0o755)
-        return {**os.environ, "PATH": f"{folder}:{os.environ['PATH']}"}
+    def drill(self, folder: pathlib.Path, zone: str, moment: int) -> Done:
+        """Over a database that has a last moment, and a program that says which takings it was asked for."""
+        copies = folder / "copies"
+        copies.mkdir(exist_ok=True)
+        base = sqlite3.connect(copies / "20261125T033000.000000Z.db")
+        base.executescript("CREATE TABLE IF NOT EXISTS portal_head (layout INTEGER, last_moment INTEGER); DELETE FROM portal_head; "
+                           f"INSERT INTO portal_head VALUES (4, {moment});")
+        base.close()
+        stub(folder, "portal", '[ "$1" = check ] && echo ok && exit\necho "$1 $2 $3"')
+        (folder / "settings.toml").write_text(f'zone = "{zone}"\n')
+        return self.run_it("portal-restore", "--drill", "--folder", copies, "--portal", folder / "portal",
+                           "--settings", folder / "settings.toml")
 
-    def test_the_service_is_frozen_and_goes_on_whatever_happens(self) -> None:
-        for cp, status, asked in (('exec /bin/cp "$@"', 0, ["show", "freeze", "cp", "cp", "thaw"]),
-                                  ("exit 1", 3, ["show", "freeze", "cp", "thaw"])):
-            with DeskProcess() as desk:
-                desk.load()
-                words = [sys.executable, FIELD / "backup/portal-backup", desk.book, desk.folder / "copies"]
-                env = self.spied(desk.folder, cp)
-                done = subprocess.run([str(word) for word in words], capture_output=True, text=True, env=env)
-                order = (desk.folder / "order").read_text().splitlines()
-                self.assertEqual(done.returncode, status, done.stderr)
-                self.assertEqual([line.removeprefix("systemctl ").split()[0] for line in order], asked)
-                self.assertEqual(len(list((desk.folder / "copies").iterdir())), int(status == 0))
+    def test_a_drill_prints_the_takings_of_the_last_day(self) -> None:
+        """Unix time 1795618800 is 2026-11-25, 15:00 in UTC: the next day nine hours and more east of it."""
+        with tempfile.TemporaryDirectory() as place:
+            for zone, day in (("UTC0", "2026-11-25"), ("XST-9", "2026-11-26"), ("XST-8:59", "2026-11-25")):
+                done = self.drill(pathlib.Path(place), zone, 1795618800)
+                self.assertEqual((done.returncode, done.stderr), (0, ""))
+                self.assertIn(f"takings {day} {day}\n", done.stdout)
+                self.assertIn("20261125T033000.000000Z.db", done.stdout)
 
-    def test_the_newest_copies_are_kept(self) -> None:
-        with DeskProcess() as desk:
-            told = [self.backup(desk, "--keep", "2").stdout.strip() for _ in range(4)]
-            self.assertEqual(sorted(str(path) for path in (desk.folder / "copies").iterdir()), told[2:])
+    def test_the_package_is_told_the_schema_version_of_what_was_restored(self) -> None:
+        """The package's file beside the database, where there is one, says what an older version is compared with."""
+        with tempfile.TemporaryDirectory() as place:
+            folder = pathlib.Path(place)
+            self.drill(folder, "UTC0", 0)
+            stub(folder, "systemctl", "echo inactive")
+            (folder / "schema").write_text("5\n")
+            done = self.run_it("portal-restore", "--portal", folder / "portal", "--settings", folder / "settings.toml",
+                               folder / "copies/20261125T033000.000000Z.db", folder / "book.db", folder=folder)
+            self.assertEqual((done.returncode, (folder / "schema").read_text()), (0, "4\n"), done.stderr)
 
-    def test_a_copy_that_does_not_check_is_not_kept(self) -> None:
-        with DeskProcess() as desk:
-            done = self.backup(desk, "--check", str(desk.folder / "no-settings"))
+    def test_a_drill_of_a_damaged_copy_says_so(self) -> None:
+        with tempfile.TemporaryDirectory() as place:
+            copies = pathlib.Path(place) / "copies"
+            copies.mkdir()
+            (copies / "20261126T033000.000000Z.db").write_bytes(b"no database, though as long as a header of one" * 4)
+            done = self.drill(pathlib.Path(place), "UTC0", 0)
             self.assertEqual((done.returncode, done.stdout), (1, ""))
-            self.assertEqual(list((desk.folder / "copies").iterdir()), [])
-            with self.assertRaises(Refused):        # and the desk goes on
-                desk.desk.ask(Routes.PRINT, "b1")
+            self.assertIn("SQLite cannot read it", done.stderr)
+
+
+class Units(unittest.TestCase):
+    def test_the_server_is_thawed_after_the_unit_however_that_ended(self) -> None:
+        """`portal-backup` and its guard may both be killed; what comes after them is systemd's."""
+        text = (FIELD / "units/portal-backup.service").read_text()
+        after = re.findall(r"(?m)^ExecStopPost=(.*)$", text)
+        self.assertTrue(after and after[0].startswith("-") and "systemctl thaw portal.service" in after[0], after)
+        self.assertRegex(text, r"(?m)^TimeoutStartSec=[0-9]+min$")
+
+
+class Logs(unittest.TestCase):
+    def test_logs_are_in_a_folder_that_no_other_rotation_names(self) -> None:
+        """Debian's nginx rotates /var/log/nginx/*.log; a file that two rotations name is rotated by neither."""
+        folders = {str(pathlib.Path(path).parent) for name in ("front/nginx-guests.conf", "counter/nginx-counter.conf")
+                   for path in re.findall(r"(?:access|error)_log (/\S+)", (FIELD / name).read_text())}
+        rotated = re.findall(r"(?m)^(/\S+) \{", (FIELD / "units/logrotate.conf").read_text())
+        made = re.findall(r"(?m)^d (/\S+) 0755 ", (FIELD / "units/tmpfiles.conf").read_text())
+        self.assertEqual((folders, rotated, made), ({"/var/log/portal"}, ["/var/log/portal/*.log"], ["/var/log/portal"]))
 
 
 if __name__ == "__main__":
