@@ -220,6 +220,58 @@ class Copies(Case):
             self.assertIn("its log is missing", done.stderr)
 
 
+CAN_MOUNT = os.geteuid() == 0 and shutil.which("mkfs.btrfs") and os.path.exists("/dev/loop-control")
+
+
+@unittest.skipUnless(CAN_MOUNT, "btrfs-progs is not installed, or this is not root, or there are no loop devices")
+class Snapshots(Case):
+    """A database in a btrfs subvolume, in a file system in a file."""
+
+    def setUp(self) -> None:
+        place = pathlib.Path(self.enterContext(tempfile.TemporaryDirectory()))
+        (place / "there").mkdir()
+        for words in (["truncate", "-s", "200M", place / "image"], ["mkfs.btrfs", "-q", "-m", "single", place / "image"],
+                      ["mount", "-o", "loop", place / "image", place / "there"],
+                      ["btrfs", "subvolume", "create", place / "there/data"]):
+            if words[0] == "mount":
+                self.addCleanup(subprocess.run, ["umount", "--lazy", str(place / "there")])
+            subprocess.run([str(word) for word in words], check=True, capture_output=True)
+        self.data = place / "there/data"
+
+    def test_a_snapshot_needs_no_freeze_and_holds_what_was_told(self) -> None:
+        with DeskProcess(self.data / "book.db") as desk:
+            desk.load()
+            systemctl(desk.folder, "active")
+            sells, stop = Copies(), threading.Event()
+            told: list[str] = []
+            worker = threading.Thread(target=sells.sells, args=(desk, told, stop))
+            worker.start()
+            try:
+                for _ in range(COPIES):
+                    sells.waits(told, len(told) + 10)
+                    before = list(told)
+                    done = self.run_it("portal-backup", "--portal", PORTAL, "--check", desk.settings, desk.book,
+                                       desk.folder / "copies", folder=desk.folder)
+                    self.assertEqual((done.returncode, done.stderr), (0, ""))
+                    self.assertFalse((self.data / ".snapshot").exists())
+                    sells.holds(pathlib.Path(done.stdout.strip()), before)
+            finally:
+                stop.set()
+                worker.join()
+            self.assertFalse((desk.folder / "order").exists(), "systemctl was asked")
+
+    def test_a_snapshot_that_a_killed_backup_left_is_replaced(self) -> None:
+        with DeskProcess(self.data / "book.db") as desk:
+            subprocess.run(["btrfs", "subvolume", "snapshot", "-r", self.data, self.data / ".snapshot"], check=True,
+                           capture_output=True)
+            desk.load()
+            desk.issued("hour", "b1")
+            systemctl(desk.folder, "active")
+            done = self.run_it("portal-backup", desk.book, desk.folder / "copies", folder=desk.folder)
+            self.assertEqual((done.returncode, done.stderr), (0, ""))
+            Copies().holds(pathlib.Path(done.stdout.strip()), ["b1"])
+
+
 class Restores(Case):
     def test_a_copy_is_restored_and_the_gateways_counts_dropped(self) -> None:
         """With an `nft` and a `systemctl` that only say what they were asked."""

@@ -145,6 +145,13 @@ BACKUPS = (
          "backup_test.Copies", "test_what_a_killed_backup_left_is_removed"),
     Edit("frozen_though_it_does_not_run", BACKUP, 'server_state() in ("inactive", "failed")', "server_state() in ()",
          "backup_test.Copies", "test_a_server_that_does_not_run_is_not_frozen"),
+    Edit("frozen_though_a_snapshot_would_do", BACKUP, "kind != \"btrfs\\n\" or", "kind == kind or", "backup_test.Snapshots",
+         "test_a_snapshot_needs_no_freeze_and_holds_what_was_told"),
+    Edit("snapshots_pile_up", BACKUP, "    finally:\n        btrfs(\"delete\", place)\n", "    finally:\n        pass\n",
+         "backup_test.Snapshots", "test_a_snapshot_needs_no_freeze_and_holds_what_was_told"),
+    Edit("an_old_snapshot_is_copied", BACKUP, "        btrfs(\"delete\", place)\n    btrfs(\"snapshot\", \"-r\", database.parent, place)\n",
+         "        pass\n    else:\n        btrfs(\"snapshot\", \"-r\", database.parent, place)\n", "backup_test.Snapshots",
+         "test_a_snapshot_that_a_killed_backup_left_is_replaced"),
     Edit("copied_under_a_server_of_no_unit", COPIES, "fcntl.lockf(file, fcntl.LOCK_SH | fcntl.LOCK_NB, SIZE, SHARED)", "pass",
          "backup_test.Copies", "test_one_that_runs_without_systemd_is_not_copied_as_it_writes"),
     Edit("log_left_behind", COPIES, 'ENDS = ("", "-wal")', 'ENDS = ("",)', "backup_test.Copies", "test_copies_under_load"),
@@ -275,6 +282,8 @@ def refused(edit: Edit, kit: pathlib.Path, portal: str) -> str:
         words = [PYTHON, "-m", "unittest", f"{edit.where}.{edit.check}"]
         env = {**os.environ, "FIELD_PORTAL": portal}
         done = subprocess.run(words, capture_output=True, text=True, cwd=kit / "test", timeout=120, env=env)
+        if done.returncode == 0 and "skipped=" in done.stderr:
+            return "passed over: its test needs what is not here"
         good = done.returncode != 0 and "FAIL: " in done.stderr and "ERROR: " not in done.stderr
         return "refused" if good else "SURVIVED " + done.stderr[-300:]
     words = [PYTHON, str(kit / "test/e2e.py"), *(["--portal", portal] if portal else []), "--only", edit.where]
@@ -311,12 +320,14 @@ def main() -> int:
     words.add_argument("names", nargs="*")
     args = words.parse_args()
     edits = [e for e in (*UNITS, *(() if args.rootless else PACKETS)) if not args.names or e.name in args.names]
-    bad = 0
+    bad = over = 0
     for edit in edits:
         told = tried(edit, args.portal)
-        bad += told != "refused"
-        print(f"{'ok  ' if told == 'refused' else 'FAIL'} {edit.name}: {told} by `{edit.check}`", flush=True)
-    print(f"{len(edits) - bad} passed, {bad} failed")
+        over += told.startswith("passed over")
+        bad += told != "refused" and not told.startswith("passed over")
+        word = "ok  " if told == "refused" else "note" if told.startswith("passed over") else "FAIL"
+        print(f"{word} {edit.name}: {told} by `{edit.check}`", flush=True)
+    print(f"{len(edits) - bad - over} passed, {bad} failed")
     return int(bad > 0)
 
 
