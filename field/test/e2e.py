@@ -344,7 +344,8 @@ def guessed(house: House, check: Checks) -> None:
     body = ("-d", json.dumps({"code": "2222-2222-2222-2222"}))
     statuses = [house.curl("guest2", REDEEM, *body)[0] for _ in range(8)]
     check("a program's guesses are counted with them", statuses.count(429) >= 6, statuses)
-    logs = "".join((house.root / name).read_text() for name in ("nginx-error.log", "log/guests.log"))
+    names = (house.root / "nginx-error.log", house.root / "log/guests.log")
+    logs = "".join(log.read_text() for log in names if log.exists())
     check("no guest's address stands in nginx's logs", house.address("guest2") not in logs, logs[:200])
 
 
