@@ -12,7 +12,7 @@ from machine import (
     versions)
 
 WATCH = pathlib.Path("/run/venue-watch")
-HERS = pathlib.Path("/etc/portal/field.toml")
+SETTINGS = pathlib.Path("/etc/portal/field.toml")
 
 
 def after_the_boot() -> None:
@@ -37,7 +37,7 @@ def kept_by_the_upgrade() -> list[pathlib.Path]:
 
 
 def upgrade() -> None:
-    before, open_then, settings = tokens(), sessions(), HERS.read_bytes()
+    before, open_then, settings = tokens(), sessions(), SETTINGS.read_bytes()
     with Gap() as gap:
         done = install(versions()[1])
         until(all_run, 20)
@@ -45,7 +45,7 @@ def upgrade() -> None:
           f"longest gap of packets {gap.seconds} s; {told(done, 100)}")
     check_all_active("after it every unit is active")
     check("the same tokens, the same settings file, the same session", tokens() == before
-          and HERS.read_bytes() == settings and captive().get("captive") is False and sessions() == open_then)
+          and SETTINGS.read_bytes() == settings and captive().get("captive") is False and sessions() == open_then)
     kept = kept_by_the_upgrade()
     check("the database of before the upgrade was kept", len(kept) == 1 and os.path.exists(f"{kept[0]}.sha256"), kept)
 
