@@ -3,7 +3,8 @@
 
     must_fail.py [--portal "CMD .."] [--rootless] [NAME ..]
 
-Those of UNITS are refused by a unit test without root, those of PACKETS by a step of e2e.py. An edit that another
+Those of UNITS are refused by a unit test without root, those of PACKETS by a step of e2e.py, those of GATEWAY by a
+step of e2e_gateway.py. An edit that another
 check refuses, and not the one that is meant, has survived. The last line: 'N passed, M failed'.
 """
 
@@ -188,6 +189,11 @@ BACKUPS = (
     Edit("logs_that_two_rotations_name", "units/logrotate.conf", "/var/log/portal/*.log", "/var/log/nginx/portal-*.log",
          "backup_test.Logs", "test_logs_are_in_a_folder_that_no_other_rotation_names"),
 )
+GATEWAY = (
+    Edit("the_guests_helper_acts_as_the_clerk", "units/portal-front.service", "SupplementaryGroups=portal-gateway\n",
+         "SupplementaryGroups=portal-gateway portal-counter\n", "sockets",
+         "the guests' helper does not open the counter's socket"),
+)
 UNITS = (
     *BACKUPS,
     Edit("a_number_for_each_sending", FRONT, "device=device, number=number)", "device=device, number=new_number())",
@@ -286,7 +292,8 @@ def refused(edit: Edit, kit: pathlib.Path, portal: str) -> str:
             return "passed over: its test needs what is not here"
         good = done.returncode != 0 and "FAIL: " in done.stderr and "ERROR: " not in done.stderr
         return "refused" if good else "SURVIVED " + done.stderr[-300:]
-    words = [PYTHON, str(kit / "test/e2e.py"), *(["--portal", portal] if portal else []), "--only", edit.where]
+    script = "test/e2e_gateway.py" if edit in GATEWAY else "test/e2e.py"
+    words = [PYTHON, str(kit / script), *(["--portal", portal] if portal else []), "--only", edit.where]
     done = subprocess.run(words, capture_output=True, text=True, timeout=300)
     fails = [line.removeprefix("FAIL ") for line in done.stdout.splitlines() if line.startswith("FAIL")]
     if any(line.partition("  [")[0] == edit.check for line in fails):
@@ -319,7 +326,8 @@ def main() -> int:
     words.add_argument("--rootless", action="store_true", help="only those that a unit test refuses")
     words.add_argument("names", nargs="*")
     args = words.parse_args()
-    edits = [e for e in (*UNITS, *(() if args.rootless else PACKETS)) if not args.names or e.name in args.names]
+    edits = [edit for edit in (*UNITS, *(() if args.rootless else (*GATEWAY, *PACKETS)))
+             if not args.names or edit.name in args.names]
     bad = over = 0
     for edit in edits:
         told = tried(edit, args.portal)

@@ -119,6 +119,22 @@ class Made(unittest.TestCase):
             if name != "portal":
                 self.assertTrue((FIELD / program.removeprefix("/usr/share/portal/field/")).is_file(), program)
 
+    def may_open(self, owner: str) -> set[str]:
+        """The users in the group of a service's socket: by their units, and by sysusers."""
+        group = self.unit(owner + ".service")["Service"]["Group"]
+        lines = (self.root / "etc/sysusers.d/portal.conf").read_text().splitlines()
+        users = {line.split()[1] for line in lines if line.startswith("m ") and line.split()[2] == group}
+        for name in SERVICES:
+            service = self.unit(name + ".service")["Service"]
+            groups = [service.get("Group", name), *service.get("SupplementaryGroups", "").split()]
+            users |= {service["User"]} if group in groups else set()
+        return users
+
+    def test_a_pages_socket_is_open_to_nginx_and_to_no_other_page(self) -> None:
+        for name in ("portal-front", "portal-counter"):
+            self.assertEqual(self.may_open(name), {name, "www-data"}, name)
+            self.assertEqual(self.unit(name + ".service")["Service"]["RuntimeDirectoryMode"], "0750")
+
     def test_packets_are_forwarded_while_the_rules_stand(self) -> None:
         text = (self.root / "etc/systemd/system/portal-rules@.service").read_text()
         orders = [line for line in text.splitlines() if line.startswith("Exec")]
