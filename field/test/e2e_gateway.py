@@ -50,8 +50,12 @@ class GatewayHouse(House):
         for line in (FIELD / "units/sysusers.conf").read_text().splitlines():
             if line.startswith("m "):
                 members.setdefault(line.split()[2], []).append(line.split()[1])
-        lines = [f"{name}:x:{number}:{','.join(members.get(name, []))}\n" for name, number in IDS.items() if number > 33]
+        lines = [f"{name}:x:{IDS[name]}:{','.join(members.get(name, []))}\n" for name in ("portal-front", "portal-counter")]
         (self.etc / "group").write_text(pathlib.Path("/etc/group").read_text() + "".join(lines))
+
+    def __enter__(self) -> GatewayHouse:
+        super().__enter__()
+        return self
 
     def __exit__(self, *_: object) -> None:
         super().__exit__(*_)

@@ -4,6 +4,7 @@ from __future__ import annotations
 
 import configparser
 import importlib.machinery
+import os
 import pathlib
 import re
 import shutil
@@ -15,7 +16,7 @@ import types
 import unittest
 from typing import Any
 
-from desk_process import FIELD
+from desk_process import FIELD, PORTAL
 
 loader = importlib.machinery.SourceFileLoader("field_setup", str(FIELD / "setup"))
 setup: Any = types.ModuleType(loader.name)
@@ -25,6 +26,7 @@ sys.dont_write_bytecode = True
 loader.exec_module(setup)
 
 SAMPLE = (FIELD / "settings/field.toml").read_text()
+LATER = ("desk_port", "poll_seconds", "grace_seconds", "quiet_seconds")     # keys with a default
 SERVICES = ("portal", "portal-gateway", "portal-front", "portal-counter")
 
 
@@ -42,10 +44,79 @@ class Lines(unittest.TestCase):
                          ('guests = "10.77.0.1/22"', 'guests = "10.77.0.1"'), ('"10.77.0.50"', '"10.99.0.50"'),
                          ('"10.77.0.50"', '"10.77.3.251"'), ('"1h"', '"1 h"'), ('"1h"]', '"1h", "x"]'),
                          ('counter = "10.88.0.1/24"', 'counter = "10.77.1.1/24"'), ("quiet_seconds", "quit_seconds"),
+                         ('wan = "wan0"', 'wan = "lan0"'), ('"counter.example"', '"wifi.example"'),
+                         ('"10.77.0.50"', '"10.77.0.1"'), ('"10.77.0.50"', '"10.77.0.0"'), ('"1h"', "1"),
+                         ('"10.77.3.250"', '"10.77.3.255"'), ('"10.77.0.1/22"', '"10.77.2.7/22"'),
+                         ('"10.88.0.1/24"', '"10.88.0.0/24"'), ('"10.88.0.1/24"', '"10.88.0.1/32"'),
                          ("wan = ", "more = 1\nwan = "), ("house = ", "house ")):
             self.assertIn(old, SAMPLE)
             with self.assertRaises(setup.BadSettings, msg=new):
                 setup.Field.read(SAMPLE.replace(old, new))
+
+    def test_the_words_name_what_is_wrong(self) -> None:
+        for old, new, word in (('wan = "wan0"', 'wan = "lan0"', "lan and wan are the same: lan0"),
+                               ('"10.77.0.50"', '"10.77.0.1"', "leases: 10.77.0.1 is this machine's own address"),
+                               ('house = "Sample Library"', "", "missing: house"),
+                               ('desk_port = 8080', "desk_prt = 8080", "unknown: desk_prt")):
+            with self.assertRaisesRegex(setup.BadSettings, word):
+                setup.Field.read(SAMPLE.replace(old, new))
+
+    def test_a_file_of_before_lacks_what_came_later(self) -> None:
+        for key in LATER:
+            old, count = re.subn(f"(?m)^{key} = .*\n", "", SAMPLE)
+            self.assertEqual(count, 1, key)
+            try:
+                self.assertEqual(setup.Field.read(old), setup.Field.read(SAMPLE))
+            except setup.BadSettings as fault:
+                self.fail(str(fault))
+
+
+class Looked(unittest.TestCase):
+    """What the program and the machine say of field.toml."""
+
+    def setUp(self) -> None:
+        self.folder = pathlib.Path(self.enterContext(tempfile.TemporaryDirectory()))
+        for name in ("sys/class/net/lan0", "sys/class/net/wan0", "etc/portal/tls"):
+            (self.folder / "machine" / name).mkdir(parents=True)
+        for name in ("cert.pem", "key.pem"):
+            (self.folder / "machine/etc/portal/tls" / name).write_text("x")
+
+    def run_setup(self, text: str, *more: object) -> tuple[int, str]:
+        path, root = self.folder / "field.toml", self.folder / "root"
+        path.write_text(text)
+        words = [sys.executable, FIELD / "setup", "--root", root, *more, path]
+        done = subprocess.run([str(word) for word in words], capture_output=True, text=True)
+        self.assertEqual(root.exists(), done.returncode == 0, "files are made where nothing is wrong alone")
+        shutil.rmtree(root, ignore_errors=True)
+        return done.returncode, done.stderr
+
+    def test_what_the_machine_does_not_have(self) -> None:
+        machine = self.folder / "machine"
+        self.assertEqual(self.run_setup(SAMPLE, "--machine", machine), (0, ""))
+        for gone, word in (("sys/class/net/wan0", "wan = 'wan0': this machine has no such network device"),
+                           ("etc/portal/tls/key.pem", "key = '/etc/portal/tls/key.pem': there is no such file"),
+                           ("sys/class/net/lan0", "lan = 'lan0': this machine has no such network device"),
+                           ("etc/portal/tls/cert.pem", "cert = '/etc/portal/tls/cert.pem': there is no such file")):
+            (machine / gone).rename(self.folder / "gone")
+            status, told = self.run_setup(SAMPLE, "--machine", machine)
+            (self.folder / "gone").rename(machine / gone)
+            self.assertEqual((status, told.splitlines()), (1, [f"setup: {self.folder}/field.toml: {word}"]))
+
+    def test_a_zone_that_the_program_does_not_take(self) -> None:
+        """The program is asked; here it is a script that takes UTC0 alone, and then the one under test."""
+        asked = self.folder / "portal"
+        asked.write_text('#!/bin/sh\n[ "$1 $2 $4" = "check --db --settings" ] && grep -q \'zone = "UTC0"\' "$5" || '
+                         '{ echo "portal: settings" >&2; exit 3; }\n')
+        asked.chmod(0o755)
+        for portal in (str(asked), *([PORTAL] if "FIELD_PORTAL" in os.environ else [])):
+            self.assertEqual(self.run_setup(SAMPLE, "--portal", portal), (0, ""))
+            status, told = self.run_setup(SAMPLE.replace("UTC0", "Europe/Berlin"), "--portal", portal)
+            self.assertEqual(status, 1)
+            self.assertIn("zone = 'Europe/Berlin': the program takes a POSIX rule, such as UTC0", told)
+
+    def test_a_program_that_is_not_there_is_told(self) -> None:
+        status, told = self.run_setup(SAMPLE, "--portal", "/no/such/portal")
+        self.assertEqual((status, "/no/such/portal" in told), (1, True))
 
 
 class Made(unittest.TestCase):
@@ -64,6 +135,14 @@ class Made(unittest.TestCase):
     def test_made_again_nothing_changes(self) -> None:
         before = self.files()
         self.make()
+        self.assertEqual(self.files(), before)
+
+    def test_a_write_that_ends_early_leaves_what_was_there(self) -> None:
+        """As on a full disk: the text's end cannot be written."""
+        maker, path = setup.Maker(setup.Field.read(SAMPLE), self.root, "/kit"), self.root / "etc/portal/front.toml"
+        before = self.files()
+        with self.assertRaises(UnicodeEncodeError):
+            maker.write(path, "x" * 100_000 + "\udc80")
         self.assertEqual(self.files(), before)
 
     def test_secrets_are_apart_and_shut(self) -> None:
