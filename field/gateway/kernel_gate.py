@@ -3,6 +3,7 @@
 from __future__ import annotations
 
 import pathlib
+import re
 from collections.abc import Iterable, Iterator
 from typing import Any
 
@@ -13,6 +14,7 @@ from passing import Passing, RulesAreGone
 ETHERNET = 14   # a count at the egress of an Ethernet device holds the frame's head, one in `forward` does not
 UP, DOWN, ALIVE = ("inet", "portal", "up"), ("netdev", "portal", "down"), ("inet", "portal", "alive")
 FORWARDING = pathlib.Path("/proc/sys/net/ipv4/ip_forward")
+OURS = re.compile(r"([0-9]{1,18})\+([0-9]{1,18})")      # an element's comment, if the agent made it
 SetName = tuple[str, str, str]
 
 
@@ -41,20 +43,24 @@ class KernelGate:
                 yield found["elem"] if "elem" in found else {"val": found}
 
     def passing(self) -> dict[str, Passing]:
-        """The devices let through, with the IP-layer bytes of both directions."""
+        """The devices let through, with the IP-layer bytes of both directions. What others put there is left alone."""
         nothing = {"packets": 0, "bytes": 0}
         down = {e["val"]: e["counter"] for e in self.elements(DOWN)}
         found = {}
         for e in self.elements(UP):
-            session, _, base = e.get("comment", "0+0").partition("+")
+            ours = OURS.fullmatch(e.get("comment", ""))
+            if not ours:
+                continue
             back = down.get(e["val"], nothing)
             counted = e["counter"]["bytes"] + back["bytes"] - ETHERNET * back["packets"]
-            found[e["val"]] = Passing(int(session), int(base), counted)
+            found[e["val"]] = Passing(int(ours[1]), int(ours[2]), counted)
         return found
 
     def change(self, gone: Iterable[str], come: dict[str, Passing]) -> None:
         """Takes devices out and lets others in, and winds the dead man's switch, all at once."""
-        commands = [element("delete", where, mac) for mac in gone for where in (UP, DOWN)]
+        # Each is added before it is deleted: what others took away is no fault then, and what they put there goes.
+        commands = [element(verb, where, mac)
+                    for mac in (*gone, *come) for where in (UP, DOWN) for verb in ("add", "delete")]
         for mac, p in come.items():
             commands.append(element("add", UP, {"elem": {"val": mac, "comment": f"{p.session}+{p.base}"}}))
             commands.append(element("add", DOWN, mac))

@@ -11,18 +11,22 @@ from __future__ import annotations
 import argparse
 import configparser
 import pathlib
+import re
 import shutil
 import subprocess
 import sys
+import time
+import tomllib
 import traceback
 from typing import Any
 
 import lab
 from e2e import Checks
-from house import House
-from lab import FIELD, PYTHON, STAND_IN
+from house import PEER, House
+from lab import FIELD, MACS, PYTHON, STAND_IN
 
 IDS = {"portal-gateway": 7001, "portal-front": 7002, "portal-counter": 7003, "www-data": 33}
+PRINTER = "02:aa:00:00:00:03"
 OPEN = "import socket, sys; s = socket.socket(socket.AF_UNIX); s.connect(sys.argv[1]); print('open')"
 
 
@@ -50,7 +54,8 @@ class GatewayHouse(House):
         for line in (FIELD / "units/sysusers.conf").read_text().splitlines():
             if line.startswith("m "):
                 members.setdefault(line.split()[2], []).append(line.split()[1])
-        lines = [f"{name}:x:{IDS[name]}:{','.join(members.get(name, []))}\n" for name in ("portal-front", "portal-counter")]
+        lines = [f"{name}:x:{IDS[name]}:{','.join(members.get(name, []))}\n"
+                 for name in ("portal-front", "portal-counter")]
         (self.etc / "group").write_text(pathlib.Path("/etc/group").read_text() + "".join(lines))
 
     def __enter__(self) -> GatewayHouse:
@@ -82,12 +87,74 @@ def sockets(house: GatewayHouse, check: Checks) -> None:
     check("nginx opens both", len(codes) == 1 and house.redeem("guest1", codes[0])[0] == 303)
 
 
+def elements(house: GatewayHouse, verb: str, mac: str, comment: str = "") -> None:
+    """What an administrator does by hand to both sets."""
+    said = f' comment "{comment}"' if comment else ""
+    house.within("gw", "nft", f"{verb} element inet portal up {{ {mac}{said} }}; "
+                              f"{verb} element netdev portal down {{ {mac} }}")
+
+
+def foreign(house: GatewayHouse, check: Checks) -> None:
+    """An administrator's hand in the agent's sets."""
+    house.online("guest1")
+    elements(house, "add", "02:aa:00:00:00:77", "printer")
+    elements(house, "add", "02:aa:00:00:00:78")
+    elements(house, "add", MACS["guest2"], "a tablet")
+    house.until(lambda: house.reaches("guest2"), 3, "guest2")
+    time.sleep(house_grace(house) + 1.5)
+    check("with an administrator's elements in the sets sessions go on", house.reaches("guest1", 1.0))
+    session = house.online("guest2")
+    check("a session takes such an element over", [row["session"] for row in house.polled() if row["device"] ==
+                                                   MACS["guest2"]] == [session])
+    house.clerk("close", session=session)
+    took = house.shut_after("guest2", 4)
+    check("and ends it", took is not None, took)
+    session = house.online("guest2")
+    house.within("gw", "nft", f"delete element netdev portal down {{ {MACS['guest2']} }}")
+    house.clerk("close", session=session)
+    time.sleep(house_grace(house) + 1.5)
+    check("and a close acts where somebody took its element away",
+          house.reaches("guest1", 1.0) and not house.reaches("guest2"))
+    for mac in ("02:aa:00:00:00:77", "02:aa:00:00:00:78"):
+        elements(house, "delete", mac)
+
+
+def listed(house: GatewayHouse, check: Checks) -> None:
+    """A printer in the list of field.toml: the second guest's device takes its MAC address."""
+    check("another device does not pass", not house.reaches("guest2"))
+    house.within("guest2", "ip", "link", "set", "eth0", "address", PRINTER)
+    house.within("gw", "ip", "neigh", "flush", "dev", "lan0")
+    house.within("guest2", "ping", "-c1", "-W1", "10.77.0.1", check=False)
+    check("a device of the list passes without a code", house.reaches("guest2", 1.0)
+          and house.tcp("guest2", "take", 100_000) is not None)
+    counts = [house.within("gw", "nft", "list", "set", family, "portal", "listed").stdout
+              for family in ("inet", "netdev")]
+    found = [re.search(rf"{PRINTER} counter packets (\d+) bytes (\d+)", text) for text in counts]
+    numbers = [int(m[2]) if m else 0 for m in found]
+    check("what it sends and gets is counted", numbers[0] > 100_000 and numbers[1] > 0, numbers)
+    status = house.curl("guest2", "http://outside.example:80/", "--max-time", "2")[0]
+    check("its port 80 does not lead to the portal", status != 302, status)
+    got = int(house.within("guest2", PYTHON, PEER, "names", "10.77.0.1", 300).stdout)
+    check("and it asks for names as one with a session", got > 150, got)
+    house.stop("gateway", kill=True)
+    time.sleep(house_grace(house) + 1.0)
+    check("with the agent away it passes on", house.reaches("guest2", 1.0) and not house.reaches("guest1"))
+    house.service("gateway")
+    house.within("guest2", "ip", "link", "set", "eth0", "address", MACS["guest2"])
+    house.within("gw", "ip", "neigh", "flush", "dev", "lan0")
+    house.within("guest2", "ping", "-c1", "-W1", "10.77.0.1", check=False)
+
+
+def house_grace(house: GatewayHouse) -> float:
+    return float(tomllib.loads((house.root / "field.toml").read_text())["grace_seconds"])
+
+
 def network(house: GatewayHouse, check: Checks) -> None:
     for guest in ("guest1", "guest2"):
         house.lease(guest)
 
 
-STEPS = {step.__name__: step for step in (network, sockets)}
+STEPS = {step.__name__: step for step in (network, sockets, foreign, listed)}
 
 
 def main() -> int:
@@ -98,7 +165,7 @@ def main() -> int:
     check = Checks()
     if args.portal == STAND_IN:
         print("note the desk is the stand-in for tests, not the program")
-    with GatewayHouse(args.portal) as house:
+    with GatewayHouse(args.portal, {"without_browser": [PRINTER]}) as house:
         house.open_house()
         for name in dict.fromkeys(("network", *args.only)):     # every step needs the leases
             try:

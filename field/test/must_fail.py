@@ -51,8 +51,8 @@ PACKETS = (
          "bytes_are_counted", "bytes of both directions are counted as the guest's device counts them"),
     Edit("one_direction_counted", KERNEL, '+ back["bytes"] - ETHERNET * back["packets"]', "",
          "bytes_are_counted", "bytes of both directions are counted as the guest's device counts them"),
-    Edit("established_downloads_go_on", NFT, "        ether daddr @down accept\n        drop\n",
-         "        ether daddr @down accept\n", "closed", "the stream ran, and stops within a poll of the close"),
+    Edit("established_downloads_go_on", NFT, "        ether daddr @listed accept\n        drop\n",
+         "        ether daddr @listed accept\n", "closed", "the stream ran, and stops within a poll of the close"),
     Edit("switch_never_lapses", KERNEL, '"timeout": self.grace', '"timeout": 3600',
          "agent_dies", "with the agent killed the gate shuts by itself"),
     Edit("silent_desk_leaves_it_open", AGENT, "        except (NoAnswer, OSError) as fault:\n",
@@ -97,9 +97,11 @@ PACKETS = (
          "network", "guest1 is told the API by DHCP option 114"),
     Edit("name_servers_of_their_own", NFT, "        meta l4proto { tcp, udp } th dport 53 redirect\n", "",
          "network", "a name server that the guest names is answered by the gateway"),
-    Edit("nothing_leads_to_the_portal", NFT, "        ether saddr != @up tcp dport 80 redirect\n", "",
+    Edit("nothing_leads_to_the_portal", NFT,
+         "        ether saddr != @up ether saddr != @listed tcp dport 80 redirect\n", "",
          "captured", "plain HTTP to anywhere leads to the portal"),
-    Edit("names_by_tcp", NFT, "        tcp dport 53 ether saddr != @up reject with tcp reset\n", "",
+    Edit("names_by_tcp", NFT,
+         "        tcp dport 53 ether saddr != @up ether saddr != @listed reject with tcp reset\n", "",
          "captured", "nor is a name told by TCP"),
     Edit("more_doors_to_the_gateway", NFT, "        tcp dport { 53, 80, 443 } accept\n",
          "        meta l4proto tcp accept\n", "captured", "a guest does not reach 10.77.0.1:22"),
@@ -193,6 +195,19 @@ GATEWAY = (
     Edit("the_guests_helper_acts_as_the_clerk", "units/portal-front.service", "SupplementaryGroups=portal-gateway\n",
          "SupplementaryGroups=portal-gateway portal-counter\n", "sockets",
          "the guests' helper does not open the counter's socket"),
+    Edit("an_administrators_element_stops_the_gateway", KERNEL, "            if not ours:\n                continue\n",
+         "            if not ours:\n                raise RulesAreGone(str(e))\n", "foreign",
+         "with an administrator's elements in the sets sessions go on"),
+    Edit("what_others_took_away_stops_the_gateway", KERNEL, 'for verb in ("add", "delete")]',
+         'for verb in ("add", "delete")[mac not in come:]]',
+         "foreign", "and a close acts where somebody took its element away"),
+    Edit("a_printer_needs_a_code", NFT,
+         "        iifname $lan oifname $wan ether saddr @listed ct mark set 0x71 accept\n", "", "listed",
+         "a device of the list passes without a code"),
+    Edit("a_printer_gets_no_answer", NFT, "        ether daddr @listed accept\n", "",
+         "listed", "a device of the list passes without a code"),
+    Edit("a_printer_is_led_to_the_portal", NFT, "ether saddr != @up ether saddr != @listed tcp dport 80 redirect",
+         "ether saddr != @up tcp dport 80 redirect", "listed", "its port 80 does not lead to the portal"),
 )
 UNITS = (
     *BACKUPS,
@@ -253,11 +268,13 @@ UNITS = (
          '(("name", "counter_name"),)', "test_setup.Lines", "test_what_is_refused"),
     Edit("one_name_for_both", "setup", '(("lan", "wan"), ("name", "counter_name"))', '(("lan", "wan"),)',
          "test_setup.Lines", "test_what_is_refused"),
-    Edit("a_new_key_stops_an_upgrade", "setup", "for field in fields(cls) if field.default is MISSING}",
-         "for field in fields(cls)}", "test_setup.Lines", "test_a_file_of_before_lacks_what_came_later"),
+    Edit("a_new_key_stops_an_upgrade", "setup", "if f.default is MISSING and f.default_factory is MISSING}", "}",
+         "test_setup.Lines", "test_a_file_of_before_lacks_what_came_later"),
     Edit("written_in_place", "setup", "        part.unlink(missing_ok=True)\n        try:",
          "        path.unlink(missing_ok=True)\n        try:",
          "test_setup.Made", "test_a_write_that_ends_early_leaves_what_was_there"),
+    Edit("what_others_put_there_ends_the_agent", KERNEL, "            if not ours:\n                continue\n",
+         "            assert ours\n", "test_kernel_gate.Sets", "test_what_others_put_there_is_left_alone"),
     Edit("tokens_drawn_at_each_setup", "setup", "if not path.exists():\n            self.write(path, secrets",
          "if True:\n            self.write(path, secrets", "test_setup.Made", "test_made_again_nothing_changes"),
     Edit("forwarding_outlives_the_rules", "units/portal-rules@.service",
@@ -342,6 +359,8 @@ def main() -> int:
     words.add_argument("--rootless", action="store_true", help="only those that a unit test refuses")
     words.add_argument("names", nargs="*")
     args = words.parse_args()
+    edits = [edit for edit in (*UNITS, *(() if args.rootless else (*GATEWAY, *PACKETS)))
+             if not args.names or edit.name in args.names]
     edits = [edit for edit in (*UNITS, *(() if args.rootless else (*GATEWAY, *PACKETS)))
              if not args.names or edit.name in args.names]
     bad = over = 0

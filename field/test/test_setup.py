@@ -26,7 +26,7 @@ sys.dont_write_bytecode = True
 loader.exec_module(setup)
 
 SAMPLE = (FIELD / "settings/field.toml").read_text()
-LATER = ("desk_port", "poll_seconds", "grace_seconds", "quiet_seconds")     # keys with a default
+LATER = ("desk_port", "poll_seconds", "grace_seconds", "quiet_seconds", "without_browser")   # keys with a default
 SERVICES = ("portal", "portal-gateway", "portal-front", "portal-counter")
 
 
@@ -44,6 +44,8 @@ class Lines(unittest.TestCase):
                          ('guests = "10.77.0.1/22"', 'guests = "10.77.0.1"'), ('"10.77.0.50"', '"10.99.0.50"'),
                          ('"10.77.0.50"', '"10.77.3.251"'), ('"1h"', '"1 h"'), ('"1h"]', '"1h", "x"]'),
                          ('counter = "10.88.0.1/24"', 'counter = "10.77.1.1/24"'), ("quiet_seconds", "quit_seconds"),
+                         ("_browser = []", '_browser = ["02:00:00:00:00"]'), ("_browser = []", "_browser = [1]"),
+                         ("_browser = []", '_browser = ["01:00:5e:00:00:01"]'), ("_browser = []", '_browser = "x"'),
                          ('wan = "wan0"', 'wan = "lan0"'), ('"counter.example"', '"wifi.example"'),
                          ('"10.77.0.50"', '"10.77.0.1"'), ('"10.77.0.50"', '"10.77.0.0"'), ('"1h"', "1"),
                          ('"10.77.3.250"', '"10.77.3.255"'), ('"10.77.0.1/22"', '"10.77.2.7/22"'),
@@ -161,6 +163,16 @@ class Made(unittest.TestCase):
         told = tomllib.loads((self.root / "etc/portal/portal.toml").read_text())
         self.assertEqual(told.keys(), {"zone", "portal_url", "desk_token", "gateway_token"})
         self.assertEqual(told["portal_url"], "https://wifi.example/portal")
+
+    def test_devices_without_a_browser_are_in_the_rules(self) -> None:
+        rules = self.root / "etc/portal/rules.nft"
+        self.assertNotIn("element", rules.read_text())
+        listed = '_browser = ["02:AA:00:00:00:09", "02:aa:00:00:00:08"]'
+        field = setup.Field.read(SAMPLE.replace("_browser = []", listed))
+        setup.Maker(field, self.root, "/usr/share/portal/field").others()
+        self.assertEqual(rules.read_text().splitlines()[-2:],
+                         [f"add element {family} portal listed {{ 02:aa:00:00:00:08, 02:aa:00:00:00:09 }}"
+                          for family in ("inet", "netdev")])
 
     def test_no_word_is_left_to_fill_in(self) -> None:
         for name, text in self.files().items():
