@@ -29,7 +29,9 @@ class Gate(Protocol):
     def passing(self) -> dict[str, Passing]: ...
     def change(self, gone: Iterable[str], come: dict[str, Passing]) -> None: ...
     def shut(self) -> None: ...
+    def guard(self) -> None: ...
     def stands(self) -> None: ...
+    def load(self) -> None: ...
     def bar(self) -> None: ...
     def unbar(self) -> None: ...
 
@@ -88,6 +90,7 @@ class Agent:
         return come
 
     def poll(self) -> None:
+        self.gate.guard()
         self.gate.stands()                  # also where the desk is silent
         wanted = {row["device"]: row for row in self.desk.tell(Routes.SESSIONS)["sessions"]}
         now = self.gate.passing()
@@ -123,6 +126,7 @@ class Agent:
         except RulesAreGone as fault:
             complain(f"{fault}; nothing is forwarded until they are loaded")
             self.gate.bar()
+            self.load_rules()
         except Refused as refusal:
             complain("the desk refuses: " + refusal.word)
             if refusal.word != "no_memory":     # a desk short of memory for a moment is as a silent one
@@ -133,6 +137,14 @@ class Agent:
             complain("an answer that the desk does not give: " + repr(fault))
             self.gate.shut()
         return False
+
+    def load_rules(self) -> None:
+        """After somebody's flush; forwarding stays off until a good poll."""
+        try:
+            self.gate.load()
+            complain("the rules are loaded again")
+        except RulesAreGone as fault:
+            complain(str(fault))
 
 
 def complain(text: str) -> None:
@@ -172,7 +184,8 @@ def main() -> None:
 
     conf = settings("/etc/portal/gateway.toml")
     desk = Desk(conf["desk_port"], credential("gateway_token"), timeout=conf["poll_seconds"] * 2)
-    agent = Agent(desk, KernelGate(conf["lan"], conf["grace_seconds"]), conf.get("snapshot"), conf["quiet_seconds"])
+    gate = KernelGate(conf["lan"], conf["grace_seconds"], conf["rules"])
+    agent = Agent(desk, gate, conf.get("snapshot"), conf["quiet_seconds"])
     knocks = knock_socket(conf["knock"])
     tell_systemd(b"READY=1")
     while True:

@@ -291,6 +291,8 @@ def rules_vanish(house: House, check: Checks) -> None:
     """A flushed firewall, on a network where guests' packets would find their way back untranslated."""
     house.online("guest1")
     house.within("outside", "ip", "route", "replace", "10.77.0.0/22", "via", "203.0.113.1")
+    path = house.root / "etc/portal/rules.nft"
+    path.rename(path.with_suffix(".away"))      # which the agent cannot load again
     house.within("gw", "nft", "flush", "ruleset")
     took = house.shut_after("guest1", 9)
     check("with the rules flushed nothing is forwarded", took is not None and took <= 2.5, took)
@@ -298,8 +300,8 @@ def rules_vanish(house: House, check: Checks) -> None:
     out = house.arrived()
     check("and not one packet comes out", not house.reaches("guest1") and not house.reaches("guest2")
           and house.arrived() == out, house.arrived() - out)
-    house.rules()
-    house.until(lambda: house.reaches("guest1"), 4, "packets")
+    path.with_suffix(".away").rename(path)
+    house.until(lambda: house.reaches("guest1"), 6, "packets")
     check("with the rules back it opens again, to those with a session", not house.reaches("guest2"))
 
 
@@ -351,6 +353,7 @@ def guessed(house: House, check: Checks) -> None:
 
 def forward_ipv6(house: House) -> None:
     """Addresses, routes and forwarding as a house has them that wants IPv6, by mistake or on purpose."""
+    house.within("gw", "sysctl", "-q", "-w", "net.ipv6.conf.lan0.disable_ipv6=0")    # the agent had turned it off
     for space, device, address in (("gw", "lan0", "2001:db8:77::1"), ("guest1", "eth0", "2001:db8:77::2"),
                                    ("gw", "wan0", "2001:db8:1::1"), ("outside", "eth0", "2001:db8:1::2")):
         house.within(space, "ip", "-6", "addr", "replace", address + "/64", "dev", device, "nodad")

@@ -10,9 +10,11 @@ from __future__ import annotations
 
 import argparse
 import configparser
+import os
 import pathlib
 import re
 import shutil
+import signal
 import subprocess
 import sys
 import time
@@ -21,9 +23,9 @@ import traceback
 from typing import Any
 
 import lab
-from e2e import Checks
+from e2e import Checks, forward_ipv6
 from house import PEER, House
-from lab import FIELD, MACS, PYTHON, STAND_IN
+from lab import FIELD, MACS, OUTSIDE, PYTHON, STAND_IN
 
 IDS = {"portal-gateway": 7001, "portal-front": 7002, "portal-counter": 7003, "www-data": 33}
 PRINTER = "02:aa:00:00:00:03"
@@ -125,13 +127,13 @@ def listed(house: GatewayHouse, check: Checks) -> None:
     house.within("guest2", "ip", "link", "set", "eth0", "address", PRINTER)
     house.within("gw", "ip", "neigh", "flush", "dev", "lan0")
     house.within("guest2", "ping", "-c1", "-W1", "10.77.0.1", check=False)
-    check("a device of the list passes without a code", house.reaches("guest2", 1.0)
-          and house.tcp("guest2", "take", 100_000) is not None)
+    seen = house.reaches("guest2", 2.0), house.tcp("guest2", "send", 100_000)
+    check("a device of the list passes without a code", seen[0] and seen[1] is not None, seen)
     counts = [house.within("gw", "nft", "list", "set", family, "portal", "listed").stdout
               for family in ("inet", "netdev")]
     found = [re.search(rf"{PRINTER} counter packets (\d+) bytes (\d+)", text) for text in counts]
     numbers = [int(m[2]) if m else 0 for m in found]
-    check("what it sends and gets is counted", numbers[0] > 100_000 and numbers[1] > 0, numbers)
+    check("what it sends and gets is counted", numbers[0] > 0 and numbers[1] > 100_000, numbers)
     status = house.curl("guest2", "http://outside.example:80/", "--max-time", "2")[0]
     check("its port 80 does not lead to the portal", status != 302, status)
     got = int(house.within("guest2", PYTHON, PEER, "names", "10.77.0.1", 300).stdout)
@@ -145,6 +147,64 @@ def listed(house: GatewayHouse, check: Checks) -> None:
     house.within("guest2", "ping", "-c1", "-W1", "10.77.0.1", check=False)
 
 
+def sysctl(house: GatewayHouse, path: str) -> str:
+    return house.within("gw", "cat", "/proc/sys/net/" + path).stdout.strip()
+
+
+def ping6(house: GatewayHouse) -> bool:
+    return house.within("guest1", "ping", "-6", "-c3", "-i0.1", "-W1", "2001:db8:1::2", check=False).returncode == 0
+
+
+def flushed(house: GatewayHouse, check: Checks) -> None:
+    """Somebody's `nft flush ruleset`, where guests' packets would find their way back, by both families."""
+    house.online("guest1")
+    off = "ipv6/conf/lan0/disable_ipv6"
+    check("IPv6 is off on the guests' device", sysctl(house, off) == "1", sysctl(house, off))
+    house.within("outside", "ip", "route", "replace", "10.77.0.0/22", "via", "203.0.113.1")
+    out = house.arrived()
+    knocks = house.begin("guest2", PYTHON, PEER, "first", OUTSIDE, 2.5)      # a packet each 5 ms, without a session
+    time.sleep(0.5)
+    house.within("gw", "nft", "flush", "ruleset")
+    knocks.wait()
+    check("not one packet comes out between a flush and the next poll", house.arrived() == out, house.arrived() - out)
+    house.until(lambda: house.reaches("guest1"), 6, "packets")
+    check("the agent loads the rules again, and lets through who has a session", not house.reaches("guest2"))
+    check("and forwarding is on again", sysctl(house, "ipv4/ip_forward") == "1")
+    forward_ipv6(house)         # as a venue has it that turned IPv6 on again
+    path, out = house.root / "etc/portal/rules.nft", house.arrived("ip6")
+    path.rename(path.with_suffix(".away"))      # which the agent cannot load
+    house.within("gw", "nft", "flush", "ruleset")
+    house.until(lambda: sysctl(house, "ipv4/ip_forward") == "0", 2.5, "a poll")
+    time.sleep(0.2)
+    check("after a flush IPv6 is off on the guests' device again", sysctl(house, off) == "1")
+    check("with a flush no packet goes out by IPv6", not ping6(house) and house.arrived("ip6") == out,
+          house.arrived("ip6") - out)
+    house.stop("gateway", kill=True)            # in the middle: what it did must not stay so
+    path.with_suffix(".away").rename(path)
+    house.service("gateway")
+    house.until(lambda: house.reaches("guest1"), 9, "packets")
+    check("an agent that was killed meanwhile opens again", sysctl(house, "ipv4/ip_forward") == "1")
+
+
+def reloaded(house: GatewayHouse, check: Checks) -> None:
+    """Killed after it loaded the rules, before a good poll: the kernel keeps that the agent turned forwarding off."""
+    house.online("guest1")
+    os.kill(house.jobs["desk"].pid, signal.SIGSTOP)
+    try:
+        house.within("gw", "nft", "flush", "ruleset")
+        house.until(lambda: "portal" in house.within("gw", "nft", "list", "tables", "netdev").stdout, 6, "the rules")
+        house.stop("gateway", kill=True)
+        check("the rules are back, and nothing is forwarded yet", sysctl(house, "ipv4/ip_forward") == "0")
+    finally:
+        os.kill(house.jobs["desk"].pid, signal.SIGCONT)
+    house.service("gateway")
+    try:
+        house.until(lambda: house.reaches("guest1"), 8, "packets")
+    except TimeoutError:
+        pass
+    check("the next agent turns forwarding on", sysctl(house, "ipv4/ip_forward") == "1")
+
+
 def house_grace(house: GatewayHouse) -> float:
     return float(tomllib.loads((house.root / "field.toml").read_text())["grace_seconds"])
 
@@ -154,7 +214,7 @@ def network(house: GatewayHouse, check: Checks) -> None:
         house.lease(guest)
 
 
-STEPS = {step.__name__: step for step in (network, sockets, foreign, listed)}
+STEPS = {step.__name__: step for step in (network, sockets, foreign, listed, flushed, reloaded)}
 
 
 def main() -> int:

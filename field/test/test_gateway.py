@@ -53,7 +53,15 @@ class MemoryDesk:
 class MemoryGate:
     def __init__(self) -> None:
         self.now: dict[str, Passing] = {}
-        self.is_open = self.is_gone = self.is_barred = False
+        self.is_open = self.is_gone = self.is_barred = self.loads = False
+
+    def guard(self) -> None:
+        pass
+
+    def load(self) -> None:
+        if not self.loads:
+            raise RulesAreGone("no file")
+        self.is_gone = False
 
     def stands(self) -> None:
         if self.is_gone:
@@ -202,6 +210,14 @@ class Polls(unittest.TestCase):
         self.assertFalse(self.poll())
         self.assertTrue(self.gate.is_barred, "not before a good poll")
         self.desk.fault = None
+        self.assertTrue(self.poll())
+        self.assertFalse(self.gate.is_barred)
+
+    def test_rules_that_somebody_flushed_are_loaded_again(self) -> None:
+        self.opened()
+        self.gate.is_gone = self.gate.loads = True
+        self.assertFalse(self.poll())
+        self.assertTrue(self.gate.is_barred, "not before a good poll")
         self.assertTrue(self.poll())
         self.assertFalse(self.gate.is_barred)
 

@@ -41,7 +41,7 @@ class Sets(unittest.TestCase):
         sys.modules["nftables"] = types.SimpleNamespace(Nftables=MemoryNft)     # type: ignore[assignment]
         sys.modules.pop("kernel_gate", None)
         import kernel_gate
-        self.gate = kernel_gate.KernelGate("lan0", 5)
+        self.gate = kernel_gate.KernelGate("lan0", 5, "/none")
         sys.modules.pop("kernel_gate")
         sys.modules.pop("nftables")
         if before:
