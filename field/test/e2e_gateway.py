@@ -25,7 +25,7 @@ from typing import Any
 import lab
 from e2e import Checks, forward_ipv6
 from house import PEER, House
-from lab import FIELD, MACS, OUTSIDE, PYTHON, STAND_IN
+from lab import FIELD, MACS, NAME, OUTSIDE, PYTHON, STAND_IN
 
 IDS = {"portal-gateway": 7001, "portal-front": 7002, "portal-counter": 7003, "www-data": 33}
 PRINTER = "02:aa:00:00:00:03"
@@ -147,6 +147,40 @@ def listed(house: GatewayHouse, check: Checks) -> None:
     house.within("guest2", "ping", "-c1", "-W1", "10.77.0.1", check=False)
 
 
+QUESTIONS = """import socket, sys
+name = b"".join(bytes([len(part)]) + part.encode() for part in sys.argv[2].split(".")) + bytes(1)
+for kind in map(int, sys.argv[3:]):
+    with socket.socket(socket.AF_INET, socket.SOCK_DGRAM) as s:
+        s.settimeout(1.5)
+        s.connect((sys.argv[1], 53))
+        s.send(bytes([7, kind, 1, 0, 0, 1, 0, 0, 0, 0, 0, 0]) + name + kind.to_bytes(2, "big") + bytes([0, 1]))
+        try:
+            answer = s.recv(512)
+            print(kind, answer[3] & 15, int.from_bytes(answer[6:8], "big"))
+        except OSError:
+            print(kind, "none", 0)
+"""
+
+
+def names(house: GatewayHouse, check: Checks) -> None:
+    """A name server outside that answers nothing, as where the line is down; and tunnels through names."""
+    house.within("gw", "nft", "flush", "set", "inet", "portal", "asked")
+    done = house.within("guest1", PYTHON, "-c", QUESTIONS, "10.77.0.1", NAME, 1, 28, 65).stdout
+    check("the portal's name has an address, and for AAAA and HTTPS an empty answer",
+          done.splitlines() == ["1 0 1", "28 0 0", "65 0 0"], done.splitlines())
+    got = int(house.within("guest2", PYTHON, PEER, "names", "10.77.0.1", 500).stdout)
+    check("of 500 names asked in a second at most 60 are answered", 20 <= got <= 60, got)
+    made_up = ", ".join(f"02:bb:00:00:{i >> 8:02x}:{i & 255:02x} limit rate 5/second burst 40 packets"
+                        for i in range(65535))
+    house.within("gw", "nft", "flush", "set", "inet", "portal", "asked")
+    house.within("gw", "nft", "-f", "-", input=f"add element inet portal asked {{ {made_up} }}", check=False)
+    count = house.within("gw", "nft", "list", "set", "inet", "portal", "asked").stdout.count("02:bb:")
+    got = int(house.within("guest2", PYTHON, PEER, "names", "10.77.0.1", 100).stdout)
+    check("with as many made-up addresses as the set holds a new one gets no answer", (count, got) == (65535, 0),
+          (count, got))
+    house.within("gw", "nft", "flush", "set", "inet", "portal", "asked")
+
+
 def sysctl(house: GatewayHouse, path: str) -> str:
     return house.within("gw", "cat", "/proc/sys/net/" + path).stdout.strip()
 
@@ -214,7 +248,7 @@ def network(house: GatewayHouse, check: Checks) -> None:
         house.lease(guest)
 
 
-STEPS = {step.__name__: step for step in (network, sockets, foreign, listed, flushed, reloaded)}
+STEPS = {step.__name__: step for step in (network, sockets, names, foreign, listed, flushed, reloaded)}
 
 
 def main() -> int:

@@ -174,9 +174,19 @@ class Made(unittest.TestCase):
                          [f"add element {family} portal listed {{ 02:aa:00:00:00:08, 02:aa:00:00:00:09 }}"
                           for family in ("inet", "netdev")])
 
+    def test_limits_follow_the_networks_size(self) -> None:
+        """10.77.0.50 to 10.77.3.250 are 969 addresses of 1,024; a network of 65,536 has room for each device, too."""
+        wide = SAMPLE.replace("10.77.0.1/22", "10.77.0.1/16").replace("10.77.3.250", "10.77.255.250")
+        for text, leases, limits in ((SAMPLE, 969, [1024, 2048, 4096]), (wide, 65481, [65536, 131072, 262144])):
+            setup.Maker(setup.Field.read(text), self.root, "/usr/share/portal/field").others()
+            self.assertIn(f"\ndhcp-lease-max={leases}\n", (self.root / "etc/dnsmasq.d/portal.conf").read_text())
+            told = (self.root / "etc/sysctl.d/60-portal.conf").read_text()
+            found = re.findall(r"(?m)^net.ipv4.neigh.default.gc_thresh. = (.*)$", told)
+            self.assertEqual([int(number) for number in found], limits)
+
     def test_no_word_is_left_to_fill_in(self) -> None:
         for name, text in self.files().items():
-            self.assertIsNone(re.search(rb"@[A-Z_]+@", text), name)
+            self.assertIsNone(re.search(rb"@[A-Z_0-9]+@", text), name)
 
     def test_a_bad_line_makes_nothing(self) -> None:
         with tempfile.TemporaryDirectory() as folder:
