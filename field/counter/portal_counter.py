@@ -9,13 +9,15 @@ from __future__ import annotations
 
 import html
 import json
+import math
 import pathlib
 import sys
+import threading
 import time
 import tomllib
 import urllib.parse
 from collections.abc import Callable, Sequence
-from dataclasses import dataclass
+from dataclasses import dataclass, field
 from typing import Any
 
 sys.path.insert(0, str(pathlib.Path(__file__).resolve().parent.parent / "lib"))
@@ -67,12 +69,43 @@ def facts(pairs: list[tuple[str, str]]) -> str:
     return f"<table>{''.join(rows)}</table>"
 
 
+def readable(text: str) -> str:
+    """A field of a form for the log: one line, and no longer than any code or name."""
+    return (text if text.isprintable() else ascii(text))[:48]
+
+
 def prices(text: bytes) -> dict[str, int]:
     """Each plan's id and price in a plans file; none where the file does not read, which the desk will say."""
     try:
         return {str(plan["id"]): int(plan["price"]) for plan in tomllib.loads(text.decode())["plan"]}
     except (ValueError, KeyError, TypeError):
         return {}
+
+
+class Tries:
+    """Wrong passwords by client address. After FREE of them an address is locked out, for twice as long each time; it
+    is forgotten LONGEST seconds after its last wait."""
+    FREE, FIRST, LONGEST, MOST = 5, 30.0, 900.0, 4096
+
+    def __init__(self, now: Callable[[], float] = time.monotonic) -> None:
+        self.now, self.lock = now, threading.Lock()
+        self.wrong: dict[str, tuple[int, float]] = {}       # address: how many, and until when it waits
+
+    def wait(self, address: str) -> float:
+        """Seconds for which no password is good from there."""
+        return max(0.0, self.wrong.get(address, (0, 0.0))[1] - self.now())
+
+    def add(self, address: str) -> None:
+        with self.lock:
+            now = self.now()
+            count, until = self.wrong.pop(address, (0, now))
+            if now - until >= self.LONGEST:
+                count = 0
+            count += 1
+            more = min(count - self.FREE, 10)
+            self.wrong[address] = (count, now + (min(self.FIRST * 2 ** more, self.LONGEST) if more >= 0 else 0.0))
+            if len(self.wrong) > self.MOST:
+                del self.wrong[next(iter(self.wrong))]      # the one that was longest without a wrong password
 
 
 @dataclass
@@ -82,6 +115,7 @@ class Counter:
     conf: dict[str, Any]
     plans: dict[str, int]       # id: price
     plans_notice: str = ""
+    tries: Tries = field(default_factory=Tries)
 
     def load_plans(self) -> None:
         """At each start: a file whose plans the desk holds already changes no plan."""
@@ -174,9 +208,33 @@ class CounterPage(Page):
     def show(self, status: int, notice: str = "", body: str | None = None) -> None:
         self.send(status, FRAME.format(notice=notice, body=self.server.counter.home() if body is None else body))
 
+    def note(self, what: str) -> None:
+        """A line of the journal: who, from where, what. A code in it is worth money until it is redeemed."""
+        who, where = self.headers.get("X-User", "?"), self.headers.get("X-Real-IP", "?")
+        print(f"counter: {who} at {where}: {what}", file=sys.stderr, flush=True)
+
+    def wrong(self) -> None:
+        """nginx found no password, or a wrong one, or the address is locked out."""
+        tries, address = self.server.counter.tries, self.headers.get("X-Real-IP", "")
+        if tries.wait(address) == 0 and self.headers.get("X-Tried") == "1":
+            tries.add(address)
+            if tries.wait(address):
+                print(f"counter: wrong passwords from {address}: locked out for {span(round(tries.wait(address)))}",
+                      file=sys.stderr, flush=True)
+        left = math.ceil(tries.wait(address))
+        if left == 0:
+            notice = box("bad", "The counter needs a name and a password.")
+            return self.send(401, FRAME.format(notice=notice, body=""))     # nginx has set the field that asks for them
+        notice = box("bad", "Too many wrong passwords from this computer.", f"Try again in {span(left)}.")
+        self.send(429, FRAME.format(notice=notice, body=""), Retry_After=str(left))
+
     def do_GET(self) -> None:
         counter: Counter = self.server.counter
         path = self.path.partition("?")[0]
+        if path == "/locked":       # nginx asks both; nobody else can
+            return self.send(403 if counter.tries.wait(self.headers.get("X-Real-IP", "")) else 204)
+        if path == "/wrong":
+            return self.wrong()
         pages: dict[str, Callable[[Form], str]] = {
             "/": lambda _: counter.first_page(), "/voucher": counter.voucher, "/sheet": counter.sheet,
             "/takings": counter.takings}
@@ -199,11 +257,16 @@ class CounterPage(Page):
         number = form.word("request")
         if not REQUEST_NUMBER.fullmatch(number):
             raise BadForm("request")
+        what = self.path.strip("/") + " " + ", ".join(readable(form[name]) for name in form if name != "request")
         try:
-            return self.show(200, action(form, number))
+            page = action(form, number)
+            self.note(f"{what}: done")
+            return self.show(200, page)
         except NoAnswer:
+            self.note(f"{what}: no answer")
             told = refusals.NO_ANSWER
         except Refused as refused:
+            self.note(f"{what}: {refused.word}")
             if not refused.in_doubt:
                 raise
             told = refusals.of_word(refused.word)

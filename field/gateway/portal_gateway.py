@@ -23,6 +23,10 @@ from passing import Passing, RulesAreGone  # noqa: E402
 
 Row = dict[str, Any]    # an open session as the desk tells it
 NEAR_END = 8            # a report is due when this part of what is left was used
+MOST_REPORTS = 50       # a poll; the others wait for the next, which then comes at once
+LONGEST = 3.0           # seconds that a poll spends on reports, since the list that it works on grows old
+RENEWED = 1.0           # seconds after which a report that the desk answered winds the dead man's switch again
+GOLDEN = 0.6180339887   # parts of an interval by numbers that follow one another: evenly spread, however many
 
 
 class Gate(Protocol):
@@ -38,29 +42,67 @@ class Gate(Protocol):
 
 class Agent:
     def __init__(self, desk: Desk, gate: Gate, snapshot: str | None = None, quiet: float = 30.0,
-                 now: Callable[[], float] = time.monotonic) -> None:
-        self.desk, self.gate, self.snapshot, self.quiet, self.now = desk, gate, snapshot, quiet, now
+                 time_quiet: float = 600.0, now: Callable[[], float] = time.monotonic) -> None:
+        self.desk, self.gate, self.snapshot, self.now = desk, gate, snapshot, now
+        self.quiet, self.time_quiet = quiet, time_quiet
         self.reported: dict[int, tuple[int, float]] = {}    # session: bytes, when
         self.owed: dict[int, int] = {}                      # session: last count that the desk has not heard
+        self.wound = self.until = 0.0                       # when the switch was wound; when the reports of a poll end
+        self.left = 0                                       # reports that this poll may make
+        self.more = False                                   # whether some had to wait
+
+    def change(self, gone: Iterable[str], come: dict[str, Passing]) -> None:
+        self.gate.change(gone, come)
+        self.wound = self.now()
+
+    def may_report(self, reserve: int = 0) -> bool:
+        """Whether this poll has room for one more report; if not, the next poll comes at once."""
+        room = self.left > reserve and self.now() < self.until
+        self.more = self.more or not room
+        return room
 
     def report(self, session: int, used: int) -> tuple[bool, int]:
         """Tells a session's bytes; whether the session is still open, and what the desk holds.
 
         No request number: the desk keeps the greatest report, so a report sent twice does no harm, and numbers are
         kept for good."""
+        self.left -= 1
         told = self.desk.tell(Routes.REPORT, body={"session": session, "bytes": used})
         self.reported[session] = (max(used, told["used"]), self.now())
+        if self.now() - self.wound >= RENEWED:
+            self.change((), {})
         return told["open"], told["used"]
 
-    def is_due(self, p: Passing, left: int | None) -> bool:
-        """A report is a commit at the desk: it comes near the end of the bytes, or after a while."""
+    def later(self, session: int, known: int) -> None:
+        """The next report of a session without a byte limit: by its number somewhere within the interval."""
+        self.reported[session] = (known, self.now() - session * GOLDEN % 1 * self.time_quiet)
+
+    def need(self, p: Passing, left: int | None) -> float:
+        """How urgent a report is; 0: none is due. Each is a commit at the desk: it comes near the end of the bytes, or
+        after a while, and where bytes have no limit after a long while."""
         if p.session not in self.reported:
-            return True
+            if left is not None:
+                return float(NEAR_END)
+            self.later(p.session, p.base)
         known, when = self.reported[p.session]
-        fresh = p.used - known
-        if fresh > 0 and self.now() - when >= self.quiet:
-            return True
-        return left is not None and fresh * NEAR_END >= left
+        fresh, waited = p.used - known, self.now() - when
+        if fresh <= 0:
+            return 0.0
+        if left is None:
+            return waited / self.time_quiet if waited >= self.time_quiet else 0.0
+        part = fresh * NEAR_END / max(left, 1)
+        return part if part >= 1 or waited >= self.quiet else 0.0
+
+    def report_due(self, stay: dict[str, Passing], wanted: dict[str, Row]) -> list[str]:
+        """Reports by their need; the devices whose session has ended by it."""
+        needs = {mac: self.need(p, wanted[mac].get("bytes-remaining")) for mac, p in stay.items()}
+        ended = []
+        for mac in sorted((mac for mac in needs if needs[mac] > 0), key=lambda mac: -needs[mac]):
+            if not self.may_report():
+                break
+            if not self.report(stay[mac].session, stay[mac].used)[0]:
+                ended.append(mac)
+        return ended
 
     def settle(self, gone: dict[str, Passing], wanted: dict[str, Row]) -> None:
         """The last counts of devices that were taken out; what the desk does not hear is owed to the next poll."""
@@ -69,6 +111,8 @@ class Agent:
         for session in (0, *(row["session"] for row in wanted.values())):
             self.owed.pop(session, None)
         for session, used in list(self.owed.items()):
+            if not self.may_report(MOST_REPORTS // 2):
+                break
             try:
                 self.report(session, used)
             except Refused as refusal:
@@ -83,10 +127,12 @@ class Agent:
         A report of 0 bytes changes nothing and tells what is held, also to a gateway that lost its counts."""
         come = {}
         for mac, row in wanted.items():
-            if mac not in stay:
+            if mac not in stay and self.may_report():
                 is_open, used = self.report(row["session"], 0)
                 if is_open:
                     come[mac] = Passing(row["session"], used, 0)
+                if "bytes-remaining" not in row:
+                    self.later(row["session"], used)
         return come
 
     def poll(self) -> None:
@@ -96,15 +142,17 @@ class Agent:
         now = self.gate.passing()
         stay = {mac: p for mac, p in now.items() if mac in wanted and wanted[mac]["session"] == p.session}
         gone = {mac: p for mac, p in now.items() if mac not in stay}
-        self.gate.change(gone, {})          # first of all: who may not pass, passes no more
+        self.change(gone, {})               # first of all: who may not pass, passes no more
+        self.left, self.until, self.more = MOST_REPORTS, self.now() + LONGEST, False
         self.settle(gone, wanted)
         come = self.newcomers(wanted, stay)
         if come:
-            self.gate.change((), come)
-        due = {mac: p for mac, p in stay.items() if self.is_due(p, wanted[mac].get("bytes-remaining"))}
-        ended = [mac for mac, p in due.items() if not self.report(p.session, p.used)[0]]
-        if ended:
-            self.gate.change(ended, {})
+            self.change((), come)
+        ended = self.report_due(stay, wanted)
+        if ended or self.left < MOST_REPORTS:
+            self.change(ended, {})
+        kept = {row["session"] for row in wanted.values()} | self.owed.keys()
+        self.reported = {session: told for session, told in self.reported.items() if session in kept}
         self.tell(wanted, {mac: p for mac, p in {**stay, **come}.items() if mac not in ended})
 
     def tell(self, wanted: dict[str, Row], passing: dict[str, Passing]) -> None:
@@ -185,15 +233,16 @@ def main() -> None:
     conf = settings("/etc/portal/gateway.toml")
     desk = Desk(conf["desk_port"], credential("gateway_token"), timeout=conf["poll_seconds"] * 2)
     gate = KernelGate(conf["lan"], conf["grace_seconds"], conf["rules"])
-    agent = Agent(desk, gate, conf.get("snapshot"), conf["quiet_seconds"])
+    agent = Agent(desk, gate, conf.get("snapshot"), conf["quiet_seconds"], conf["time_quiet_seconds"])
     knocks = knock_socket(conf["knock"])
     tell_systemd(b"READY=1")
     while True:
         start = time.monotonic()
-        agent.try_poll()
+        good = agent.try_poll()
         tell_systemd(b"WATCHDOG=1")
         time.sleep(0.05)        # knocks cannot make it spin
-        wait(knocks, max(0.0, conf["poll_seconds"] - (time.monotonic() - start)))
+        if not (good and agent.more):
+            wait(knocks, max(0.0, conf["poll_seconds"] - (time.monotonic() - start)))
 
 
 if __name__ == "__main__":

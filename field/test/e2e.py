@@ -424,7 +424,7 @@ def main() -> int:
     check = Checks()
     if args.portal == STAND_IN:
         print("note the desk is the stand-in for tests, not the program")
-    with House(args.portal) as house:
+    with House(args.portal, {"time_quiet_seconds": 20.0}) as house:    # reports that the steps wait for
         house.open_house()
         for name in dict.fromkeys(("network", *args.only)):     # every step needs the leases
             try:

@@ -25,7 +25,7 @@ from typing import Any
 import lab
 from e2e import Checks, forward_ipv6
 from house import PEER, House
-from lab import FIELD, MACS, NAME, OUTSIDE, PYTHON, STAND_IN
+from lab import COUNTER, FIELD, MACS, NAME, OUTSIDE, PYTHON, STAND_IN
 
 IDS = {"portal-gateway": 7001, "portal-front": 7002, "portal-counter": 7003, "www-data": 33}
 PRINTER = "02:aa:00:00:00:03"
@@ -243,12 +243,35 @@ def house_grace(house: GatewayHouse) -> float:
     return float(tomllib.loads((house.root / "field.toml").read_text())["grace_seconds"])
 
 
+def logins(house: GatewayHouse, check: Checks) -> None:
+    """Wrong passwords at the counter, from two addresses."""
+    page, right = f"https://{COUNTER}/", ("-u", "clerk:clerk")
+    house.within("clerk", "ip", "addr", "replace", "10.88.0.3/24", "dev", "eth0")
+    guesses = [house.curl("clerk", page, "-u", f"clerk:{i}")[0] for i in range(12)]
+    check("of 12 wrong passwords four are tried and the rest told to wait", guesses == [401] * 4 + [429] * 8, guesses)
+    status, body, head = house.curl("clerk", page, *right)
+    check("the right one does not help then", status == 429 and "Sell" not in body and "Retry-After" in head, status)
+    status = house.curl("clerk", f"https://{COUNTER}/style.css", *right)[0]
+    check("for no page", status == 429, status)
+    status, body, _ = house.curl("clerk", page, *right, "--interface", "10.88.0.3")
+    check("from another address it does", status == 200 and "Sell" in body, status)
+    answers = [house.curl("clerk", page, "--interface", "10.88.0.3") for _ in range(9)]
+    check("a browser that has no password yet is asked for one", [a[0] for a in answers] == [401] * 9
+          and answers[0][2].lower().count("www-authenticate: basic") == 1, answers[0][2])
+    house.stop("counter")       # which forgets
+    (house.root / "run/portal-counter/socket").unlink(missing_ok=True)
+    house.service("counter")
+    code, = house.codes("hour", 1)
+    journal = (house.root / "counter.log").read_text()
+    check("the journal names who sold which code", f"counter: clerk at 10.88.0.2: sell {code}: done" in journal)
+
+
 def network(house: GatewayHouse, check: Checks) -> None:
     for guest in ("guest1", "guest2"):
         house.lease(guest)
 
 
-STEPS = {step.__name__: step for step in (network, sockets, names, foreign, listed, flushed, reloaded)}
+STEPS = {step.__name__: step for step in (network, sockets, names, foreign, listed, flushed, reloaded, logins)}
 
 
 def main() -> int:

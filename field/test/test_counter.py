@@ -2,7 +2,9 @@
 
 from __future__ import annotations
 
+import contextlib
 import importlib.util
+import io
 import json
 import pathlib
 import re
@@ -17,7 +19,7 @@ from desk_process import FIELD, Desk, DeskProcess, Relay, Routes     # which say
 
 import refusals
 from pages import UnixServer
-from portal_counter import Counter, CounterPage
+from portal_counter import Counter, CounterPage, Tries
 from test_front import UnixLink
 
 HAS_SEGNO = importlib.util.find_spec("segno") is not None
@@ -40,9 +42,10 @@ class Pages(unittest.TestCase):
         self.addCleanup(server.server_close)
         self.addCleanup(server.shutdown)
 
-    def ask(self, path: str, origin: str | None = "https://counter.example", **form: Any) -> tuple[int, str]:
+    def ask(self, path: str, origin: str | None = "https://counter.example", head: Any = None,
+            **form: Any) -> tuple[int, str]:
         link = UnixLink(self.path)
-        fields = {"Host": "counter.example", **({"Origin": origin} if origin else {})}
+        fields = {"Host": "counter.example", **({"Origin": origin} if origin else {}), **(head or {})}
         link.request("POST" if form else "GET", path, urllib.parse.urlencode(form) if form else None, fields)
         answer = link.getresponse()
         text = answer.read().decode()
@@ -60,7 +63,7 @@ class Pages(unittest.TestCase):
     def test_a_day_at_the_counter(self) -> None:
         for plan, told in (("gigabyte", "Batch b1: 2 codes, good until "),
                            ("hour", "A batch of this name was issued already.")):
-            form = {"batch": "b1", "plan": plan, "count": "2", "request": str(time.monotonic_ns())}
+            form: dict[str, Any] = {"batch": "b1", "plan": plan, "count": "2", "request": str(time.monotonic_ns())}
             self.assertIn(told, self.ask("/issue", **form)[1])
         code = self.desk.desk.ask(Routes.PRINT, "b1").decode().splitlines()[1].partition(",")[0]
         day = time.strftime("%Y-%m-%d", time.gmtime())
@@ -108,6 +111,35 @@ class Pages(unittest.TestCase):
             self.assertEqual(self.ask("/sell", code=code, request=number)[0], 400, number)
         self.assertIsNone(self.desk.voucher(code)["sold"])
 
+    def test_wrong_passwords_lock_an_address_out_and_no_other(self) -> None:
+        clock = [1000.0]
+        self.counter.tries.now = lambda: clock[0]
+        mine, other = {"X-Real-IP": "10.88.0.2"}, {"X-Real-IP": "10.88.0.3"}
+        told = [self.ask("/wrong", head={**mine, "X-Tried": "0"})[0] for _ in range(9)]
+        self.assertEqual(told, [401] * 9, "without a password nothing was tried")
+        log = io.StringIO()
+        with contextlib.redirect_stderr(log):
+            told = [self.ask("/wrong", head={**mine, "X-Tried": "1"})[0] for _ in range(8)]
+        self.assertEqual(told, [401] * 4 + [429] * 4)
+        self.assertIn("wrong passwords from 10.88.0.2: locked out", log.getvalue())
+        for seconds, status in ((0, 403), (29, 403), (2, 204)):     # the right password does not help meanwhile
+            clock[0] += seconds
+            self.assertEqual((self.ask("/locked", head=mine)[0], self.ask("/locked", head=other)[0]), (status, 204))
+        self.assertIn("1 minute", self.ask("/wrong", head={**mine, "X-Tried": "1"})[1], "twice as long the next time")
+
+    def test_the_log_names_who_sold_which_code(self) -> None:
+        code, = self.desk.issued("hour", "b1")
+        log, head = io.StringIO(), {"X-User": "anna", "X-Real-IP": "10.88.0.2"}
+        with contextlib.redirect_stderr(log):
+            for number in ("s1", "s2"):
+                self.ask("/sell", head=head, code=code, request=number)
+            self.ask("/sell", head=head, code="x\ny" + "z" * 99, request="s3")
+        lines = log.getvalue().splitlines()
+        self.assertEqual(lines[:2], [f"counter: anna at 10.88.0.2: sell {code}: done",
+                                     f"counter: anna at 10.88.0.2: sell {code}: sold_already"])
+        self.assertEqual((len(lines), lines[2][:44], len(lines[2]) < 100),
+                         (3, "counter: anna at 10.88.0.2: sell 'x\\nyzzzzzz", True))
+
     def test_what_was_typed_is_shown_as_words(self) -> None:
         self.relay.drops = True
         text = self.ask("/sell", code='"><script>', request="s1", **{"<script>": "x"})[1]
@@ -150,6 +182,31 @@ class Pages(unittest.TestCase):
         self.assertEqual(re.findall("<b>([0-9A-Z-]+)</b>", text), codes)
         self.assertEqual(text.count("<svg"), 3)
         self.assertIn("1 day, 9.00", text)
+
+
+class Passwords(unittest.TestCase):
+    def setUp(self) -> None:
+        self.time = 0.0
+        self.tries = Tries(lambda: self.time)
+
+    def test_the_waits_grow_and_end(self) -> None:
+        waits = []
+        for _ in range(13):
+            self.tries.add("a")
+            waits.append(self.tries.wait("a"))
+            self.time += waits[-1]
+        self.assertEqual(waits, [0, 0, 0, 0, 30, 60, 120, 240, 480, 900, 900, 900, 900])
+        self.time += 899
+        self.tries.add("a")
+        self.assertEqual(self.tries.wait("a"), 900)
+        self.time += 1800
+        self.tries.add("a")
+        self.assertEqual(self.tries.wait("a"), 0, "forgotten")
+
+    def test_so_many_addresses_are_remembered_and_no_more(self) -> None:
+        for i in range(10_000):
+            self.tries.add(str(i))
+        self.assertEqual((len(self.tries.wrong), list(self.tries.wrong)[0]), (4096, str(10_000 - 4096)))
 
 
 class Words(unittest.TestCase):

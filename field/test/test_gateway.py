@@ -6,7 +6,7 @@ import json
 import pathlib
 import tempfile
 import unittest
-from collections.abc import Iterable
+from collections.abc import Callable, Iterable
 from typing import Any, cast
 
 from desk_process import Desk, NoAnswer, Refused, Routes
@@ -25,6 +25,7 @@ class MemoryDesk:
         self.fault: Exception | None = None
         self.deaf = False
         self.more: list[str] = []       # what else a request carried
+        self.work: Callable[[], None] = lambda: None    # what a report costs
 
     def tell(self, route: Routes, body: dict[str, int] | None = None, **more: str) -> dict[str, Any]:
         self.more += more
@@ -33,6 +34,7 @@ class MemoryDesk:
         assert body
         if self.deaf:
             raise NoAnswer("deaf")
+        self.work()
         number = body["session"]
         self.asked.append((number, body["bytes"]))
         self.used[number] = max(self.used.get(number, 0), body["bytes"])
@@ -51,7 +53,8 @@ class MemoryDesk:
 
 
 class MemoryGate:
-    def __init__(self) -> None:
+    def __init__(self, clock: Callable[[], float]) -> None:
+        self.clock, self.wound = clock, [0.0]       # when the switch was wound
         self.now: dict[str, Passing] = {}
         self.is_open = self.is_gone = self.is_barred = self.loads = False
 
@@ -80,6 +83,7 @@ class MemoryGate:
         for mac in gone:
             del self.now[mac]
         self.now.update({mac: Passing(p.session, p.base, p.counted) for mac, p in come.items()})
+        self.wound.append(self.clock())
         self.is_open = True
 
     def shut(self) -> None:
@@ -88,7 +92,7 @@ class MemoryGate:
 
 class Polls(unittest.TestCase):
     def setUp(self) -> None:
-        self.desk, self.gate, self.time = MemoryDesk(), MemoryGate(), 0.0
+        self.desk, self.gate, self.time = MemoryDesk(), MemoryGate(lambda: self.time), 0.0
         self.agent = self.fresh()
 
     def fresh(self, snapshot: str | None = None) -> Agent:
@@ -150,7 +154,7 @@ class Polls(unittest.TestCase):
         self.opened()
         self.assertEqual(self.gate.now[A], Passing(1, 5000, 0))
         self.gate.now[A].counted = 10
-        self.poll(31)
+        self.poll(601)
         self.assertEqual(self.desk.used[1], 5010)
 
     def test_an_agent_started_again_counts_nothing_twice(self) -> None:
@@ -158,7 +162,7 @@ class Polls(unittest.TestCase):
         self.agent = self.fresh()
         self.poll()
         self.gate.now[A].counted = 400
-        self.poll(31)
+        self.poll(601)
         self.assertEqual(self.desk.used[1], 400)
 
     def test_reports_are_few_while_much_is_left(self) -> None:
@@ -180,10 +184,74 @@ class Polls(unittest.TestCase):
             self.poll()
             self.assertEqual(len(self.desk.asked), reports, counted)
 
+    def crowd(self, count: int, allowance: int = 0) -> None:
+        """So many open sessions, all let in; each of their devices sends a kilobyte before each poll of `busy`."""
+        self.desk.open = {i: f"02:00:00:00:{i >> 8:02x}:{i & 255:02x}" for i in range(1, count + 1)}
+        self.desk.allowance = {i: allowance for i in self.desk.open} if allowance else {}
+        while len(self.gate.now) < count:
+            self.assertTrue(self.poll())
+
+    def busy(self, seconds: float) -> list[int]:
+        """Polls a second apart; how many reports each made."""
+        end, made = self.time + seconds, []
+        while self.time < end:
+            for passing in self.gate.now.values():
+                passing.counted += 1000
+            before = len(self.desk.asked)
+            self.assertTrue(self.poll())
+            made.append(len(self.desk.asked) - before)
+        return made
+
+    def test_a_poll_that_takes_long_winds_the_switch_meanwhile(self) -> None:
+        def slow() -> None:
+            self.time += 0.4
+
+        self.crowd(40, 10**5)
+        self.desk.work = slow
+        self.gate.wound = [self.time]
+        self.assertGreater(max(self.busy(60)), 3)
+        gaps = [after - before for before, after in zip(self.gate.wound, self.gate.wound[1:])]
+        self.assertLessEqual(max(gaps), 2.0)
+
+    def test_a_poll_makes_a_bounded_number_of_reports(self) -> None:
+        self.crowd(500, 10**6)
+        self.time += 60
+        self.assertEqual((self.busy(1), self.agent.more), ([50], True), "the next comes at once")
+        made = self.busy(60)
+        self.assertEqual(max(made), 50)
+        self.assertEqual({session for session, _ in self.desk.asked[-1500:]}, set(range(1, 501)), "each in its turn")
+
+    def test_who_needs_it_most_is_reported_first(self) -> None:
+        self.crowd(120, 10**6)
+        self.busy(29)
+        last = self.gate.now[self.desk.open[120]]
+        last.counted = 900_000
+        self.time, before = self.time + 5, len(self.desk.asked)
+        self.poll()
+        self.assertEqual(self.desk.asked[before], (120, 900_000))
+
+    def test_sessions_without_a_byte_limit_are_reported_each_ten_minutes_spread_over_time(self) -> None:
+        self.crowd(200)
+        for agent in ("the first", "one started again"):
+            made = self.busy(1200)
+            self.assertLessEqual(max(made), 3, agent)
+            self.assertTrue(380 <= sum(made) <= 420, (agent, sum(made)))
+            for i in range(0, 1200, 60):
+                self.assertTrue(10 <= sum(made[i:i + 60]) <= 30, (agent, i, sum(made[i:i + 60])))
+            self.agent = self.fresh()
+
+    def test_a_session_without_a_byte_limit_is_reported_at_its_end(self) -> None:
+        self.opened(counted=777)
+        self.poll()
+        self.assertEqual(self.desk.used[1], 0)
+        self.desk.open = {}
+        self.poll()
+        self.assertEqual(self.desk.used[1], 777)
+
     def test_reports_carry_no_number(self) -> None:
         """The desk keeps the greatest report, and numbers for good."""
         self.opened(counted=777)
-        self.poll(31)
+        self.poll(601)
         self.assertEqual((self.desk.used[1], self.desk.more), (777, []))
 
     def test_a_number_given_anew_to_another_device_is_not_reported_to(self) -> None:

@@ -26,7 +26,8 @@ sys.dont_write_bytecode = True
 loader.exec_module(setup)
 
 SAMPLE = (FIELD / "settings/field.toml").read_text()
-LATER = ("desk_port", "poll_seconds", "grace_seconds", "quiet_seconds", "without_browser")   # keys with a default
+LATER = ("desk_port", "poll_seconds", "grace_seconds", "quiet_seconds", "time_quiet_seconds",
+         "without_browser")     # keys with a default
 SERVICES = ("portal", "portal-gateway", "portal-front", "portal-counter")
 
 
@@ -43,7 +44,8 @@ class Lines(unittest.TestCase):
                          ("grace_seconds = 5", "grace_seconds = 5.5"), ("poll_seconds = 1.0", "poll_seconds = 4.0"),
                          ('guests = "10.77.0.1/22"', 'guests = "10.77.0.1"'), ('"10.77.0.50"', '"10.99.0.50"'),
                          ('"10.77.0.50"', '"10.77.3.251"'), ('"1h"', '"1 h"'), ('"1h"]', '"1h", "x"]'),
-                         ('counter = "10.88.0.1/24"', 'counter = "10.77.1.1/24"'), ("quiet_seconds", "quit_seconds"),
+                         ('counter = "10.88.0.1/24"', 'counter = "10.77.1.1/24"'),
+                         ("\nquiet_seconds", "\nquit_seconds"),
                          ("_browser = []", '_browser = ["02:00:00:00:00"]'), ("_browser = []", "_browser = [1]"),
                          ("_browser = []", '_browser = ["01:00:5e:00:00:01"]'), ("_browser = []", '_browser = "x"'),
                          ('wan = "wan0"', 'wan = "lan0"'), ('"counter.example"', '"wifi.example"'),
