@@ -10,6 +10,7 @@ from __future__ import annotations
 
 import argparse
 import configparser
+import contextlib
 import os
 import pathlib
 import re
@@ -17,9 +18,11 @@ import shutil
 import signal
 import subprocess
 import sys
+import threading
 import time
 import tomllib
 import traceback
+from collections.abc import Callable, Iterator
 from typing import Any
 
 import lab
@@ -266,33 +269,101 @@ def logins(house: GatewayHouse, check: Checks) -> None:
     check("the journal names who sold which code", f"counter: clerk at 10.88.0.2: sell {code}: done" in journal)
 
 
+CROWD = """import sys
+sys.path.insert(0, sys.argv[1])
+from desk_client import Desk, Routes
+desk, count = Desk(8080, open(sys.argv[2]).read().strip()), int(sys.argv[3])
+for first in range(0, count, 1500):
+    desk.tell(Routes.ISSUE, body={"batch": f"crowd-{first}", "plan": "gigabyte", "count": 500})
+    codes = [line.split(",")[0] for line in desk.ask(Routes.PRINT, f"crowd-{first}").decode().splitlines()[1:]]
+    for i in range(first, min(first + 1500, count)):
+        if i % 3 == 0:
+            desk.tell(Routes.SELL, body={"code": codes[(i - first) // 3]})
+        device = ":".join(f"{2 << 40 | i:012x}"[at:at + 2] for at in range(0, 12, 2))
+        desk.tell(Routes.REDEEM, body={"code": codes[(i - first) // 3]}, device=device)
+"""
+
+
+@contextlib.contextmanager
+def slowed(house: GatewayHouse) -> Iterator[None]:
+    """The desk as on a slow disk: it is held still for nine tenths of the time."""
+    pid, done = house.jobs["desk"].pid, threading.Event()
+
+    def drag() -> None:
+        while not done.is_set():
+            os.kill(pid, signal.SIGSTOP)
+            time.sleep(0.045)
+            os.kill(pid, signal.SIGCONT)
+            time.sleep(0.005)
+
+    thread = threading.Thread(target=drag)
+    thread.start()
+    try:
+        yield
+    finally:
+        done.set()
+        thread.join()
+
+
+def busy(house: GatewayHouse, check: Checks) -> None:
+    """Many sessions with a byte limit that all pass packets, each of which is to be reported each few seconds."""
+    house.online("guest2")
+    house.within("gw", PYTHON, "-c", CROWD, FIELD / "lib", house.root / "etc/portal/credentials/desk_token", CROWDED)
+    house.until(lambda: len(house.polled()) > CROWDED, 60, "all sessions")
+    hard = house.within("gw", "cat", "/sys/class/net/lan0/address").stdout.strip()
+    crowd = house.begin("guest1", PYTHON, PEER, "many", OUTSIDE, hard, CROWDED, house.address("guest1"))
+    try:
+        time.sleep(5)
+        with slowed(house):
+            arrivals = [float(word) for word in house.stream("guest2", 25).communicate()[0].split()]
+    finally:
+        crowd.kill()
+        crowd.wait()
+    gap = max((later - sooner for sooner, later in zip(arrivals, arrivals[1:])), default=99.0)
+    used = [row["used"] for row in house.polled() if row["device"].startswith("02:00:00:00:")]
+    check(f"with {CROWDED} busy sessions the gate is not shut by its own work", gap < 0.8 and len(arrivals) > 10_000,
+          f"longest gap {gap:.2f} s of {len(arrivals)} packets; {min(used)} to {max(used)} bytes of each were counted")
+    held = [house.held(row["session"]) for row in house.polled()[1:CROWDED:50]]
+    check("and the desk is told of each", min(held) > 128, held)
+
+
 def network(house: GatewayHouse, check: Checks) -> None:
     for guest in ("guest1", "guest2"):
         house.lease(guest)
 
 
 STEPS = {step.__name__: step for step in (network, sockets, names, foreign, listed, flushed, reloaded, logins)}
+CROWDED, ALONE = 600, {"grace_seconds": 2, "quiet_seconds": 5.0}     # the step `busy`, in a lab of its own
+
+
+def carried_out(house: GatewayHouse, check: Checks, steps: dict[str, Callable[[GatewayHouse, Checks], None]]) -> None:
+    house.open_house()
+    for name, step in {"network": network, **steps}.items():     # every step needs the leases
+        try:
+            step(house, check)
+        except (OSError, subprocess.SubprocessError, ValueError, LookupError, TypeError, AssertionError) as fault:
+            print(traceback.format_exc(limit=-2))
+            check(f"{name} went through", False, repr(fault))       # the next steps are still of use
+    for log in sorted(house.root.glob("*.log")):
+        text = log.read_text()
+        check(f"no fault in {log.stem}'s log", "Traceback" not in text, text[-1500:] if "Traceback" in text else "")
 
 
 def main() -> int:
     words = argparse.ArgumentParser(description="The gateway under attack and after faults.")
     words.add_argument("--portal", default=STAND_IN, help="the program, as a command line; else the stand-in")
-    words.add_argument("--only", nargs="+", choices=STEPS, default=list(STEPS), metavar="STEP")
+    words.add_argument("--only", nargs="+", choices=[*STEPS, "busy"], default=[*STEPS, "busy"],
+                       metavar="STEP")
     args = words.parse_args()
     check = Checks()
     if args.portal == STAND_IN:
         print("note the desk is the stand-in for tests, not the program")
-    with GatewayHouse(args.portal, {"without_browser": [PRINTER]}) as house:
-        house.open_house()
-        for name in dict.fromkeys(("network", *args.only)):     # every step needs the leases
-            try:
-                STEPS[name](house, check)
-            except (OSError, subprocess.SubprocessError, ValueError, LookupError, TypeError, AssertionError) as fault:
-                print(traceback.format_exc(limit=-2))
-                check(f"{name} went through", False, repr(fault))       # the next steps are still of use
-        for log in sorted(house.root.glob("*.log")):
-            text = log.read_text()
-            check(f"no fault in {log.stem}'s log", "Traceback" not in text, text[-1500:] if "Traceback" in text else "")
+    if names := [name for name in args.only if name in STEPS]:
+        with GatewayHouse(args.portal, {"without_browser": [PRINTER]}) as house:
+            carried_out(house, check, {name: STEPS[name] for name in names})
+    if "busy" in args.only:
+        with GatewayHouse(args.portal, ALONE) as house:
+            carried_out(house, check, {"busy": busy})
     print(f"{check.passed} passed, {check.failed} failed")
     return int(check.failed > 0)
 
