@@ -37,6 +37,12 @@ class Edit:
     where: str      # a step of e2e.py, or a module and class of the unit tests
     check: str      # the check, or the test
     also: tuple[str, str] | None = None     # a second change, where one rule stands behind another
+    beside: tuple[str, str, str] | None = None      # or one in another file
+
+    def changes(self) -> list[tuple[str, str, str]]:
+        """File, old and new of each change."""
+        return [(self.file, self.old, self.new), *([(self.file, *self.also)] if self.also else ()),
+                *([self.beside] if self.beside else ())]
 
 
 PACKETS = (
@@ -85,10 +91,11 @@ PACKETS = (
     Edit("ipv6_goes_out", NFT, "        iifname $lan meta nfproto ipv6 reject with icmpv6 type admin-prohibited\n", "",
          "ipv6", "not one IPv6 packet came out of the house"),
     Edit("ipv6_comes_in", NFT, "        oifname $lan meta nfproto ipv6 drop\n",
-         "        oifname $lan meta nfproto ipv6 accept\n", "ipv6", "nor one into it",
+         "        oifname $lan meta nfproto ipv6 meta mark set 0x70 accept\n", "ipv6", "nor one into it",
          ("        meta protocol ip6 drop\n", "")),
     Edit("ipv6_to_the_gateway", NFT, "        meta nfproto ipv6 drop          #", "        #",
-         "ipv6", "the gateway's own ports are shut to guests by IPv6", ("        meta protocol ip6 drop\n", "")),
+         "ipv6", "the gateway's own ports are shut to guests by IPv6", ("        meta protocol ip6 drop\n", ""),
+         (AGENT, "        self.gate.guard()\n", "")),
     Edit("devices_by_address_alone", FRONT, "    return device_in(done.stdout, address)\n",
          '    return "02:aa:00:00:00:01" if done.stdout else None\n', "forged",
          "a guest with a forged device is told of itself"),
@@ -391,12 +398,11 @@ def tried(edit: Edit, portal: str) -> str:
             shutil.copy(FIELD / DESCRIPTION, kit / DESCRIPTION)
         elif edit.where.startswith("openapi_test."):
             return "SURVIVED docs/openapi.yaml is not here: the kit stands outside its repository"
-        text = (kit / edit.file).read_text()
-        for old, new in ((edit.old, edit.new), *((edit.also,) if edit.also else ())):
+        for file, old, new in edit.changes():
+            text = (kit / file).read_text()
             if old not in text:
                 return "SURVIVED the edit does not fit: " + old
-            text = text.replace(old, new)
-        (kit / edit.file).write_text(text)
+            (kit / file).write_text(text.replace(old, new))
         return refused(edit, kit, portal)
 
 

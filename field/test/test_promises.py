@@ -21,10 +21,11 @@ class Promises(unittest.TestCase):
         for edit in (*UNITS, *GATEWAY, *PACKETS):
             if edit.file == DESCRIPTION and not (FIELD / DESCRIPTION).is_file():
                 continue        # the kit stands outside its repository
-            text = (FIELD / edit.file).read_text()
-            for old, new in ((edit.old, edit.new), *((edit.also,) if edit.also else ())):
+            texts = {edit.file: (FIELD / edit.file).read_text()}
+            for file, old, new in edit.changes():
+                text = texts.get(file) or (FIELD / file).read_text()
                 self.assertIn(old, text, edit.name)
-                text = text.replace(old, new)
+                texts[file] = text.replace(old, new)
 
 
 if __name__ == "__main__":
