@@ -2,6 +2,7 @@
 
 from __future__ import annotations
 
+import grp
 import os
 import pathlib
 import re
@@ -32,6 +33,12 @@ def install_and_set_up() -> None:
     certificate()
     path = pathlib.Path("/etc/portal/field.toml")
     path.write_text(path.read_text().replace('house = "Sample Library"', 'house = "Test Library"'))
+    good = path.read_text()
+    path.write_text(good.replace('zone = "UTC0"', 'zone = "Europe/Berlin"'))
+    done = sh("portal-setup", "--clerk", "clerk", input="secret\n")
+    check("set-up refuses a zone that the program does not take", done.returncode == 1 and "POSIX rule" in done.stderr,
+          told(done))
+    path.write_text(good)
     start = time.monotonic()
     done = sh("portal-setup", "--clerk", "clerk", input="secret\n")
     check("one settings file and one command open the venue", done.returncode == 0,
@@ -40,6 +47,22 @@ def install_and_set_up() -> None:
     failed = sh("systemctl --failed --no-legend --plain").stdout.split()
     check("no unit failed", not failed, failed)
     check("the agent polls", until(SESSIONS.exists) is not None)
+
+
+def parts_are_apart() -> None:
+    off = pathlib.Path("/proc/sys/net/ipv6/conf/lan0/disable_ipv6").read_text().strip()
+    check("IPv6 is off on the guests' device", off == "1", off)
+    sockets = {name: pathlib.Path(f"/run/portal-{name}/socket") for name in ("front", "counter")}
+    groups = {name: f"{path.owner()}:{path.group()}" for name, path in sockets.items()}
+    check("each page's socket belongs to a group of its own",
+          groups == {name: f"portal-{name}:portal-{name}" for name in sockets}, groups)
+    helper = show("portal-front", "MainPID")
+    open_it = "import socket; socket.socket(socket.AF_UNIX).connect('/run/portal-counter/socket')"
+    done = sh("setpriv", "--reuid=portal-front", "--regid=portal-front", "--groups=portal-gateway", "python3", "-c", open_it)
+    kept = pathlib.Path(f"/proc/{helper}/status").read_text().split("Groups:")[1].split("\n")[0].split()
+    names = sorted(grp.getgrgid(int(number)).gr_name for number in kept)
+    check("the guests' helper cannot open the counter's socket", "PermissionError" in done.stderr
+          and names == ["portal-front", "portal-gateway"], f"{names} {done.stderr.strip()[-60:]}")
 
 
 def first_guest() -> None:
@@ -284,6 +307,6 @@ def before_the_reboot() -> None:
     pathlib.Path("/run/venue-watch").unlink(missing_ok=True)
 
 
-STEPS = (install_and_set_up, first_guest, parts_are_killed, agent_hangs_and_stops, rules_go, lan_goes, nightly_copy,
+STEPS = (install_and_set_up, parts_are_apart, first_guest, parts_are_killed, agent_hangs_and_stops, rules_go, lan_goes, nightly_copy,
          drill, sell_after_the_copy, copy_is_stopped_in_the_middle, copy_is_killed_in_the_middle, restore_is_refused,
          copies_without_a_server, disk_is_full, restore, logs_rotate, before_the_reboot)
