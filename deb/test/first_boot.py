@@ -135,7 +135,7 @@ def lan_goes() -> None:
     sh("ip link del lan0")
     time.sleep(1.5)
     gone = active("portal-rules@lan0")
-    sh("/opt/venue/venue-net lan")
+    sh("/srv/venue/venue-net lan")
     took = until(lambda: active("portal-rules@lan0") == "active" and passes(), 15)
     check("lan0 goes and comes again (a plug): guests pass again without a hand", took is not None,
           f"{took} s; rules when it was gone: {gone}, now {active('portal-rules@lan0')}; forward {forward()}")
@@ -145,7 +145,7 @@ def lan_goes() -> None:
     check("and a guest gets a lease there", lease().returncode == 0, f"dnsmasq {active('dnsmasq')}")
     sh("ip link del lan0; systemctl stop nginx dnsmasq; systemctl start nginx; systemctl start dnsmasq")
     time.sleep(4)
-    sh("/opt/venue/venue-net lan")
+    sh("/srv/venue/venue-net lan")
     served = until(lambda: active("nginx") == active("dnsmasq") == "active" and captive().get("captive") is not None, 15)
     check("lan0 comes after nginx and dnsmasq were started: both serve it", served is not None,
           f"{served} s; nginx {active('nginx')}, dnsmasq {active('dnsmasq')}")

@@ -13,7 +13,7 @@ import time
 from collections.abc import Callable
 from typing import Any
 
-HERE = pathlib.Path("/opt/venue")
+HERE = pathlib.Path("/srv/venue")
 LOG = pathlib.Path("/var/log/venue-test.log")
 DATABASE, COPIES = pathlib.Path("/var/lib/portal/book.db"), pathlib.Path("/var/backups/portal")
 SESSIONS = pathlib.Path("/run/portal-gateway/sessions.json")
