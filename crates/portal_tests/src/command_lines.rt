@@ -183,7 +183,7 @@ const TOLD: &[(&[&str], bool, &str)] = &[
         true,
         "portal serve --db portal.db",
     ),
-    (&["portal", "serve", "--help"], true, "locked"),
+    (&["portal", "serve", "--help"], true, "locks the database"),
     (&["portal", "print", "--help"], true, "portal print b1"),
     (&["portal", "print", "--help"], true, "portal: file"),
     (
