@@ -7,6 +7,7 @@ Each form carries a request number: a form sent twice acts once, and a form in d
 
 from __future__ import annotations
 
+import hashlib
 import html
 import json
 import math
@@ -24,6 +25,7 @@ sys.path.insert(0, str(pathlib.Path(__file__).resolve().parent.parent / "lib"))
 import refusals  # noqa: E402
 from desk_client import (REQUEST_NUMBER, Desk, NoAnswer, Refused, Routes, credential, new_number,  # noqa: E402
                          settings)
+from machine_time import Notes, origin, was_set  # noqa: E402
 from pages import BadForm, Form, Page, UnixServer, box  # noqa: E402
 from words import clock, money, span, use_zone, volume  # noqa: E402
 
@@ -47,6 +49,10 @@ HOME = """<div class="desk">
 <section><h2>Takings</h2><form action="/takings"><label>First day<input name="from" type="date" required value="{day}">
 </label><label>Last day<input name="to" type="date" required value="{day}"></label><button>Add up</button></form>
 </section><section class="whole"><h2>Open sessions</h2>{sessions}</section></div>"""
+WAITS = "The server waits, as the time of this machine may be wrong. Until then nothing is sold and nobody passes."
+WORD = """<div class="desk"><section><h2>Is the time right?</h2>{times}<p>Compare the time and the year with another
+clock. At a wrong time vouchers would expire for good: if it is wrong, have it set, and do not press.</p>
+{form}<button>The time is right</button></form></section></div>"""
 CODE = '<input name="code" required maxlength="40" placeholder="code" autocomplete="off" aria-label="code">'
 
 
@@ -115,14 +121,16 @@ class Counter:
     conf: dict[str, Any]
     plans: dict[str, int]       # id: price
     plans_notice: str = ""
+    since: Any = None           # the start of the server, by its note, for which the plans were loaded
     tries: Tries = field(default_factory=Tries)
 
     def load_plans(self) -> None:
-        """At each start: a file whose plans the desk holds already changes no plan."""
+        """At each start, with a number made from the file: a database that took this file before does nothing with it,
+        and one that did not, as after a restore, takes it."""
         text = pathlib.Path(self.conf["plans"]).read_bytes()
         self.plans, self.plans_notice = prices(text), ""
         try:
-            self.desk.tell(Routes.PLANS, body=text)
+            self.desk.tell(Routes.PLANS, body=text, number="plans-" + hashlib.sha256(text).hexdigest()[:30])
         except (Refused, NoAnswer) as fault:
             told = refusals.of_word(fault.word) if isinstance(fault, Refused) else refusals.SILENT
             self.plans_notice = box("bad", "The plans file was not loaded.", told.cause, told.advice)
@@ -164,10 +172,41 @@ class Counter:
         head, *rows, net = (tuple(html.escape(word) for word in line.split()) for line in text.splitlines())
         return f"<h2>Takings</h2>{table('rows sums', head, rows)}<p><b>{' '.join(net)}</b></p>"
 
+    @property
+    def notes(self) -> Notes:
+        return Notes(self.conf["notes"])
+
+    def time_is_right(self, form: Form, number: str) -> str:
+        """A clerk's word for the server that waits. It is for the clock that the page showed, and is taken once."""
+        if self.notes.read("state").get("is") != "waits":
+            return box("good", "The server does not wait for the time any more.")
+        if was_set(form.whole("booted"), origin()):
+            return box("bad", "The machine's clock was set since this page was shown.", "Look at its time again.")
+        try:
+            self.notes.write("word", origin=form.whole("booted"), who="a clerk")
+        except OSError as fault:
+            return box("bad", "Your word does not reach the server.", str(fault))
+        return box("good", "The server starts now.")
+
+    def server_notice(self, told: dict[str, Any]) -> str:
+        """What keeps the server from serving, by its own note."""
+        if told.get("is") == "failed":
+            return box("bad", "The server does not start.", str(told.get("why")))
+        if told.get("is") != "waits":
+            return ""
+        shown, last = time.strftime("%A, %Y-%m-%d %H:%M:%S"), told.get("last")
+        times = [("Time of this machine", shown),
+                 ("Last entry of the database", "none" if last is None else clock(last))]
+        form = form_of("/time", new_number(), shown=shown, booted=str(max(0, round(origin()))))
+        return box("bad", WAITS, f"Why: {told.get('why')}.") + WORD.format(times=facts(times), form=form)
+
     def first_page(self) -> str:
-        if self.plans_notice:
-            self.load_plans()
-        return self.plans_notice + self.home()
+        told = self.notes.read("state")
+        notice = self.server_notice(told)
+        if not notice and (self.plans_notice or told.get("since") != self.since):
+            self.since = told.get("since")
+            self.load_plans()           # the database may be another now
+        return (notice or self.plans_notice) + self.home()
 
     def home(self) -> str:
         plans = ((html.escape(name), money(price)) for name, price in self.plans.items())
@@ -247,7 +286,8 @@ class CounterPage(Page):
         if urllib.parse.urlsplit(self.headers.get("Origin", "")).netloc != self.headers.get("Host", "-"):
             return self.show(403, box("bad", "This form was not sent from the counter's own page."))
         counter: Counter = self.server.counter
-        actions = {"/sell": counter.sell, "/refund": counter.refund, "/close": counter.close, "/issue": counter.issue}
+        actions = {"/sell": counter.sell, "/refund": counter.refund, "/close": counter.close, "/issue": counter.issue,
+                   "/time": counter.time_is_right}
         if self.path not in actions:
             return self.show(404, box("bad", "There is no such page."))
         self.guarded(lambda: self.act(actions[self.path]))

@@ -19,6 +19,7 @@ from typing import Any, Protocol
 
 sys.path.insert(0, str(pathlib.Path(__file__).resolve().parent.parent / "lib"))
 from desk_client import Desk, NoAnswer, Refused, Routes, credential, settings  # noqa: E402
+from notify import tell_systemd  # noqa: E402
 from passing import Passing, RulesAreGone  # noqa: E402
 
 Row = dict[str, Any]    # an open session as the desk tells it
@@ -199,14 +200,6 @@ def complain(text: str) -> None:
     print("gateway:", text, file=sys.stderr, flush=True)
 
 
-def tell_systemd(word: bytes) -> None:
-    """READY=1, and after each poll WATCHDOG=1: an agent that hangs is killed and started again."""
-    path = os.environ.get("NOTIFY_SOCKET", "")
-    if path:
-        with socket.socket(socket.AF_UNIX, socket.SOCK_DGRAM) as s:
-            s.sendto(word, "\0" + path[1:] if path.startswith("@") else path)
-
-
 def knock_socket(path: str) -> socket.socket:
     """Where the front end knocks after a redemption, so that the guest need not wait for the next poll."""
     pathlib.Path(path).unlink(missing_ok=True)
@@ -239,7 +232,7 @@ def main() -> None:
     while True:
         start = time.monotonic()
         good = agent.try_poll()
-        tell_systemd(b"WATCHDOG=1")
+        tell_systemd(b"WATCHDOG=1")     # after each poll: an agent that hangs is killed and started again
         time.sleep(0.05)        # knocks cannot make it spin
         if not (good and agent.more):
             wait(knocks, max(0.0, conf["poll_seconds"] - (time.monotonic() - start)))

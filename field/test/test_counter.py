@@ -14,10 +14,12 @@ import time
 import unittest
 import urllib.parse
 from typing import Any
+from unittest import mock
 
 from desk_process import FIELD, Desk, DeskProcess, Relay, Routes     # which says where the parts stand
 
 import refusals
+from machine_time import Notes, origin
 from pages import UnixServer
 from portal_counter import Counter, CounterPage, Tries
 from test_front import UnixLink
@@ -33,7 +35,10 @@ class Pages(unittest.TestCase):
         self.folder = pathlib.Path(self.enterContext(tempfile.TemporaryDirectory()))
         self.path = self.folder / "socket"
         conf = {"house": "House", "plans": str(FIELD / "settings/plans.toml"),
-                "portal_url": "https://wifi.example/portal", "snapshot": str(self.folder / "sessions.json")}
+                "portal_url": "https://wifi.example/portal", "snapshot": str(self.folder / "sessions.json"),
+                "notes": str(self.folder / "notes")}
+        (self.folder / "notes").mkdir()
+        self.notes = Notes(conf["notes"])
         self.counter = Counter(Desk(self.relay.port, "desk-token"), conf, {})
         self.counter.load_plans()
         server = UnixServer.bound(str(self.path), CounterPage)
@@ -161,6 +166,64 @@ class Pages(unittest.TestCase):
         self.assertIn("The plans file was not loaded", self.ask("/")[1])
         self.relay.drops = False
         self.assertNotIn("not loaded", self.ask("/")[1])
+
+    def test_a_database_takes_the_same_plans_once_and_another_database_takes_them_again(self) -> None:
+        """As at each start of the counter's page, and of the server over a database that was restored."""
+        asked: list[tuple[str, str | None]] = []
+        tell = self.counter.desk.tell
+
+        def heard(route: Any, **more: Any) -> Any:
+            asked.append((route.path, more.get("number")))
+            return tell(route, **more)
+
+        self.enterContext(mock.patch.object(self.counter.desk, "tell", heard))
+        self.notes.write("state", **{"is": "serves", "since": 1})
+        for _ in range(3):
+            self.ask("/")
+        self.assertEqual(len(asked), 1, "for each start of the server once")
+        plans = self.folder / "plans.toml"
+        plans.write_text((FIELD / "settings/plans.toml").read_text() + "# more\n")
+        self.counter.conf["plans"] = str(plans)
+        self.notes.write("state", **{"is": "serves", "since": 2})
+        self.ask("/")
+        numbers = [number for _, number in asked]
+        self.assertEqual((len(asked), len(set(numbers)), None in numbers), (2, 2, False))
+        self.assertTrue(all(number and re.fullmatch("plans-[0-9a-f]{30}", number) for number in numbers))
+
+    def test_a_server_that_waits_for_the_time_gets_a_clerks_word(self) -> None:
+        self.notes.write("state", **{"is": "waits", "why": "it is before the last entry", "last": 1_764_000_000})
+        self.relay.drops = True
+        text = self.ask("/")[1]
+        year = time.strftime("%Y-%m-%d", time.localtime())
+        last = time.strftime("%Y-%m-%d %H:%M", time.localtime(1_764_000_000))
+        for word in ("The server waits", "it is before the last entry", last, year, "The time is right"):
+            self.assertIn(word, text)
+        form = text.partition("The time is right")[0]
+        fields = dict(re.findall(r'name="(request|shown|booted)" value="([^"]*)"', form))
+        log = io.StringIO()
+        with contextlib.redirect_stderr(log):
+            told = [self.ask("/time", head={"X-User": "anna"}, **fields) for _ in range(2)]
+        self.assertEqual([(status, "The server starts now." in text) for status, text in told], [(200, True)] * 2)
+        self.assertLess(abs(self.notes.read("word")["origin"] - origin()), 2)
+        self.assertRegex(log.getvalue(), rf"counter: anna at \?: time \w+, {year} [0-9:]+, [0-9]+: done")
+
+    def test_a_word_for_a_clock_that_was_set_since_is_not_passed_on(self) -> None:
+        self.notes.write("state", **{"is": "waits", "why": "x", "last": None})
+        text = self.ask("/time", request="t1", booted=str(round(origin()) - 3600))[1]
+        self.assertIn("was set since this page was shown", text)
+        status = self.ask("/time", request="t2", booted="x")[0]
+        self.assertEqual((status, self.notes.read("word")), (400, {}))
+
+    def test_a_word_for_a_server_that_runs_is_not_kept(self) -> None:
+        self.notes.write("state", **{"is": "serves", "since": 1})
+        text = self.ask("/time", request="t1", shown="x", booted=str(round(origin())))[1]
+        self.assertIn("does not wait", text)
+        self.assertEqual(self.notes.read("word"), {})
+
+    def test_a_server_that_cannot_start_is_told(self) -> None:
+        self.notes.write("state", **{"is": "failed", "why": "its settings are not valid"})
+        text = self.ask("/")[1]
+        self.assertIn("The server does not start.<br>its settings are not valid", text)
 
     def test_a_plans_file_that_does_not_read_is_told(self) -> None:
         for text in (b"[[plan]", b"\xff", b"plan = 1", b'[[plan]]\nid = "x"\nprice = "y"\n', b""):

@@ -27,7 +27,7 @@ loader.exec_module(setup)
 
 SAMPLE = (FIELD / "settings/field.toml").read_text()
 LATER = ("desk_port", "poll_seconds", "grace_seconds", "quiet_seconds", "time_quiet_seconds",
-         "without_browser")     # keys with a default
+         "without_browser", "clock", "on_failure")     # keys with a default
 SERVICES = ("portal", "portal-gateway", "portal-front", "portal-counter")
 
 
@@ -52,6 +52,8 @@ class Lines(unittest.TestCase):
                          ('"10.77.0.50"', '"10.77.0.1"'), ('"10.77.0.50"', '"10.77.0.0"'), ('"1h"', "1"),
                          ('"10.77.3.250"', '"10.77.3.255"'), ('"10.77.0.1/22"', '"10.77.2.7/22"'),
                          ('"10.88.0.1/24"', '"10.88.0.0/24"'), ('"10.88.0.1/24"', '"10.88.0.1/32"'),
+                         ('clock = "kernel"', 'clock = "ntp"'), ("on_failure = []", "on_failure = [1]"),
+                         ("on_failure = []", 'on_failure = "mail"'), ("on_failure = []", 'on_failure = [""]'),
                          ("wan = ", "more = 1\nwan = "), ("house = ", "house ")):
             self.assertIn(old, SAMPLE)
             with self.assertRaises(setup.BadSettings, msg=new):
@@ -218,9 +220,40 @@ class Made(unittest.TestCase):
             self.assertEqual(self.unit(name + ".service")["Unit"]["StartLimitIntervalSec"], "0")
             capabilities = "CAP_NET_ADMIN" if name == "portal-gateway" else ""
             self.assertEqual(service["CapabilityBoundingSet"], capabilities)
-            program = service["ExecStart"].split()[-1]
-            if name != "portal":
-                self.assertTrue((FIELD / program.removeprefix("/usr/share/portal/field/")).is_file(), program)
+            program = service["ExecStart"].split()[1]
+            self.assertTrue((FIELD / program.removeprefix("/usr/share/portal/field/")).is_file(), program)
+
+    def test_the_server_is_started_again_but_where_that_cannot_help(self) -> None:
+        service = self.unit("portal.service")["Service"]
+        self.assertEqual((service["Restart"], service["RestartPreventExitStatus"]), ("always", "78"))
+        # the kernel is asked about its clock, and nobody may set it
+        self.assertEqual(service["SystemCallFilter"], "@system-service adjtimex clock_adjtime")
+        self.assertEqual((service["CapabilityBoundingSet"], "ProtectClock" in service), ("", False))
+        users = re.search(r"define desk_users = \{(.*)\}", (self.root / "etc/portal/rules.nft").read_text())
+        self.assertIn('"portal",', users[1].split() if users else [])
+        told = tomllib.loads((self.root / "etc/portal/server.toml").read_text())
+        self.assertEqual(told, {"clock": "kernel", "zone": "UTC0"})
+
+    def test_both_ends_of_the_notes_on_the_clock_are_in_their_folder(self) -> None:
+        for folder, line in (("tmpfiles", "d /run/portal-clock 2770 portal portal-clock"),
+                             ("sysusers", "g portal-clock -")):
+            self.assertIn(line, (self.root / f"etc/{folder}.d/portal.conf").read_text().splitlines())
+        for name in ("portal", "portal-counter"):
+            service = self.unit(name + ".service")["Service"]
+            self.assertIn("portal-clock", service["SupplementaryGroups"].split())
+            self.assertEqual(service["ReadWritePaths"], "-/run/portal-clock")
+
+    def test_a_part_that_fails_is_told_of(self) -> None:
+        for name in (*SERVICES, "portal-backup", "portal-rules@"):
+            self.assertEqual(self.unit(name + ".service")["Unit"]["OnFailure"], "portal-failed@%n.service", name)
+        order = self.unit("portal-failed@.service")["Service"]["ExecStart"].split()
+        self.assertTrue((FIELD / order[1].removeprefix("/usr/share/portal/field/")).is_file())
+        self.assertEqual(tomllib.loads((self.root / "etc/portal/failed.toml").read_text()), {"on_failure": []})
+
+    def test_nginx_and_dnsmasq_are_started_again(self) -> None:
+        for name in ("nginx", "dnsmasq"):
+            unit = self.unit(f"{name}.service.d/portal.conf")
+            self.assertEqual((unit["Service"]["Restart"], unit["Unit"]["StartLimitIntervalSec"]), ("on-failure", "0"))
 
     def may_open(self, owner: str) -> set[str]:
         """The users in the group of a service's socket: by their units, and by sysusers."""
@@ -257,6 +290,7 @@ class Made(unittest.TestCase):
         """`verify` without a running systemd, under a root in which the units' programs stand: it says nothing."""
         folder = self.root / "etc/systemd/system"
         shutil.copy(folder / "portal-rules@.service", folder / "portal-rules@lan0.service")
+        shutil.copy(folder / "portal-failed@.service", folder / "portal-failed@portal.service.service")
         shutil.copytree("/lib/systemd/system", self.root / "lib/systemd/system", symlinks=True)
         shutil.copytree(FIELD, self.root / "usr/share/portal/field", ignore=shutil.ignore_patterns("__pycache__"))
         for name in ("bin/portal", "bin/python3", "sbin/nft", "sbin/sysctl"):
@@ -264,10 +298,10 @@ class Made(unittest.TestCase):
             path.parent.mkdir(exist_ok=True)
             path.write_text("#!/bin/sh\n")
             path.chmod(0o755)
-        units = [path.name for path in sorted(folder.iterdir()) if "@." not in path.name]
+        units = [path.name for path in sorted(folder.iterdir()) if path.is_file() and "@." not in path.name]
         done = subprocess.run(["systemd-analyze", "verify", "--man=no", f"--root={self.root}", *units],
                               capture_output=True, text=True)
-        self.assertEqual((len(units), done.returncode, done.stdout + done.stderr), (7, 0, ""))
+        self.assertEqual((len(units), done.returncode, done.stdout + done.stderr), (8, 0, ""))
 
 
 if __name__ == "__main__":

@@ -1,0 +1,197 @@
+#!/usr/bin/python3
+"""Runs the server: once the machine's time is right, ended where the clock is set, started again where it hangs.
+
+    portal_server.py [--portal "CMD .."] --port N --db FILE --settings FILE
+
+It is the unit's first process and the server's parent, so that what holds the server still (`systemctl freeze`) holds
+this watch still too. A server that ends ends this program, and systemd starts both anew; where that can never help the
+status is 78, which systemd takes as the last word.
+"""
+
+from __future__ import annotations
+
+import argparse
+import os
+import pathlib
+import shlex
+import signal
+import subprocess
+import sys
+import threading
+import time
+from typing import Any, NoReturn
+
+sys.dont_write_bytecode = True
+sys.path.insert(0, str(pathlib.Path(__file__).resolve().parent.parent / "lib"))
+from desk_client import Desk, NoAnswer, Refused, Routes, settings  # noqa: E402
+from machine_time import Notes  # noqa: E402
+from notify import tell_systemd  # noqa: E402
+from right_time import BELIEVED, Clock  # noqa: E402
+from words import clock as local, use_zone  # noqa: E402
+
+TICK = 0.1          # seconds between two looks at the clock while the server runs
+AGAIN = 0.5         # and while it waits for the time
+NOBODY = "02:00:00:00:00:00"    # a device of no guest
+NEVER, HUNG = 78, 75            # statuses: EX_CONFIG, which is not started again; EX_TEMPFAIL
+# What the program says where no new start can help, and what does.
+ADVICE = {
+    "settings": "its settings are not valid: correct field.toml and run the set-up again",
+    "not_ours": "the database file is another program's: put the venue's own there, or restore a copy",
+    "newer": "the database was written by a later version: install that version, or restore a copy of before",
+    "usage": "its command line is not valid",
+}
+
+
+def say(text: str) -> None:
+    """A line of the journal, and of `systemctl status`."""
+    print("server:", text, file=sys.stderr, flush=True)
+    tell_systemd(b"STATUS=" + text.encode())
+
+
+def is_held(pid: int) -> bool:
+    """Whether somebody stopped the process by a signal, as for a copy of its files by hand."""
+    try:
+        return pathlib.Path(f"/proc/{pid}/stat").read_text().rpartition(")")[2].split()[0] in "Tt"
+    except OSError:
+        return False
+
+
+class Watch(threading.Thread):
+    """Asks the server now and then, as a client of its own; it hangs where three answers in a row do not come in time.
+    Whoever holds it still ends that first: a server that is held is not asked for an answer."""
+    EACH, MOST = 5.0, 3
+
+    def __init__(self, desk: Desk, pid: int) -> None:
+        super().__init__(daemon=True)
+        self.desk, self.pid, self.silent, self.over = desk, pid, 0, threading.Event()
+
+    @property
+    def hangs(self) -> bool:
+        return self.silent >= self.MOST
+
+    def run(self) -> None:
+        while not self.over.wait(self.EACH if self.silent == 0 else self.EACH / 5) and not self.hangs:
+            self.silent = 0 if self.answers() or is_held(self.pid) else self.silent + 1
+
+    def answers(self) -> bool:
+        try:
+            self.desk.tell(Routes.CAPTIVE, device=NOBODY)
+        except NoAnswer:
+            return False
+        except Refused:
+            pass
+        return True
+
+
+class Server:
+    def __init__(self, words: list[str], clock: Clock, desk: Desk, notes: Notes) -> None:
+        self.words, self.clock, self.desk, self.notes = words, clock, desk, notes
+        self.fault = ""             # the program's last word of a fault
+        self.watch: Watch | None = None
+
+    def note(self, **values: Any) -> None:
+        try:
+            self.notes.write("state", **values)
+        except OSError as fault:
+            print("server: the counter's page is not told:", fault, file=sys.stderr, flush=True)
+
+    def wait_for_time(self) -> None:
+        told = ""
+        while not (verdict := self.clock.judge()).right:
+            if verdict.why != told:
+                told = verdict.why
+                say(f"waits, as the time may be wrong ({local(int(time.time()))} in the venue's zone): {told}. It "
+                    "starts once a time service has set the clock, or a clerk has said at the counter that the time "
+                    "is right")
+                self.note(**{"is": "waits", "why": told, "last": verdict.last})
+            time.sleep(AGAIN)
+        say(f"starts at {local(int(time.time()))} in the venue's zone: {verdict.why}")
+        self.note(**{"is": "serves", "since": time.time_ns()})
+
+    def read(self, job: subprocess.Popen[bytes], ended: threading.Event) -> None:
+        """Hands on what the program says, and remembers it."""
+        assert job.stdout
+        for line in job.stdout:
+            print(line.decode("utf-8", "replace"), end="", file=sys.stderr, flush=True)
+            if line.startswith(b"portal: "):
+                self.fault = line[8:].decode("ascii", "replace").strip()
+            elif line.startswith(b"listening ") and not self.watch:
+                self.watch = Watch(self.desk, job.pid)
+                self.watch.start()
+        ended.set()
+
+    def serve(self) -> int | None:
+        """The status to end with; None where the clock was set."""
+        self.fault, self.watch, ended = "", None, threading.Event()
+        with subprocess.Popen(self.words, stdin=subprocess.DEVNULL, stdout=subprocess.PIPE,
+                              stderr=subprocess.STDOUT) as job:
+            reader = threading.Thread(target=self.read, args=(job, ended), daemon=True)
+            reader.start()
+            try:
+                while not ended.wait(TICK):
+                    if self.clock.was_set():
+                        return None
+                    if self.watch and self.watch.hangs:
+                        return self.hangs()
+                reader.join()
+                return self.ends(job.wait())
+            finally:
+                job.kill()          # nothing that was answered is lost by it
+                reader.join(5)
+                if self.watch:
+                    self.watch.over.set()
+
+    def hangs(self) -> int:
+        say("the server does not answer: it is ended and started again")
+        return HUNG
+
+    def ends(self, status: int) -> int:
+        word = "usage" if status == 2 else self.fault.partition(" ")[0] if status == 3 else ""
+        if word in ADVICE:
+            why = f"it ended with status {status}, `portal: {word}`: {ADVICE[word]}"
+            say(f"the server is not started again by itself, as that would not help: {why}. "
+                "Then: systemctl restart portal")
+            self.note(**{"is": "failed", "why": why})
+            return NEVER
+        return status if status >= 0 else 128 - status
+
+    def run(self) -> int:
+        while True:
+            self.wait_for_time()
+            status = self.serve()
+            if status is not None:
+                return status
+            say("the machine's clock was set while the server ran: the server is ended")
+
+
+def end(*_: object) -> NoReturn:
+    sys.exit(0)
+
+
+def main() -> int:
+    words = argparse.ArgumentParser(description="Runs the server once the machine's time is right.")
+    words.add_argument("--portal", default="/usr/bin/portal", help="the program, as a command line")
+    words.add_argument("--port", type=int, required=True)
+    words.add_argument("--db", type=pathlib.Path, required=True)
+    words.add_argument("--settings", required=True)
+    words.add_argument("--notes", default="/run/portal-clock", help="the folder of the notes about the clock")
+    args = words.parse_args()
+    signal.signal(signal.SIGTERM, end)
+    os.environ.setdefault("FIELD_SETTINGS", "/etc/portal/server.toml")
+    conf = settings("") if os.path.exists(os.environ["FIELD_SETTINGS"]) else {}
+    use_zone(conf.get("zone", "UTC0"))
+    believed = conf.get("clock", BELIEVED[0])
+    notes = Notes(args.notes)
+    line = [*shlex.split(args.portal), "serve", "--port", str(args.port), "--db", str(args.db),
+            "--settings", args.settings]
+    status = 0
+    try:
+        status = Server(line, Clock(believed, notes, args.db), Desk(args.port), notes).run()
+    finally:
+        if status != NEVER:
+            notes.drop("state")
+    return status
+
+
+if __name__ == "__main__":
+    sys.exit(main())

@@ -1,0 +1,339 @@
+"""The server's parent: whether the time is right, what it does where the server hangs, ends or cannot start."""
+
+from __future__ import annotations
+
+import contextlib
+import io
+import json
+import os
+import pathlib
+import re
+import signal
+import socket
+import sqlite3
+import subprocess
+import sys
+import tempfile
+import threading
+import time
+import unittest
+from collections.abc import Callable
+from unittest import mock
+
+from desk_process import FIELD, PORTAL, SETTINGS, Desk, NoAnswer, Routes, free_port     # says where the parts stand
+
+sys.path.insert(0, str(FIELD / "server"))
+import portal_server
+import right_time as clock
+from machine_time import Notes
+
+DAY, NOW, BOOT = 86_400, 1_764_000_000, 1_763_999_000.0     # seconds; the machine has run for a thousand
+WORD = "word"
+
+
+class Folder(unittest.TestCase):
+    def setUp(self) -> None:
+        self.folder = pathlib.Path(self.enterContext(tempfile.TemporaryDirectory()))
+        self.database, self.notes = self.folder / "book.db", Notes(str(self.folder))
+        self.time, self.kept = float(NOW), False
+
+    def clock(self, believed: str = "kernel") -> clock.Clock:
+        """As at a start of the server. What is set is `time`; the machine booted a thousand seconds before NOW."""
+        return clock.Clock(believed, self.notes, self.database, lambda: self.time,
+                           lambda: BOOT + self.time - NOW, lambda: self.kept)
+
+    def holds(self, last: int) -> sqlite3.Connection:
+        """A database whose last entry is of that time, in its log alone."""
+        base = sqlite3.connect(self.database, isolation_level=None)
+        self.addCleanup(base.close)
+        base.execute("PRAGMA journal_mode=WAL")
+        base.execute("CREATE TABLE portal_head (id INTEGER PRIMARY KEY, layout, last_moment INTEGER)")
+        base.execute("INSERT INTO portal_head VALUES (1, 4, ?)", (last,))
+        return base
+
+
+class Times(Folder):
+    def told(self, believed: str = "kernel") -> bool:
+        return self.clock(believed).judge().right
+
+    def test_a_time_service_is_believed_and_no_other_program(self) -> None:
+        self.holds(NOW - 30 * DAY)
+        for kept, believed, right in ((True, "kernel", True), (False, "kernel", False), (True, "clerk", False),
+                                      (False, "clerk", False), (False, "host", True)):
+            self.kept = kept
+            self.notes.drop("found")
+            self.assertEqual(self.told(believed), right, (kept, believed))
+
+    def test_without_one_the_time_is_within_a_day_after_the_last_entry(self) -> None:
+        self.holds(NOW)
+        for seconds, right in ((0, True), (DAY, True), (DAY + 1, False), (-1, False), (3650 * DAY, False),
+                               (-3650 * DAY, False)):
+            self.time = NOW + seconds
+            self.notes.drop("found")
+            self.assertEqual(self.told(), right, seconds)
+
+    def test_a_new_database_waits(self) -> None:
+        verdict = self.clock().judge()
+        self.assertEqual((verdict.right, verdict.last), (False, None))
+        self.holds(0)
+        self.assertFalse(self.told(), "made, and without an entry")
+
+    def test_a_database_that_does_not_read_waits(self) -> None:
+        self.database.write_bytes(b"x" * 8192)
+        verdict = self.clock().judge()
+        self.assertEqual((verdict.right, "cannot be read" in verdict.why), (False, True))
+
+    def test_looking_changes_neither_file(self) -> None:
+        base, files = self.holds(NOW), ("book.db", "book.db-wal")
+        before = [(self.folder / name).read_bytes() for name in files]
+        self.assertTrue(self.told())
+        self.assertEqual([(self.folder / name).read_bytes() for name in files], before)
+        base.execute("UPDATE portal_head SET last_moment = 7")
+
+    def test_what_was_read_is_read_again_once_it_changed(self) -> None:
+        base, one = self.holds(NOW + DAY), self.clock()
+        self.assertEqual(one.judge().last, NOW + DAY)
+        base.execute("UPDATE portal_head SET last_moment = ?", (NOW + 2,))
+        self.assertEqual(one.judge().last, NOW + 2)
+        self.time += 2
+        self.assertTrue(one.judge().right)
+
+    def test_a_clerks_word_is_used_once(self) -> None:
+        self.notes.write(WORD, origin=BOOT, who="anna")
+        verdict = self.clock().judge()
+        self.assertEqual((verdict.right, "anna said" in verdict.why), (True, True))
+        self.assertFalse((self.folder / WORD).exists())
+        self.notes.drop("found")
+        self.assertFalse(self.told())
+
+    def test_a_word_for_a_clock_that_was_set_since_is_void(self) -> None:
+        self.notes.write(WORD, origin=BOOT, who="anna")
+        self.time += 3650 * DAY
+        self.assertFalse(self.told())
+        self.time -= 3650 * DAY
+        self.assertFalse(self.told(), "it was for once")
+
+    def test_a_word_that_does_not_read_is_none(self) -> None:
+        for text in ("", "[]", '{"origin": "x"}', "{"):
+            (self.folder / WORD).write_text(text)
+            self.assertFalse(self.told(), text)
+
+    def test_what_was_found_right_stays_so_until_the_clock_is_set(self) -> None:
+        """As where the line is away for hours, and the server is started again after a quiet day."""
+        self.holds(NOW - 30 * DAY)
+        self.kept = True
+        self.assertTrue(self.told())
+        self.kept = False
+        self.assertTrue(self.told())
+        self.time += 61
+        self.assertFalse(self.told())
+
+    def test_small_steps_go_on_and_a_jump_does_not(self) -> None:
+        self.kept, one = True, self.clock()
+        one.judge()
+        for _ in range(10):         # ten minutes in all
+            self.time += 59
+            self.assertFalse(one.was_set())
+        self.kept = False
+        self.assertTrue(self.clock().judge().right, "each was noted")
+        for seconds in (60, -120):
+            self.time += seconds
+            self.assertTrue(one.was_set(), seconds)
+
+    def test_a_clock_that_its_host_keeps_is_not_watched(self) -> None:
+        one = self.clock("host")
+        one.judge()
+        self.time += 10 * DAY
+        self.assertFalse(one.was_set())
+
+    def test_the_kernels_word(self) -> None:
+        class Kernel:
+            status = error = 0
+
+            def adjtimex(self, words: list[int]) -> int:
+                words[3] = self.error
+                return self.status
+
+        kernel = Kernel()
+        with mock.patch("ctypes.CDLL", lambda name: kernel):
+            for status, error, good in ((0, 15_999_999, True), (5, 2, True), (5, 16_000_000, False), (-1, 0, False)):
+                kernel.status, kernel.error = status, error
+                self.assertEqual(clock.is_synchronised(), good, (status, error))
+
+
+class Runs(Folder):
+    def setUp(self) -> None:
+        super().setUp()
+        (self.folder / "settings.toml").write_text(SETTINGS)
+        self.port = free_port()
+        self.enterContext(mock.patch.object(portal_server.Watch, "EACH", 0.2))
+        self.enterContext(mock.patch.object(portal_server, "AGAIN", 0.05))
+        self.log = io.StringIO()
+        self.status: list[int | None] = []
+
+    def server(self, portal: str = PORTAL) -> portal_server.Server:
+        words = [*portal.split(), "serve", "--port", str(self.port), "--db", str(self.folder / "desk.db"),
+                 "--settings", str(self.folder / "settings.toml")]
+        return portal_server.Server(words, self.clock(), Desk(self.port, timeout=0.3), self.notes)
+
+    def started(self) -> tuple[portal_server.Server, threading.Thread]:
+        """The server once it is asked for answers, in a thread."""
+        server = self.server()
+
+        def run() -> None:
+            with contextlib.redirect_stderr(self.log):
+                self.status.append(server.run())
+
+        thread = threading.Thread(target=run, daemon=True)
+        thread.start()
+        return server, thread
+
+    def until(self, true: Callable[[], object], seconds: float = 10.0) -> bool:
+        end = time.monotonic() + seconds
+        while not true():
+            if time.monotonic() > end:
+                return False
+            time.sleep(0.02)
+        return True
+
+    def answers(self) -> bool:
+        try:
+            Desk(self.port, "gate-token", 1.0).tell(Routes.SESSIONS)
+        except NoAnswer:
+            return False
+        return True
+
+    def end(self, server: portal_server.Server, thread: threading.Thread) -> None:
+        """By a kill of the server, as nothing else ends it."""
+        if server.watch:
+            with contextlib.suppress(ProcessLookupError):
+                os.kill(server.watch.pid, signal.SIGKILL)
+        thread.join(10)
+
+    def test_it_waits_for_the_time_and_starts_at_a_clerks_word(self) -> None:
+        server, thread = self.started()
+        self.addCleanup(self.end, server, thread)
+        self.assertTrue(self.until(lambda: self.notes.read("state").get("is") == "waits"))
+        time.sleep(0.3)
+        self.assertFalse(self.answers())
+        self.notes.write(WORD, origin=BOOT, who="anna")
+        self.assertTrue(self.until(self.answers))
+        self.assertEqual(self.notes.read("state")["is"], "serves")
+        self.assertIn("anna said at the counter that it is right", self.log.getvalue())
+        self.assertEqual(self.log.getvalue().count("server: waits"), 1, "said once")
+
+    def test_a_clock_that_is_set_ends_the_server_until_it_is_right_again(self) -> None:
+        self.kept = True
+        server, thread = self.started()
+        self.addCleanup(self.end, server, thread)
+        self.assertTrue(self.until(self.answers))
+        self.kept, self.time = False, self.time + 3650 * DAY
+        self.assertTrue(self.until(lambda: self.notes.read("state").get("is") == "waits"))
+        self.assertFalse(self.answers())
+        self.assertIn("the machine's clock was set while the server ran", self.log.getvalue())
+        self.time -= 3650 * DAY
+        self.assertTrue(self.until(self.answers), "it is again the clock that was found right")
+
+    def test_a_server_that_hangs_is_ended(self) -> None:
+        """By a connection that is open and silent."""
+        self.kept = True
+        server, thread = self.started()
+        self.addCleanup(self.end, server, thread)
+        self.assertTrue(self.until(self.answers))
+        with socket.create_connection(("127.0.0.1", self.port)):
+            thread.join(10)
+        self.assertEqual(self.status, [portal_server.HUNG])
+        self.assertIn("the server does not answer: it is ended", self.log.getvalue())
+
+    def test_a_server_that_is_held_is_left_alone(self) -> None:
+        self.kept = True
+        server, thread = self.started()
+        self.addCleanup(self.end, server, thread)
+        self.assertTrue(self.until(self.answers) and server.watch)
+        pid = server.watch.pid if server.watch else 0
+        os.kill(pid, signal.SIGSTOP)
+        time.sleep(4)           # three times in vain would be 1.3 s
+        os.kill(pid, signal.SIGCONT)
+        self.assertTrue(self.until(self.answers))
+        self.assertEqual(self.status, [])
+
+    def test_an_answer_of_any_kind_is_one(self) -> None:
+        self.kept = True
+        server, thread = self.started()
+        self.addCleanup(self.end, server, thread)
+        self.assertTrue(self.until(self.answers))
+        time.sleep(2)
+        self.assertEqual((self.status, server.watch and server.watch.silent), ([], 0))
+
+    def ended(self, script: str) -> tuple[int | None, dict[str, object], str]:
+        path = self.folder / "portal"
+        path.write_text("#!/bin/sh\n" + script)
+        path.chmod(0o755)
+        self.notes.drop("state")
+        self.kept, log = True, io.StringIO()
+        with contextlib.redirect_stderr(log):
+            status = self.server(str(path)).run()
+        return status, self.notes.read("state"), log.getvalue()
+
+    def test_what_no_start_can_mend_ends_for_good(self) -> None:
+        for word, code, advice in (("settings", 3, "correct field.toml"), ("not_ours", 3, "another program's"),
+                                   ("newer", 3, "install that version"), ("usage", 2, "command line")):
+            status, state, log = self.ended(f"echo 'portal: {word}' >&2; exit {code}")
+            self.assertEqual((status, state.get("is")), (portal_server.NEVER, "failed"), word)
+            for text in (log, str(state["why"])):
+                self.assertIn(advice, text)
+            self.assertIn(f"portal: {word}\n", log)
+
+    def test_what_mends_by_itself_is_started_again(self) -> None:
+        for script, code in (("echo 'portal: stopped' >&2; exit 3", 3), ("echo 'portal: file' >&2; exit 3", 3),
+                             ("echo 'portal: network' >&2; exit 3", 3), ("echo 'portal: no_memory' >&2; exit 3", 3),
+                             ("exit 3", 3), ("kill -KILL $$", 137), ("echo 'portal: settings' >&2; kill -KILL $$", 137),
+                             ("exit 0", 0)):
+            status, state, _ = self.ended(script)
+            self.assertEqual((status, state.get("is")), (code, "serves"), script)
+
+    def test_stopped_by_systemd_it_ends_the_server(self) -> None:
+        conf = self.folder / "server.toml"
+        conf.write_text('clock = "host"\nzone = "UTC0"\n')
+        words = [sys.executable, FIELD / "server/portal_server.py", "--portal", PORTAL, "--port", self.port, "--db",
+                 self.folder / "desk.db", "--settings", self.folder / "settings.toml", "--notes", self.folder]
+        with subprocess.Popen([str(word) for word in words], stderr=subprocess.PIPE,
+                              env={**os.environ, "FIELD_SETTINGS": str(conf)}) as job:
+            self.assertTrue(self.until(self.answers))
+            job.terminate()
+            self.assertEqual(job.wait(10), 0)
+        self.assertFalse(self.answers())
+        self.assertFalse((self.folder / "state").exists())
+
+
+class Failed(Folder):
+    def told(self, unit: str, command: list[str]) -> tuple[int, str]:
+        for name in ("systemctl", "journalctl"):
+            (self.folder / name).write_text(f"#!/bin/sh\necho {name} says CODE-1\n")
+            (self.folder / name).chmod(0o755)
+        conf = self.folder / "failed.toml"
+        conf.write_text(f"on_failure = {json.dumps(command)}\n")
+        env = {**os.environ, "FIELD_SETTINGS": str(conf), "PATH": f"{self.folder}:{os.environ['PATH']}"}
+        done = subprocess.run([sys.executable, FIELD / "server/portal_failed.py", unit], env=env, capture_output=True,
+                              text=True)
+        return done.returncode, done.stdout + done.stderr
+
+    def test_a_command_is_told(self) -> None:
+        goal = self.folder / "mail"
+        self.assertEqual(self.told("portal-backup.service", ["tee", str(goal)])[0], 0)
+        self.assertRegex(goal.read_text(),
+                         r"^portal-backup.service failed on .*\n\nsystemctl says CODE-1\n\njournalctl says")
+        self.told("portal-counter.service", ["tee", str(goal)])
+        self.assertNotIn("journalctl", goal.read_text(), "its journal has codes")
+
+    def test_without_a_command_the_journal_has_a_line(self) -> None:
+        line = "failed: portal.service; no command is set that tells anybody (on_failure in field.toml)\n"
+        self.assertEqual(self.told("portal.service", []), (0, line))
+
+    def test_a_command_that_cannot_be_run_is_a_fault(self) -> None:
+        status, text = self.told("portal.service", ["/no/such/mail"])
+        self.assertEqual((status, bool(re.search("did not tell.*/no/such/mail", text))), (1, True))
+
+
+if __name__ == "__main__":
+    unittest.main()
