@@ -12,8 +12,8 @@ import time
 
 from machine import (
     COPIES, DATABASE, HERE, NAME, OUTSIDE, PARTS, SESSIONS, Gap, active, captive, certificate, check, check_all_active,
-    clerk, code, copies, count_outside, counter, curl, forward, install, journal, lease, parts, passes, redeem, sh, show,
-    told, until, versions)
+    clerk, code, copies, count_outside, counter, curl, forward, install, journal, lease, parts, passes, redeem,
+    say_the_time_is_right, serves, sh, show, told, until, versions, waits)
 
 SLOW = HERE / "slow"        # a folder with a `cp` that takes its time
 LOGS = pathlib.Path("/var/log/portal")
@@ -32,7 +32,8 @@ def install_and_set_up() -> None:
     check("set-up says what is missing", done.returncode == 1 and "clerk" in done.stderr and "cert" in done.stderr, told(done))
     certificate()
     path = pathlib.Path("/etc/portal/field.toml")
-    path.write_text(path.read_text().replace('house = "Sample Library"', 'house = "Test Library"'))
+    text = path.read_text().replace('house = "Sample Library"', 'house = "Test Library"')
+    path.write_text(text.replace('clock = "kernel"', 'clock = "clerk"'))     # whatever this machine's kernel says
     good = path.read_text()
     path.write_text(good.replace('zone = "UTC0"', 'zone = "Europe/Berlin"'))
     done = sh("portal-setup", "--clerk", "clerk", input="secret\n")
@@ -44,6 +45,13 @@ def install_and_set_up() -> None:
     check("one settings file and one command open the venue", done.returncode == 0,
           f"{time.monotonic() - start:.1f} s; {told(done)}")
     check_all_active("every unit is active")
+    page = counter("")[1]
+    check("a new database waits for the time: set-up, journal and counter's page say so", "the server waits" in done.stderr
+          and waits() and "The server waits" in page and any("waits, as the time" in line for line in journal("portal")),
+          told(done))
+    word = say_the_time_is_right()
+    check("a clerk says on the counter's page that the time is right, and the server starts",
+          until(serves, 10) is not None and "starts now" in word, word)
     failed = sh("systemctl --failed --no-legend --plain").stdout.split()
     check("no unit failed", not failed, failed)
     check("the agent polls", until(SESSIONS.exists) is not None)

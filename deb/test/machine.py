@@ -2,13 +2,16 @@
 
 from __future__ import annotations
 
+import contextlib
 import glob
 import hashlib
 import json
 import os
 import pathlib
 import re
+import sqlite3
 import subprocess
+import tempfile
 import time
 from collections.abc import Callable
 from typing import Any
@@ -157,6 +160,13 @@ def clerk(page: str, **form: object) -> Answer:
     return curl("clerk", f"https://{COUNTER}/{page}", "-u", "clerk:secret", "-H", f"Origin: https://{COUNTER}", *words)
 
 
+def say_the_time_is_right() -> str:
+    """What the counter's page says once a clerk has sent its form on the time; nothing where it has none."""
+    page = counter("")[1].partition("The time is right</button>")[0].rpartition('action="/time"')[2]
+    form = dict(re.findall(r'name="(shown|booted)" value="([^"]*)"', page))
+    return " ".join(re.findall(r'<p class="(?:good|bad)" role="status">(.*?)</p>', clerk("time", **form)[1])) if form else ""
+
+
 def one_code(plan: str) -> str:
     batch = f"{plan}-{time.monotonic_ns() % 10**9}"
     clerk("issue", plan=plan, batch=batch, count=1)
@@ -174,6 +184,30 @@ def code(plan: str = "hour") -> str:
             return text
         time.sleep(0.5)
     return ""
+
+
+def server_note() -> dict[str, Any]:
+    """What the server says that it does."""
+    try:
+        return json.loads(pathlib.Path("/run/portal-clock/state").read_text())
+    except (OSError, ValueError):
+        return {}
+
+
+def serves() -> bool:
+    return server_note().get("is") == "serves" and captive().get("captive") is not None
+
+
+def waits() -> bool:
+    return server_note().get("is") == "waits"
+
+
+def last_entry() -> int:
+    """The moment of the database's last entry, by a copy of both files."""
+    with tempfile.TemporaryDirectory() as folder:
+        sh(f"cp {DATABASE}* {folder}/")
+        with contextlib.closing(sqlite3.connect(f"{folder}/{DATABASE.name}")) as base:
+            return base.execute("SELECT last_moment FROM portal_head").fetchone()[0]
 
 
 def redeem(text: str) -> int:

@@ -8,8 +8,9 @@ import shutil
 
 from machine import (
     COPIES, DATABASE, HERE, PARTS, UNITS, Gap, active, all_run, apt, captive, certificate, check, check_all_active, code,
-    count_outside, counter, forward, install, installed, passes, redeem, sessions, sh, show, told, tokens, until,
-    versions)
+    count_outside, counter, forward, install, installed, passes, redeem, say_the_time_is_right, serves, sessions, sh, show,
+    told, tokens, until, versions)
+from wrong_clock import prepare
 
 WATCH = pathlib.Path("/run/venue-watch")
 SETTINGS = pathlib.Path("/etc/portal/field.toml")
@@ -101,7 +102,8 @@ def by_hand() -> None:
     shutil.copytree(HERE / "field", kit)
     sh(f"dpkg-deb -x {HERE}/portal_{versions()[0]}_amd64.deb /run/x; install -m 755 /run/x/usr/bin/portal /usr/bin/portal")
     certificate()
-    shutil.copy(kit / "settings/field.toml", "/root/my-field.toml")
+    text = (kit / "settings/field.toml").read_text()
+    pathlib.Path("/root/my-field.toml").write_text(text.replace('clock = "kernel"', 'clock = "clerk"'))
     made = sh(kit / "setup", "/root/my-field.toml")
     sh("printf 'clerk:%s\\n' \"$(echo secret | openssl passwd -6 -stdin)\" > /etc/portal/counter.passwords; "
        "chown root:www-data /etc/portal/counter.passwords; chmod 0640 /etc/portal/counter.passwords")
@@ -111,6 +113,9 @@ def by_hand() -> None:
     took = until(all_run, 20)
     check("by hand, in README's steps: every unit is active", took is not None,
           f"{told(made)} {told(begun)} {[unit for unit in UNITS if active(unit) != 'active']}")
+    told_of_time = say_the_time_is_right()
+    check("by hand: a new database waits for a clerk's word on the time", until(serves, 10) is not None and told_of_time,
+          told_of_time)
     redeem(code())
     check("by hand: a voucher is redeemed, and packets pass", until(passes, 6) is not None)
 
@@ -128,4 +133,4 @@ def package_over_it() -> None:
           f"longest gap of packets {gap.seconds} s; {[path for path in places.values() if path.startswith('/etc')]}; {told(again)}")
 
 
-STEPS = (after_the_boot, upgrade, way_back, remove_and_install, purge, by_hand, package_over_it)
+STEPS = (after_the_boot, upgrade, way_back, remove_and_install, purge, by_hand, package_over_it, prepare)

@@ -13,6 +13,8 @@ import socketserver
 import urllib.parse
 from typing import Any
 
+from notify import tell_systemd
+
 
 class BadForm(Exception):
     """A field is missing, or is not what it must be."""
@@ -94,6 +96,10 @@ class UnixServer(socketserver.ThreadingMixIn, socketserver.UnixStreamServer):
     daemon_threads, request_queue_size = True, 64
     front: Any      # what the pages ask: one of these two
     counter: Any
+
+    def service_actions(self) -> None:
+        """Twice a second, between requests: a page that hangs is ended by systemd and started again."""
+        tell_systemd(b"WATCHDOG=1")
 
     @classmethod
     def bound(cls, path: str, page: type[Page]) -> UnixServer:

@@ -104,7 +104,7 @@ class Server:
                     "starts once a time service has set the clock, or a clerk has said at the counter that the time "
                     "is right")
                 self.note(**{"is": "waits", "why": told, "last": verdict.last})
-            time.sleep(AGAIN)
+            threading.Event().wait(AGAIN)       # as a timed wait below, which counts by the monotonic clock
         say(f"starts at {local(int(time.time()))} in the venue's zone: {verdict.why}")
         self.note(**{"is": "serves", "since": time.time_ns()})
 
