@@ -124,7 +124,7 @@ class Counter:
     since: Any = None           # the start of the server, by its note, for which the plans were loaded
     tries: Tries = field(default_factory=Tries)
 
-    def load_plans(self) -> None:
+    def load_plans(self, since: Any = None) -> None:
         """At each start, with a number made from the file: a database that took this file before does nothing with it,
         and one that did not, as after a restore, takes it."""
         text = pathlib.Path(self.conf["plans"]).read_bytes()
@@ -134,6 +134,15 @@ class Counter:
         except (Refused, NoAnswer) as fault:
             told = refusals.of_word(fault.word) if isinstance(fault, Refused) else refusals.SILENT
             self.plans_notice = box("bad", "The plans file was not loaded.", told.cause, told.advice)
+            if isinstance(fault, NoAnswer):
+                return
+        self.since = since
+
+    def catch_up(self) -> None:
+        """A server that was started since may have another database."""
+        since = self.notes.read("state").get("since")
+        if since != self.since:
+            self.load_plans(since)
 
     def sell(self, form: Form, number: str) -> str:
         told = self.desk.tell(Routes.SELL, body={"code": form.word("code")}, number=number)
@@ -204,8 +213,7 @@ class Counter:
         told = self.notes.read("state")
         notice = self.server_notice(told)
         if not notice and (self.plans_notice or told.get("since") != self.since):
-            self.since = told.get("since")
-            self.load_plans()           # the database may be another now
+            self.load_plans(told.get("since"))
         return (notice or self.plans_notice) + self.home()
 
     def home(self) -> str:
@@ -297,6 +305,7 @@ class CounterPage(Page):
         number = form.word("request")
         if not REQUEST_NUMBER.fullmatch(number):
             raise BadForm("request")
+        self.server.counter.catch_up()
         what = self.path.strip("/") + " " + ", ".join(readable(form[name]) for name in form if name != "request")
         try:
             page = action(form, number)

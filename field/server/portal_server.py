@@ -58,12 +58,12 @@ def is_held(pid: int) -> bool:
 
 class Watch(threading.Thread):
     """Asks the server now and then, as a client of its own; it hangs where three answers in a row do not come in time.
-    Whoever holds it still ends that first: a server that is held is not asked for an answer."""
+    Silence alone counts: one that ends is noticed anyway, and one that somebody holds still goes on after that."""
     EACH, MOST = 5.0, 3
 
     def __init__(self, desk: Desk, pid: int) -> None:
         super().__init__(daemon=True)
-        self.desk, self.pid, self.silent, self.over = desk, pid, 0, threading.Event()
+        self.desk, self.pid, self.silent, self.over, self.told = desk, pid, 0, threading.Event(), False
 
     @property
     def hangs(self) -> bool:
@@ -76,8 +76,11 @@ class Watch(threading.Thread):
     def answers(self) -> bool:
         try:
             self.desk.tell(Routes.CAPTIVE, device=NOBODY)
-        except NoAnswer:
-            return False
+        except NoAnswer as fault:
+            if isinstance(fault.__cause__, ConnectionRefusedError) and not self.told:
+                self.told = True
+                say("does not watch the server: the packet rules let nobody of its user connect; load them anew")
+            return not isinstance(fault.__cause__, TimeoutError)
         except Refused:
             pass
         return True

@@ -189,6 +189,10 @@ class Pages(unittest.TestCase):
         numbers = [number for _, number in asked]
         self.assertEqual((len(asked), len(set(numbers)), None in numbers), (2, 2, False))
         self.assertTrue(all(number and re.fullmatch("plans-[0-9a-f]{30}", number) for number in numbers))
+        asked.clear()
+        self.notes.write("state", **{"is": "serves", "since": 3})
+        self.ask("/issue", batch="b1", plan="hour", count="1", request="i1")
+        self.assertEqual([path for path, _ in asked], ["/desk/plans", "/desk/batches"], "before anything is done")
 
     def test_a_server_that_waits_for_the_time_gets_a_clerks_word(self) -> None:
         self.notes.write("state", **{"is": "waits", "why": "it is before the last entry", "last": 1_764_000_000})

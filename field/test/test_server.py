@@ -84,11 +84,15 @@ class Times(Folder):
         self.assertEqual((verdict.right, "cannot be read" in verdict.why), (False, True))
 
     def test_looking_changes_neither_file(self) -> None:
-        base, files = self.holds(NOW), ("book.db", "book.db-wal")
-        before = [(self.folder / name).read_bytes() for name in files]
+        self.holds(NOW)
+        files = {name: (self.folder / name).read_bytes() for name in ("book.db", "book.db-wal")}
+        place = self.folder / "left"        # as a server that was killed leaves them: nobody else has them open
+        place.mkdir()
+        for name, data in files.items():
+            (place / name).write_bytes(data)
+        self.database = place / "book.db"
         self.assertTrue(self.told())
-        self.assertEqual([(self.folder / name).read_bytes() for name in files], before)
-        base.execute("UPDATE portal_head SET last_moment = 7")
+        self.assertEqual({path.name: path.read_bytes() for path in place.iterdir()}, files)
 
     def test_what_was_read_is_read_again_once_it_changed(self) -> None:
         base, one = self.holds(NOW + DAY), self.clock()
@@ -145,6 +149,19 @@ class Times(Folder):
         one.judge()
         self.time += 10 * DAY
         self.assertFalse(one.was_set())
+
+    def test_sleep_and_being_held_still_are_no_jump(self) -> None:
+        """The clock that goes on in sleep is looked at, and a look within which this process stood still is no look."""
+        looks, times = iter([100.0, 400.0, 400.0, 400.0]), iter([1000.0, 1300.0])
+        asked = []
+
+        def since_boot(which: int) -> float:
+            asked.append(which)
+            return next(looks)
+
+        with mock.patch("time.clock_gettime", since_boot), mock.patch("time.time", lambda: next(times)):
+            self.assertEqual(clock.origin(), 900.0)
+        self.assertEqual(set(asked), {time.CLOCK_BOOTTIME})
 
     def test_the_kernels_word(self) -> None:
         class Kernel:
@@ -253,9 +270,17 @@ class Runs(Folder):
         pid = server.watch.pid if server.watch else 0
         os.kill(pid, signal.SIGSTOP)
         time.sleep(4)           # three times in vain would be 1.3 s
+        self.assertEqual(self.status, [])
         os.kill(pid, signal.SIGCONT)
         self.assertTrue(self.until(self.answers))
         self.assertEqual(self.status, [])
+
+    def test_rules_that_refuse_the_watch_do_not_end_the_server(self) -> None:
+        """As with the rules of before an upgrade: nothing answers here, and each connection is refused."""
+        watch = portal_server.Watch(Desk(self.port, timeout=0.3), os.getpid())
+        with contextlib.redirect_stderr(self.log):
+            self.assertTrue(watch.answers() and watch.answers())
+        self.assertEqual(self.log.getvalue().count("load them anew"), 1)
 
     def test_an_answer_of_any_kind_is_one(self) -> None:
         self.kept = True
