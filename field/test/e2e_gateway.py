@@ -30,7 +30,7 @@ from e2e import Checks, forward_ipv6
 from house import PEER, House
 from lab import COUNTER, FIELD, MACS, NAME, OUTSIDE, PYTHON, STAND_IN
 
-IDS = {"portal-gateway": 7001, "portal-front": 7002, "portal-counter": 7003, "www-data": 33}
+IDS = {"portal-gateway": 7001, "portal-front": 7002, "portal-counter": 7003, "portal-clock": 7005, "www-data": 33}
 PRINTER = "02:aa:00:00:00:03"
 OPEN = "import socket, sys; s = socket.socket(socket.AF_UNIX); s.connect(sys.argv[1]); print('open')"
 
