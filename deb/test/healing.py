@@ -108,7 +108,7 @@ def settings_that_never_work() -> None:
     check("so does the counter's page", "The server does not start" in counter("")[1])
     mail = until((TOLD / "mail").exists, 10)
     text = (TOLD / "mail").read_text() if mail is not None else ""
-    check("the command of field.toml is told", text.startswith("portal.service failed on venue.") and "settings" in text, text[:90])
+    check("the command of field.toml is told", text.startswith("portal.service failed on venue.") and "portal: settings" in text, text[-300:])
     SETTINGS.write_text(good)
     failed.write_text(before)
     sh("systemctl restart portal")
@@ -143,7 +143,7 @@ def disk_is_full_for_a_while() -> None:
     check("a full disk stops the server; once there is room it goes on by itself", first != "" and refused
           and stopped is not None and took is not None, f"refused {refused}, stopped {stopped}; on {took} s after there is room")
     sh(f"systemctl stop portal; umount {folder}; rm -rf {folder}; mv /var/lib/kept {folder}; systemctl start portal")
-    check("and with the disk of before", until(lambda: serves() and passes(), 20) is not None, sh("ls -la", folder).stdout)
+    check("and with the disk of before", until(lambda: serves() and passes(), 20) is not None, server_note())
 
 
 def in_the_middle_of_a_copy() -> None:
