@@ -29,7 +29,7 @@ def said(*words: str) -> str:
 
 def message(unit: str) -> str:
     result = said("systemctl", "show", "-p", "Result,ExecMainStatus,ActiveState", unit)
-    lines = "" if unit.startswith("portal-counter") else said("journalctl", "-b", "-u", unit, "-n", "20", "--no-pager")
+    lines = "" if unit.startswith("portal-counter") else said("journalctl", "-u", unit, "-n", "20", "--no-pager")
     return f"{unit} failed on {socket.gethostname()}.\n\n{result}\n\n{lines}\n\nSee: systemctl status {unit}\n"
 
 
