@@ -108,7 +108,9 @@ def agent_hangs_and_stops() -> None:
     pid = show("portal-gateway", "MainPID")
     with Gap() as gap:
         sh("systemctl", "kill", "-s", "STOP", "portal-gateway")
+        shut = until(lambda: not passes(), 12)
         took = until(lambda: show("portal-gateway", "MainPID") not in (pid, "0") and passes(), 40)
+    check("while the agent hangs the gateway blocks by itself", shut is not None, f"{shut} s")
     check("an agent that hangs is ended and started again", took is not None,
           f"{took} s; longest gap of packets {gap.seconds} s")
     if took is None:

@@ -6,6 +6,7 @@ import contextlib
 import json
 import os
 import pathlib
+import threading
 import time
 from typing import Any
 
@@ -45,9 +46,8 @@ class Notes:
         return told if isinstance(told, dict) else {}
 
     def write(self, name: str, **values: Any) -> None:
-        part = self.folder / f".{name}.part"
-        part.unlink(missing_ok=True)        # another user's cannot be written to
-        with os.fdopen(os.open(part, os.O_WRONLY | os.O_CREAT | os.O_EXCL, 0o640), "w") as file:
+        part = self.folder / f".{name}.{os.getpid()}-{threading.get_ident()}"      # a form may be sent twice at once
+        with os.fdopen(os.open(part, os.O_WRONLY | os.O_CREAT | os.O_TRUNC, 0o640), "w") as file:
             os.fchmod(file.fileno(), 0o640)
             json.dump(values, file)
         part.replace(self.folder / name)
