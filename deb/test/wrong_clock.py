@@ -33,7 +33,7 @@ def prepare() -> None:
         (folder(unit) / "fake.conf").write_text(FAKE)
     OFFSET.write_text(AHEAD + "\n")
     text = code()
-    KEPT.write_text(json.dumps({"code": text, "page": counter(f"voucher?code={text}")[1], "last": last_entry()}))
+    KEPT.write_text(json.dumps({"code": text, "last": last_entry()}))
 
 
 def kept() -> dict[str, str]:
@@ -58,9 +58,6 @@ def boot_ten_years_ahead() -> None:
     took = until(lambda: serves() and passes(), 30)
     check("once the clock is set the server starts by itself, and the session goes on", took is not None,
           f"{took} s; {server_note()}")
-    page = counter(f"voucher?code={kept()['code']}")[1]
-    times = kept()["page"].partition("<h2>")[2]
-    check("the voucher of before is as it was", times and times in page)
     check("the counter loads its plans, which the database has: no entry is made", until(
         lambda: "not loaded" not in counter("")[1], 10) is not None and last_entry() <= time.time(), last_entry())
 
