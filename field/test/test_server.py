@@ -191,7 +191,7 @@ class Runs(Folder):
     def server(self, portal: str = PORTAL) -> portal_server.Server:
         words = [*portal.split(), "serve", "--port", str(self.port), "--db", str(self.folder / "desk.db"),
                  "--settings", str(self.folder / "settings.toml")]
-        return portal_server.Server(words, self.clock(), Desk(self.port, timeout=0.3), self.notes)
+        return portal_server.Server(words, self.clock(), Desk(self.port, timeout=1.0), self.notes)
 
     def started(self) -> tuple[portal_server.Server, threading.Thread]:
         """The server once it is asked for answers, in a thread."""
@@ -258,7 +258,7 @@ class Runs(Folder):
         self.addCleanup(self.end, server, thread)
         self.assertTrue(self.until(self.answers))
         with socket.create_connection(("127.0.0.1", self.port)):
-            thread.join(10)
+            thread.join(20)
         self.assertEqual(self.status, [portal_server.HUNG])
         self.assertIn("the server does not answer: it is ended", self.log.getvalue())
 
@@ -269,7 +269,7 @@ class Runs(Folder):
         self.assertTrue(self.until(self.answers) and server.watch)
         pid = server.watch.pid if server.watch else 0
         os.kill(pid, signal.SIGSTOP)
-        time.sleep(4)           # three times in vain would be 1.3 s
+        time.sleep(5)           # three times in vain would be 3.3 s
         self.assertEqual(self.status, [])
         os.kill(pid, signal.SIGCONT)
         self.assertTrue(self.until(self.answers))
