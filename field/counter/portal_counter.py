@@ -183,7 +183,7 @@ class Counter:
 
     @property
     def notes(self) -> Notes:
-        return Notes(self.conf["notes"])
+        return Notes(self.conf.get("notes", "/run/portal-clock"))     # the file may be of before
 
     def time_is_right(self, form: Form, number: str) -> str:
         """A clerk's word for the server that waits. It is for the clock that the page showed, and is taken once."""
