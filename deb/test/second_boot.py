@@ -124,6 +124,7 @@ def package_over_it() -> None:
     before = tokens()
     with Gap() as gap:
         done = install(versions()[0])
+        SETTINGS.write_text(SETTINGS.read_text().replace('clock = "kernel"', 'clock = "clerk"'))
         again = sh("portal-setup")
         took = until(lambda: all_run() and passes(), 20)
     places = {unit: show(unit, "FragmentPath") for unit in PARTS}
