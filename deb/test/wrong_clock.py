@@ -98,9 +98,11 @@ def clock_is_set_while_it_runs() -> None:
 
 
 def a_clerks_word() -> None:
-    """Two days ahead, over a copy of the database that is put back afterwards."""
+    """Two days ahead, over a copy of the database that is put back afterwards. At first without the agent, whose reports
+    would be entries."""
     aside = pathlib.Path("/var/lib/kept-database")
-    sh(f"systemctl stop portal; cp -a {DATABASE.parent} {aside}")
+    sh(f"systemctl stop portal-gateway portal; cp -a {DATABASE.parent} {aside}")
+    before = last_entry()
     OFFSET.write_text("+2d\n")
     sh("systemctl start portal")
     until(waits, 10)
@@ -111,10 +113,12 @@ def a_clerks_word() -> None:
           f"{took} s; {told}")
     check("the journal of the counter names the clerk", any("clerk at 10.88.0.2: time " in x
                                                             for x in journal("portal-counter")[-5:]))
+    sh("systemctl restart portal")
+    check("started again it need not be said anew, as the clock was not set since", until(serves, 10) is not None
+          and last_entry() == before, server_note())
+    sh("systemctl start portal-gateway")
     text = code()
     check("it sells at that time", text and last_entry() > time.time() + 86_400, last_entry() - time.time())
-    sh("systemctl restart portal")
-    check("started again it need not be said anew, as the clock was not set since", until(serves, 10) is not None)
     OFFSET.write_text("+5d\n")
     took = until(waits, 10)
     time.sleep(3)
