@@ -10,6 +10,7 @@ import shutil
 import subprocess
 import time
 
+from doctor_faults import doctor_is_content, doctor_names_faults
 from machine import (
     COPIES, DATABASE, HERE, NAME, OUTSIDE, PARTS, SESSIONS, Gap, active, captive, certificate, check, check_all_active,
     clerk, code, copies, count_outside, counter, curl, forward, install, journal, lease, parts, passes, redeem,
@@ -318,5 +319,5 @@ def before_the_reboot() -> None:
 
 
 STEPS = (install_and_set_up, parts_are_apart, first_guest, parts_are_killed, agent_hangs_and_stops, rules_go, lan_goes, nightly_copy,
-         drill, sell_after_the_copy, copy_is_stopped_in_the_middle, copy_is_killed_in_the_middle, restore_is_refused,
+         drill, doctor_is_content, doctor_names_faults, sell_after_the_copy, copy_is_stopped_in_the_middle, copy_is_killed_in_the_middle, restore_is_refused,
          copies_without_a_server, disk_is_full, restore, logs_rotate, before_the_reboot)

@@ -17,6 +17,7 @@ import unittest
 from typing import Any
 
 from desk_process import FIELD, PORTAL
+from fake_machine import LISTENERS, NETWORKS, Certificates, FakeMachine, as_ip_tells
 
 loader = importlib.machinery.SourceFileLoader("field_setup", str(FIELD / "setup"))
 setup: Any = types.ModuleType(loader.name)
@@ -78,35 +79,71 @@ class Lines(unittest.TestCase):
 
 
 class Looked(unittest.TestCase):
-    """What the program and the machine say of field.toml."""
+    """The doctor's checks before an installation; each check by itself is in test_doctor.py."""
 
     def setUp(self) -> None:
         self.folder = pathlib.Path(self.enterContext(tempfile.TemporaryDirectory()))
-        for name in ("sys/class/net/lan0", "sys/class/net/wan0", "etc/portal/tls"):
-            (self.folder / "machine" / name).mkdir(parents=True)
-        for name in ("cert.pem", "key.pem"):
-            (self.folder / "machine/etc/portal/tls" / name).write_text("x")
 
-    def run_setup(self, text: str, *more: object) -> tuple[int, str]:
-        path, root = self.folder / "field.toml", self.folder / "root"
-        path.write_text(text)
-        words = [sys.executable, FIELD / "setup", "--root", root, *more, path]
-        done = subprocess.run([str(word) for word in words], capture_output=True, text=True)
+    def run_setup(self, text: str, *more: object, path: str = os.environ["PATH"]) -> tuple[int, str]:
+        settings, root = self.folder / "field.toml", self.folder / "root"
+        settings.write_text(text)
+        words = [sys.executable, FIELD / "setup", "--root", root, *more, settings]
+        env = {**os.environ, "PATH": path, "SSL_CERT_FILE": str(self.folder / "ca.pem")}
+        done = subprocess.run([str(word) for word in words], capture_output=True, text=True, env=env)
         self.assertEqual(root.exists(), done.returncode == 0, "files are made where nothing is wrong alone")
         shutil.rmtree(root, ignore_errors=True)
         return done.returncode, done.stderr
 
+    def wrong(self, machine: FakeMachine) -> str:
+        """The one thing that set-up finds wrong and stops at, in its first line."""
+        status, told = self.run_setup(SAMPLE, "--machine", machine.root, "--portal", "/bin/true",
+                                      path=machine.on_path(self.folder))
+        lines = told.splitlines()
+        self.assertEqual((status, len(lines)), (1, 2), told)
+        self.assertRegex(lines[1], "^    do: ")
+        return lines[0].removeprefix(f"setup: {self.folder}/field.toml: ")
+
+    def good_machine(self) -> FakeMachine:
+        machine = FakeMachine(self.folder / "machine")
+        tls = machine.path("/etc/portal/tls")
+        tls.mkdir(parents=True)
+        Certificates(self.folder).sign(tls / "cert.pem", tls / "key.pem")
+        return machine
+
+    @unittest.skipUnless(shutil.which("openssl"), "openssl is not installed")
     def test_what_the_machine_does_not_have(self) -> None:
-        machine = self.folder / "machine"
-        self.assertEqual(self.run_setup(SAMPLE, "--machine", machine), (0, ""))
-        for gone, word in (("sys/class/net/wan0", "wan = 'wan0': this machine has no such network device"),
-                           ("etc/portal/tls/key.pem", "key = '/etc/portal/tls/key.pem': there is no such file"),
-                           ("sys/class/net/lan0", "lan = 'lan0': this machine has no such network device"),
-                           ("etc/portal/tls/cert.pem", "cert = '/etc/portal/tls/cert.pem': there is no such file")):
-            (machine / gone).rename(self.folder / "gone")
-            status, told = self.run_setup(SAMPLE, "--machine", machine)
-            (self.folder / "gone").rename(machine / gone)
-            self.assertEqual((status, told.splitlines()), (1, [f"setup: {self.folder}/field.toml: {word}"]))
+        machine = self.good_machine()
+        self.assertEqual(self.run_setup(SAMPLE, "--machine", machine.root, "--portal", "/bin/true",
+                                        path=machine.on_path(self.folder)), (0, ""))
+        good, left = dict(machine.says), dict(NETWORKS)
+        for name, key in (("wan0", "wan"), ("lan0", "lan")):
+            machine.says["ip -j address show"] = as_ip_tells({**left, name: ([], ["192.0.2.9/24"])}).replace(name, "eth7")
+            status, told = self.run_setup(SAMPLE, "--machine", machine.root, path=machine.on_path(self.folder))
+            self.assertEqual(status, 1)
+            self.assertIn(f"{key} = '{name}': this machine has no such network device", told)
+        machine.says = good
+        for name, key in (("cert", "cert"), ("key", "key")):
+            path = machine.path(f"/etc/portal/tls/{name}.pem")
+            path.rename(self.folder / "gone")
+            self.assertEqual(self.wrong(machine), f"{key} = '/etc/portal/tls/{name}.pem': there is no such file")
+            (self.folder / "gone").rename(path)
+
+    @unittest.skipUnless(shutil.which("openssl"), "openssl is not installed")
+    def test_what_else_stops_it(self) -> None:
+        """A clock that nobody sets, a program in the way, an address that is not there."""
+        machine = self.good_machine()
+        good = dict(machine.says)
+        in_the_way = LISTENERS + 'tcp LISTEN 0 5 0.0.0.0:80 0.0.0.0:* users:(("apache2",pid=7,fd=3))\n'
+        lan = as_ip_tells({**NETWORKS, "lan0": (NETWORKS["lan0"][0], [])})
+        for line, told, word in (("timedatectl ", "no\n", "it is not synchronised"), ("ss ", in_the_way, "apache2 listens there"),
+                                 ("ip -j address show", lan, 'guests = "10.77.0.1/22": no network device has this address')):
+            machine.says = {**good, line: told}
+            self.assertIn(word, self.wrong(machine))
+        machine.says = {**good, "ss ": "", "ip -j route show default": "[]"}     # nothing runs yet; the line comes later
+        status, told = self.run_setup(SAMPLE, "--machine", machine.root, "--portal", "/bin/true",
+                                      path=machine.on_path(self.folder))
+        self.assertEqual(status, 0, told)
+        self.assertRegex(told, r"\Asetup: warning: addresses: there is no default route.*\n\Z")
 
     def test_a_zone_that_the_program_does_not_take(self) -> None:
         """The program is asked; here it is a script that takes UTC0 alone, and then the one under test."""

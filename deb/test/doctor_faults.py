@@ -1,0 +1,83 @@
+"""The doctor on a venue that runs: content, and after each fault it names that fault."""
+
+from __future__ import annotations
+
+import json
+from dataclasses import dataclass
+from typing import Any
+
+from machine import COPIES, all_run, check, passes, sh, until
+
+TLS, HELD, RUN = "/etc/portal/tls", "/run/held", "/run/systemd/system/portal-backup.service.d"
+NEW = "openssl req -x509 -newkey ec -pkeyopt ec_paramgen_curve:P-256 -nodes -subj /CN=wifi.example"
+NAMES = "-addext subjectAltName=DNS:wifi.example,DNS:counter.example"
+LISTEN = "import socket, time; s = socket.create_server(('', 80)); time.sleep(60)"
+
+
+@dataclass(frozen=True)
+class Fault:
+    what: str
+    check: str          # by the doctor's name
+    word: str           # of what it says
+    begin: str
+    end: str
+
+
+FAULTS = (
+    Fault("dnsmasq stopped", "services", "dnsmasq.service is not active", "systemctl stop dnsmasq", "systemctl start dnsmasq"),
+    Fault("dnsmasq stopped, by its port", "ports", "udp port 67 of 10.77.0.1: nobody listens there, and dnsmasq should",
+          "systemctl stop dnsmasq", "systemctl start dnsmasq"),
+    Fault("the rules flushed, and the agent stopped", "rules", "the table portal is not loaded (inet, netdev)",
+          "systemctl stop portal-gateway; nft flush ruleset", "systemctl restart portal-rules@lan0; systemctl start portal-gateway"),
+    Fault("the agent stopped", "rules", "the grace timer does not run", "systemctl stop portal-gateway; sleep 6",
+          "systemctl start portal-gateway"),
+    Fault("a certificate that expired", "certificate", "expired on 2020-01-03",
+          f"cp -a {TLS} {HELD}; faketime 2020-01-01 {NEW} {NAMES} -days 2 -keyout {TLS}/key.pem -out {TLS}/cert.pem",
+          f"cp -a {HELD}/. {TLS}; rm -r {HELD}"),
+    Fault("a disk that is nearly full", "disk", f"{COPIES}: 1 MiB are free for the copies",
+          f"mount -t tmpfs -o size=1m tmpfs {COPIES}", f"umount {COPIES}"),
+    Fault("a clock that nobody keeps", "clock", "it is not synchronised", "touch /run/nobody-keeps-the-clock",
+          "rm /run/nobody-keeps-the-clock"),
+    Fault("a unit that failed", "services", "portal-backup.service has failed (exit-code)",
+          f"mkdir -p {RUN}; printf '[Service]\\nExecStart=\\nExecStart=/bin/false\\n' > {RUN}/fails.conf; "
+          "systemctl daemon-reload; systemctl start portal-backup",
+          f"rm -r {RUN}; systemctl daemon-reload; systemctl reset-failed portal-backup"),
+    Fault("another program on port 80", "ports", "tcp port 80 of 10.77.0.1: python3",
+          f'systemctl stop nginx; systemd-run -q --unit=in-the-way python3 -c "{LISTEN}"; sleep 1',
+          "systemctl stop in-the-way; systemctl start nginx"),
+)
+
+
+def asked(*before: str) -> tuple[int, dict[str, Any]]:
+    done = sh(*before, "portal-doctor", "--json") if before else sh("portal-doctor --json")
+    return done.returncode, json.loads(done.stdout)
+
+
+def found(told: dict[str, Any], state: str) -> list[str]:
+    return [f"{row['check']}: {row['what']}" for row in told["findings"] if row["state"] == state]
+
+
+def doctor_is_content() -> None:
+    status, told = asked()
+    wrong, warned = found(told, "wrong"), found(told, "warning")
+    check("the doctor finds nothing wrong on a venue that runs", (status, told["state"], wrong) == (0, "good", []), wrong)
+    check("it warns of a certificate with few days left",
+          any(line.startswith("certificate: ") and "days left" in line for line in warned), warned)
+    check.note(f"the doctor passes over: {found(told, 'passed over')}")
+    status, told = asked("setpriv", "--reuid=65534", "--regid=65534", "--clear-groups")
+    over = {line.partition(":")[0] for line in found(told, "passed over") if "root" in line}
+    check("without root it says what only root can see, and that is not wrong",
+          status == 0 and {"certificate", "ports", "rules", "server", "backup"} <= over, f"{over} {found(told, 'wrong')}")
+
+
+def doctor_names_faults() -> None:
+    for fault in FAULTS:
+        sh(fault.begin)
+        status, told = asked()
+        wrong = found(told, "wrong")
+        check(f"the doctor names {fault.what}", status == 1 and any(
+            line.startswith(fault.check + ": ") and fault.word in line for line in wrong), wrong)
+        sh(fault.end)
+        until(lambda: all_run() and passes(), 15)
+    took = until(lambda: asked()[0] == 0, 10)
+    check("and nothing once they are mended", took is not None, found(asked()[1], "wrong"))

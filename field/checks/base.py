@@ -1,0 +1,203 @@
+"""What the venue stands on: zone, clock, disk, last backup, versions."""
+
+from __future__ import annotations
+
+import os
+import pathlib
+import re
+import secrets
+import shlex
+import shutil
+import subprocess
+import tempfile
+import time
+from collections.abc import Iterator
+
+from copies import BadCopy, copy_both, fold, head_of, sum_of
+from findings import CannotTell, Finding, Machine, State, good, warning, wrong
+from venue import Field, toml
+
+DAY, MIB = 86400, 1 << 20
+CLOCK_SLACK = 60                # seconds
+OLD_COPY = 36 * 3600            # the timer makes one each night
+LARGE = 256 * MIB               # a database that is not copied to be looked at
+OLDEST_KERNEL = (5, 16)         # the first with nftables at a device's egress
+LIBRARIES = {"python3-nftables": "the gateway agent", "python3-segno": "sheets with QR codes"}
+
+
+def answer_to(portal: str, zone: str, url: str) -> str:
+    """What the program says against settings, or nothing: it checks a new file in a scratch folder."""
+    with tempfile.TemporaryDirectory() as folder:
+        path = pathlib.Path(folder) / "portal.toml"
+        path.write_text(toml({"zone": zone, "portal_url": url, "desk_token": secrets.token_urlsafe(32),
+                              "gateway_token": secrets.token_urlsafe(32)}))
+        words = [*shlex.split(portal), "check", "--db", f"{folder}/new.db", "--settings", str(path)]
+        done = subprocess.run(words, capture_output=True, text=True, timeout=60)
+    return "" if done.returncode == 0 else done.stderr.strip() or f"status {done.returncode}"
+
+
+def faults_of_settings(field: Field, portal: str) -> Iterator[Finding]:
+    """The program's own word on the zone, and on the portal's address."""
+    try:
+        told = answer_to(portal, field.zone, field.url)
+        if told and not answer_to(portal, "UTC0", field.url):
+            yield wrong(f"zone = {field.zone!r}: the program takes a POSIX rule, such as UTC0 or "
+                        "CET-1CEST,M3.5.0,M10.5.0/3", "change the line in field.toml")
+            return
+    except (OSError, subprocess.TimeoutExpired) as fault:
+        told = str(fault)
+    if told:
+        yield wrong(f"{portal} does not take these settings: {told}", "install the program, or look at field.toml")
+
+
+def zone(machine: Machine) -> Iterator[Finding]:
+    faults = list(faults_of_settings(machine.field, machine.portal))
+    yield from faults or [good(f"the program takes {machine.field.zone}")]
+
+
+def clock(machine: Machine) -> Iterator[Finding]:
+    now = time.strftime("%Y-%m-%d %H:%M:%S", time.gmtime(machine.now))
+    yield from against_the_database(machine)
+    told = machine.told("timedatectl", "show", "--property=NTPSynchronized", "--value").strip()
+    if told == "yes":
+        yield good(f"it is synchronised: {now} UTC")
+    else:
+        yield wrong(f"it is not synchronised: {now} UTC by this machine. Each command at a wrong time stays in the "
+                    "database for good", "`timedatectl timesync-status`; is there a time service (`apt install "
+                    "systemd-timesyncd`), and does it reach its servers?")
+
+
+def against_the_database(machine: Machine) -> Iterator[Finding]:
+    """The last command's time, from a copy: the server has the database locked."""
+    path = machine.path(machine.DATABASE)
+    try:
+        if not path.exists():
+            return
+        if path.stat().st_size > LARGE:
+            raise CannotTell("the database is too large to look at its last time beside the server")
+        with tempfile.TemporaryDirectory() as folder:
+            one = pathlib.Path(folder) / "copy.db"
+            copy_both(path, one)
+            fold(one)
+            head = head_of(one)
+    except (BadCopy, OSError, subprocess.SubprocessError):
+        yield Finding(State.PASSED_OVER, "the database's last time cannot be read: only root can, and not while it is "
+                      "being written")
+        return
+    if head and head[1] > machine.now + CLOCK_SLACK:
+        last = time.strftime("%Y-%m-%d %H:%M:%S", time.gmtime(head[1]))
+        yield wrong(f"the last command in the database is of {last} UTC, which is later than now: until then all "
+                    "commands count as of that time", "set the clock; where it is right, that command came at a "
+                    "wrong time: restore a copy of before it (README.md, \"Day by day\")")
+
+
+def disk(machine: Machine) -> Iterator[Finding]:
+    """Room for what a backup needs: the copy, and a second one that the program checks."""
+    database = machine.path(machine.DATABASE)
+    held = sum(path.stat().st_size for path in (database, pathlib.Path(f"{database}-wal")) if readable(path))
+    need = 3 * held + 64 * MIB
+    for what, name in (("the database", machine.DATABASE), ("the copies", machine.COPIES + "/copy")):
+        folder = machine.path(name).parent
+        while not readable(folder):
+            folder = folder.parent
+        free, files = shutil.disk_usage(folder).free, os.statvfs(folder)
+        room = f"{folder}: {free // MIB} MiB are free for {what}"
+        if free < need or (files.f_files and files.f_favail < 100):
+            yield wrong(room if free < need else f"{folder}: no more files can be made", f"{need // MIB} MiB are the "
+                        "least: delete what is not needed (`du -xh --max-depth=2 / | sort -h | tail`), old copies "
+                        "after they were carried to another machine")
+        elif free < 8 * need:
+            yield warning(room, "make room before it is needed")
+        else:
+            yield good(room)
+
+
+def readable(path: pathlib.Path) -> bool:
+    try:
+        return path.exists()
+    except PermissionError:
+        return False
+
+
+def backup(machine: Machine) -> Iterator[Finding]:
+    folder = machine.path(machine.COPIES)
+    try:
+        found = sorted(folder.glob("[0-9]*Z.db")) if folder.is_dir() and list(folder.iterdir()) is not None else []
+    except PermissionError:
+        raise CannotTell(f"{machine.COPIES} only root can read") from None
+    make = "`systemctl start portal-backup`, and `journalctl -u portal-backup` where that fails"
+    if not found:
+        tell = warning if is_new(machine) else wrong
+        yield tell(f"there is no copy of the database in {machine.COPIES}", make)
+        return
+    newest = found[-1]
+    age = int(machine.now - newest.stat().st_mtime)
+    if age > OLD_COPY:
+        yield wrong(f"the last copy, {newest.name}, is {age // 3600} hours old", make)
+    else:
+        yield good(f"the last copy, {newest.name}, is {max(age, 0) // 3600} hours old")
+    yield from sums(newest, make)
+
+
+def is_new(machine: Machine) -> bool:
+    """Whether the first night has not come yet: tokens are drawn once."""
+    path = machine.path("/etc/portal/credentials/desk_token")
+    return not path.exists() or machine.now - path.stat().st_mtime < OLD_COPY
+
+
+def sums(copy: pathlib.Path, make: str) -> Iterator[Finding]:
+    beside = pathlib.Path(f"{copy}.sha256")
+    if not beside.exists():
+        yield warning(f"{copy.name} has no SHA-256 beside it", make)
+    elif sum_of(copy) != beside.read_text().partition(" ")[0]:
+        yield wrong(f"{copy.name} is not what its SHA-256 says: it was changed or damaged",
+                    f"do not restore it; look at the disk; {make}")
+    else:
+        yield good("its SHA-256 is right")
+
+
+def versions(machine: Machine) -> Iterator[Finding]:
+    yield from program(machine)
+    told = machine.run("dpkg-query", "-W", "-f", "${Package} ${Version} ${db:Status-Status}\n", "portal", *LIBRARIES)
+    packages = {row[0]: row[1] for row in map(str.split, told.stdout.splitlines()) if row[2:] == ["installed"]}
+    yield good(f"package portal {packages['portal']}" if "portal" in packages else "installed by hand: no package")
+    for name, use in LIBRARIES.items():
+        yield good(f"{name} {packages[name]}") if name in packages else \
+            wrong(f"{name} is not installed: {use} needs it", f"`apt install {name}`")
+    yield kernel(machine)
+    for words in (("nft", "--version"), ("nginx", "-v"), ("dnsmasq", "--version")):
+        yield tool(machine, *words)
+
+
+def program(machine: Machine) -> Iterator[Finding]:
+    try:
+        told = machine.told(*shlex.split(machine.portal), "--version")
+    except CannotTell as why:
+        yield wrong(str(why), "install the program again")
+        return
+    yield good(told.strip())
+    yield from schema(machine, told)
+
+
+def schema(machine: Machine, told: str) -> Iterator[Finding]:
+    """The package keeps the schema version of the database beside it."""
+    mark, known = machine.path("/var/lib/portal/schema"), re.search(r"schema version (\d+)", told)
+    if known and readable(mark) and int(mark.read_text()) > int(known[1]):
+        yield wrong(f"the database has schema version {mark.read_text().strip()}, and this program knows none after "
+                    f"{known[1]}", "install the later program, or restore the copy of before the upgrade")
+
+
+def tool(machine: Machine, *words: str) -> Finding:
+    try:
+        done = machine.run(*words)
+    except CannotTell as why:
+        return wrong(str(why), f"`apt install {words[0].replace('nft', 'nftables')}`")
+    return good((done.stdout + done.stderr).strip().partition("\n")[0].partition("  Copyright")[0])
+
+
+def kernel(machine: Machine) -> Finding:
+    release = machine.told("uname", "-r").strip()
+    found = re.match(r"(\d+)\.(\d+)", release)
+    if found and (int(found[1]), int(found[2])) < OLDEST_KERNEL:
+        return wrong(f"Linux {release} has no rules at a device's egress", "install Debian 12's kernel, or a later one")
+    return good(f"Linux {release}")

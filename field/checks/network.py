@@ -1,0 +1,214 @@
+"""Devices, addresses, limits and ports."""
+
+from __future__ import annotations
+
+import ipaddress
+import json
+import re
+from collections.abc import Iterator
+from dataclasses import dataclass
+from typing import Any
+
+from findings import CannotTell, Finding, Machine, good, warning, wrong
+
+UP_AT_BOOT = "and have it so after a boot, too (/etc/network/interfaces)"
+LEASES = "/var/lib/misc/dnsmasq.leases"
+NEIGHBOURS = "/proc/sys/net/ipv4/neigh/default/gc_thresh3"
+EVERY = ("0.0.0.0", "*")        # as `ss` writes a socket for all addresses
+LISTENER = re.compile(r"(tcp|udp)\s+\S+\s+\d+\s+\d+\s+(\S+):(\d+)\s+\S+\s*(.*)")
+
+
+def shown(machine: Machine) -> dict[str, dict[str, Any]]:
+    """The network devices by their names, as `ip` shows them."""
+    return {row["ifname"]: row for row in json.loads(machine.told("ip", "-j", "address", "show")) if "ifname" in row}
+
+
+def held(device: dict[str, Any]) -> list[ipaddress.IPv4Interface]:
+    return [ipaddress.IPv4Interface(f"{row['local']}/{row['prefixlen']}") for row in device.get("addr_info", ())
+            if row.get("family") == "inet"]
+
+
+def device_of(found: dict[str, dict[str, Any]], address: ipaddress.IPv4Interface) -> str | None:
+    return next((name for name, device in found.items() if address.ip in (own.ip for own in held(device))), None)
+
+
+def devices(machine: Machine) -> Iterator[Finding]:
+    field, found = machine.field, shown(machine)
+    for key, name in (("lan", field.lan), ("wan", field.wan)):
+        if name in found:
+            yield link(machine, key, found[name])
+        else:
+            yield wrong(f"{key} = {name!r}: this machine has no such network device",
+                        f"plug it in, or change the line in field.toml; there are {', '.join(sorted(found))}")
+    counter = device_of(found, ipaddress.IPv4Interface(field.counter))
+    if counter in (field.lan, field.wan):
+        yield wrong(f"counter = {field.counter!r}: this address is on {counter}, which is no network of the counter",
+                    "give the counter a network device of its own")
+    elif counter:
+        yield link(machine, "counter", found[counter])
+
+
+def link(machine: Machine, key: str, device: dict[str, Any]) -> Finding:
+    name, flags = device["ifname"], device.get("flags", ())
+    if "UP" not in flags:
+        return wrong(f"{key}: {name} is down", f"`ip link set {name} up`, {UP_AT_BOOT}")
+    if "LOWER_UP" not in flags:
+        tell = wrong if machine.installed else warning
+        return tell(f"{key}: {name} has no link", "look at its cable, and at what is at the other end")
+    return good(f"{key}: {name} is up")
+
+
+def addresses(machine: Machine) -> Iterator[Finding]:
+    field, found = machine.field, shown(machine)
+    guests, counter = ipaddress.IPv4Interface(field.guests), ipaddress.IPv4Interface(field.counter)
+    yield own_address("guests", guests, found, field.lan)
+    yield own_address("counter", counter, found, device_of(found, counter))
+    yield from outside(machine, found, (guests, counter))
+
+
+def own_address(key: str, address: ipaddress.IPv4Interface, found: dict[str, Any], name: str | None) -> Finding:
+    there = device_of(found, address)
+    if there is None:
+        given = f"`ip address add {address} dev {name or 'DEVICE'}`, {UP_AT_BOOT}"
+        return wrong(f"{key} = \"{address}\": no network device has this address", given)
+    if there != name:
+        return wrong(f"{key} = \"{address}\": {there} has this address, and not {name}", f"give it to {name}")
+    if address not in held(found[there]):
+        other = next(own for own in held(found[there]) if own.ip == address.ip)
+        return wrong(f"{key} = \"{address}\": {there} has it as {other}", "make both the same")
+    return good(f"{key}: {there} has {address}")
+
+
+def outside(machine: Machine, found: dict[str, Any], ours: tuple[ipaddress.IPv4Interface, ...]) -> Iterator[Finding]:
+    """wan has an address, on a network of its own, and the way out leads through it."""
+    wan = machine.field.wan
+    own = held(found[wan]) if wan in found else []
+    if wan in found and not own:
+        tell = wrong if machine.installed else warning
+        yield tell(f"wan: {wan} has no address", "look at the line's device, or at this device's DHCP client")
+    for address in own:
+        for other in ours:
+            if address.network.overlaps(other.network):
+                yield wrong(f"wan: {address} on {wan} overlaps {other.network}, which is ours",
+                            "choose other networks in field.toml: guests and counter")
+    routes = json.loads(machine.told("ip", "-j", "route", "show", "default") or "[]")
+    ways = sorted({str(row.get("dev")) for row in routes})
+    if wan in ways and own:
+        yield good(f"wan: {wan} has {', '.join(map(str, own))}, and the way out leads through it")
+    elif ways and wan not in ways:
+        yield wrong(f"wan: the way out leads through {', '.join(ways)} and not through {wan}",
+                    "set the default route, or name the right device in field.toml")
+    elif not ways:
+        yield warning("there is no default route: names and most of the outside cannot be reached",
+                      f"set it through {wan}")
+
+
+def limits(machine: Machine) -> Iterator[Finding]:
+    """The size of the guests' network against leases and what the kernel keeps."""
+    field = machine.field
+    network = ipaddress.IPv4Interface(field.guests).network
+    first, last = (ipaddress.IPv4Address(text) for text in field.leases[:2])
+    room = int(last) - int(first) + 1
+    yield from leases_left(machine, network, first, last)
+    if not machine.path(NEIGHBOURS).exists():
+        raise CannotTell("how many neighbours the kernel keeps is not shown here")
+    most = int(machine.read(NEIGHBOURS))
+    if most < room:
+        yield wrong(f"the kernel keeps {most} neighbours at most, and there are {room} leases: a full network has no "
+                    "room for new devices", "`sysctl -p /etc/sysctl.d/60-portal.conf`")
+    else:
+        yield good(f"the kernel keeps up to {most} neighbours")
+
+
+def leases_left(machine: Machine, network: ipaddress.IPv4Network, first: ipaddress.IPv4Address,
+                last: ipaddress.IPv4Address) -> Iterator[Finding]:
+    room = int(last) - int(first) + 1
+    if not machine.path(LEASES).exists():
+        yield good(f"{room} leases in a network of {network.num_addresses - 2} addresses")
+        return
+    rows = [line.split() for line in machine.read(LEASES).splitlines()]
+    given = sum(is_given(row, int(machine.now), first, last) for row in rows)
+    if given >= room:
+        yield wrong(f"all {room} leases are given: no new device gets an address",
+                    "make the time in `leases` shorter, or the guests' network wider (field.toml)")
+    elif given >= room * 0.9:
+        yield warning(f"{given} of {room} leases are given",
+                      "make the time in `leases` shorter, or the guests' network wider (field.toml)")
+    else:
+        yield good(f"{given} of {room} leases are given, in a network of {network.num_addresses - 2} addresses")
+
+
+def is_given(row: list[str], now: int, first: ipaddress.IPv4Address, last: ipaddress.IPv4Address) -> bool:
+    """A line of dnsmasq's: the lease's end (0: none), the device, the address."""
+    if len(row) < 3 or not row[0].isdigit() or ":" in row[2]:
+        return False
+    return first <= ipaddress.IPv4Address(row[2]) <= last and (row[0] == "0" or int(row[0]) > now)
+
+
+@dataclass(frozen=True)
+class Door:
+    """A port that a part of the venue listens on."""
+    kind: str
+    address: str
+    port: int
+    program: str
+
+    def __str__(self) -> str:
+        return f"{self.kind} port {self.port} of {self.address}"
+
+
+@dataclass(frozen=True)
+class Listener:
+    kind: str
+    address: str
+    device: str
+    port: int
+    programs: tuple[tuple[str, str], ...]      # name and process; none where it cannot be seen
+
+    def stands_in(self, door: Door, device: str) -> bool:
+        same = self.address == door.address or (self.address in EVERY and self.device in ("", device))
+        return (self.kind, self.port) == (door.kind, door.port) and same
+
+
+def listeners(machine: Machine) -> list[Listener]:
+    found = []
+    for line in machine.told("ss", "-Hlntup").splitlines():
+        parts = LISTENER.match(line)
+        if parts:
+            address, _, device = parts[2].partition("%")
+            programs = tuple(re.findall(r'\("([^"]*)",pid=(\d+)', parts[4]))
+            found.append(Listener(parts[1], address, device, int(parts[3]), programs))
+    return found
+
+
+def ports(machine: Machine) -> Iterator[Finding]:
+    field = machine.field
+    guests, counter = (str(ipaddress.IPv4Interface(text).ip) for text in (field.guests, field.counter))
+    doors = (Door("udp", guests, 53, "dnsmasq"), Door("tcp", guests, 53, "dnsmasq"), Door("udp", guests, 67, "dnsmasq"),
+             Door("tcp", guests, 80, "nginx"), Door("tcp", guests, 443, "nginx"), Door("tcp", counter, 443, "nginx"),
+             Door("tcp", "127.0.0.1", field.desk_port, "portal"))
+    found, unseen, faults = listeners(machine), False, 0
+    for door in doors:
+        here = [one for one in found if one.stands_in(door, field.lan)]
+        unseen = unseen or any(not one.programs for one in here)
+        for fault in faults_at(door, here, machine.installed):
+            faults += 1
+            yield fault
+    if unseen and not machine.is_root():
+        raise CannotTell("which programs listen only root can see")
+    if not faults:
+        yield good("dnsmasq, nginx and the server have their ports" if machine.installed else
+                   "no other program listens on a port that the venue needs")
+
+
+def faults_at(door: Door, here: list[Listener], installed: bool) -> Iterator[Finding]:
+    others = sorted({other for one in here for other in one.programs if other[0] != door.program})
+    names = {name for name, _ in others}
+    for name in sorted(names):
+        process = next(number for other, number in others if other == name)
+        yield wrong(f"{door}: {name} listens there (process {process}), and {door.program} needs it",
+                    f"stop it (`systemctl disable --now` its unit: `systemctl status {process}`), or let it listen on "
+                    "other addresses")
+    if installed and not here:
+        yield wrong(f"{door}: nobody listens there, and {door.program} should",
+                    f"`systemctl status {'portal' if door.program == 'portal' else door.program}`")

@@ -1,0 +1,138 @@
+"""field.toml, the one file that a venue edits: its lines, and what is refused of them."""
+
+from __future__ import annotations
+
+import ipaddress
+import json
+import re
+import tomllib
+from dataclasses import MISSING, dataclass, fields
+from dataclasses import field as listing
+from typing import Any
+
+HOST = re.compile(r"(?=.{1,253}\Z)([a-z0-9]([a-z0-9-]{0,61}[a-z0-9])?\.)+[a-z]{2,63}")
+DEVICE = re.compile(r"[A-Za-z0-9][A-Za-z0-9._-]{0,14}")
+PATH = re.compile(r"/[A-Za-z0-9/._-]+")
+ZONE = re.compile(r"[!-~]{1,64}")
+MAC = re.compile(r"[0-9a-f][02468ace](:[0-9a-f]{2}){5}")        # of one device, not of a group
+TIME = re.compile(r"[0-9]{1,4}[mhd]?")
+CLOCKS = ("kernel", "host", "clerk")     # as server/right_time.py has them
+
+
+class BadSettings(Exception):
+    """A line of field.toml is missing, unknown, or not what it must be."""
+
+
+@dataclass(frozen=True)
+class Field:
+    """The lines of field.toml."""
+    house: str
+    help: str
+    name: str
+    zone: str
+    lan: str
+    guests: str
+    leases: list[str]
+    wan: str
+    counter: str
+    counter_name: str
+    cert: str
+    key: str
+    # What came later has a default, so that a file of before goes on.
+    desk_port: int = 8080
+    poll_seconds: float = 1.0
+    grace_seconds: int = 5
+    quiet_seconds: float = 30.0
+    time_quiet_seconds: float = 600.0
+    without_browser: list[str] = listing(default_factory=list)
+    clock: str = "kernel"
+    on_failure: list[str] = listing(default_factory=list)
+
+    @classmethod
+    def read(cls, text: str) -> Field:
+        try:
+            given = tomllib.loads(text)
+        except tomllib.TOMLDecodeError as fault:
+            raise BadSettings(str(fault)) from fault
+        unknown = given.keys() - {field.name for field in fields(cls)}
+        needed = {f.name for f in fields(cls) if f.default is MISSING and f.default_factory is MISSING}
+        missing = needed - given.keys()
+        for what, names in (("unknown", unknown), ("missing", missing)):
+            if names:
+                raise BadSettings(f"{what}: {', '.join(sorted(names))}")
+        field = cls(**given)
+        field.check()
+        return field
+
+    @property
+    def url(self) -> str:
+        return f"https://{self.name}/portal"
+
+    def check(self) -> None:
+        """These words go into other programs' files, so each is of its own shape."""
+        shapes = {"name": HOST, "counter_name": HOST, "lan": DEVICE, "wan": DEVICE,
+                  "cert": PATH, "key": PATH, "zone": ZONE}
+        for key, shape in shapes.items():
+            value = getattr(self, key)
+            if not (isinstance(value, str) and shape.fullmatch(value)):
+                raise BadSettings(f"{key} = {value!r}")
+        for one, other in (("lan", "wan"), ("name", "counter_name")):
+            if getattr(self, one) == getattr(self, other):
+                raise BadSettings(f"{one} and {other} are the same: {getattr(self, one)}")
+        if not all(isinstance(text, str) for text in (self.house, self.help)):
+            raise BadSettings("house and help are words")
+        limits = {"desk_port": (1, 65535), "poll_seconds": (0.2, 10), "grace_seconds": (2, 60),
+                  "quiet_seconds": (1, 3600), "time_quiet_seconds": (1, 86400)}
+        for key, (least, most) in limits.items():
+            value = getattr(self, key)
+            if isinstance(value, bool) or not isinstance(value, (int, float)) or not least <= value <= most:
+                raise BadSettings(f"{key} = {value!r}: from {least} to {most}")
+        if not isinstance(self.desk_port, int) or not isinstance(self.grace_seconds, int):
+            raise BadSettings("desk_port and grace_seconds are whole numbers")
+        if self.grace_seconds < 2 * self.poll_seconds:
+            raise BadSettings("grace_seconds is less than two polls")
+        self.check_services()
+        self.check_devices()
+        self.check_networks()
+
+    def check_services(self) -> None:
+        if self.clock not in CLOCKS:
+            raise BadSettings(f"clock = {self.clock!r}: one of {', '.join(CLOCKS)}")
+        words = self.on_failure
+        if not isinstance(words, list) or not all(isinstance(word, str) and word for word in words):
+            raise BadSettings("on_failure is a list of a command's words")
+
+    def check_devices(self) -> None:
+        listed = self.without_browser
+        if not isinstance(listed, list) or not all(isinstance(mac, str) for mac in listed):
+            raise BadSettings("without_browser is a list of MAC addresses")
+        for mac in listed:
+            if not MAC.fullmatch(mac.lower()):
+                raise BadSettings(f"without_browser: {mac!r} is no MAC address of a device, such as 02:00:00:00:00:01")
+
+    def listed(self) -> str:
+        """The elements of both sets of portal.nft, where there are any."""
+        macs = ", ".join(sorted({mac.lower() for mac in self.without_browser}))
+        return "".join(f"add element {family} portal listed {{ {macs} }}\n" for family in ("inet", "netdev") if macs)
+
+    def check_networks(self) -> None:
+        try:
+            guests, counter = ipaddress.IPv4Interface(self.guests), ipaddress.IPv4Interface(self.counter)
+            first, last, time = self.leases
+            leased = ipaddress.IPv4Address(first), ipaddress.IPv4Address(last)
+        except (ValueError, TypeError) as fault:
+            raise BadSettings(f"guests, counter or leases: {fault}") from fault
+        if guests.network.overlaps(counter.network):
+            raise BadSettings("guests and counter are on one network")
+        for key, own in (("guests", guests), ("counter", counter)):
+            if own.network.prefixlen > 30 or own.ip in (own.network.network_address, own.network.broadcast_address):
+                raise BadSettings(f"{key} = \"{own}\": not the address of a machine on a network")
+        ends = guests.network.network_address, guests.network.broadcast_address
+        if not (ends[0] < leased[0] <= leased[1] < ends[1] and isinstance(time, str) and TIME.fullmatch(time)):
+            raise BadSettings("leases: first and last address within the guests' network, and a time such as 1h")
+        if leased[0] <= guests.ip <= leased[1]:
+            raise BadSettings(f"leases: {guests.ip} is this machine's own address and would be given to a guest")
+
+
+def toml(values: dict[str, Any]) -> str:
+    return "".join(f"{key} = {json.dumps(value, ensure_ascii=False)}\n" for key, value in values.items())
