@@ -120,7 +120,7 @@ def server(machine: Machine) -> Iterator[Finding]:
 
 def clerks(machine: Machine) -> Iterator[Finding]:
     """nginx's workers read the passwords themselves."""
-    name, add = "/etc/portal/counter.passwords", "`portal-setup --clerk NAME`, or step 5 of README.md by hand"
+    name, add = "/etc/portal/counter.passwords", "`portal-setup --clerk NAME`, or step 3 of README.md by hand"
     path = machine.path(name)
     if not path.exists():
         yield wrong(f"no clerk has a password: there is no {name}", add)
