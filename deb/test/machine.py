@@ -127,7 +127,9 @@ def installed() -> str:
 def certificate() -> None:
     os.makedirs("/etc/portal/tls", exist_ok=True)
     for name in ("cert.pem", "key.pem"):
-        pathlib.Path("/etc/portal/tls", name).write_bytes((HERE / name).read_bytes())
+        path = pathlib.Path("/etc/portal/tls", name)
+        path.touch(mode=0o600)
+        path.write_bytes((HERE / name).read_bytes())
 
 
 def tokens() -> list[str]:
