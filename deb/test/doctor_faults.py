@@ -8,6 +8,7 @@ from typing import Any
 
 from machine import COPIES, all_run, check, passes, sh, until
 
+FIELD, TIME = "/etc/portal/field.toml", "/usr/local/bin/timedatectl"        # what the kernel says is this machine's
 TLS, HELD, RUN = "/etc/portal/tls", "/run/held", "/run/systemd/system/portal-backup.service.d"
 NEW = "openssl req -x509 -newkey ec -pkeyopt ec_paramgen_curve:P-256 -nodes -subj /CN=wifi.example"
 NAMES = "-addext subjectAltName=DNS:wifi.example,DNS:counter.example"
@@ -36,8 +37,9 @@ FAULTS = (
           f"cp -a {HELD}/. {TLS}; rm -r {HELD}"),
     Fault("a disk that is nearly full", "disk", f"{COPIES}: 1 MiB are free for the copies",
           f"mount -t tmpfs -o size=1m tmpfs {COPIES}", f"umount {COPIES}"),
-    Fault("a clock that nobody keeps", "clock", "it is not synchronised", "touch /run/nobody-keeps-the-clock",
-          "rm /run/nobody-keeps-the-clock"),
+    Fault("a clock that nobody keeps", "clock", "it is not synchronised",
+          f"cp -p {FIELD} /run/; sed -i 's/clock = \"clerk\"/clock = \"kernel\"/' {FIELD}; "
+          f"printf '#!/bin/sh\\necho no\\n' > {TIME}; chmod 755 {TIME}", f"cp -p /run/field.toml {FIELD}; rm {TIME}"),
     Fault("a unit that failed", "services", "portal-backup.service has failed (exit-code)",
           f"mkdir -p {RUN}; printf '[Service]\\nExecStart=\\nExecStart=/bin/false\\n' > {RUN}/fails.conf; "
           "systemctl daemon-reload; systemctl start portal-backup",

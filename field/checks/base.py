@@ -13,8 +13,9 @@ import tempfile
 import time
 from collections.abc import Iterator
 
-from copies import BadCopy, copy_both, fold, head_of, sum_of
+from copies import sum_of
 from findings import CannotTell, Finding, Machine, State, good, warning, wrong
+from right_time import Unreadable, last_moment
 from venue import Field, toml
 
 DAY, MIB = 86400, 1 << 20
@@ -56,39 +57,43 @@ def zone(machine: Machine) -> Iterator[Finding]:
 
 
 def clock(machine: Machine) -> Iterator[Finding]:
-    now = time.strftime("%Y-%m-%d %H:%M:%S", time.gmtime(machine.now))
     yield from against_the_database(machine)
+    now = f"{moment(machine.now)} by this machine"
+    believed = machine.given.clock if machine.given else "kernel"
+    if believed == "host":
+        yield good(f"the settings say that this machine's host keeps it: {now}")
+        return
     told = machine.told("timedatectl", "show", "--property=NTPSynchronized", "--value").strip()
     if told == "yes":
-        yield good(f"it is synchronised: {now} UTC")
+        yield good(f"a time service keeps it: {now}")
+    elif believed == "clerk":
+        yield warning(f"no time service keeps it: {now}", "compare the time and the year with another clock; a clerk "
+                      "tells the server on the counter's page that it is right")
     else:
-        yield wrong(f"it is not synchronised: {now} UTC by this machine. Each command at a wrong time stays in the "
-                    "database for good", "`timedatectl timesync-status`; is there a time service (`apt install "
-                    "systemd-timesyncd`), and does it reach its servers?")
+        yield wrong(f"it is not synchronised: {now}. Each command at a wrong time stays in the database for good",
+                    "`timedatectl timesync-status`; is there a time service (`apt install systemd-timesyncd`), and does "
+                    "it reach its servers? Where there is none: `clock` in field.toml")
+
+
+def moment(time_of: float) -> str:
+    return time.strftime("%Y-%m-%d %H:%M:%S UTC", time.gmtime(time_of))
 
 
 def against_the_database(machine: Machine) -> Iterator[Finding]:
     """The last command's time, from a copy: the server has the database locked."""
     path = machine.path(machine.DATABASE)
     try:
-        if not path.exists():
-            return
-        if path.stat().st_size > LARGE:
+        if readable(path) and path.stat().st_size > LARGE:
             raise CannotTell("the database is too large to look at its last time beside the server")
-        with tempfile.TemporaryDirectory() as folder:
-            one = pathlib.Path(folder) / "copy.db"
-            copy_both(path, one)
-            fold(one)
-            head = head_of(one)
-    except (BadCopy, OSError, subprocess.SubprocessError):
+        last = last_moment(path)
+    except (Unreadable, OSError):
         yield Finding(State.PASSED_OVER, "the database's last time cannot be read: only root can, and not while it is "
                       "being written")
         return
-    if head and head[1] > machine.now + CLOCK_SLACK:
-        last = time.strftime("%Y-%m-%d %H:%M:%S", time.gmtime(head[1]))
-        yield wrong(f"the last command in the database is of {last} UTC, which is later than now: until then all "
-                    "commands count as of that time", "set the clock; where it is right, that command came at a "
-                    "wrong time: restore a copy of before it (README.md, \"Day by day\")")
+    if last and last > machine.now + CLOCK_SLACK:
+        yield wrong(f"the last command in the database is of {moment(last)}, which is later than now: until then all "
+                    "commands count as of that time", "set the clock; where it is right, that command came at a wrong "
+                    "time: restore a copy of before it (README.md, \"Day by day\")")
 
 
 def disk(machine: Machine) -> Iterator[Finding]:

@@ -9,11 +9,13 @@ from collections import Counter
 from collections.abc import Iterator
 
 from desk_client import Desk, NoAnswer, Refused, Routes
-from findings import CannotTell, Finding, Machine, good, warning, wrong
+from findings import Finding, Machine, good, warning, wrong
+from machine_time import Notes
 
 RESTARTED = "MESSAGE_ID=5eb03494b6584870a536b337290809b3"      # systemd: a restart was scheduled
 PARTS = ("portal.service", "portal-gateway.service", "portal-front.service", "portal-counter.service",
          "nginx.service", "dnsmasq.service", "portal-backup.timer")
+NOTES = "/run/portal-clock"
 NOBODY = "02:00:00:00:00:00"    # a device that no guest has
 
 
@@ -102,17 +104,24 @@ def restarts(machine: Machine, units: set[str]) -> Iterator[Finding]:
 
 
 def server(machine: Machine) -> Iterator[Finding]:
-    """One whole request with a time limit; root is one of the users that may connect."""
-    port = machine.field.desk_port
+    """Its own note, and one whole request with a time limit; root is one of the users that may connect."""
+    port, note = machine.field.desk_port, Notes(str(machine.path(NOTES))).read("state")
     machine.needs_root("whether the server answers")
+    if note.get("is") == "waits":
+        yield wrong(f"it waits, as the time may be wrong: {note.get('why')}", "compare the time and the year with another "
+                    "clock. If it is right, say so on the counter's page; otherwise set it (`timedatectl set-time`)")
+        return
+    if note.get("is") == "failed":
+        yield wrong(f"it does not start: {note.get('why')}", "then `systemctl restart portal`")
+        return
     start = time.monotonic()
     try:
         Desk(port).tell(Routes.CAPTIVE, device=NOBODY)
     except Refused as refusal:
-        yield wrong(f"the server on port {port} refuses: {refusal.word}", "`journalctl -u portal -n 20`, then "
+        yield wrong(f"on port {port} it refuses: {refusal.word}", "`journalctl -u portal -n 20`, then "
                     "`systemctl restart portal`")
     except NoAnswer as fault:
-        yield wrong(f"the server on port {port} does not answer: {fault}", "`systemctl restart portal`; who holds a "
+        yield wrong(f"on port {port} it does not answer: {fault}", "`systemctl restart portal`; who holds a "
                     f"connection? (`ss -tnp sport = :{port}`)")
     else:
         yield good(f"it answers in {1000 * (time.monotonic() - start):.0f} ms")

@@ -12,7 +12,7 @@ import time
 from typing import Any
 
 FIELD = pathlib.Path(__file__).resolve().parent.parent
-sys.path[:0] = [str(FIELD / part) for part in ("checks", "lib", "backup")]
+sys.path[:0] = [str(FIELD / part) for part in ("checks", "lib", "backup", "server")]
 from findings import CannotTell, Done, Machine  # noqa: E402
 from venue import Field  # noqa: E402
 

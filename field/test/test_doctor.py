@@ -190,6 +190,7 @@ class Certificate(Case):
         self.made = Certificates(self.folder)
         self.made.sign(self.cert, self.key)
         self.enterContext(mock.patch.dict(os.environ, SSL_CERT_FILE=str(self.made.authority)))
+        self.machine.now = time.time() + 60     # later than what a test signs
 
     def test_a_good_one(self) -> None:
         self.all_good(certificates.certificate)
@@ -272,6 +273,10 @@ class Base(Case):
         self.told(base.clock, OVER, "System has not been booted")
         self.machine.says["timedatectl "] = None
         self.told(base.clock, OVER, "cannot be run")
+        for believed, synchronised, state in (("clerk", "no\n", WARNING), ("clerk", "yes\n", GOOD), ("host", "no\n", GOOD)):
+            self.machine.given = doctor.Field.read(SAMPLE.replace('clock = "kernel"', f'clock = "{believed}"'))
+            self.machine.says["timedatectl "] = synchronised
+            self.assertEqual([finding.state for finding in self.found(base.clock)], [state], believed)
 
     def database(self, moment: float) -> sqlite3.Connection:
         """Its last moment is in the log alone, and it is locked, as under a server that runs."""
@@ -401,11 +406,15 @@ class Running(Case):
                                 "portal.service ended by itself and was started again 2 times in the last hour"])
 
     def test_the_server_answers(self) -> None:
+        self.machine.put("/run/portal-clock/state", json.dumps({"is": "serves"}))
         with DeskProcess() as desk:
             self.machine.given = doctor.Field.read(SAMPLE.replace("8080", str(desk.port)))
             self.all_good(running.server)
         self.machine.given = doctor.Field.read(SAMPLE.replace("8080", str(free_port())))
         self.told(running.server, WRONG, "does not answer")
+        for state, told in (("waits", "it waits, as the time may be wrong: because"), ("failed", "it does not start: because")):
+            self.machine.put("/run/portal-clock/state", json.dumps({"is": state, "why": "because"}))
+            self.told(running.server, WRONG, told)
         self.machine.root_user = False
         self.told(running.server, OVER, "only root")
 
