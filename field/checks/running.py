@@ -72,10 +72,10 @@ def services(machine: Machine) -> Iterator[Finding]:
         units[row.get("Id", "")] = row
     fine = 0
     for name in sorted(unit for unit in units if unit):
-        faults = list(faults_of(name, units[name], name in needed))
+        faults = list(faults_of(name, units[name], name in needed or units[name].get("UnitFileState") == "enabled"))
         fine += name in needed and not faults
         yield from faults
-    yield good(f"{fine} of {len(needed)} units that a venue needs are active")
+    yield good(f"{fine} of {len(needed)} units that every venue needs are active")
     yield from restarts(machine, set(needed) | units.keys())
 
 

@@ -397,6 +397,8 @@ class Running(Case):
         self.told(running.services, WRONG, "portal-backup.service has failed")
         self.machine.says["systemctl show "] = as_systemd_tells() + more.replace("failed", "inactive")
         self.all_good(running.services)
+        self.machine.says["systemctl show "] = as_systemd_tells() + more.replace("failed", "inactive") + "UnitFileState=enabled\n"
+        self.told(running.services, WRONG, "portal-backup.service is not active: inactive")
 
     def test_restarts_in_the_last_hour(self) -> None:
         rows = [{"UNIT": unit} for unit in ("portal.service", "portal.service", "nginx.service", "other.service")]
