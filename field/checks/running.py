@@ -28,7 +28,7 @@ def rules(machine: Machine) -> Iterator[Finding]:
                if machine.run("nft", "list", "table", family, "portal").returncode != 0]
     if missing:
         yield wrong(f"the table portal is not loaded ({', '.join(missing)}), and packets are "
-                    + ("forwarded: whoever the house's own firewall lets through passes" if forwards else "not forwarded"),
+                    + ("forwarded: what another firewall lets through passes" if forwards else "not forwarded"),
                     f"`systemctl restart {unit}`; who flushed them? (`nft flush ruleset`, another firewall)")
     else:
         yield good("the tables are loaded")
