@@ -4,6 +4,7 @@ from __future__ import annotations
 
 import os
 import pathlib
+import platform
 import re
 import secrets
 import shlex
@@ -169,6 +170,7 @@ def versions(machine: Machine) -> Iterator[Finding]:
     for name, use in LIBRARIES.items():
         yield good(f"{name} {packages[name]}") if name in packages else \
             wrong(f"{name} is not installed: {use} needs it", f"`apt install {name}`")
+    yield good(f"Python {platform.python_version()}")
     yield kernel(machine)
     for words in (("nft", "--version"), ("nginx", "-v"), ("dnsmasq", "--version")):
         yield tool(machine, *words)
