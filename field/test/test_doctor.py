@@ -3,6 +3,7 @@
 from __future__ import annotations
 
 import contextlib
+import http.server
 import importlib.machinery
 import json
 import os
@@ -12,6 +13,7 @@ import sqlite3
 import subprocess
 import sys
 import tempfile
+import threading
 import time
 import types
 import unittest
@@ -420,6 +422,21 @@ class Running(Case):
         self.machine.root_user = False
         self.told(running.server, OVER, "only root")
 
+    def test_a_server_that_has_stopped(self) -> None:
+        class Stopped(http.server.BaseHTTPRequestHandler):
+            def do_GET(self) -> None:
+                self.send_response(503)
+                self.end_headers()
+                self.wfile.write(b'{"error":"stopped"}')
+
+            def log_message(self, *_: object) -> None:
+                pass
+
+        with http.server.HTTPServer(("127.0.0.1", 0), Stopped) as door:
+            threading.Thread(target=door.handle_request, daemon=True).start()
+            self.machine.given = doctor.Field.read(SAMPLE.replace("8080", str(door.server_port)))
+            self.told(running.server, WRONG, "it refuses: stopped")
+
     def test_clerks(self) -> None:
         name = "/etc/portal/counter.passwords"
         self.told(running.clerks, WRONG, "no clerk has a password")
@@ -491,7 +508,7 @@ class Command(Case):
     def test_a_settings_file_that_cannot_be_read(self) -> None:
         self.field.write_text(SAMPLE.replace("desk_port = 8080", "desk_port = 0"))
         found = {(row["check"], row["state"]): row["what"] for row in self.findings()}
-        self.assertIn("desk_port = 0: from 1 to 65535", found["settings", "wrong"])
+        self.assertIn("desk_port = 0: from 1 to 65535", found.get(("settings", "wrong"), ""))
         self.assertIn("it needs the settings", found["devices", "passed over"])
         self.assertIn(("clock", "good"), found)         # what needs no settings is looked at all the same
 
