@@ -24,7 +24,9 @@ CLOCK_SLACK = 60                # seconds
 OLD_COPY = 36 * 3600            # the timer makes one each night
 LARGE = 256 * MIB               # a database that is not copied to be looked at
 OLDEST_KERNEL = (5, 16)         # the first with nftables at a device's egress
-LIBRARIES = {"python3-nftables": "the gateway agent", "python3-segno": "sheets with QR codes"}
+KIT = pathlib.Path(__file__).resolve().parent.parent
+LIBRARIES = {"python3-nftables": "gateway/kernel_gate.py", "python3-segno": "counter/sheet.py",
+             "python3-pyroute2": "gateway/portal_leases.py"}        # and the part of the kit that needs it
 
 
 def answer_to(portal: str, zone: str, url: str) -> str:
@@ -167,9 +169,11 @@ def versions(machine: Machine) -> Iterator[Finding]:
     told = machine.run("dpkg-query", "-W", "-f", "${Package} ${Version} ${db:Status-Status}\n", "portal", *LIBRARIES)
     packages = {row[0]: row[1] for row in map(str.split, told.stdout.splitlines()) if row[2:] == ["installed"]}
     yield good(f"package portal {packages['portal']}" if "portal" in packages else "installed by hand: no package")
-    for name, use in LIBRARIES.items():
-        yield good(f"{name} {packages[name]}") if name in packages else \
-            wrong(f"{name} is not installed: {use} needs it", f"`apt install {name}`")
+    for name, part in LIBRARIES.items():
+        if name in packages:
+            yield good(f"{name} {packages[name]}")
+        elif (KIT / part).exists():
+            yield wrong(f"{name} is not installed: {part} needs it", f"`apt install {name}`")
     yield good(f"Python {platform.python_version()}")
     yield kernel(machine)
     for words in (("nft", "--version"), ("nginx", "-v"), ("dnsmasq", "--version")):

@@ -77,7 +77,7 @@ def answers() -> dict[str, str | tuple[int, str]]:
         "/usr/bin/portal --version": "portal 1.0.0 (database schema version 4)\n", "nft --version": "nftables v1.0.6\n",
         "nginx -v": "nginx version: nginx/1.22.1\n", "dnsmasq --version": "Dnsmasq version 2.90  Copyright (c) 2000\n",
         "dpkg-query ": "portal 1.0.0 installed\npython3-nftables 1.0.6-2+deb12u2 installed\n"
-                       "python3-segno 1.5.2-1 installed\n"}
+                       "python3-pyroute2 0.7.2-2 installed\npython3-segno 1.5.2-1 installed\n"}
 
 
 class FakeMachine(Machine):

@@ -343,7 +343,8 @@ class Base(Case):
     def test_versions(self) -> None:
         self.all_good(base.versions)
         for line, told, word in (("uname -r", "5.15.0-1-amd64\n", "Linux 5.15.0-1-amd64"),
-                                 ("dpkg-query ", "portal 1.0.0 installed\npython3-nftables 1.0.6 installed\n", "python3-segno"),
+                                 ("dpkg-query ", "portal 1.0.0 installed\npython3-nftables 1.0.6 installed\npython3-pyroute2 0.7.2 installed\n",
+                                  "python3-segno"),
                                  ("nginx -v", None, "`nginx` cannot be run"),
                                  ("/usr/bin/portal --version", None, "`/usr/bin/portal` cannot be run")):
             before = self.machine.says[line]
