@@ -13,8 +13,8 @@ import time
 from doctor_faults import doctor_is_content, doctor_names_faults
 from machine import (
     COPIES, DATABASE, HERE, NAME, OUTSIDE, PARTS, SESSIONS, Gap, active, captive, certificate, check, check_all_active,
-    clerk, code, copies, count_outside, counter, curl, forward, install, journal, lease, parts, passes, redeem,
-    say_the_time_is_right, serves, sh, show, told, until, versions, waits)
+    clerk, code, copies, count_outside, counter, curl, forward, install, is_bound, journal, lease, leased, neighbour, parts,
+    passes, redeem, say_the_time_is_right, serves, sh, show, told, until, versions, waits)
 
 SLOW = HERE / "slow"        # a folder with a `cp` that takes its time
 LOGS = pathlib.Path("/var/log/portal")
@@ -93,8 +93,24 @@ def first_guest() -> None:
         check.note(f"systemd-analyze security {unit}: {found[1]} {found[2]}" if found else f"{unit}: {told(done)}")
 
 
+def device_is_bound() -> None:
+    """The kernel's neighbour entry of the guest's lease, whatever is restarted; looked at all the while."""
+    took = until(is_bound, 5)
+    check("the entry of a leased address is permanent", took is not None, f"{neighbour()} after {took} s")
+    for unit in ("dnsmasq", "portal-leases"):
+        job = subprocess.Popen(["systemctl", "restart", unit])
+        seen: list[bool] = []
+        while job.poll() is None or len(seen) < 100:
+            seen.append(is_bound())
+            time.sleep(0.01)
+        check(f"and stays so over `systemctl restart {unit}`", all(seen) and active(unit) == "active",
+              f"{seen.count(True)} of {len(seen)} looks")
+    done = lease()
+    check("and when the guest asks for its lease again", done.returncode == 0 and until(is_bound, 1) is not None, neighbour())
+
+
 def parts_are_killed() -> None:
-    for unit in ("portal", "portal-gateway", "portal-front", "portal-counter"):
+    for unit in ("portal", "portal-gateway", "portal-leases", "portal-front", "portal-counter"):
         pid = show(unit, "MainPID")
         with Gap() as gap:
             sh("systemctl", "kill", "-s", "KILL", unit)
@@ -154,10 +170,13 @@ def lan_goes() -> None:
         sh("systemctl start portal-rules@lan0")
         until(passes, 10)
     check("and a guest gets a lease there", lease().returncode == 0, f"dnsmasq {active('dnsmasq')}")
+    took = until(is_bound, 5)
+    check("and its entry is permanent there", took is not None, neighbour())
     sh("ip link del lan0; systemctl stop nginx dnsmasq; systemctl start nginx; systemctl start dnsmasq")
     time.sleep(4)
     sh("/srv/venue/venue-net lan")
-    served = until(lambda: active("nginx") == active("dnsmasq") == "active" and captive().get("captive") is not None, 15)
+    served = until(lambda: active("nginx") == active("dnsmasq") == "active" and lease().returncode == 0
+                   and captive().get("captive") is not None, 15)
     check("lan0 comes after nginx and dnsmasq were started: both serve it", served is not None,
           f"{served} s; nginx {active('nginx')}, dnsmasq {active('dnsmasq')}")
     sh("systemctl restart dnsmasq nginx; systemctl start portal-rules@lan0")
@@ -318,6 +337,7 @@ def before_the_reboot() -> None:
     pathlib.Path("/run/venue-watch").unlink(missing_ok=True)
 
 
-STEPS = (install_and_set_up, parts_are_apart, first_guest, parts_are_killed, agent_hangs_and_stops, rules_go, lan_goes, nightly_copy,
-         drill, doctor_is_content, doctor_names_faults, sell_after_the_copy, copy_is_stopped_in_the_middle, copy_is_killed_in_the_middle, restore_is_refused,
+STEPS = (install_and_set_up, parts_are_apart, first_guest, device_is_bound, parts_are_killed, agent_hangs_and_stops, rules_go, lan_goes,
+         nightly_copy, drill, doctor_is_content, doctor_names_faults, sell_after_the_copy, copy_is_stopped_in_the_middle,
+         copy_is_killed_in_the_middle, restore_is_refused,
          copies_without_a_server, disk_is_full, restore, logs_rotate, before_the_reboot)

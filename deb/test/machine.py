@@ -11,17 +11,22 @@ import pathlib
 import re
 import sqlite3
 import subprocess
+import sys
 import tempfile
 import time
 from collections.abc import Callable
 from typing import Any
 
+sys.path.insert(0, "/srv/venue/field/test")
+import steady  # noqa: E402
+
 HERE = pathlib.Path("/srv/venue")
 LOG = pathlib.Path("/var/log/venue-test.log")
+GUEST = "02:aa:00:00:00:01"
 DATABASE, COPIES = pathlib.Path("/var/lib/portal/book.db"), pathlib.Path("/var/backups/portal")
 SESSIONS = pathlib.Path("/run/portal-gateway/sessions.json")
 COUNTER, NAME, OUTSIDE = "counter.example", "wifi.example", "203.0.113.2"
-PARTS = ("portal", "portal-rules@lan0", "portal-gateway", "portal-front", "portal-counter")
+PARTS = ("portal", "portal-rules@lan0", "portal-gateway", "portal-leases", "portal-front", "portal-counter")
 UNITS = (*PARTS, "nginx", "dnsmasq", "portal-backup.timer")
 WITNESS = ("add table inet w; delete table inet w; add table inet w; "
            "add chain inet w i { type filter hook input priority 0; }; "
@@ -64,11 +69,11 @@ def told(done: Done, length: int = 300) -> str:
 
 
 def until(true: Callable[[], object], seconds: float = 10.0) -> float | None:
-    """Seconds until it was so, or None."""
-    start = time.monotonic()
-    while time.monotonic() - start < seconds:
+    """Seconds until it was so, or None; on a machine that other work holds up it waits longer."""
+    span = steady.Span()
+    while not span.over(seconds):
         if true():
-            return round(time.monotonic() - start, 2)
+            return round(span.seconds(), 2)
         time.sleep(0.05)
     return None
 
@@ -134,7 +139,7 @@ def certificate() -> None:
 
 def tokens() -> list[str]:
     folder = pathlib.Path("/etc/portal/credentials")
-    return [hashlib.sha256((folder / name).read_bytes()).hexdigest() for name in ("desk_token", "gateway_token")]
+    return [hashlib.sha256((folder / name).read_bytes()).hexdigest() for name in ("desk_token", "gateway_token", "form_key")]
 
 
 # A guest and a clerk
@@ -214,9 +219,9 @@ def last_entry() -> int:
 
 def redeem(text: str) -> int:
     page = curl("guest", f"https://{NAME}/portal")[1]
-    number = re.search(r'name="request" value="([A-Za-z0-9-]+)"', page)
-    return curl("guest", f"https://{NAME}/portal", "--data-urlencode", f"code={text}",
-                "--data-urlencode", f"request={number[1] if number else ''}")[0]
+    fields = {"code": text, **dict(re.findall(r'type="hidden" name="(\w+)" value="([^"]*)"', page))}
+    words = [word for key, value in fields.items() for word in ("--data-urlencode", f"{key}={value}")]
+    return curl("guest", f"https://{NAME}/portal", *words)[0]
 
 
 def captive() -> dict[str, Any]:
@@ -229,10 +234,24 @@ def sessions() -> list[int]:
 
 
 def lease(*more: str) -> Done:
-    """A lease by DHCP; the guest then goes back to its own address."""
-    done = within("guest", "busybox", "udhcpc", "-i", "eth0", "-f", "-q", "-n", "-t", "5", *more, "-s", HERE / "udhcpc")
-    within("guest", "ip", "addr", "replace", "10.77.0.49/22", "dev", "eth0")
-    return done
+    """The guest has an address by DHCP from now on."""
+    return within("guest", "busybox", "udhcpc", "-i", "eth0", "-f", "-q", "-n", "-t", "5", *more, "-s", HERE / "udhcpc")
+
+
+def leased() -> str:
+    """The guest's address by dnsmasq's file."""
+    path = pathlib.Path("/var/lib/misc/dnsmasq.leases")
+    rows = [line.split() for line in (path.read_text() if path.exists() else "").splitlines()]
+    return next((row[2] for row in rows if row[1] == GUEST), "")
+
+
+def neighbour() -> str:
+    """What the kernel holds of the guest's leased address."""
+    return sh("ip", "neigh", "show", "to", leased() or "0.0.0.0", "dev", "lan0").stdout.strip()
+
+
+def is_bound() -> bool:
+    return f"lladdr {GUEST} " in neighbour() and "PERMANENT" in neighbour()
 
 
 def copies() -> list[str]:

@@ -8,8 +8,8 @@ import shutil
 
 from machine import (
     COPIES, DATABASE, HERE, PARTS, UNITS, Gap, active, all_run, apt, captive, certificate, check, check_all_active, code,
-    count_outside, counter, forward, install, installed, passes, redeem, say_the_time_is_right, serves, sessions, sh, show,
-    told, tokens, until, versions)
+    count_outside, counter, forward, install, installed, is_bound, lease, neighbour, passes, redeem, say_the_time_is_right,
+    serves, sessions, sh, show, told, tokens, until, versions)
 from wrong_clock import prepare
 
 WATCH = pathlib.Path("/run/venue-watch")
@@ -30,6 +30,9 @@ def after_the_boot() -> None:
           first is not None and first > polled, f"agent started at {polled:.2f}, first packet at {first}")
     sh("systemctl", "stop", "venue-watch")
     count_outside()
+    took = until(is_bound, 5)
+    check("a leased address is bound again after the reboot", took is not None, neighbour())
+    lease()
     check("the session goes on after the reboot", until(passes, 5) is not None and captive().get("captive") is False)
 
 
@@ -38,6 +41,7 @@ def kept_by_the_upgrade() -> list[pathlib.Path]:
 
 
 def upgrade() -> None:
+    sh("systemctl disable --now portal-leases")     # which earlier versions did not have
     before, open_then, settings = tokens(), sessions(), SETTINGS.read_bytes()
     with Gap() as gap:
         done = install(versions()[1])
@@ -72,6 +76,7 @@ def remove_and_install() -> None:
     before = tokens()
     done = apt("remove", "portal")
     tables = sh("nft list tables").stdout
+    check("remove: no address is bound any more", not is_bound(), neighbour())
     check("remove: nothing is forwarded, the rules are gone, nginx and dnsmasq run", done.returncode == 0
           and forward() == "0" and "portal" not in tables and active("nginx") == active("dnsmasq") == "active",
           f"forward {forward()}; {tables.split()}; nginx {active('nginx')}; {told(done, 100)}")
@@ -108,7 +113,7 @@ def by_hand() -> None:
     sh("printf 'clerk:%s\\n' \"$(echo secret | openssl passwd -6 -stdin)\" > /etc/portal/counter.passwords; "
        "chown root:www-data /etc/portal/counter.passwords; chmod 0640 /etc/portal/counter.passwords")
     begun = sh("systemd-sysusers && systemd-tmpfiles --create portal.conf && systemctl daemon-reload && systemctl enable --now "
-               "portal portal-rules@lan0 portal-gateway portal-front portal-counter portal-backup.timer && "
+               "portal portal-rules@lan0 portal-gateway portal-leases portal-front portal-counter portal-backup.timer && "
                "systemctl restart nginx dnsmasq")
     took = until(all_run, 20)
     check("by hand, in README's steps: every unit is active", took is not None,

@@ -53,6 +53,7 @@ WAITS = "The server waits, as the time of this machine may be wrong. Until then 
 WORD = """<div class="desk"><section><h2>Is the time right?</h2>{times}<p>Compare the time and the year with another
 clock. At a wrong time vouchers would expire for good: if it is wrong, have it set, and do not press.</p>
 {form}<button>The time is right</button></form></section></div>"""
+COUNTED = "Used: as of {}. The desk is told later: data left follows from its count."
 CODE = '<input name="code" required maxlength="40" placeholder="code" autocomplete="off" aria-label="code">'
 
 
@@ -73,6 +74,13 @@ def table(kind: str, head: tuple[str, ...], rows: Sequence[tuple[str, ...]]) -> 
 def facts(pairs: list[tuple[str, str]]) -> str:
     rows = (f"<tr><th>{name}</th><td>{html.escape(value)}</td></tr>" for name, value in pairs)
     return f"<table>{''.join(rows)}</table>"
+
+
+def held(session: dict[str, Any]) -> str:
+    """The bytes that the desk holds of a session, and how old that count is, as far as the gateway knows."""
+    if "reported-at" not in session:
+        return "not since the gateway started"
+    return f"{volume(session['reported'])}, {span(max(0, int(time.time()) - session['reported-at']))} ago"
 
 
 def readable(text: str) -> str:
@@ -233,11 +241,12 @@ class Counter:
         old = box("bad", f"This list is {span(age)} old: the gateway gets no answer, and nobody passes.")
         rows = [(str(s["session"]), html.escape(s["device"]),
                  span(s["seconds-remaining"]) if "seconds-remaining" in s else "&ndash;",
-                 volume(s["bytes-remaining"]) if "bytes-remaining" in s else "&ndash;", volume(s["used"]),
+                 volume(s["bytes-remaining"]) if "bytes-remaining" in s else "&ndash;", volume(s["used"]), held(s),
                  form_of("/close", new_number(), session=str(s["session"])) + "<button>Close</button></form>")
                 for s in told["sessions"]]
-        head = ("No.", "Device", "Time left", "Data left", "Used", "")
-        return (old if age > OLD_LIST else "") + (table("rows", head, rows) if rows else "<p>None.</p>")
+        head = ("No.", "Device", "Time left", "Data left", "Used", "At the desk", "")
+        counted = f"<p>{COUNTED.format(time.strftime('%H:%M:%S', time.localtime(told['at'])))}</p>"
+        return (old if age > OLD_LIST else "") + (counted + table("rows", head, rows) if rows else "<p>None.</p>")
 
     def again(self, action: str, form: Form) -> str:
         """The same form once more, number and all: sent again it acts once."""

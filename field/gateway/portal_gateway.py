@@ -47,6 +47,7 @@ class Agent:
         self.desk, self.gate, self.snapshot, self.now = desk, gate, snapshot, now
         self.quiet, self.time_quiet = quiet, time_quiet
         self.reported: dict[int, tuple[int, float]] = {}    # session: bytes, when
+        self.told: dict[int, float] = {}                    # session: when the desk was told, since this agent started
         self.owed: dict[int, int] = {}                      # session: last count that the desk has not heard
         self.wound = self.until = 0.0                       # when the switch was wound; when the reports of a poll end
         self.left = 0                                       # reports that this poll may make
@@ -70,6 +71,7 @@ class Agent:
         self.left -= 1
         told = self.desk.tell(Routes.REPORT, body={"session": session, "bytes": used})
         self.reported[session] = (max(used, told["used"]), self.now())
+        self.told[session] = self.now()
         if self.now() - self.wound >= RENEWED:
             self.change((), {})
         return told["open"], told["used"]
@@ -154,13 +156,22 @@ class Agent:
             self.change(ended, {})
         kept = {row["session"] for row in wanted.values()} | self.owed.keys()
         self.reported = {session: told for session, told in self.reported.items() if session in kept}
+        self.told = {session: when for session, when in self.told.items() if session in kept}
         self.tell(wanted, {mac: p for mac, p in {**stay, **come}.items() if mac not in ended})
+
+    def row(self, row: Row, p: Passing) -> Row:
+        """A session as the desk tells it, with the count of this poll; and what the desk holds of it, as of when,
+        where it was told since the agent started. (The desk does not say when it was told.)"""
+        if p.session not in self.told:
+            return {**row, "used": p.used}
+        at = time.time() - (self.now() - self.told[p.session])
+        return {**row, "used": p.used, "reported": self.reported[p.session][0], "reported-at": int(at)}
 
     def tell(self, wanted: dict[str, Row], passing: dict[str, Passing]) -> None:
         """The list for the counter's page, which has no token of the gateway."""
         if self.snapshot is None:
             return
-        rows = [dict(wanted[mac], used=p.used) for mac, p in sorted(passing.items(), key=lambda item: item[1].session)]
+        rows = [self.row(wanted[mac], p) for mac, p in sorted(passing.items(), key=lambda item: item[1].session)]
         part = pathlib.Path(self.snapshot + ".part")
         part.write_text(json.dumps({"at": int(time.time()), "sessions": rows}))
         part.chmod(0o640)

@@ -10,6 +10,7 @@ import http.server
 import os
 import pathlib
 import socketserver
+import sys
 import urllib.parse
 from typing import Any
 
@@ -100,6 +101,11 @@ class UnixServer(socketserver.ThreadingMixIn, socketserver.UnixStreamServer):
     def service_actions(self) -> None:
         """Twice a second, between requests: a page that hangs is ended by systemd and started again."""
         tell_systemd(b"WATCHDOG=1")
+
+    def handle_error(self, request: Any, client_address: Any) -> None:
+        """nginx waits no longer than it does: an answer that nobody takes is no fault."""
+        if not isinstance(sys.exc_info()[1], (BrokenPipeError, ConnectionResetError)):
+            super().handle_error(request, client_address)
 
     @classmethod
     def bound(cls, path: str, page: type[Page]) -> UnixServer:

@@ -98,6 +98,14 @@ NO_ANSWER = Refusal(0, "no_answer", 504, "The desk did not answer, so this comma
                     "Send this form again: it acts once, also if it was carried out before. "
                     "If no answer comes at all: is portal.service running?",
                     "We got no answer. Please press the button again: your code is not used twice by it.")
+NO_LEASE = Refusal(0, "no_lease", 403, "The address of this device was not given out by this network.",
+                   "The device needs an address by DHCP.",
+                   "This device has no address from this network, so we cannot tell which one it is. Turn on DHCP "
+                   "(an automatic IP address) for this Wi-Fi, leave it and join it again.")
+OTHER_DEVICE = Refusal(0, "other_device", 409, "The form was shown to another device than the one that sent it.",
+                       "Leave the Wi-Fi, join it again, and load the page anew.",
+                       "This page was shown to another device than the one that now has your address. Your code was not "
+                       "used. Please leave the Wi-Fi, join it again, and open this page anew.")
 
 
 def of_word(word: str) -> Refusal:

@@ -24,6 +24,7 @@ class House(Lab):
     def __enter__(self) -> House:
         super().__enter__()
         self.sheets = 0
+        self.shown: dict[str, dict[str, str]] = {}      # by guest: hidden fields of the last page
         self.within("outside", "nft", WITNESS)
         return self
 
@@ -88,13 +89,18 @@ class House(Lab):
         return shown[0]["addr_info"][0]["local"]
 
     def number(self, guest: str) -> str:
-        """The request number in the form that a guest's page shows."""
-        found = re.search(r'name="request" value="([A-Za-z0-9-]+)"', self.curl(guest, PORTAL)[1])
-        return found[1] if found else ""
+        """The request number in the form that a guest's page shows. Its other hidden fields are kept for `send_form`."""
+        fields = dict(re.findall(r'type="hidden" name="(\w+)" value="([^"]+)"', self.curl(guest, PORTAL)[1]))
+        number = fields.pop("request", "")
+        self.shown[guest] = fields
+        return number
 
     def send_form(self, guest: str, code: str, number: str, *words: object) -> Answer:
         """The portal page's form; a guest that is told to be slower waits and tries again."""
-        form = ("--data-urlencode", f"code={code}", "--data-urlencode", f"request={number}")
+        if guest not in self.shown:
+            self.number(guest)
+        fields = {"code": code, "request": number, **self.shown[guest]}
+        form = [word for name, value in fields.items() for word in ("--data-urlencode", f"{name}={value}")]
         for _ in range(8):
             answer = self.curl(guest, PORTAL, *form, *words)
             if answer[0] != 429:

@@ -1,6 +1,7 @@
 """A house of network namespaces: two guests and the gateway on one bridge, a counter, the outside.
 
-All traffic stays on this machine. Namespaces carry the test's process id and are removed at the end.
+All traffic stays on this machine. Namespaces carry the test's process id and are removed at the end, so that several
+houses may stand side by side.
 """
 
 from __future__ import annotations
@@ -15,9 +16,10 @@ import signal
 import subprocess
 import sys
 import tempfile
-import time
 from collections.abc import Callable
 from typing import Any
+
+from steady import wait_until
 
 FIELD = pathlib.Path(__file__).resolve().parent.parent
 PYTHON = "/usr/bin/python3"     # Debian's, which has nftables and segno
@@ -28,9 +30,10 @@ MACS = {"guest1": "02:aa:00:00:00:01", "guest2": "02:aa:00:00:00:02",
 PORTS = {"guest1": "lan1", "guest2": "lan2", "outside": "wan0", "clerk": "ctr0"}
 SPACES = ("gw", *PORTS)
 USERS = {"desk": (7000, 7000, ""), "gateway": (7001, 7001, ""), "front": (7002, 33, "7001"),
-         "counter": (7003, 33, "7001")}
-SERVICES = {"gateway": "gateway/portal_gateway.py", "front": "front/portal_front.py",
-            "counter": "counter/portal_counter.py"}
+         "counter": (7003, 33, "7001"), "leases": (7004, 7004, "")}
+SERVICES = {"gateway": "gateway/portal_gateway.py", "leases": "gateway/portal_leases.py",
+            "front": "front/portal_front.py", "counter": "counter/portal_counter.py"}
+CAPABLE, WITH_A_SOCKET = ("gateway", "leases"), ("front", "counter")
 SMALL_PLAN = """
 [[plan]]
 id = "small"
@@ -48,7 +51,9 @@ env > {0}/lease-$interface-$ip
 """
 NGINX = """user www-data; worker_processes 1; pid {0}/nginx.pid; error_log {0}/nginx-error.log;
 events {{ worker_connections 512; }}
-http {{ access_log off; include {0}/etc/nginx/conf.d/*.conf; }}
+http {{ access_log off; include {0}/etc/nginx/conf.d/*.conf;
+client_body_temp_path {0}/tmp/body; proxy_temp_path {0}/tmp/proxy; fastcgi_temp_path {0}/tmp/fastcgi;
+uwsgi_temp_path {0}/tmp/uwsgi; scgi_temp_path {0}/tmp/scgi; }}
 """
 
 
@@ -60,6 +65,7 @@ class Lab:
     def __init__(self, portal: str = STAND_IN, changed: dict[str, Any] | None = None, offload: bool = False) -> None:
         self.portal, self.changed, self.offload = shlex.split(portal), changed or {}, offload
         self.jobs: dict[str, subprocess.Popen[bytes]] = {}
+        os.umask(0o022)     # the services' users read what root makes here
         self.root = pathlib.Path(tempfile.mkdtemp(prefix="portal-lab-"))
         self.root.chmod(0o755)
         self.tag = f"fk{os.getpid()}"
@@ -111,7 +117,8 @@ class Lab:
                 if not self.offload:
                     self.within(where, "ethtool", "-K", device, "tso", "off", "gso", "off", "gro", "off")
                 self.within(where, "ip", "link", "set", device, "up")
-        for space, device, address in (("gw", "lan0", "10.77.0.1/22"), ("gw", "wan0", "203.0.113.1/24"),
+        guests = str(self.changed.get("guests", "10.77.0.1/22"))
+        for space, device, address in (("gw", "lan0", guests), ("gw", "wan0", "203.0.113.1/24"),
                                        ("gw", "ctr0", "10.88.0.1/24"), ("outside", "eth0", OUTSIDE + "/24"),
                                        ("clerk", "eth0", "10.88.0.2/24")):
             self.within(space, "ip", "addr", "add", address, "dev", device)
@@ -137,7 +144,9 @@ class Lab:
         with open(etc / "plans.toml", "a") as plans:
             plans.write(SMALL_PLAN)
         (etc / "counter.passwords").write_text("clerk:{PLAIN}clerk\n")
+        (root / "var/lib/misc").mkdir(parents=True)
         (root / "log").mkdir()      # nginx's logs, apart from what the services say
+        (root / "tmp").mkdir()
         for conf in (root / "etc/nginx/conf.d").iterdir():
             conf.write_text(conf.read_text().replace("/var/log/portal", str(root / "log")))
         for name, (user, group, _) in USERS.items():
@@ -145,7 +154,7 @@ class Lab:
                 folder.mkdir(parents=True)
                 os.chown(folder, user, group)
                 folder.chmod(0o750)
-        for name, secret in (("gateway", "gateway_token"), ("counter", "desk_token")):
+        for name, secret in (("gateway", "gateway_token"), ("counter", "desk_token"), ("front", "form_key")):
             goal = root / f"creds-{name}" / secret
             shutil.copy(etc / "credentials" / secret, goal)
             os.chown(goal, USERS[name][0], 0)
@@ -194,11 +203,8 @@ class Lab:
             job.wait()
 
     def until(self, true: Callable[[], object], seconds: float = 10.0, what: str = "something") -> None:
-        end = time.monotonic() + seconds
-        while not true():
-            if time.monotonic() > end:
-                raise TimeoutError("waited in vain for " + what)
-            time.sleep(0.05)
+        if not wait_until(true, seconds):
+            raise TimeoutError("waited in vain for " + what)
 
     def listening(self, port: int) -> bool:
         return bool(self.within("gw", "ss", "-Hltn", "sport", "=", f":{port}").stdout)
@@ -215,16 +221,18 @@ class Lab:
     def service(self, name: str) -> None:
         env = {"FIELD_SETTINGS": f"{self.root}/etc/portal/{name}.toml",
                "CREDENTIALS_DIRECTORY": f"{self.root}/creds-{name}"}
-        self.start(name, PYTHON, FIELD / SERVICES[name], user=name, caps=name == "gateway", env=env)
-        if name != "gateway":
+        self.start(name, PYTHON, FIELD / SERVICES[name], user=name, caps=name in CAPABLE, env=env)
+        if name in WITH_A_SOCKET:
             self.until((self.root / f"run/portal-{name}/socket").exists, what=name)
 
     def web(self) -> None:
         self.start("nginx", "nginx", "-p", self.root, "-c", self.root / "nginx.conf", "-g", "daemon off;")
-        self.start("dnsmasq", "dnsmasq", "-k", "-C", self.root / "etc/dnsmasq.d/portal.conf", "--user=root",
-                   "--pid-file=", "--no-resolv", "--no-hosts", f"--dhcp-leasefile={self.root}/leases",
-                   f"--address=/outside.example/{OUTSIDE}")
+        self.dnsmasq()
         self.until(lambda: self.listening(443), what="nginx")
+
+    def dnsmasq(self) -> None:
+        self.start("dnsmasq", "dnsmasq", "-k", "-C", self.root / "etc/dnsmasq.d/portal.conf", "--user=root",
+                   "--pid-file=", "--no-resolv", "--no-hosts", f"--address=/outside.example/{OUTSIDE}")
 
     def open_house(self) -> None:
         """Everything but the guests' leases."""

@@ -1,10 +1,13 @@
 #!/usr/bin/python3
 """Measures the kit; root for all but `sessions` and `copies`. The machine's load stands beside each number.
 
-    measure.py all|first|agent|shut|late|offload|sessions|copies [--portal "CMD .."] [--rounds N] [--sessions N]
+    measure.py all|NAME [--portal "CMD .."] [--rounds N] [--sessions N] [--seconds N]
 
 first       a form sent: to its answer, and to the first packet's answer from outside; and a program's JSON
 agent       the agent's processor time with N open sessions (200), at rest and each with packets every second
+crowd       N open sessions (1,000) on a time plan, and then on a byte plan, that all pass packets for 300 s: the longest
+            time for which another guest's packets did not pass, and the agent's processor time
+written     bytes that the desk writes a day for N open sessions (200) on a time plan; six hours of a faster clock
 shut        the gate after a kill of the agent and of the desk, a desk held still, one that stopped, flushed rules
 late        bytes beyond a session's limit until nothing passes any more
 offload     bytes counted against the guest's device, with merged packets (offloading) off and on
@@ -17,7 +20,6 @@ from __future__ import annotations
 import argparse
 import json
 import os
-import pathlib
 import signal
 import statistics
 import subprocess
@@ -25,23 +27,17 @@ import threading
 import time
 from collections.abc import Callable
 
+from crowd import OPEN, crowd, spent, written
 from desk_process import DeskProcess, Routes
 from house import PEER, House
 from lab import FIELD, NAME, OUTSIDE, PYTHON, STAND_IN
 
 MANY = "[[plan]]\nid = '{}'\nprice = 0\nuses = 100000\nseconds = {}\nbytes = 0\nshelf_days = 9\nextend = true\n"
-OPEN = 200
 
 
 def told(what: str, numbers: list[float], unit: str = "ms") -> None:
     print(f"{what}: median {statistics.median(numbers):.1f} {unit}, {min(numbers):.1f} to {max(numbers):.1f}, "
           f"{len(numbers)} times, load {os.getloadavg()[0]:.0f}", flush=True)
-
-
-def spent(pid: int) -> float:
-    """Seconds of the processor that a process took so far."""
-    fields = pathlib.Path(f"/proc/{pid}/stat").read_text().rpartition(")")[2].split()
-    return (int(fields[11]) + int(fields[12])) / os.sysconf("SC_CLK_TCK")
 
 
 def mac(number: int) -> str:
@@ -246,7 +242,7 @@ def copies(args: argparse.Namespace) -> None:
         told("the longest wait of a batch of one code meanwhile", longest)
 
 
-MEASURES = {work.__name__: work for work in (first, agent, shut, late, offload, sessions, copies)}
+MEASURES = {work.__name__: work for work in (first, agent, crowd, written, shut, late, offload, sessions, copies)}
 
 
 def main() -> None:
@@ -255,6 +251,8 @@ def main() -> None:
     words.add_argument("--portal", default=STAND_IN, help="the program, as a command line; else the stand-in")
     words.add_argument("--rounds", type=int, default=12)
     words.add_argument("--sessions", type=int, default=0, help="else what the measure says in brackets")
+    words.add_argument("--seconds", type=float, default=300.0, help="how long the crowd passes packets")
+    words.add_argument("--changed", type=json.loads, default={}, help="other lines of field.toml for `written`, as JSON")
     args = words.parse_args()
     if args.portal == STAND_IN:
         print("the desk is the stand-in for tests, not the program")

@@ -1,11 +1,11 @@
 #!/usr/bin/python3
 """Wrong kits, each one edit on a copy, refused by the check that is meant.
 
-    must_fail.py [--portal "CMD .."] [--rootless] [NAME ..]
+    must_fail.py [--portal "CMD .."] [--rootless] [--labs N] [NAME ..]
 
-Those of UNITS are refused by a unit test without root, those of PACKETS by a step of e2e.py, those of GATEWAY by a
-step of e2e_gateway.py. An edit that another
-check refuses, and not the one that is meant, has survived. The last line: 'N passed, M failed'.
+Those of UNITS are refused by a unit test without root, those of LABS by a step of a test with packets. N at a time run
+side by side, each in a lab of its own. An edit that another check refuses, and not the one that is meant, has survived,
+and so has one whose step the kit as it is does not pass there. The last line: 'N passed, M failed'.
 """
 
 from __future__ import annotations
@@ -13,11 +13,18 @@ from __future__ import annotations
 import argparse
 import os
 import pathlib
+import re
 import shutil
+import signal
 import subprocess
 import sys
 import tempfile
+from collections.abc import Callable, Iterator
+from concurrent import futures
 from dataclasses import dataclass
+from typing import Any
+
+from steady import BUSY, Span
 
 FIELD = pathlib.Path(__file__).resolve().parent.parent
 PYTHON = "/usr/bin/python3"
@@ -27,6 +34,7 @@ CLIENT, BACKUP = "lib/desk_client.py", "backup/portal-backup"
 RESTORE, COPIES = "backup/portal-restore", "backup/copies.py"
 SERVER, TIME, MACHINE_TIME = "server/portal_server.py", "server/right_time.py", "lib/machine_time.py"
 VENUE = "lib/venue.py"
+LEASES, NEIGHBOURS, DNSMASQ = "gateway/portal_leases.py", "lib/neighbours.py", "settings/dnsmasq.conf"
 DESCRIPTION = "../docs/openapi.yaml"    # beside the kit in the repository
 
 
@@ -84,7 +92,7 @@ PACKETS = (
          "in_doubt", "without an answer the form comes back with its number"),
     Edit("forms_without_limit", GUESTS, "        limit_req zone=portal_codes burst=6 nodelay;\n        limit_req",
          "        limit_req", "guessed", "of 20 guesses at once most are told to wait"),
-    Edit("guests_in_the_log", GUESTS, "    error_log /var/log/portal/guests.log alert;\n", "",
+    Edit("guests_in_the_log", GUESTS, "    error_log /var/log/portal/guests.log emerg; ", "",
          "guessed", "no guest's address stands in nginx's logs"),
     Edit("bodies_handed_on_as_they_come", GUESTS, "proxy_request_buffering on;", "proxy_request_buffering off;",
          "slow", "slow guests delay nobody"),
@@ -98,8 +106,8 @@ PACKETS = (
     Edit("ipv6_to_the_gateway", NFT, "        meta nfproto ipv6 drop          #", "        #",
          "ipv6", "the gateway's own ports are shut to guests by IPv6", ("        meta protocol ip6 drop\n", ""),
          (AGENT, "        self.gate.guard()\n", "")),
-    Edit("devices_by_address_alone", FRONT, "    return device_in(done.stdout, address)\n",
-         '    return "02:aa:00:00:00:01" if done.stdout else None\n', "forged",
+    Edit("devices_by_address_alone", NEIGHBOURS, "        return entry.device if entry else None\n",
+         '        return "02:aa:00:00:00:01" if entry else None\n', "forged",
          "a guest with a forged device is told of itself"),
     Edit("option_114_is_not_told", "settings/dnsmasq.conf", "dhcp-option-force=114,https://@NAME@/captive\n", "",
          "network", "guest1 is told the API by DHCP option 114"),
@@ -207,8 +215,8 @@ GATEWAY = (
     Edit("an_administrators_element_stops_the_gateway", KERNEL, "            if not ours:\n                continue\n",
          "            if not ours:\n                raise RulesAreGone(str(e))\n", "foreign",
          "with an administrator's elements in the sets sessions go on"),
-    Edit("what_others_took_away_stops_the_gateway", KERNEL, 'for verb in ("add", "delete")]',
-         'for verb in ("add", "delete")[mac not in come:]]',
+    Edit("what_others_took_away_stops_the_gateway", KERNEL, 'for where in (UP, DOWN) for verb in ("add", "delete")]',
+         'for where in (UP, DOWN) for verb in ("add", "delete")[mac not in come:]]',
          "foreign", "and a close acts where somebody took its element away"),
     Edit("more_names_than_a_tunnel_may_have", NFT, "limit rate 5/second burst 40 packets",
          "limit rate 20/second burst 60 packets", "names", "of 500 names asked in a second at most 60 are answered"),
@@ -226,6 +234,8 @@ GATEWAY = (
     Edit("a_busy_venue_shuts_itself", AGENT, "if self.now() - self.wound >= RENEWED:", "if False:",
          "busy", "with 600 busy sessions the gate is not shut by its own work",
          ("room = self.left > reserve and self.now() < self.until", "room = True")),
+    Edit("polls_without_a_pause", AGENT, 'wait(knocks, max(0.0, conf["poll_seconds"] - (time.monotonic() - start)))',
+         "wait(knocks, 0.0)", "cheap", "with 600 busy sessions the agent takes at most a tenth of a processor"),
     Edit("a_flush_lets_all_through_for_a_poll", AGENT, "        self.gate.guard()\n", "",
          "flushed", "not one packet comes out between a flush and the next poll"),
     Edit("a_flush_that_nobody_heals", AGENT, "            self.load_rules()\n", "",
@@ -243,6 +253,28 @@ GATEWAY = (
          "listed", "a device of the list passes without a code"),
     Edit("a_printer_is_led_to_the_portal", NFT, "ether saddr != @up ether saddr != @listed tcp dport 80 redirect",
          "ether saddr != @up tcp dport 80 redirect", "listed", "its port 80 does not lead to the portal"),
+)
+DEVICES = (
+    Edit("nothing_is_bound", NEIGHBOURS,
+         '        self.change("replace", address, lladdr=mac, state=NUD_PERMANENT, flags=NTF_EXT_LEARNED)\n', "",
+         "attacked", "under ARP at any rate none of 50 vouchers is stolen by JSON",
+         ("self.mac if self.state & NUD_PERMANENT else None", "self.mac")),
+    Edit("an_entry_that_is_not_permanent", NEIGHBOURS, "lladdr=mac, state=NUD_PERMANENT,", "lladdr=mac, state=2,",
+         "attacked", "the entry of a lease is permanent"),
+    Edit("a_key_for_each_start", FRONT, 'credential("form_key"))', "new_number())",
+         "forms", "a page that was shown before a restart of the helper is good"),
+    Edit("leases_by_client_identifier", DNSMASQ, "dhcp-ignore-clid\n", "",
+         "taken_over", "another's client identifier moves no lease"),
+    Edit("a_stolen_lease_is_bound_at_once", LEASES, "if last and last.mac != lease.mac and", "if False and",
+         "taken_over", "as long as the first guest answers at its address nobody else has it"),
+    Edit("a_program_gets_a_page", GUESTS, "    error_page 403 @no_lease;\n", "",
+         "no_lease", "and a program (by hand) is refused in words"),
+    Edit("nginxs_own_words", GUESTS, "    error_page 500 502 503 /errors/502.html;\n", "",
+         "helper_away", "and the guest gets a page of ours (ended)"),
+    Edit("nginxs_own_words_where_it_waits", GUESTS, "    error_page 504 /errors/504.html;\n", "",
+         "helper_away", "and the guest gets a page of ours (held still)"),
+    Edit("guests_in_the_log_of_a_full_nginx", GUESTS, "guests.log emerg; ", "guests.log alert; ",
+         "helper_away", "no guest's address stands in nginx's logs"),
 )
 CLOCK = (
     Edit("any_time_is_right", TIME, "        if far:\n", "        if False:\n", "test_server.Times",
@@ -316,15 +348,38 @@ UNITS = (
     Edit("doubt_gets_a_new_number", FRONT, "front.page(device, notice, code=code, number=number))",
          "front.page(device, notice, code=code))", "test_front.Pages",
          "test_a_form_in_doubt_keeps_its_number_and_acts_once"),
-    Edit("acts_without_a_number", FRONT, "        if not REQUEST_NUMBER.fullmatch(number):",
-         "        if number and not REQUEST_NUMBER.fullmatch(number):", "test_front.Pages",
+    Edit("acts_without_a_number", FRONT, "or not REQUEST_NUMBER.fullmatch(number):",
+         "or number and not REQUEST_NUMBER.fullmatch(number):", "test_front.Pages",
          "test_nothing_acts_without_a_good_number"),
     Edit("codes_go_as_typed", FRONT, "sign.upper() if sign.isascii() else sign", "sign",
          "test_front.Pages", "test_a_form_sent_twice_acts_once"),
     Edit("words_shown_as_markup", FRONT, "code=html.escape(in_fours(plain_code(code)))", "code=in_fours(code)",
          "test_front.Pages", "test_what_a_guest_writes_is_shown_as_words"),
-    Edit("a_failed_neighbour_is_a_device", FRONT, '{"FAILED", "INCOMPLETE"}', "set()",
-         "test_front.Parts", "test_devices_of_the_neighbour_table"),
+    Edit("any_neighbour_is_a_device", NEIGHBOURS, "self.mac if self.state & NUD_PERMANENT else None", "self.mac",
+         "test_leases.Neighbours", "test_a_device_is_one_that_no_arp_can_change"),
+    Edit("a_form_for_any_device", FRONT, "        if shown != device:", "        if not device:",
+         "test_front.Pages", "test_a_form_is_for_the_device_that_its_page_showed"),
+    Edit("a_refused_form_moves_to_the_other_device", FRONT, ".for_guest, code, shown)", ".for_guest, code)",
+         "test_front.Pages", "test_a_form_is_for_the_device_that_its_page_showed"),
+    Edit("signatures_are_not_checked", FRONT, "return device if device and good else None", "return device or None",
+         "test_front.Pages", "test_a_form_that_no_page_showed_is_none"),
+    Edit("one_signature_for_all_devices", FRONT, "self.key.encode(), device.encode(),", 'self.key.encode(), b"",',
+         "test_front.Pages", "test_a_form_that_no_page_showed_is_none"),
+    Edit("an_entry_outlives_its_lease", LEASES, "if now - since >= SETTLED:", "if False:",
+         "test_leases.Bound", "test_an_entry_goes_with_its_lease"),
+    Edit("half_a_lease_file_takes_entries_away", LEASES, "SETTLED = 1.0 ", "SETTLED = 0.0 ",
+         "test_leases.Bound", "test_a_file_that_is_just_being_written_takes_nothing_away"),
+    Edit("leases_that_have_run_out", LEASES, " if lease.until > now}", "}",
+         "test_leases.Files", "test_leases_of_dnsmasqs_file"),
+    Edit("what_others_changed_stays_so", LEASES, "self.seen[address] = entry\n            self.settle(address)",
+         "self.seen[address] = entry", "test_leases.Bound", "test_an_entry_that_others_changed_is_bound_again"),
+    Edit("hand_made_entries_are_dropped", LEASES, "self.seen.items() if entry.ours} -", "self.seen.items()} -",
+         "test_leases.Bound", "test_what_others_made_permanent_is_left_alone"),
+    Edit("whoever_answers_is_the_last_device", LEASES, "if entry is None or not entry.failed:",
+         'if getattr(entry, "mac", "") == last.mac:',
+         "test_leases.Bound", "test_so_it_does_where_another_device_answers_in_its_place"),
+    Edit("a_device_that_comes_again_is_not_looked_at", LEASES, "            if whole:\n                self.binder.look()\n",
+         "", "test_leases.Served", "test_a_device_that_comes_again_gets_its_entries_again"),
     Edit("forms_of_other_sites", COUNTER, '!= self.headers.get("Host", "-")', '== "never"',
          "test_counter.Pages", "test_no_other_site_sends_forms"),
     Edit("a_sale_without_its_number", COUNTER, 'tell(Routes.SELL, body={"code": form.word("code")}, number=number)',
@@ -440,6 +495,12 @@ UNITS = (
          "test_the_log_names_who_sold_which_code"),
     Edit("an_old_list_is_not_told", COUNTER, "age > OLD_LIST", "age > 10**9", "test_counter.Pages",
          "test_open_sessions_come_from_the_gateways_list"),
+    Edit("each_count_is_told_as_new", COUNTER, "- session['reported-at']", "- int(time.time())",
+         "test_counter.Pages", "test_open_sessions_say_how_old_a_count_is"),
+    Edit("the_list_does_not_say_as_of_when", COUNTER, "(counted + table", "(table",
+         "test_counter.Pages", "test_open_sessions_say_how_old_a_count_is"),
+    Edit("an_old_count_is_told_as_new", AGENT, "at = time.time() - (self.now() - self.told[p.session])",
+         "at = time.time()", "test_gateway.Polls", "test_the_list_for_the_counter_tells_how_old_the_desks_count_is"),
     Edit("plans_are_loaded_once", COUNTER, "(self.plans_notice or told.get(\"since\") != self.since)",
          "told.get(\"since\") != self.since",
          "test_counter.Pages", "test_plans_are_loaded_when_the_desk_comes"),
@@ -454,56 +515,142 @@ UNITS = (
 )
 
 
-def refused(edit: Edit, kit: pathlib.Path, portal: str) -> str:
-    """What the tests over the wrong kit say of the check that is meant: `refused`, or how it survived."""
+# Tests with packets, each with its mutants.
+LABS = {"e2e.py": PACKETS, "e2e_gateway.py": GATEWAY, "e2e_device.py": DEVICES}
+RUNNING: set[subprocess.Popen[str]] = set()
+
+
+@dataclass(frozen=True)
+class Told:
+    """What tests said of a kit: the checks that passed, those that failed, whether they ran to their end, and more."""
+    passed: frozenset[str] = frozenset()
+    failed: frozenset[str] = frozenset()
+    ended: bool = False
+    skipped: bool = False
+    more: str = ""
+
+
+def ran(words: list[str], seconds: float, **more: Any) -> subprocess.CompletedProcess[str]:
+    """A command that is ended, and cleans up after itself, where it takes longer."""
+    job = subprocess.Popen(words, stdout=subprocess.PIPE, stderr=subprocess.PIPE, text=True, **more)
+    RUNNING.add(job)
+    try:
+        output, errors = job.communicate(timeout=seconds)
+    except subprocess.TimeoutExpired:
+        job.terminate()
+        output, errors = job.communicate()
+        errors += f" (ended after {seconds:.0f} s)"
+    finally:
+        RUNNING.discard(job)
+    return subprocess.CompletedProcess(words, job.returncode, output, errors)
+
+
+def script_of(edit: Edit) -> str:
+    return next((name for name, edits in LABS.items() if edit in edits), "")
+
+
+def told_of(kit: pathlib.Path, edit: Edit, portal: str) -> Told:
+    """The step or the unit test that is to refuse the edit, over a kit."""
     if edit in UNITS:
         words = [PYTHON, "-m", "unittest", f"{edit.where}.{edit.check}"]
-        env = {**os.environ, "FIELD_PORTAL": portal}
-        done = subprocess.run(words, capture_output=True, text=True, cwd=kit / "test", timeout=120, env=env)
-        if done.returncode == 0 and "skipped=" in done.stderr:
-            return "passed over: its test needs what is not here"
-        good = done.returncode != 0 and "FAIL: " in done.stderr and "ERROR: " not in done.stderr
-        return "refused" if good else "SURVIVED " + done.stderr[-300:]
-    script = "test/e2e_gateway.py" if edit in GATEWAY else "test/e2e.py"
-    words = [PYTHON, str(kit / script), *(["--portal", portal] if portal else []), "--only", edit.where]
-    done = subprocess.run(words, capture_output=True, text=True, timeout=300)
-    fails = [line.removeprefix("FAIL ") for line in done.stdout.splitlines() if line.startswith("FAIL")]
-    if any(line.partition("  [")[0] == edit.check for line in fails):
-        return "refused"
-    return "SURVIVED " + "; ".join(fails) + done.stderr[-300:]
+        done = ran(words, 240, cwd=kit / "test", env={**os.environ, "FIELD_PORTAL": portal})
+        fails = "FAIL: " in done.stderr and "ERROR: " not in done.stderr
+        name = frozenset((edit.check,))
+        return Told(name if done.returncode == 0 else frozenset(), name if fails else frozenset(),
+                    "Ran 1 test" in done.stderr, done.returncode == 0 and "skipped=" in done.stderr, done.stderr[-300:])
+    words = [PYTHON, str(kit / "test" / script_of(edit)), "--only", edit.where, *(["--portal", portal] if portal else [])]
+    done = ran(words, 600)
+    lines = [line.partition("  [")[0] for line in done.stdout.splitlines()]
+    passed, failed = ([line[5:] for line in lines if line.startswith(word)] for word in ("ok   ", "FAIL "))
+    ended = bool(lines and re.fullmatch(r"\d+ passed, \d+ failed", lines[-1]))
+    return Told(frozenset(passed), frozenset(failed), ended, more="; ".join(failed) + done.stderr[-300:])
 
 
-def tried(edit: Edit, portal: str) -> str:
+def copied(folder: pathlib.Path) -> pathlib.Path:
+    """The kit, and the API's description beside it, where all users can read them."""
+    kit = folder / "field"
+    folder.chmod(0o755)
+    shutil.copytree(FIELD, kit, ignore=shutil.ignore_patterns("__pycache__", "shots"))
+    if (FIELD / DESCRIPTION).is_file():
+        (kit / DESCRIPTION).parent.mkdir()
+        shutil.copy(FIELD / DESCRIPTION, kit / DESCRIPTION)
+    return kit
+
+
+def told_at_last(kit: pathlib.Path, edit: Edit, portal: str, goal: Callable[[Told], bool]) -> Told:
+    """The same, once more where the tests did not come that far while other work held the machine up; three times in
+    all."""
+    for turn in range(3):
+        span = Span()
+        told = told_of(kit, edit, portal)
+        if goal(told) or span.held_up() < BUSY:
+            break
+    return told
+
+
+def lacks(edit: Edit, told: Told) -> bool:
+    """Whether a check that should pass did not: there is none of steps that went through."""
+    return edit.check in told.failed or not (edit.check in told.passed or edit.check.endswith(" went through"))
+
+
+def unchanged(edits: list[Edit], portal: str) -> Told:
+    """A step over the kit as it is: all checks of these edits are to pass."""
     with tempfile.TemporaryDirectory() as folder:
-        kit = pathlib.Path(folder) / "field"
-        pathlib.Path(folder).chmod(0o755)
-        shutil.copytree(FIELD, kit, ignore=shutil.ignore_patterns("__pycache__", "shots"))
-        if (FIELD / DESCRIPTION).is_file():
-            (kit / DESCRIPTION).parent.mkdir()
-            shutil.copy(FIELD / DESCRIPTION, kit / DESCRIPTION)
-        elif edit.where.startswith("openapi_test."):
-            return "SURVIVED docs/openapi.yaml is not here: the kit stands outside its repository"
+        kit = copied(pathlib.Path(folder))
+        return told_at_last(kit, edits[0], portal, lambda told: told.ended and not any(lacks(e, told) for e in edits))
+
+
+def tried(edit: Edit, portal: str, before: Told | None) -> str:
+    """`refused` where the check that is meant fails of the wrong kit, and, of a step, not of the kit as it is
+    (`before`)."""
+    if before and (not before.ended or lacks(edit, before)):
+        return "SURVIVED the kit as it is does not pass the check: " + before.more
+    with tempfile.TemporaryDirectory() as folder:
+        kit = copied(pathlib.Path(folder))
         for file, old, new in edit.changes():
+            if not (kit / file).is_file():
+                return f"SURVIVED {file} is not here: the kit stands outside its repository"
             text = (kit / file).read_text()
             if old not in text:
                 return "SURVIVED the edit does not fit: " + old
             (kit / file).write_text(text.replace(old, new))
-        return refused(edit, kit, portal)
+        told = told_at_last(kit, edit, portal, lambda told: edit.check in told.failed | told.passed)
+    if told.skipped:
+        return "passed over: its test needs what is not here"
+    return "refused" if edit.check in told.failed else "SURVIVED " + told.more
+
+
+def side_by_side(edits: list[Edit], portal: str, labs: int) -> Iterator[tuple[Edit, str]]:
+    """So many at a time: first each step over the kit as it is, for which `run` does that of the unit tests, then the
+    mutants."""
+    steps: dict[tuple[str, str], list[Edit]] = {}
+    for edit in edits:
+        if edit not in UNITS:
+            steps.setdefault((script_of(edit), edit.where), []).append(edit)
+    with futures.ThreadPoolExecutor(labs) as pool:
+        before = dict(zip(steps, pool.map(lambda these: unchanged(these, portal), steps.values())))
+        yield from zip(edits, pool.map(
+            lambda edit: tried(edit, portal, before.get((script_of(edit), edit.where))), edits))
+
+
+def end_all(*_: object) -> None:
+    for job in list(RUNNING):
+        job.terminate()
+    sys.exit(143)
 
 
 def main() -> int:
     words = argparse.ArgumentParser(description="Wrong kits, each refused by the check that is meant.")
     words.add_argument("--portal", default="", help="the program, as a command line; else the stand-in")
     words.add_argument("--rootless", action="store_true", help="only those that a unit test refuses")
+    words.add_argument("--labs", type=int, default=len(os.sched_getaffinity(0)), help="how many at a time")
     words.add_argument("names", nargs="*")
     args = words.parse_args()
-    edits = [edit for edit in (*UNITS, *(() if args.rootless else (*GATEWAY, *PACKETS)))
-             if not args.names or edit.name in args.names]
-    edits = [edit for edit in (*UNITS, *(() if args.rootless else (*GATEWAY, *PACKETS)))
-             if not args.names or edit.name in args.names]
+    signal.signal(signal.SIGTERM, end_all)
+    every = [*UNITS, *(edit for edits in LABS.values() for edit in edits if not args.rootless)]
+    edits = [edit for edit in every if not args.names or edit.name in args.names]
     bad = over = 0
-    for edit in edits:
-        told = tried(edit, args.portal)
+    for edit, told in side_by_side(edits, args.portal, args.labs):
         over += told.startswith("passed over")
         bad += told != "refused" and not told.startswith("passed over")
         word = "ok  " if told == "refused" else "note" if told.startswith("passed over") else "FAIL"

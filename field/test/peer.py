@@ -9,7 +9,10 @@
     peer.py tcp HOST send|take N    moves N bytes of payload; prints seconds
     peer.py first HOST SECONDS      tries UDP echo every 5 ms; prints the time of the first answer
     peer.py stream HOST SECONDS     asks for the stream, sends nothing more; prints the time of each packet's arrival
+    peer.py gap HOST SECONDS        asks for the stream; prints how many packets came, and the longest time without one
     peer.py many HOST MAC N ADDRESS sends, until it is ended, a packet a second from each of N devices, by frames to MAC
+    peer.py crowd HOST MAC N FIRST  the same from addresses of their own, FIRST and those after it, to the echo's port;
+                                    says to who asks at which devices they are
     peer.py slow HOST N SECONDS     N guests that send part of a head or body over TLS and wait; prints how many may
 """
 
@@ -155,14 +158,14 @@ def knock(address: str, port: str = "443") -> None:
         sys.exit(1)
 
 
-def packet(host: str, address: str) -> bytes:
-    """IPv4 and UDP with 100 bytes, to a port that nobody has."""
+def packet(host: str, address: str, source: int = 9, port: int = 9) -> bytes:
+    """IPv4 and UDP with 100 bytes, to a port that nobody has, or to another."""
     ends = socket.inet_aton(address) + socket.inet_aton(host)
     head = struct.pack(">BBHHHBBH", 0x45, 0, 128, 0, 0x4000, 64, 17, 0) + ends
     total = sum(struct.unpack(">10H", head))
     while total >> 16:
         total = (total & 0xffff) + (total >> 16)
-    return head[:10] + struct.pack(">H", ~total & 0xffff) + head[12:] + struct.pack(">HHHH", 9, 9, 108, 0) + b"m" * 100
+    return head[:10] + struct.pack(">H", ~total & 0xffff) + head[12:] + struct.pack(">HHHH", source, port, 108, 0) + b"m" * 100
 
 
 def many(host: str, mac: str, count: str, address: str) -> None:
@@ -173,6 +176,54 @@ def many(host: str, mac: str, count: str, address: str) -> None:
             for i in range(int(count)):
                 s.send(goal + b"\2" + i.to_bytes(5, "big") + b"\x08\0" + data)
                 time.sleep(1 / int(count))
+
+
+def address_of(first: str, number: int) -> str:
+    return socket.inet_ntoa((int.from_bytes(socket.inet_aton(first)) + number).to_bytes(4))
+
+
+def answer_who_has(count: int, first: str) -> None:
+    """ARP for N addresses from the first on: each is at a device of its own."""
+    low = int.from_bytes(socket.inet_aton(first))
+    with socket.socket(socket.AF_PACKET, socket.SOCK_RAW, socket.htons(0x806)) as s:
+        s.bind(("eth0", 0x806))
+        while True:
+            frame = s.recv(200)
+            asker, target = frame[22:32], frame[38:42]
+            if frame[20:22] == b"\0\1" and 0 <= (number := int.from_bytes(target) - low) < count:
+                mac = b"\2" + number.to_bytes(5)
+                s.send(asker[:6] + mac + b"\x08\6\0\1\x08\0\6\4\0\2" + mac + target + asker)
+
+
+def crowd(host: str, mac: str, count: str, first: str) -> None:
+    threading.Thread(target=answer_who_has, args=(int(count), first), daemon=True).start()
+    goal = bytes.fromhex(mac.replace(":", ""))
+    frames = [goal + b"\2" + i.to_bytes(5) + b"\x08\0" + packet(host, address_of(first, i), 20_000 + i, 7001)
+              for i in range(int(count))]
+    with socket.socket(socket.AF_PACKET, socket.SOCK_RAW) as s:
+        s.bind(("eth0", 0))
+        due = time.monotonic()
+        while True:
+            for frame in frames:
+                s.send(frame)
+                due += 1 / len(frames)
+                time.sleep(max(0.0, due - time.monotonic()))
+
+
+def gap(host: str, seconds: str) -> None:
+    with socket.socket(socket.AF_INET, socket.SOCK_DGRAM) as s:
+        s.settimeout(0.5)
+        s.sendto(b"%d" % (float(seconds) * 1000), (host, 7002))
+        last, came, longest = time.monotonic(), 0, 0.0
+        end = last + float(seconds)
+        while time.monotonic() < end:
+            try:
+                s.recv(2000)
+            except OSError:
+                continue
+            now = time.monotonic()
+            last, came, longest = now, came + 1, max(longest, now - last)
+        print(came, max(longest, end - last))
 
 
 def waits(link: ssl.SSLSocket) -> bool:
@@ -197,7 +248,7 @@ def slow(host: str, count: str, seconds: str) -> None:
     time.sleep(float(seconds))
 
 
-PARTS: tuple[Callable[..., None], ...] = (serve, stopped, door, knock, names, tcp, first, stream, many, slow)
+PARTS: tuple[Callable[..., None], ...] = (serve, stopped, door, knock, names, tcp, first, stream, gap, many, crowd, slow)
 WORK = {work.__name__: work for work in PARTS}
 
 if __name__ == "__main__":

@@ -160,6 +160,18 @@ class Pages(unittest.TestCase):
             for word in words:
                 self.assertIn(word, self.ask("/")[1])
 
+    def test_open_sessions_say_how_old_a_count_is(self) -> None:
+        now = int(time.time())
+        row = {"device": "02:00:00:00:00:01", "session": 7, "used": 12345}
+        cases: tuple[tuple[dict[str, Any], str], ...] = (
+            ({"reported": 11000, "reported-at": now - 245}, "11.0 kB, 4 minutes ago"),
+            ({"reported": 11000, "reported-at": now + 9}, "11.0 kB, 0 seconds ago"),
+            ({}, "not since the gateway started"))
+        for more, word in cases:
+            (self.folder / "sessions.json").write_text(json.dumps({"at": now - 3, "sessions": [{**row, **more}]}))
+            for part in (word, "12.3 kB", "Used: as of " + time.strftime("%H:%M:%S", time.localtime(now - 3))):
+                self.assertIn(part, self.ask("/")[1])
+
     def test_plans_are_loaded_when_the_desk_comes(self) -> None:
         self.relay.drops = True
         self.counter.load_plans()

@@ -10,32 +10,16 @@ import tempfile
 import threading
 import unittest
 import urllib.parse
-from unittest import mock
 
 from desk_process import Desk, DeskProcess, Relay, Routes    # which says where the parts stand
 
-import portal_front
 from pages import UnixServer
-from portal_front import Front, PortalPage, device_at, device_in, plain_code
+from portal_front import Front, PortalPage, plain_code
 
-MAC = "02:00:00:00:00:01"
-TABLE = '[{"dst":"10.77.0.50","dev":"lan0","lladdr":"02:00:00:00:00:01","state":["%s"]}]'
+MAC, OTHER = "02:00:00:00:00:01", "02:00:00:00:00:02"
 
 
 class Parts(unittest.TestCase):
-    def test_devices_of_the_neighbour_table(self) -> None:
-        for table, device in ((TABLE % "REACHABLE", MAC), (TABLE % "STALE", MAC), (TABLE % "FAILED", None),
-                              (TABLE % "INCOMPLETE", None), ("", None), ("[]", None), ("x", None),
-                              (TABLE.replace('"02:00:00:00:00:01"', '"02:00:00:00:00:01;x"') % "REACHABLE", None)):
-            self.assertEqual(device_in(table, "10.77.0.50"), device, table)
-        self.assertIsNone(device_in(TABLE % "REACHABLE", "10.77.0.51"))
-
-    def test_an_address_that_is_none_asks_nobody(self) -> None:
-        with mock.patch.object(portal_front.subprocess, "run") as run:
-            for address in ("", "x", "10.77.0.50; id", "::1", "-all"):
-                self.assertIsNone(device_at(address, "lan0"), address)
-            run.assert_not_called()
-
     def test_a_code_typed_in_many_ways_is_one_request(self) -> None:
         for text in ("3n55-wa4s-kh5v-jr49", " 3N55 WA4S KH5V JR49 ", "3N55\u2013WA4S\u2014KH5V\u2011JR49",
                      "3n55wa4skh5vjr49"):
@@ -66,18 +50,21 @@ class Pages(unittest.TestCase):
         self.knocks.bind(str(knock))
         self.knocks.setblocking(False)
         self.server = UnixServer.bound(str(self.path), PortalPage)
-        conf = {"house": "A <b> House", "help": "Ask.", "lan": "lan0", "knock": str(knock)}
-        self.server.front = Front(Desk(self.relay.port, timeout=5), conf)
+        self.conf = {"house": "A <b> House", "help": "Ask.", "knock": str(knock)}
+        self.device: str | None = MAC
+        self.start_helper("a key")
         threading.Thread(target=self.server.serve_forever, kwargs={"poll_interval": 0.02}, daemon=True).start()
         self.addCleanup(self.server.server_close)
         self.addCleanup(self.server.shutdown)
-        self.device: str | None = MAC
-        self.enterContext(mock.patch.object(portal_front, "device_at", self.device_at))
+        self.fields: dict[str, str] = {}    # of the last page, but for its number
 
-    def device_at(self, _address: str, _lan: str) -> str | None:
-        return self.device
+    def start_helper(self, key: str) -> None:
+        """The helper as after a start: nothing is left of what an earlier one knew."""
+        self.server.front = Front(Desk(self.relay.port, timeout=5), self.conf, lambda _: self.device, key)
 
     def ask(self, method: str, path: str, **form: str) -> tuple[int, str, str]:
+        """A page, or its form sent with the hidden fields of the last page."""
+        form = {**self.fields, **form} if form else form
         link = UnixLink(self.path)
         link.request(method, path, urllib.parse.urlencode(form) if form else None)
         answer = link.getresponse()
@@ -89,13 +76,69 @@ class Pages(unittest.TestCase):
     def number(self, text: str) -> str:
         found = re.search(r'name="request" value="([A-Za-z0-9-]{1,36})"', text)
         assert found, text
+        self.fields = dict(re.findall(r'name="(device|sign)" value="([^"]*)"', text))
         return found[1]
 
     def test_the_device_is_named_to_nginx(self) -> None:
         self.assertEqual(self.ask("GET", "/device")[0], 204)
         self.device = None
         self.assertEqual(self.ask("GET", "/device")[0], 403)
-        self.assertIn("could not tell your device", self.ask("GET", "/portal")[1])
+        self.assertIn("no address from this network", self.ask("GET", "/portal")[1])
+
+    def test_a_device_that_comes_a_moment_later_is_found(self) -> None:
+        found = [None, MAC]
+        self.server.front.device_at = lambda _: found.pop(0)
+        self.assertEqual(self.ask("GET", "/device")[0], 204)
+
+    def test_without_a_device_nothing_is_done(self) -> None:
+        code, = self.desk.sold("hour", "b1")
+        number = self.number(self.ask("GET", "/portal")[1])
+        self.device = None
+        status, text, _ = self.ask("POST", "/portal", code=code, request=number)
+        self.assertEqual((status, self.desk.voucher(code)["redeemed"]), (403, 0))
+        self.assertIn("no address from this network", text)
+        self.assertIn(f'value="{code}"', text)
+        number = self.number(text)
+        self.assertEqual(self.fields["device"], "")
+        self.device = MAC       # the page of then names no device, so it is shown once more
+        status, text, _ = self.ask("POST", "/portal", code=code, request=number)
+        self.assertEqual((status, self.desk.voucher(code)["redeemed"]), (400, 0))
+        self.assertEqual(self.ask("POST", "/portal", code=code, request=self.number(text))[0], 303)
+
+    def test_a_form_is_for_the_device_that_its_page_showed(self) -> None:
+        code, = self.desk.sold("hour", "b1")
+        number = self.number(self.ask("GET", "/portal")[1])
+        shown, self.device = dict(self.fields), OTHER
+        for _ in range(2):      # pressed again it is still not for the other one
+            status, text, _ = self.ask("POST", "/portal", code=code, request=number)
+            self.assertEqual((status, self.desk.voucher(code)["redeemed"]), (409, 0))
+            self.assertIn("shown to another device", text)
+            number = self.number(text)
+            self.assertEqual(self.fields, shown)
+            self.assertNotIn(OTHER, text)
+            self.assertNotIn("online", text.replace("Go online", ""), "nothing is told of the other one")
+        self.device = MAC
+        self.assertEqual(self.ask("POST", "/portal", code=code, request=number)[0], 303)
+
+    def test_a_form_that_no_page_showed_is_none(self) -> None:
+        code, = self.desk.sold("hour", "b1")
+        number = self.number(self.ask("GET", "/portal")[1])
+        sign, self.device = self.fields["sign"], OTHER
+        for fields in ({"device": OTHER, "sign": sign}, {"device": OTHER, "sign": ""}, {"device": OTHER, "sign": "\u00fc"},
+                       {"device": "", "sign": ""}):
+            self.fields = fields
+            status, text, _ = self.ask("POST", "/portal", code=code, request=number)
+            self.assertEqual((status, self.desk.voucher(code)["redeemed"]), (400, 0), fields)
+            self.assertIn("press the button once more", text)
+        self.assertNotIn(sign, text)
+
+    def test_a_page_outlives_the_helper_that_showed_it_and_no_other_key_signs_it(self) -> None:
+        code, other = self.desk.sold("gigabyte", "b1")[0], self.desk.sold("gigabyte", "b2")[0]
+        number = self.number(self.ask("GET", "/portal")[1])
+        self.start_helper("a key")
+        self.assertEqual(self.ask("POST", "/portal", code=code, request=number)[0], 303)
+        self.start_helper("another key")
+        self.assertEqual(self.ask("POST", "/portal", code=other, request=number + "1")[0], 400)
 
     def test_a_form_sent_twice_acts_once(self) -> None:
         code, = self.desk.sold("gigabyte", "b1")
@@ -138,6 +181,7 @@ class Pages(unittest.TestCase):
 
     def test_nothing_acts_without_a_good_number(self) -> None:
         code, = self.desk.sold("hour", "b1")
+        self.number(self.ask("GET", "/portal")[1])
         for number in ("", "a_1", "a" * 37):
             status, text, _ = self.ask("POST", "/portal", code=code, request=number)
             self.assertEqual(status, 400)
@@ -159,7 +203,7 @@ class Pages(unittest.TestCase):
 
     def test_the_state_in_words(self) -> None:
         time, data = self.desk.sold("hour", "b1") + self.desk.sold("gigabyte", "b2")
-        for code, device, words in ((time, MAC, "59 minutes|1 hour"), (data, "02:00:00:00:00:02", "1.0 GB")):
+        for code, device, words in ((time, MAC, "59 minutes|1 hour"), (data, OTHER, "1.0 GB")):
             self.device = device
             self.assertIn("You are not online yet.", self.ask("GET", "/portal")[1])
             self.desk.desk.tell(Routes.REDEEM, body={"code": code}, device=device)

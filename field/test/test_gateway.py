@@ -5,6 +5,7 @@ from __future__ import annotations
 import json
 import pathlib
 import tempfile
+import time
 import unittest
 from collections.abc import Callable, Iterable
 from typing import Any, cast
@@ -295,8 +296,29 @@ class Polls(unittest.TestCase):
             self.agent = self.fresh(str(path))
             self.opened(counted=55)
             self.poll()
-            self.assertEqual(json.loads(path.read_text())["sessions"], [{"device": A, "session": 1, "used": 55}])
+            self.assertEqual(self.listed(path), {"device": A, "session": 1, "used": 55, "reported": 0})
             self.assertEqual(path.stat().st_mode & 0o777, 0o640)
+
+    def listed(self, path: pathlib.Path, age: int | None = 1) -> dict[str, Any]:
+        """The one session of the list, whose count at the desk is so many seconds old."""
+        row, = json.loads(path.read_text())["sessions"]
+        at = row.pop("reported-at", None)
+        self.assertIn(at if at is None else round(time.time()) - at, (None,) if age is None else range(age - 1, age + 2))
+        return row
+
+    def test_the_list_for_the_counter_tells_how_old_the_desks_count_is(self) -> None:
+        with tempfile.TemporaryDirectory() as folder:
+            path = pathlib.Path(folder) / "sessions.json"
+            self.agent = self.fresh(str(path))
+            self.opened(counted=55)
+            self.poll(100)
+            self.assertEqual(self.listed(path, 100)["reported"], 0)
+            self.gate.now[A].counted = 77
+            self.poll(601)
+            self.assertEqual(self.listed(path, 0)["reported"], 77)
+            self.agent = self.fresh(str(path))      # which does not know when the desk was told
+            self.poll()
+            self.assertEqual(self.listed(path, None), {"device": A, "session": 1, "used": 77})
 
 
 if __name__ == "__main__":

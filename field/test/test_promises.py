@@ -6,7 +6,7 @@ import re
 import unittest
 
 from desk_process import FIELD
-from must_fail import DESCRIPTION, GATEWAY, PACKETS, UNITS
+from must_fail import DESCRIPTION, DEVICES, GATEWAY, PACKETS, UNITS
 
 
 class Promises(unittest.TestCase):
@@ -15,10 +15,10 @@ class Promises(unittest.TestCase):
         lines = (FIELD / "docs/PROMISES.md").read_text().count("\n| ") - 1
         self.assertEqual(len(rows), lines, "a promise without a wrong kit")
         named = [name for _, kits in rows for name in re.findall(r"`([a-z0-9_]+)`", kits)]
-        self.assertEqual(sorted(named), sorted(edit.name for edit in (*UNITS, *GATEWAY, *PACKETS)))
+        self.assertEqual(sorted(named), sorted(edit.name for edit in (*UNITS, *DEVICES, *GATEWAY, *PACKETS)))
 
     def test_each_edit_fits(self) -> None:
-        for edit in (*UNITS, *GATEWAY, *PACKETS):
+        for edit in (*UNITS, *DEVICES, *GATEWAY, *PACKETS):
             if edit.file == DESCRIPTION and not (FIELD / DESCRIPTION).is_file():
                 continue        # the kit stands outside its repository
             texts = {edit.file: (FIELD / edit.file).read_text()}

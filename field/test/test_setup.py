@@ -29,7 +29,8 @@ loader.exec_module(setup)
 SAMPLE = (FIELD / "settings/field.toml").read_text()
 LATER = ("desk_port", "poll_seconds", "grace_seconds", "quiet_seconds", "time_quiet_seconds",
          "without_browser", "clock", "on_failure")     # keys with a default
-SERVICES = ("portal", "portal-gateway", "portal-front", "portal-counter")
+SERVICES = ("portal", "portal-gateway", "portal-leases", "portal-front", "portal-counter")
+SECRETS = ("desk_token", "gateway_token", "form_key")
 
 
 class Lines(unittest.TestCase):
@@ -190,15 +191,14 @@ class Made(unittest.TestCase):
 
     def test_secrets_are_apart_and_shut(self) -> None:
         etc = self.root / "etc/portal"
-        tokens = [(etc / "credentials" / name).read_text().strip() for name in ("desk_token", "gateway_token")]
-        self.assertTrue(tokens[0] != tokens[1] and all(len(token) == 43 for token in tokens))
-        for path in (etc / "credentials/desk_token", etc / "credentials/gateway_token", etc / "portal.toml"):
+        tokens = [(etc / "credentials" / name).read_text().strip() for name in SECRETS]
+        self.assertTrue(len(set(tokens)) == 3 and all(len(token) == 43 for token in tokens))
+        for path in (*(etc / "credentials" / name for name in SECRETS), etc / "portal.toml"):
             self.assertEqual(path.stat().st_mode & 0o777, 0o600)
         for name, text in self.files().items():
             for token in tokens:
                 if token.encode() in text:
-                    self.assertIn(name, ("etc/portal/portal.toml", "etc/portal/credentials/desk_token",
-                                         "etc/portal/credentials/gateway_token"))
+                    self.assertIn(name, ("etc/portal/portal.toml", *(f"etc/portal/credentials/{key}" for key in SECRETS)))
 
     def test_the_desks_settings_are_as_the_desk_reads_them(self) -> None:
         told = tomllib.loads((self.root / "etc/portal/portal.toml").read_text())
@@ -225,6 +225,11 @@ class Made(unittest.TestCase):
             found = re.findall(r"(?m)^net.ipv4.neigh.default.gc_thresh. = (.*)$", told)
             self.assertEqual([int(number) for number in found], limits)
 
+    def test_addresses_are_bound_by_the_file_that_dnsmasq_writes(self) -> None:
+        told = tomllib.loads((self.root / "etc/portal/leases.toml").read_text())
+        self.assertEqual((told["lan"], told["network"]), ("lan0", "10.77.0.0/22"))
+        self.assertIn(f"\ndhcp-leasefile={told['leases']}\n", (self.root / "etc/dnsmasq.d/portal.conf").read_text())
+
     def test_no_word_is_left_to_fill_in(self) -> None:
         for name, text in self.files().items():
             self.assertIsNone(re.search(rb"@[A-Z_0-9]+@", text), name)
@@ -245,7 +250,8 @@ class Made(unittest.TestCase):
         return unit
 
     def test_each_service_has_a_user_and_at_most_one_secret(self) -> None:
-        secrets = {"portal": "settings:/etc/portal/portal.toml", "portal-front": None,
+        secrets = {"portal": "settings:/etc/portal/portal.toml", "portal-leases": None,
+                   "portal-front": "form_key:/etc/portal/credentials/form_key",
                    "portal-gateway": "gateway_token:/etc/portal/credentials/gateway_token",
                    "portal-counter": "desk_token:/etc/portal/credentials/desk_token"}
         users = (self.root / "etc/sysusers.d/portal.conf").read_text()
@@ -255,7 +261,7 @@ class Made(unittest.TestCase):
             self.assertIn(f"u {name} -", users)
             self.assertEqual((service["Restart"], service["IPAddressDeny"]), ("always", "any"))
             self.assertEqual(self.unit(name + ".service")["Unit"]["StartLimitIntervalSec"], "0")
-            capabilities = "CAP_NET_ADMIN" if name == "portal-gateway" else ""
+            capabilities = "CAP_NET_ADMIN" if name in ("portal-gateway", "portal-leases") else ""
             self.assertEqual(service["CapabilityBoundingSet"], capabilities)
             program = service["ExecStart"].split()[1]
             self.assertTrue((FIELD / program.removeprefix("/usr/share/portal/field/")).is_file(), program)
@@ -338,7 +344,7 @@ class Made(unittest.TestCase):
         units = [path.name for path in sorted(folder.iterdir()) if path.is_file() and "@." not in path.name]
         done = subprocess.run(["systemd-analyze", "verify", "--man=no", f"--root={self.root}", *units],
                               capture_output=True, text=True)
-        self.assertEqual((len(units), done.returncode, done.stdout + done.stderr), (8, 0, ""))
+        self.assertEqual((len(units), done.returncode, done.stdout + done.stderr), (9, 0, ""))
 
 
 if __name__ == "__main__":

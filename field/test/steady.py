@@ -1,0 +1,75 @@
+"""Time limits on a machine that other work may hold up. The kernel says whether it does."""
+
+from __future__ import annotations
+
+import os
+import pathlib
+import time
+from collections.abc import Callable
+from typing import Any
+
+PRESSURE = pathlib.Path("/proc/pressure/cpu")
+# The part of a time in which something waited for a processor, or no processor was idle: from it on the machine is held
+# up.
+BUSY = 0.3 if PRESSURE.exists() else 0.9
+MOST_TIMES = 4      # a measurement is made anew while the machine is held up, and a wait lasts so many times as long
+
+
+def waited() -> float:
+    """Seconds so far in which something that could run waited for a processor. Where the kernel keeps no such account:
+    seconds of work, shared by the processors."""
+    try:
+        return int(PRESSURE.read_text().split("total=")[1].split()[0]) / 1e6
+    except (OSError, IndexError):
+        numbers = [int(word) for word in pathlib.Path("/proc/stat").read_text().split("\n", 1)[0].split()[1:]]
+        return (sum(numbers[:8]) - numbers[3] - numbers[4]) / os.sysconf("SC_CLK_TCK") / (os.cpu_count() or 1)
+
+
+class Span:
+    """A time that began when this was made."""
+
+    def __init__(self) -> None:
+        self.start, self.before = time.monotonic(), waited()
+
+    def seconds(self) -> float:
+        return time.monotonic() - self.start
+
+    def held_up(self) -> float:
+        """The part of it in which the machine was held up."""
+        return (waited() - self.before) / max(self.seconds(), 0.01)
+
+    def over(self, seconds: float) -> bool:
+        """Whether it lasts longer than so many seconds, or than MOST_TIMES as many on a machine that is held up."""
+        late = self.seconds() / seconds
+        return late > MOST_TIMES or late > 1 and self.held_up() < BUSY
+
+
+def wait_until(true: Callable[[], object], seconds: float) -> bool:
+    """Whether it was so before that time was over."""
+    span = Span()
+    while not true():
+        if span.over(seconds):
+            return False
+        time.sleep(0.05)
+    return True
+
+
+def measured(check: Callable[[str, bool, object], None], what: str, measure: Callable[[], tuple[bool, Any]]) -> None:
+    """A check of a time. One that fails while the machine is held up is made anew, MOST_TIMES times in all; the last
+    one counts, and each before it is told."""
+    good, note = False, None
+    for turn in range(MOST_TIMES):
+        span = Span()
+        try:
+            good, note = measure()
+        except TimeoutError as fault:
+            if turn == 0:
+                raise
+            note = f"{note}; then {fault}"      # what failed before has failed
+            break
+        busy = span.held_up()
+        if good or busy < BUSY or turn == MOST_TIMES - 1:
+            break
+        print(f"note {what}: no [{note}], while for {busy:.0%} of the time something waited for a processor: once more",
+              flush=True)
+    check(what, good, note)

@@ -1,0 +1,88 @@
+"""Checks of times, on a calm machine and on one that other work holds up."""
+
+from __future__ import annotations
+
+import contextlib
+import io
+import unittest
+from typing import Any
+from unittest import mock
+
+import steady
+
+
+class Times(unittest.TestCase):
+    def setUp(self) -> None:
+        self.now = 0.0
+        self.enterContext(mock.patch.object(steady.time, "monotonic", lambda: self.now))
+
+    def busy(self, part: float) -> None:
+        """For this part of the time something waits for a processor."""
+        self.enterContext(mock.patch.object(steady, "waited", lambda: part * self.now))
+
+    def measured(self, *answers: Any) -> tuple[list[tuple[bool, Any]], int, str]:
+        """What is checked, how often it was measured, and what is told meanwhile."""
+        checks: list[tuple[bool, Any]] = []
+        left = list(answers)
+
+        def measure() -> tuple[bool, Any]:
+            self.now += 1
+            answer = left.pop(0)
+            if isinstance(answer, Exception):
+                raise answer
+            return answer
+
+        with contextlib.redirect_stdout(io.StringIO()) as said:
+            steady.measured(lambda what, good, note: checks.append((good, note)), "a time", measure)
+        return checks, len(answers) - len(left), said.getvalue()
+
+    def test_what_fails_on_a_calm_machine_has_failed(self) -> None:
+        self.busy(steady.BUSY / 2)
+        self.assertEqual(self.measured((False, 9), (True, 1)), ([(False, 9)], 1, ""))
+
+    def test_on_a_busy_machine_it_is_measured_anew_and_that_is_told(self) -> None:
+        self.busy(0.95)
+        checks, count, said = self.measured((False, 9), (False, 8), (True, 1))
+        self.assertEqual((checks, count), ([(True, 1)], 3))
+        self.assertRegex(said, r"note a time: no \[9\].* 95% .*: once more\nnote a time: no \[8\].*: once more\n$")
+
+    def test_the_fourth_counts(self) -> None:
+        self.busy(0.95)
+        checks, count, said = self.measured(*((False, i) for i in range(9)))
+        self.assertEqual((checks, count, said.count("once more")), ([(False, 3)], 4, 3))
+
+    def test_where_it_cannot_be_measured_anew_it_has_failed(self) -> None:
+        self.busy(0.95)
+        self.assertEqual(self.measured((False, 9), TimeoutError("in vain"))[0], [(False, "9; then in vain")])
+        with self.assertRaises(TimeoutError):
+            self.measured(TimeoutError("in vain"))
+
+    def test_a_wait_is_longer_on_a_busy_machine_and_has_an_end(self) -> None:
+        for part, seconds, is_over in ((0.0, 9, False), (0.0, 11, True), (0.95, 11, False), (0.95, 39, False),
+                                       (0.95, 41, True)):
+            self.now = 100.0
+            self.busy(part)
+            span = steady.Span()
+            self.now += seconds
+            self.assertEqual(span.over(10), is_over, (part, seconds))
+
+    def test_a_wait_ends_with_its_time(self) -> None:
+        self.busy(0.0)
+
+        def true() -> bool:
+            self.now += 0.3
+            return self.now > goal
+
+        for goal, good in ((0.5, True), (99.0, False)):
+            self.now = 0.0
+            self.assertEqual(steady.wait_until(true, 1.0), good)
+
+    def test_the_kernel_keeps_an_account(self) -> None:
+        before = steady.waited()
+        self.assertTrue(0 <= before <= steady.waited())
+        with mock.patch.object(steady, "PRESSURE", steady.PRESSURE / "not"):
+            self.assertGreater(steady.waited(), 0)
+
+
+if __name__ == "__main__":
+    unittest.main()
