@@ -12,7 +12,7 @@ import time
 
 from doctor_faults import doctor_is_content, doctor_names_faults
 from machine import (
-    COPIES, DATABASE, HERE, NAME, OUTSIDE, PARTS, SESSIONS, Gap, active, captive, certificate, check, check_all_active,
+    COPIES, DATABASE, HERE, NAME, OUTSIDE, PARTS, SESSIONS, Gap, active, ask_for_a_lease, captive, certificate, check, check_all_active,
     clerk, code, copies, count_outside, counter, curl, forward, install, is_bound, journal, lease, leased, neighbour, parts,
     passes, redeem, say_the_time_is_right, serves, sh, show, told, until, versions, waits)
 
@@ -50,6 +50,7 @@ def install_and_set_up() -> None:
     check("a new database waits for the time: set-up, journal and counter's page say so", "the server waits" in done.stderr
           and waits() and "The server waits" in page and any("waits, as the time" in line for line in journal("portal")),
           told(done))
+    ask_for_a_lease()
     word = say_the_time_is_right()
     check("a clerk says on the counter's page that the time is right, and the server starts",
           until(serves, 10) is not None and "starts now" in word, word)

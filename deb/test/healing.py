@@ -9,7 +9,7 @@ import subprocess
 import time
 
 from machine import (
-    DATABASE, active, captive, check, check_all_active, clerk, code, copies, counter, journal, one_code, parts, passes,
+    DATABASE, active, ask_for_a_lease, captive, check, check_all_active, clerk, code, copies, counter, journal, one_code, parts, passes,
     serves, server_note, sh, show, told, until)
 
 SLOW = pathlib.Path("/root/slow")       # a folder with a `cp` that takes its time
@@ -162,6 +162,7 @@ def in_the_middle_of_a_copy() -> None:
 def after_the_reset() -> None:
     check_all_active("after a reset in the middle of a copy every unit is active")
     sh("systemctl stop venue-watch")
+    ask_for_a_lease()
     took = until(lambda: serves() and counter("sheet?batch=before-the-reset")[0] == 200, 20)
     check("what was answered before the reset is there, and the server serves", took is not None and code() != "",
           f"{took} s; {server_note()}; freezer {show('portal', 'FreezerState')}")

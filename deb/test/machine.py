@@ -238,6 +238,11 @@ def lease(*more: str) -> Done:
     return within("guest", "busybox", "udhcpc", "-i", "eth0", "-f", "-q", "-n", "-t", "5", *more, "-s", HERE / "udhcpc")
 
 
+def ask_for_a_lease() -> bool:
+    """A guest's first step wherever it comes anew: a page knows the device of a leased address alone."""
+    return until(lambda: lease().returncode == 0, 20) is not None and until(is_bound, 10) is not None
+
+
 def leased() -> str:
     """The guest's address by dnsmasq's file."""
     path = pathlib.Path("/var/lib/misc/dnsmasq.leases")

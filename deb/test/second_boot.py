@@ -7,8 +7,8 @@ import pathlib
 import shutil
 
 from machine import (
-    COPIES, DATABASE, HERE, PARTS, UNITS, Gap, active, all_run, apt, captive, certificate, check, check_all_active, code,
-    count_outside, counter, forward, install, installed, is_bound, lease, neighbour, passes, redeem, say_the_time_is_right,
+    COPIES, DATABASE, HERE, PARTS, UNITS, Gap, active, all_run, apt, ask_for_a_lease, captive, certificate, check, check_all_active, code,
+    count_outside, counter, forward, install, installed, is_bound, neighbour, passes, redeem, say_the_time_is_right,
     serves, sessions, sh, show, told, tokens, until, versions)
 from wrong_clock import prepare
 
@@ -32,7 +32,7 @@ def after_the_boot() -> None:
     count_outside()
     took = until(is_bound, 5)
     check("a leased address is bound again after the reboot", took is not None, neighbour())
-    lease()
+    ask_for_a_lease()
     check("the session goes on after the reboot", until(passes, 5) is not None and captive().get("captive") is False)
 
 
@@ -118,6 +118,7 @@ def by_hand() -> None:
     took = until(all_run, 20)
     check("by hand, in README's steps: every unit is active", took is not None,
           f"{told(made)} {told(begun)} {[unit for unit in UNITS if active(unit) != 'active']}")
+    ask_for_a_lease()
     told_of_time = say_the_time_is_right()
     check("by hand: a new database waits for a clerk's word on the time", until(serves, 10) is not None and told_of_time,
           told_of_time)

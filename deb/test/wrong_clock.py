@@ -11,7 +11,7 @@ import shutil
 import time
 
 from machine import (
-    DATABASE, active, captive, check, code, count_outside, counter, journal, last_entry, passes, redeem,
+    DATABASE, active, ask_for_a_lease, captive, check, code, count_outside, counter, journal, last_entry, passes, redeem,
     say_the_time_is_right, serves, server_note, sh, show, until, waits)
 
 OFFSET, KEPT = pathlib.Path("/etc/fake-clock"), pathlib.Path("/var/lib/venue-clock.json")
@@ -43,6 +43,7 @@ def kept() -> dict[str, str]:
 def boot_ten_years_ahead() -> None:
     sh("systemctl stop venue-watch")
     count_outside()
+    ask_for_a_lease()
     up = until(lambda: waits() and active("portal-counter") == "active", 30)
     page = counter("")[1]
     year = time.gmtime(time.time() + 3650 * 86_400).tm_year
