@@ -5,6 +5,7 @@ from __future__ import annotations
 
 import os
 import pathlib
+import shutil
 import subprocess
 import time
 
@@ -116,6 +117,24 @@ def settings_that_never_work() -> None:
     check("a failure of another part without a command is a line of the journal", failure_is_a_line())
 
 
+def part_in_a_crash_loop() -> None:
+    """For systemd the part has not failed: it is started again each second, which a timer sees."""
+    failed, drop = pathlib.Path("/etc/portal/failed.toml"), pathlib.Path("/run/systemd/system/portal-front.service.d")
+    before = failed.read_text()
+    failed.write_text(f'on_failure = ["tee", "{TOLD}/loop"]\n')
+    drop.mkdir(parents=True)
+    (drop / "ends.conf").write_text("[Service]\nExecStart=\nExecStart=/bin/false\n")
+    sh("systemctl daemon-reload; systemctl restart portal-front")
+    took = until((TOLD / "loop").exists, 150)
+    text = (TOLD / "loop").read_text() if took is not None else ""
+    check("a part that is started again and again: the command of field.toml is told", active("portal-front") != "failed"
+          and text.startswith("portal-front.service ended and was started again 5 times or more"), f"{took} s; {text[:80]}")
+    shutil.rmtree(drop)
+    failed.write_text(before)
+    sh("systemctl daemon-reload; systemctl restart portal-front")
+    until(lambda: captive().get("captive") is False, 20)
+
+
 def failure_is_a_line() -> bool:
     """Of a nightly copy that finds no database."""
     sh(f"systemctl stop portal; mv {DATABASE.parent} /var/lib/kept; mkdir {DATABASE.parent}; systemctl start portal-backup")
@@ -173,5 +192,5 @@ def after_the_reset() -> None:
 
 
 STEPS = (web_is_killed, counter_comes_late, rules_are_flushed, server_hangs, server_is_held, pages_hang,
-         settings_that_never_work, disk_is_full_for_a_while, in_the_middle_of_a_copy)
+         settings_that_never_work, part_in_a_crash_loop, disk_is_full_for_a_while, in_the_middle_of_a_copy)
 AFTER = (after_the_reset,)

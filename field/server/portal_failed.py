@@ -27,26 +27,26 @@ def said(*words: str) -> str:
         return str(fault)
 
 
-def message(unit: str) -> str:
+def message(unit: str, words: str) -> str:
     result = said("systemctl", "show", "-p", "Result,ExecMainStatus,ActiveState", unit)
     lines = "" if unit.startswith("portal-counter") else said("journalctl", "-u", unit, "-n", "20", "--no-pager")
-    return f"{unit} failed on {socket.gethostname()}.\n\n{result}\n\n{lines}\n\nSee: systemctl status {unit}\n"
+    return f"{unit} {words} on {socket.gethostname()}.\n\n{result}\n\n{lines}\n\nSee: systemctl status {unit}\n"
 
 
-def main() -> int:
-    unit = sys.argv[1]
+def tell(unit: str, words: str) -> int:
+    """By the command, if one is set; its status."""
     os.environ.setdefault("FIELD_SETTINGS", "/etc/portal/failed.toml")
     command = settings("").get("on_failure", []) if os.path.exists(os.environ["FIELD_SETTINGS"]) else []
     if not command:
-        print(f"failed: {unit}; no command is set that tells anybody (on_failure in field.toml)", flush=True)
+        print(f"{unit} {words}; no command is set that tells anybody (on_failure in field.toml)", flush=True)
         return 0
-    print(f"failed: {unit}; telling by {command[0]}", flush=True)
+    print(f"{unit} {words}; telling by {command[0]}", flush=True)
     try:
-        return subprocess.run(command, input=message(unit), text=True, timeout=LIMIT).returncode
+        return subprocess.run(command, input=message(unit, words), text=True, timeout=LIMIT).returncode
     except (OSError, subprocess.TimeoutExpired) as fault:
-        print("failed: the command did not tell:", fault, file=sys.stderr, flush=True)
+        print("the command did not tell:", fault, file=sys.stderr, flush=True)
         return 1
 
 
 if __name__ == "__main__":
-    sys.exit(main())
+    sys.exit(tell(sys.argv[1], "failed"))

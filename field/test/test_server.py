@@ -23,6 +23,7 @@ from unittest import mock
 from desk_process import FIELD, PORTAL, SETTINGS, Desk, NoAnswer, Routes, free_port     # says where the parts stand
 
 sys.path.insert(0, str(FIELD / "server"))
+import portal_restarts
 import portal_server
 import right_time as clock
 from machine_time import Notes
@@ -352,12 +353,66 @@ class Failed(Folder):
         self.assertNotIn("journalctl", goal.read_text(), "its journal has codes")
 
     def test_without_a_command_the_journal_has_a_line(self) -> None:
-        line = "failed: portal.service; no command is set that tells anybody (on_failure in field.toml)\n"
+        line = "portal.service failed; no command is set that tells anybody (on_failure in field.toml)\n"
         self.assertEqual(self.told("portal.service", []), (0, line))
 
     def test_a_command_that_cannot_be_run_is_a_fault(self) -> None:
         status, text = self.told("portal.service", ["/no/such/mail"])
         self.assertEqual((status, bool(re.search("did not tell.*/no/such/mail", text))), (1, True))
+
+
+class Restarts(Folder):
+    def setUp(self) -> None:
+        super().setUp()
+        self.mail, self.conf = self.folder / "mail", self.folder / "failed.toml"
+        self.told_by(["tee", "-a", str(self.mail)])
+
+    def told_by(self, command: list[str]) -> None:
+        self.conf.write_text(f"on_failure = {json.dumps(command)}\n")
+
+    def looked(self, count: int) -> int:
+        """A look while systemd has started the server again so often, and the other parts not at all; its status."""
+        rows = "".join(f"Id={unit}\nNRestarts={count if unit == 'portal.service' else 0}\n\n"
+                       for unit in portal_restarts.UNITS)
+        for name, text in (("systemctl", rows.strip()), ("journalctl", "")):
+            (self.folder / name).write_text(f"#!/bin/sh\ncat <<'END'\n{text}\nEND\n")
+            (self.folder / name).chmod(0o755)
+        env = {**os.environ, "FIELD_SETTINGS": str(self.conf), "PATH": f"{self.folder}:{os.environ['PATH']}",
+               "RUNTIME_DIRECTORY": str(self.folder)}
+        return subprocess.run([sys.executable, FIELD / "server/portal_restarts.py"], env=env, capture_output=True).returncode
+
+    def mails(self) -> list[str]:
+        text = self.mail.read_text() if self.mail.exists() else ""
+        return [line for line in text.splitlines() if " on " in line]
+
+    def test_a_part_that_is_started_again_and_again_is_told_of_once(self) -> None:
+        for count in (30, 34):      # what was there at the first look is of the boot
+            self.assertEqual(self.looked(count), 0)
+        self.assertEqual(self.mails(), [])
+        for count in (35, 36, 90):
+            self.assertEqual(self.looked(count), 0)
+        self.assertEqual(self.mails(), ["portal.service ended and was started again 5 times or more within 10 minutes on "
+                                        f"{socket.gethostname()}."])
+
+    def test_a_command_that_did_not_tell_is_asked_again(self) -> None:
+        self.told_by(["/no/such/mail"])
+        self.assertEqual([self.looked(count) for count in (0, 5)], [0, 1])
+        self.told_by(["tee", "-a", str(self.mail)])
+        self.assertEqual((self.looked(5), len(self.mails())), (0, 1))
+
+    def test_a_restart_of_ten_minutes_ago_does_not_count(self) -> None:
+        four = portal_restarts.Seen(0).later(4, NOW)
+        self.assertTrue(four.later(5, NOW + 599).is_news())
+        self.assertFalse(four.later(5, NOW + 600).is_news())
+
+    def test_after_ten_minutes_without_one_it_is_news_again(self) -> None:
+        told = portal_restarts.Seen(5, [float(NOW)], told=True)
+        self.assertFalse(told.later(20, NOW + 599).is_news())
+        self.assertTrue(told.later(5, NOW + 600).later(10, NOW + 601).is_news())
+
+    def test_a_start_by_hand_begins_the_count_anew(self) -> None:
+        self.assertFalse(portal_restarts.Seen(9).later(4, NOW).is_news())
+        self.assertTrue(portal_restarts.Seen(9).later(5, NOW).is_news())
 
 
 if __name__ == "__main__":

@@ -293,6 +293,14 @@ class Made(unittest.TestCase):
         self.assertTrue((FIELD / order[1].removeprefix("/usr/share/portal/field/")).is_file())
         self.assertEqual(tomllib.loads((self.root / "etc/portal/failed.toml").read_text()), {"on_failure": []})
 
+    def test_a_part_that_is_started_again_and_again_is_told_of(self) -> None:
+        self.assertEqual(self.unit("portal.service")["Unit"]["Wants"], "portal-restarts.timer")
+        self.assertEqual(self.unit("portal-restarts.timer")["Timer"]["OnUnitActiveSec"], "1min")
+        order = self.unit("portal-restarts.service")["Service"]["ExecStart"].split()
+        program = FIELD / order[1].removeprefix("/usr/share/portal/field/")
+        for name in (*SERVICES, "nginx", "dnsmasq"):
+            self.assertIn(f'"{name}.service"', program.read_text())
+
     def test_nginx_and_dnsmasq_are_started_again(self) -> None:
         for name in ("nginx", "dnsmasq"):
             unit = self.unit(f"{name}.service.d/portal.conf")
@@ -344,7 +352,7 @@ class Made(unittest.TestCase):
         units = [path.name for path in sorted(folder.iterdir()) if path.is_file() and "@." not in path.name]
         done = subprocess.run(["systemd-analyze", "verify", "--man=no", f"--root={self.root}", *units],
                               capture_output=True, text=True)
-        self.assertEqual((len(units), done.returncode, done.stdout + done.stderr), (9, 0, ""))
+        self.assertEqual((len(units), done.returncode, done.stdout + done.stderr), (11, 0, ""))
 
 
 if __name__ == "__main__":
