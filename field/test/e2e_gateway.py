@@ -35,6 +35,7 @@ from steady import measured
 
 IDS = {"portal-gateway": 7001, "portal-front": 7002, "portal-counter": 7003, "portal-clock": 7005, "www-data": 33}
 PRINTER = "02:aa:00:00:00:03"
+ASKED = 65535       # as many addresses as the set `asked` holds
 OPEN = "import socket, sys; s = socket.socket(socket.AF_UNIX); s.connect(sys.argv[1]); print('open')"
 
 
@@ -200,20 +201,26 @@ def names(house: GatewayHouse, check: Checks) -> None:
           done.splitlines() == ["1 0 1", "28 0 0", "65 0 0"], done.splitlines())
     measured(check, "of 500 names asked in a second at most 60 are answered",
              lambda: names_answered(house, "guest2", 20, 60))
-    made_up = ", ".join(f"02:bb:00:00:{i >> 8:02x}:{i & 255:02x} limit rate 5/second burst 40 packets timeout 1h"
-                        for i in range(65535))
+    measured(check, "with as many made-up addresses as the set holds a new one gets no answer",
+             lambda: answered_when_full(house))
     house.within("gw", "nft", "flush", "set", "inet", "portal", "asked")
+
+
+def answered_when_full(house: GatewayHouse) -> tuple[bool, object]:
+    """Whether the set is full and a new device's questions are not answered. It is emptied and filled in one
+    transaction, so that no other question comes in between."""
+    made_up = ", ".join(f"02:bb:00:00:{i >> 8:02x}:{i & 255:02x} limit rate 5/second burst 40 packets timeout 1h"
+                        for i in range(ASKED))
     # A list begins anew when the agent changes a set meanwhile, which on a busy machine goes on and on.
     os.kill(house.jobs["gateway"].pid, signal.SIGSTOP)
     try:
-        house.within("gw", "nft", "-f", "-", input=f"add element inet portal asked {{ {made_up} }}", check=False)
+        done = house.within("gw", "nft", "-f", "-", check=False,
+                            input=f"flush set inet portal asked\nadd element inet portal asked {{ {made_up} }}")
         count = house.within("gw", "nft", "list", "set", "inet", "portal", "asked").stdout.count("02:bb:")
     finally:
         os.kill(house.jobs["gateway"].pid, signal.SIGCONT)
     got = int(house.within("guest2", PYTHON, PEER, "names", "10.77.0.1", 100).stdout)
-    check("with as many made-up addresses as the set holds a new one gets no answer", (count, got) == (65535, 0),
-          (count, got))
-    house.within("gw", "nft", "flush", "set", "inet", "portal", "asked")
+    return (count, got) == (ASKED, 0), f"{count} addresses, {got} answers; {done.stderr.strip()[-80:]}"
 
 
 def sysctl(house: GatewayHouse, path: str) -> str:
