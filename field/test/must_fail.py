@@ -534,11 +534,12 @@ RUNNING: set[subprocess.Popen[str]] = set()
 
 @dataclass(frozen=True)
 class Told:
-    """What tests said of a kit: the checks that passed, those that failed, whether they ran to their end, and more."""
+    """What tests said of a kit: the checks that passed, those that failed, whether they ran to their end, why one was
+    skipped, and more."""
     passed: frozenset[str] = frozenset()
     failed: frozenset[str] = frozenset()
     ended: bool = False
-    skipped: bool = False
+    skipped: str = ""
     more: str = ""
 
 
@@ -564,12 +565,12 @@ def script_of(edit: Edit) -> str:
 def told_of(kit: pathlib.Path, edit: Edit, portal: str) -> Told:
     """The step or the unit test that is to refuse the edit, over a kit."""
     if edit in UNITS:
-        words = [PYTHON, "-m", "unittest", f"{edit.where}.{edit.check}"]
+        words = [PYTHON, "-m", "unittest", "-v", f"{edit.where}.{edit.check}"]
         done = ran(words, 240, cwd=kit / "test", env={**os.environ, "FIELD_PORTAL": portal})
         fails = "FAIL: " in done.stderr and "ERROR: " not in done.stderr
-        name = frozenset((edit.check,))
+        name, skipped = frozenset((edit.check,)), re.search(r"skipped [\"'](.*)[\"']\n", done.stderr)
         return Told(name if done.returncode == 0 else frozenset(), name if fails else frozenset(),
-                    "Ran 1 test" in done.stderr, done.returncode == 0 and "skipped=" in done.stderr, done.stderr[-300:])
+                    "Ran 1 test" in done.stderr, skipped[1] if skipped else "", done.stderr[-300:])
     words = [PYTHON, str(kit / "test" / script_of(edit)), "--only", edit.where, *(["--portal", portal] if portal else [])]
     done = ran(words, 600)
     lines = [line.partition("  [")[0] for line in done.stdout.splitlines()]
@@ -628,7 +629,7 @@ def tried(edit: Edit, portal: str, before: Told | None) -> str:
             (kit / file).write_text(text.replace(old, new))
         told = told_at_last(kit, edit, portal, lambda told: edit.check in told.failed | told.passed)
     if told.skipped:
-        return "passed over: its test needs what is not here"
+        return "passed over: " + told.skipped
     return "refused" if edit.check in told.failed else "SURVIVED " + told.more
 
 
@@ -666,7 +667,7 @@ def main() -> int:
         over += told.startswith("passed over")
         bad += told != "refused" and not told.startswith("passed over")
         word = "ok  " if told == "refused" else "note" if told.startswith("passed over") else "FAIL"
-        print(f"{word} {edit.name}: {told} by `{edit.check}`", flush=True)
+        print(f"{word} {edit.name}: {told}" + ("" if word == "note" else f" by `{edit.check}`"), flush=True)
     print(f"{len(edits) - bad - over} passed, {bad} failed")
     return int(bad > 0)
 
