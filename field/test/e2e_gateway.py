@@ -310,15 +310,19 @@ def logins(house: GatewayHouse, check: Checks) -> None:
 
 @contextlib.contextmanager
 def slowed(house: GatewayHouse) -> Iterator[None]:
-    """The desk as on a slow disk: it is held still for nine tenths of the time."""
+    """The desk as on a slow disk, so that it takes fewer reports a second than are due: it runs for a fortieth of the
+    time. On a machine that is held up it runs for longer than it should, and is then held still for longer."""
     pid, done = house.jobs["desk"].pid, threading.Event()
 
     def drag() -> None:
+        ran = 0.005
         while not done.is_set():
             os.kill(pid, signal.SIGSTOP)
-            time.sleep(0.045)
+            time.sleep(min(39 * ran, 0.4))
             os.kill(pid, signal.SIGCONT)
+            start = time.monotonic()
             time.sleep(0.005)
+            ran = time.monotonic() - start
 
     thread = threading.Thread(target=drag)
     thread.start()
