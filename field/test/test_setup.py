@@ -294,7 +294,7 @@ class Made(unittest.TestCase):
         self.assertEqual(tomllib.loads((self.root / "etc/portal/failed.toml").read_text()), {"on_failure": []})
 
     def test_a_part_that_is_started_again_and_again_is_told_of(self) -> None:
-        self.assertEqual(self.unit("portal.service")["Unit"]["Wants"], "portal-restarts.timer")
+        self.assertEqual(self.unit("portal.service")["Unit"].get("Wants"), "portal-restarts.timer")
         self.assertEqual(self.unit("portal-restarts.timer")["Timer"]["OnUnitActiveSec"], "1min")
         order = self.unit("portal-restarts.service")["Service"]["ExecStart"].split()
         program = FIELD / order[1].removeprefix("/usr/share/portal/field/")
