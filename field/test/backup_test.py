@@ -220,6 +220,27 @@ class Copies(Case):
             self.assertIn("its log is missing", done.stderr)
 
 
+class CarriedOff(Case):
+    @unittest.skipUnless(shutil.which("rsync"), "rsync is not installed")
+    def test_copies_are_carried_off_as_the_readme_says(self) -> None:
+        """By its line, to a folder of this machine. A copy that was damaged here since stays good there."""
+        line = re.search(r"`(rsync [^`]*)`", (FIELD / "README.md").read_text())
+        assert line
+        with DeskProcess() as desk:
+            desk.load()
+            copy, far = self.copied(desk), desk.folder / "far"
+            words = [{"/var/backups/portal/": f"{copy.parent}/", "HOST:portal/": f"{far}/"}.get(word, word)
+                     for word in line[1].split()]
+            for _ in range(2):
+                subprocess.run(words, check=True)
+                check = subprocess.run(["sh", "-c", "sha256sum --check --strict *.sha256"], cwd=far, capture_output=True)
+                self.assertEqual(check.returncode, 0)
+                copy.write_bytes(b"damaged")
+            self.end(desk)
+            systemctl(desk.folder, "inactive")
+            self.assertEqual(self.restore(desk, far / copy.name, desk.book, folder=desk.folder).returncode, 0)
+
+
 CAN_MOUNT = os.geteuid() == 0 and shutil.which("mkfs.btrfs") and os.path.exists("/dev/loop-control")
 
 
