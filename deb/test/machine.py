@@ -27,7 +27,7 @@ DATABASE, COPIES = pathlib.Path("/var/lib/portal/book.db"), pathlib.Path("/var/b
 SESSIONS = pathlib.Path("/run/portal-gateway/sessions.json")
 COUNTER, NAME, OUTSIDE = "counter.example", "wifi.example", "203.0.113.2"
 PARTS = ("portal", "portal-rules@lan0", "portal-gateway", "portal-leases", "portal-front", "portal-counter")
-UNITS = (*PARTS, "nginx", "dnsmasq", "portal-backup.timer")
+UNITS = (*PARTS, "nginx", "dnsmasq", "portal-backup.timer", "portal-restarts.timer")
 WITNESS = ("add table inet w; delete table inet w; add table inet w; "
            "add chain inet w i { type filter hook input priority 0; }; "
            "add rule inet w i udp dport 9 counter; add rule inet w i udp dport 9 drop")

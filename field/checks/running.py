@@ -13,8 +13,8 @@ from findings import Finding, Machine, good, warning, wrong
 from machine_time import Notes
 
 RESTARTED = "MESSAGE_ID=5eb03494b6584870a536b337290809b3"      # systemd: a restart was scheduled
-PARTS = ("portal.service", "portal-gateway.service", "portal-front.service", "portal-counter.service",
-         "nginx.service", "dnsmasq.service", "portal-backup.timer")
+PARTS = ("portal.service", "portal-gateway.service", "portal-leases.service", "portal-front.service",
+         "portal-counter.service", "nginx.service", "dnsmasq.service", "portal-backup.timer", "portal-restarts.timer")
 NOTES = "/run/portal-clock"
 NOBODY = "02:00:00:00:00:00"    # a device that no guest has
 

@@ -17,8 +17,9 @@ from findings import CannotTell, Done, Machine  # noqa: E402
 from venue import Field  # noqa: E402
 
 SAMPLE = (FIELD / "settings/field.toml").read_text()
-UNITS = ("portal.service", "portal-gateway.service", "portal-front.service", "portal-counter.service",
-         "portal-rules@lan0.service", "portal-backup.timer", "nginx.service", "dnsmasq.service")
+UNITS = ("portal.service", "portal-gateway.service", "portal-leases.service", "portal-front.service",
+         "portal-counter.service", "portal-rules@lan0.service", "portal-backup.timer", "portal-restarts.timer",
+         "nginx.service", "dnsmasq.service")
 Devices = dict[str, tuple[list[str], list[str]]]        # flags and addresses
 NETWORKS: Devices = {"lo": (["LOOPBACK", "UP", "LOWER_UP"], ["127.0.0.1/8"]),
                      "lan0": (["BROADCAST", "UP", "LOWER_UP"], ["10.77.0.1/22"]),

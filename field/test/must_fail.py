@@ -656,7 +656,8 @@ def main() -> int:
     words = argparse.ArgumentParser(description="Wrong kits, each refused by the check that is meant.")
     words.add_argument("--portal", default="", help="the program, as a command line; else the stand-in")
     words.add_argument("--rootless", action="store_true", help="only those that a unit test refuses")
-    words.add_argument("--labs", type=int, default=len(os.sched_getaffinity(0)), help="how many at a time")
+    words.add_argument("--labs", type=int, default=max(4, len(os.sched_getaffinity(0))),     # most of a step is waiting
+                       help="how many at a time")
     words.add_argument("names", nargs="*")
     args = words.parse_args()
     signal.signal(signal.SIGTERM, end_all)

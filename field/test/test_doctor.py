@@ -384,6 +384,8 @@ class Running(Case):
         self.all_good(running.services)
         changes = {"portal_front_service": ("failed", "portal-front.service has failed (exit-code)"),
                    "portal_backup_timer": ("inactive", "portal-backup.timer is not active: inactive"),
+                   "portal_leases_service": ("inactive", "portal-leases.service is not active: inactive"),
+                   "portal_restarts_timer": ("inactive", "portal-restarts.timer is not active: inactive"),
                    "portal_service": ("activating", "portal.service is not active: activating"),
                    "portal_rules_lan0_service": ("inactive", "portal-rules@lan0.service is not active")}
         for unit, (state, told) in changes.items():
