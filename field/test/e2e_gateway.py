@@ -31,7 +31,7 @@ from e2e import Checks, forward_ipv6
 from e2e import names as names_answered
 from house import PEER, House
 from lab import COUNTER, FIELD, MACS, NAME, OUTSIDE, PYTHON, STAND_IN
-from steady import measured
+from steady import measured, wait_until
 
 IDS = {"portal-gateway": 7001, "portal-front": 7002, "portal-counter": 7003, "portal-clock": 7005, "www-data": 33}
 PRINTER = "02:aa:00:00:00:03"
@@ -350,7 +350,9 @@ def busy(house: GatewayHouse, check: Checks) -> None:
     with packets(house, CROWDED, "many", house.address("guest1")):
         time.sleep(5)
         measured(check, f"with {CROWDED} busy sessions the gate is not shut by its own work", lambda: streamed(house))
-    held = [house.held(row["session"]) for row in house.polled()[1:CROWDED:50]]
+    some = [row["session"] for row in house.polled()[1:CROWDED:50]]
+    wait_until(lambda: min(map(house.held, some)) > 128, 20)        # more than their first packet
+    held = [house.held(session) for session in some]
     check("and the desk is told of each", min(held) > 128, held)
 
 
