@@ -1,8 +1,8 @@
 #!/usr/bin/python3
 """Tells of a unit that ends and is started again and again, by the command that portal_failed.py takes.
 
-systemd does not count such a unit as failed, so no OnFailure= tells of it. A timer runs this each minute. What it saw is
-kept in RUNTIME_DIRECTORY.
+systemd does not count such a unit as failed, so no OnFailure= tells of it. A timer runs this each minute. What it saw
+is kept in RUNTIME_DIRECTORY.
 """
 
 from __future__ import annotations
@@ -32,7 +32,8 @@ class Seen:
     def later(self, count: int, now: float) -> Seen:
         """It is told once, until WITHIN seconds have gone by without a restart."""
         more = count - self.count if count >= self.count else count
-        restarts = [*(moment for moment in self.restarts if now - moment < WITHIN), *[now] * min(more, MANY)][-MANY:]
+        recent = [moment for moment in self.restarts if now - moment < WITHIN]
+        restarts = [*recent, *[now] * min(more, MANY)][-MANY:]
         return Seen(count, restarts, self.told and bool(restarts))
 
     def is_news(self) -> bool:
@@ -40,14 +41,15 @@ class Seen:
 
 
 def counts() -> dict[str, int]:
-    told = subprocess.run(["systemctl", "show", "-p", "Id,NRestarts", *UNITS], check=True, capture_output=True, text=True)
-    rows = (dict(line.split("=", 1) for line in block.splitlines()) for block in told.stdout.strip().split("\n\n"))
+    words = ["systemctl", "show", "-p", "Id,NRestarts", *UNITS]
+    told = subprocess.run(words, check=True, capture_output=True, text=True).stdout
+    rows = [dict(line.split("=", 1) for line in block.splitlines()) for block in told.strip().split("\n\n")]
     return {row["Id"]: int(row["NRestarts"]) for row in rows}
 
 
 def look(before: dict[str, Seen], now: float) -> tuple[dict[str, Seen], int]:
-    """What is seen now, and the highest status of what told. What was there at the first look is no news: at boot a
-    unit may be started several times until the addresses have come."""
+    """What is seen now, and the highest status of what told. What was there at the first look is no news: at boot
+    a unit may be started several times until the addresses have come."""
     after, worst = {}, 0
     for unit, count in counts().items():
         seen = before[unit].later(count, now) if unit in before else Seen(count)
@@ -62,7 +64,8 @@ def look(before: dict[str, Seen], now: float) -> tuple[dict[str, Seen], int]:
 
 def main() -> int:
     path = pathlib.Path(os.environ["RUNTIME_DIRECTORY"], "seen.json")
-    before = {unit: Seen(**row) for unit, row in json.loads(path.read_text()).items()} if path.exists() else {}
+    rows = json.loads(path.read_text()) if path.exists() else {}
+    before = {unit: Seen(**row) for unit, row in rows.items()}
     after, worst = look(before, time.clock_gettime(time.CLOCK_BOOTTIME))
     part = path.with_suffix(".part")
     part.write_text(json.dumps({unit: asdict(seen) for unit, seen in after.items()}))

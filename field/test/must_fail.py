@@ -330,7 +330,7 @@ CLOCK = (
          "test_server.Restarts", "test_a_part_that_is_started_again_and_again_is_told_of_once"),
     Edit("a_mail_that_was_not_sent_is_lost", "server/portal_restarts.py", "told=status == 0)", "told=True)",
          "test_server.Restarts", "test_a_command_that_did_not_tell_is_asked_again"),
-    Edit("five_restarts_of_a_year", "server/portal_restarts.py", " if now - moment < WITHIN)", ")",
+    Edit("five_restarts_of_a_year", "server/portal_restarts.py", " if now - moment < WITHIN]", "]",
          "test_server.Restarts", "test_a_restart_of_ten_minutes_ago_does_not_count"),
     Edit("nobody_looks_for_restarts", "units/portal.service", "Wants=portal-restarts.timer\n", "",
          "test_setup.Made", "test_a_part_that_is_started_again_and_again_is_told_of"),
