@@ -231,12 +231,20 @@ def ping6(house: GatewayHouse) -> bool:
     return house.within("guest1", "ping", "-6", "-c3", "-i0.1", "-W1", "2001:db8:1::2", check=False).returncode == 0
 
 
+def nothing_comes(house: GatewayHouse) -> bool:
+    """For a second. A guest with a session answers what is left of an earlier stream."""
+    before = house.arrived()
+    time.sleep(1)
+    return house.arrived() == before
+
+
 def flushed(house: GatewayHouse, check: Checks) -> None:
     """Somebody's `nft flush ruleset`, where guests' packets would find their way back, by both families."""
     house.online("guest1")
     off = "ipv6/conf/lan0/disable_ipv6"
     check("IPv6 is off on the guests' device", sysctl(house, off) == "1", sysctl(house, off))
     house.within("outside", "ip", "route", "replace", "10.77.0.0/22", "via", "203.0.113.1")
+    house.until(lambda: nothing_comes(house), 60, "an end of what the first guest sends")
     out = house.arrived()
     knocks = house.begin("guest2", PYTHON, PEER, "first", OUTSIDE, 2.5)      # a packet each 5 ms, without a session
     time.sleep(0.5)
