@@ -171,7 +171,7 @@ def say_the_time_is_right() -> str:
     """What the counter's page says once a clerk has sent its form on the time; nothing where it has none."""
     page = counter("")[1].partition("The time is right</button>")[0].rpartition('action="/time"')[2]
     form = dict(re.findall(r'name="(shown|booted)" value="([^"]*)"', page))
-    return " ".join(re.findall(r'<p class="(?:good|bad)" role="status">(.*?)</p>', clerk("time", **form)[1])) if form else ""
+    return " ".join(re.findall(r'<p id="told"[^>]*>(.*?)</p>', clerk("time", **form)[1])) if form else ""
 
 
 def one_code(plan: str) -> str:

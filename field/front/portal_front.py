@@ -5,56 +5,58 @@ from __future__ import annotations
 
 import hashlib
 import hmac
-import html
 import pathlib
-import re
 import socket
 import sys
 import time
 from collections.abc import Callable
-from dataclasses import dataclass
+from dataclasses import dataclass, field
 from typing import Any
 
-sys.path.insert(0, str(pathlib.Path(__file__).resolve().parent.parent / "lib"))
+HERE = pathlib.Path(__file__).resolve().parent
+sys.path.insert(0, str(HERE.parent / "lib"))
+import flask  # noqa: E402
+import itsdangerous  # noqa: E402
+
 import refusals  # noqa: E402
+import web  # noqa: E402
+from typed_codes import LONGEST_CODE, in_fours, plain_code  # noqa: E402
 from desk_client import (  # noqa: E402
     REQUEST_NUMBER, Desk, NoAnswer, Refused, Routes, credential, new_number, settings)
-from pages import BadForm, Form, Page, UnixServer, box  # noqa: E402
-from words import counted, span, volume  # noqa: E402
+from forms import BadForm, Form  # noqa: E402
+from languages import GUESTS, Language, preferred  # noqa: E402
+from marks import guest_words  # noqa: E402
 
-BREAKS = re.compile(r"[\s\u2010-\u2015-]+")     # blanks and all kinds of dashes, as phones write them
-LONGEST_CODE = 40
 ONCE_MORE = 0.05        # seconds until a device is looked for again: DHCP may just be renewing its entry
-NO_DESK = "We cannot ask our desk just now. Please try again in a minute."
-
-PAGE = """<!DOCTYPE html>
-<html lang="en"><head><meta charset="utf-8"><meta name="viewport" content="width=device-width, initial-scale=1">
-<title>{house} Wi&#8209;Fi</title><link rel="stylesheet" href="/style.css"></head>
-<body><main><h1>{house} Wi&#8209;Fi</h1>
-{notice}{state}
-<form method="post" action="/portal"><input type="hidden" name="request" value="{number}">
-<input type="hidden" name="device" value="{device}"><input type="hidden" name="sign" value="{sign}">
-<label for="code">{ask}</label>
-<input id="code" name="code" value="{code}" required maxlength="40" autocomplete="off" autocapitalize="characters"
- spellcheck="false" placeholder="ABCD-EFGH-JKMN-PQRS" inputmode="text"><button>{button}</button></form>
-<footer>{help}<br>Your device: <code>{name}</code></footer></main></body></html>
-"""
+COOKIE, COOKIE_DAYS = "portal_session", 30
+NO_DESK = guest_words("We cannot ask our desk just now. Please try again in a minute.")
+TIME_ENDED = guest_words("Your time has ended. To go online again, type another code.")
+ENDED = guest_words("Your session has ended: its data is used up, or it was closed at the counter.")
 
 
-def plain_code(text: str) -> str:
-    """A code without breaks and in upper case, so that the same code typed twice is the same request."""
-    return "".join(sign.upper() if sign.isascii() else sign for sign in BREAKS.sub("", text))
+@dataclass(frozen=True)
+class Last:
+    """What the page of a device knew last: its session, and until when that runs where its time is limited."""
+    device: str
+    session: int
+    until: int | None = None
 
 
-def in_fours(code: str) -> str:
-    """A plain code as it is printed; the same code once it is sent."""
-    return "-".join(code[i:i + 4] for i in range(0, len(code), 4))
+@dataclass
+class State:
+    """What the desk says of a device. `left`: names and amounts, in words. `ended`: what was before."""
+    online: bool = False
+    fault: str = ""
+    left: list[tuple[str, str]] = field(default_factory=list)
+    extends: bool = False
+    session: int | None = None
+    ended: str = ""
 
 
 @dataclass
 class Front:
     """What the page needs: the desk, the house's words, where the gateway's agent hears knocks, which device holds the
-    lease of an address, and the key of its forms."""
+    lease of an address, and the key of its forms and of its cookie."""
     desk: Desk
     conf: dict[str, Any]
     device_at: Callable[[str], str | None]
@@ -77,6 +79,18 @@ class Front:
         good = hmac.compare_digest(self.signed(device).encode(), form.get("sign", "").encode())
         return device if device and good else None
 
+    @property
+    def cookies(self) -> itsdangerous.URLSafeSerializer:
+        return itsdangerous.URLSafeSerializer(self.key, salt="session", signer_kwargs={"digest_method": hashlib.sha256})
+
+    def last(self, cookie: str, device: str | None) -> Last | None:
+        """What a cookie of ours says, if it is of this device."""
+        try:
+            found = Last(*self.cookies.loads(cookie))
+        except (itsdangerous.BadData, TypeError):
+            return None
+        return found if device and found.device == device else None
+
     def knock(self) -> None:
         """The agent looks at once; if it does not hear, its next poll will do."""
         with socket.socket(socket.AF_UNIX, socket.SOCK_DGRAM) as s:
@@ -86,111 +100,146 @@ class Front:
             except OSError:
                 pass
 
-    def state(self, device: str | None) -> tuple[str, bool]:
-        """What the desk says of the device, in words, and whether it is online."""
-        if device is None:
-            return box("bad", refusals.NO_LEASE.for_guest), False
+
+def refused(refusal: refusals.Refusal, language: Language) -> str:
+    """A refusal as a guest reads it."""
+    return language.say(refusal.for_guest, word=refusal.word)
+
+
+class Visit:
+    """One request of a guest: the device, the language, and what the page said before."""
+
+    def __init__(self, front: Front, request: flask.Request) -> None:
+        self.front = front
         try:
-            told = self.desk.tell(Routes.CAPTIVE, device=device)
-        except (NoAnswer, Refused):
-            return box("bad", NO_DESK), False
-        if told["captive"]:
-            return "<p>You are not online yet.</p>", False
-        left = {"time left": (span, told.get("seconds-remaining")), "data left": (volume, told.get("bytes-remaining"))}
-        rows = "".join(f"<div><dt>{name}</dt><dd>{say(number)}</dd></div>" for name, (say, number) in left.items()
-                       if number is not None)
-        more = "" if told["can-extend-session"] else "<p>Another code can be used when this one has ended.</p>"
-        return f'<p class="good" role="status">You are online.</p><dl>{rows}</dl>{more}', True
-
-    def page(self, device: str | None, notice: str = "", done: str = "", code: str = "", number: str = "",
-             shown: str | None = None) -> str:
-        """The portal page. `done` is shown to a device that is online alone; the form gets `number`, or a new one. It is
-        for the device; a form for another one, which was `shown` before, stays so and tells nothing of this one."""
-        state, online = ("", False) if shown else self.state(device)
-        shown = html.escape(shown or device or "")
-        return PAGE.format(
-            house=html.escape(self.conf["house"]), help=html.escape(self.conf["help"]),
-            device=shown, sign=self.signed(shown), name=shown or "unknown",
-            notice=notice or (done if online else ""), state=state,
-            code=html.escape(in_fours(plain_code(code))), number=number or new_number(),
-            ask="Add another code" if online else "Type the code from your voucher",
-            button="Add" if online else "Go online")
-
-
-class PortalPage(Page):
-    server: Any
-    server_version = "front"
-
-    def device(self) -> str | None:
-        return self.server.front.device(self.headers.get("X-Real-IP", ""))
-
-    def do_GET(self) -> None:
-        path, device = self.path.partition("?")[0], self.device()
-        if path == "/device":       # nginx drops the connection after this answer, so it has no body
-            return self.send(403) if device is None else self.send(204, Portal_Device=device)
-        if path != "/portal":
-            return self.send(404)
-        try:
-            asked = self.query()
+            self.form = Form.sent(request) if request.method == "POST" else Form.asked(request)
         except BadForm:
-            asked = Form()
-        code = asked.get("code", "")[:LONGEST_CODE]
-        self.send(200, self.server.front.page(device, done=self.done(asked), code=code))
+            self.form = Form()
+        self.choice = self.form.get("lang", "") if self.form.get("lang") in GUESTS else ""
+        self.language = Language(preferred(request.accept_languages, self.choice))
+        self.device = front.device(request.headers.get("X-Real-IP", ""))
+        self.last = front.last(request.cookies.get(COOKIE, ""), self.device)
+        self.code = plain_code(self.form.get("code", "")[:LONGEST_CODE])
+        self.keep: Last | None = None       # what the next page is to know
 
-    def done(self, asked: Form) -> str:
+    def state(self) -> State:
+        say = self.language.say
+        if self.device is None:
+            return State(fault=refused(refusals.NO_LEASE, self.language))
         try:
-            asked.whole("done")
-            left = asked.whole("left")
+            told = self.front.desk.tell(Routes.CAPTIVE, device=self.device)
+        except (NoAnswer, Refused):
+            return State(fault=say(NO_DESK))
+        if told["captive"]:
+            return State(ended=self.ended())
+        seconds, count = told.get("seconds-remaining"), told.get("bytes-remaining")
+        left = [] if seconds is None else [(say("Time left"), self.language.span(seconds))]
+        left += [] if count is None else [(say("Data left"), self.language.volume(count))]
+        if self.last:
+            self.keep = Last(self.device, self.last.session, None if seconds is None else round(time.time()) + seconds)
+        return State(True, "", left, told["can-extend-session"], self.last.session if self.last else None)
+
+    def ended(self) -> str:
+        """What became of the session that the device had."""
+        if self.last is None:
+            return ""
+        over = self.last.until is not None and time.time() >= self.last.until - 1
+        return self.language.say(TIME_ENDED if over else ENDED)
+
+    def done(self) -> str:
+        """What the answer to a form was, which came before this page."""
+        try:
+            self.form.whole("done")
+            left = self.form.whole("left")
         except BadForm:
             return ""
-        return box("good", "Your code is good." + (f" It can be used {counted(left, 'more time')}." if left else ""))
+        good = self.language.say("Your code is good.")
+        more = self.language.counted("It can be used %(num)s more time.", "It can be used %(num)s more times.", left)
+        return f"{good} {more}" if left else good
 
-    def do_POST(self) -> None:
-        if self.path != "/portal":
-            return self.send(404)
-        device = self.device()
-        try:
-            form = self.sent_form()
-        except BadForm:
-            form = Form()
-        code, number = plain_code(form.get("code", "")[:LONGEST_CODE]), form.get("request", "")
-        shown = self.server.front.device_of(form)
-        if device is None:
-            return self.refuse(403, device, "", code)
-        if shown is None or not REQUEST_NUMBER.fullmatch(number):   # nothing acts without: the form comes back with it
-            return self.refuse(400, device, refusals.of_word("id_reused").for_guest, code)
-        if shown != device:         # the form stays one for the device that its page showed
-            return self.refuse(409, device, refusals.OTHER_DEVICE.for_guest, code, shown)
-        self.redeem(device, code, number)
+    def page(self, status: int = 200, bad: str = "", number: str = "", shown: str | None = None) -> flask.Response:
+        """The portal page. That a code is good is shown to a device that is online alone; the form gets `number`, or a new
+        one. It is for the device; a form for another one, which was `shown` before, stays so and tells nothing of this
+        one."""
+        state = State() if shown else self.state()
+        device = shown or self.device or ""
+        text = flask.render_template(
+            "portal.html", language=self.language, _=self.language.say, choice=self.choice, languages=GUESTS, conf=self.front.conf,
+            bad=bad, good=self.done() if state.online and not bad else "", state=state, silent=bool(shown), device=device,
+            sign=self.front.signed(device), code=in_fours(self.code), number=number or new_number())
+        response = flask.make_response(text, status)
+        return self.kept(response)
 
-    def refuse(self, status: int, device: str | None, words: str, code: str, shown: str | None = None) -> None:
+    def kept(self, response: flask.Response) -> flask.Response:
+        response.headers["Content-Language"] = self.language.tag
+        response.headers["Vary"] = "Accept-Language, Cookie"
+        if self.keep:
+            text = self.front.cookies.dumps([self.keep.device, self.keep.session, self.keep.until])
+            response.set_cookie(COOKIE, str(text), 86_400 * COOKIE_DAYS, path="/portal", secure=True, httponly=True,
+                                samesite="Lax")
+        return response
+
+    def refuse(self, status: int, refusal: refusals.Refusal | None, **more: Any) -> flask.Response:
         """The page again, with nothing done."""
-        notice = box("bad", words) if words else ""
-        self.send(status, self.server.front.page(device, notice, code=code, shown=shown))
+        return self.page(status, refused(refusal, self.language) if refusal else "", **more)
 
-    def redeem(self, device: str, code: str, number: str) -> None:
-        front = self.server.front
+    def answer(self) -> flask.Response:
+        """To a form that was sent."""
+        number, shown = self.form.get("request", ""), self.front.device_of(self.form)
+        if self.device is None:
+            return self.refuse(403, None)
+        if shown is None or not REQUEST_NUMBER.fullmatch(number):   # nothing acts without: the form comes back with it
+            return self.refuse(400, refusals.of_word("id_reused"))
+        if shown != self.device:    # the form stays one for the device that its page showed
+            return self.refuse(409, refusals.OTHER_DEVICE, shown=shown)
+        return self.redeem(self.device, number)
+
+    def redeem(self, device: str, number: str) -> flask.Response:
+        front = self.front
         try:
-            told = front.desk.tell(Routes.REDEEM, body={"code": code}, device=device, number=number)
-        except Refused as refused:
-            kept = number if refused.in_doubt else ""
-            notice = box("bad", refusals.of_word(refused.word).for_guest)
-            return self.send(refused.status, front.page(device, notice, code=code, number=kept))
+            told = front.desk.tell(Routes.REDEEM, body={"code": self.code}, device=device, number=number)
+        except Refused as fault:
+            return self.refuse(fault.status, refusals.of_word(fault.word), number=number if fault.in_doubt else "")
         except NoAnswer:
-            notice = box("bad", refusals.NO_ANSWER.for_guest)
-            return self.send(504, front.page(device, notice, code=code, number=number))
+            return self.refuse(504, refusals.NO_ANSWER, number=number)
         front.knock()
+        self.keep = Last(device, told["session"])
         # Another page than the answer to the form, so that loading it again does not send the code again.
-        self.send(303, Location=f"/portal?done={told['session']}&left={told['uses_left']}")
+        where = f"/portal?done={told['session']}&left={told['uses_left']}"
+        response = flask.Response(status=303)
+        response.headers["Location"] = where + (f"&lang={self.choice}" if self.choice else "")
+        return self.kept(response)
+
+
+def pages(front: Front) -> web.Application:
+    """The page, and before it the look-up that nginx makes for each request of a program."""
+    app = web.pages("front", HERE)
+
+    @app.route("/portal", methods=["GET", "POST"])
+    def portal() -> flask.Response:
+        visit = Visit(front, flask.request)
+        return visit.answer() if flask.request.method == "POST" else visit.page()
+
+    def answer(environ: dict[str, Any], start: Callable[..., Any]) -> web.Answer:
+        if environ["PATH_INFO"] != "/device":
+            return app(environ, start)
+        device = front.device(environ.get("HTTP_X_REAL_IP", ""))
+        head = [("Content-Length", "0")]        # nginx takes the head alone; without a length waitress would hang up
+        start("403 Forbidden", head) if device is None else start("200 OK", [*head, ("Portal-Device", device)])
+        return []
+
+    return answer
 
 
 def main() -> None:
     conf = settings("/etc/portal/front.toml")
-    server = UnixServer.bound(conf["socket"], PortalPage)   # requests wait here from now on
+    door = web.listening(conf["socket"])    # requests wait here from now on
     from neighbours import Neighbours       # takes its time; needs python3-pyroute2, which the page's tests do not
 
-    server.front = Front(Desk(conf["desk_port"]), conf, Neighbours(conf["lan"]).device, credential("form_key"))
-    server.serve_forever()
+    for tag in GUESTS:
+        Language(tag)       # the catalogues are read once
+    front = Front(Desk(conf["desk_port"]), conf, Neighbours(conf["lan"]).device, credential("form_key"))
+    web.serve(pages(front), door, threads=32)
 
 
 if __name__ == "__main__":

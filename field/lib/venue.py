@@ -16,6 +16,9 @@ PATH = re.compile(r"/[A-Za-z0-9/._-]+")
 ZONE = re.compile(r"[!-~]{1,64}")
 MAC = re.compile(r"[0-9a-f][02468ace](:[0-9a-f]{2}){5}")        # of one device, not of a group
 TIME = re.compile(r"[0-9]{1,4}[mhd]?")
+CURRENCY = re.compile(r"[A-Z]{3}")
+LANGUAGES = ("en", "de", "fr", "es", "it", "pt", "pl", "tr", "uk", "ar", "ja", "zh-Hans")     # of the guests' catalogues
+COUNTER_LANGUAGES = ("en", "de")
 CLOCKS = ("kernel", "host", "clerk")     # as server/right_time.py has them
 
 
@@ -47,6 +50,11 @@ class Field:
     without_browser: list[str] = listing(default_factory=list)
     clock: str = "kernel"
     on_failure: list[str] = listing(default_factory=list)
+    currency: str = ""
+    wifi: str = ""
+    wifi_password: str = ""
+    counter_language: str = "en"
+    voucher_languages: list[str] = listing(default_factory=lambda: ["en"])
 
     @classmethod
     def read(cls, text: str) -> Field:
@@ -92,6 +100,7 @@ class Field:
         if self.grace_seconds < 2 * self.poll_seconds:
             raise BadSettings("grace_seconds is less than two polls")
         self.check_services()
+        self.check_pages()
         self.check_devices()
         self.check_networks()
 
@@ -101,6 +110,19 @@ class Field:
         words = self.on_failure
         if not isinstance(words, list) or not all(isinstance(word, str) and word for word in words):
             raise BadSettings("on_failure is a list of a command's words")
+
+    def check_pages(self) -> None:
+        if not isinstance(self.currency, str) or self.currency and not CURRENCY.fullmatch(self.currency):
+            raise BadSettings(f"currency = {self.currency!r}: three capital letters, such as EUR, or nothing")
+        if not isinstance(self.wifi, str) or len(self.wifi.encode()) > 32:
+            raise BadSettings("wifi: the network's name, at most 32 bytes")
+        if not isinstance(self.wifi_password, str) or self.wifi_password and not 8 <= len(self.wifi_password) <= 63:
+            raise BadSettings("wifi_password: 8 to 63 signs, or nothing")
+        if self.counter_language not in COUNTER_LANGUAGES:
+            raise BadSettings(f"counter_language = {self.counter_language!r}: one of {', '.join(COUNTER_LANGUAGES)}")
+        tags = self.voucher_languages
+        if not isinstance(tags, list) or not 1 <= len(tags) <= 2 or any(tag not in LANGUAGES for tag in tags):
+            raise BadSettings(f"voucher_languages: one or two of {', '.join(LANGUAGES)}")
 
     def check_devices(self) -> None:
         listed = self.without_browser

@@ -60,6 +60,9 @@ def dhcp(what: str, mac: str, address: str, server: str, identifier: str = "") -
         s.sendto(body.ljust(300, b"\0"), (server if what == "release" else "255.255.255.255", 67))
 
 
+AT_ONCE = 12     # questions for which nginx needs connections of its own, after it has taken back those that rest
+
+
 def crowd(host: str, port: str, count: str) -> None:
     context = ssl._create_unverified_context()
 
@@ -74,8 +77,9 @@ def crowd(host: str, port: str, count: str) -> None:
             links.append(begin())
     except OSError:
         print(f"{len(links)} connections;", end=" ")
-    links[0].sendall(b"\r\n")
-    print(links[0].recv(4000).partition(b"\r\n")[0].decode())
+    for link in links[:AT_ONCE]:
+        link.sendall(b"\r\n")
+    print(*(link.recv(4000).partition(b"\r\n")[0].decode() for link in links[:AT_ONCE]), sep="; ")
 
 
 PARTS: tuple[Callable[..., None], ...] = (arp, dhcp, crowd)

@@ -136,10 +136,15 @@ def first_voucher(house: House, check: Checks) -> None:
 
 
 def numbered(house: House, check: Checks) -> None:
-    """A form sent twice acts once."""
+    """A form sent twice acts once; the page then knows its session."""
     code, other = house.codes("gigabyte", 2)
     number = house.number("guest2")
     heads = [house.send_form("guest2", code, number)[2] for _ in range(2)]
+    cookie = next((line.partition(": ")[2].partition(";")[0] for line in heads[0].splitlines()
+                   if line.lower().startswith("set-cookie: portal_session=")), "")
+    page = house.curl("guest2", PORTAL, "-H", f"Cookie: other=x; {cookie}", "-H", "Accept-Language: ar, en;q=0.5")[1]
+    check("the page is in the browser's language, and shows the number of the session", '<html lang="ar" dir="rtl">' in page
+          and f"<dt>رقم الجلسة</dt><dd>{house.session_of('guest2')}</dd>" in page, cookie)
     places = [line for head in heads for line in head.splitlines() if line.lower().startswith("location")]
     check("a form sent twice has one answer", len(places) == 2 and places[0] == places[1], places)
     voucher = house.ask_desk("desk_token", "GET", "/desk/vouchers/" + code)
@@ -402,9 +407,12 @@ def guessed(house: House, check: Checks) -> None:
     fields = {"code": "2222-2222-2222-2222", **house.shown["guest2"]}
     form = [word for name, value in fields.items() for word in ("--data-urlencode", f"{name}={value}")]
     forms = [(*form, "--data-urlencode", f"request=g{i}") for i in range(20)]
-    statuses = [house.curl("guest2", PORTAL, *form)[0] for form in forms]
+    answers = [house.curl("guest2", PORTAL, *form, "-H", "Accept-Language: de-AT,de;q=0.9") for form in forms]
+    statuses = [answer[0] for answer in answers]
     check("of 20 guesses at once most are told to wait", 1 <= statuses.count(404) <= 9 and statuses.count(429) >= 11,
           {status: statuses.count(status) for status in sorted(set(statuses))})
+    told = {body for status, body, _ in answers if status == 429}
+    check("in the guest's language, on a page of ours", len(told) == 1 and "Bitte warten Sie eine Minute" in told.pop())
     page = house.curl("guest2", PORTAL)
     check("and the page is shown all the same", page[0] == 200, page[0])
     body = ("-d", json.dumps({"code": "2222-2222-2222-2222"}))

@@ -95,10 +95,10 @@ class Lab:
     def within(self, space: str, *words: object, **more: Any) -> subprocess.CompletedProcess[str]:
         return run("ip", "netns", "exec", self.ns(space), *words, **more)
 
-    def begin(self, space: str, *words: object) -> subprocess.Popen[str]:
-        """A command whose output is read later."""
+    def begin(self, space: str, *words: object, feed: bool = False) -> subprocess.Popen[str]:
+        """A command whose output is read later, and which may be given its input."""
         line = ["ip", "netns", "exec", self.ns(space), *map(str, words)]
-        return subprocess.Popen(line, stdout=subprocess.PIPE, text=True)
+        return subprocess.Popen(line, stdin=subprocess.PIPE if feed else None, stdout=subprocess.PIPE, text=True)
 
     # Wires, addresses, files
 
@@ -173,6 +173,14 @@ class Lab:
             "-keyout", root / "key.pem", "-out", root / "csr.pem")
         run("openssl", "x509", "-req", "-in", root / "csr.pem", "-CA", root / "ca.pem", "-CAkey", root / "ca-key.pem",
             "-CAcreateserial", "-copy_extensions", "copy", "-days", "2", "-out", root / "cert.pem")
+
+    def limitless(self, connections: int) -> None:
+        """nginx counts no guest's requests, and holds so many connections."""
+        conf = self.root / "etc/nginx/conf.d/portal-guests.conf"
+        conf.write_text(re.sub("rate=[0-9]+r/[ms]", "rate=10000r/s", conf.read_text()))
+        main = self.root / "nginx.conf"
+        text = main.read_text().replace("worker_connections 512;", f"worker_connections {connections};")
+        main.write_text(text.replace("user www-data;", f"user www-data; worker_rlimit_nofile {connections};"))
 
     # Programs
 

@@ -12,6 +12,8 @@ shut        the gate after a kill of the agent and of the desk, a desk held stil
 late        bytes beyond a session's limit until nothing passes any more
 offload     bytes counted against the guest's device, with merged packets (offloading) off and on
 sessions    GET /gateway/sessions with 200 open among N (100,000), at 10 questions a round
+lookup      GET /captive through nginx, which asks the pages' helper for the device: 500 times, alone and beside 4,500 connections
+            that say nothing
 copies      copies of the book while the desk sells: how long it is held still, and what a sale waits
 """
 
@@ -242,7 +244,36 @@ def copies(args: argparse.Namespace) -> None:
         told("the longest wait of a batch of one code meanwhile", longest)
 
 
-MEASURES = {work.__name__: work for work in (first, agent, crowd, written, shut, late, offload, sessions, copies)}
+def lookup(args: argparse.Namespace) -> None:
+    many, words = args.sessions or 4500, (PYTHON, FIELD / "test/lookups.py")
+    with House(args.portal) as house:
+        house.limitless(2 * many)
+        house.open_house()
+        for guest in ("guest1", "guest2"):
+            house.lease(guest)
+        authority = house.root / "ca.pem"
+
+        def times(what: str) -> None:
+            lines: list[float] = []
+            before = spent(house.jobs["front"].pid)
+            for _ in range(args.rounds):
+                lines += map(float, house.within("guest1", *words, "ask", authority, 500).stdout.split())
+            lines.sort()
+            took = (spent(house.jobs["front"].pid) - before) / len(lines) * 1e3
+            told(what, lines)
+            print(f"95 of 100 within {lines[len(lines) * 95 // 100]:.2f} ms; median {statistics.median(lines):.3f} ms; "
+                  f"the helper's processor {took:.2f} ms each", flush=True)
+
+        times("GET /captive")
+        job = house.begin("guest2", *words, "idle", authority, many, feed=True)
+        assert job.stdout and job.stdin
+        job.stdout.readline()
+        times(f"GET /captive beside {many} connections that say nothing")
+        job.stdin.close()
+        job.wait()
+
+
+MEASURES = {work.__name__: work for work in (first, agent, crowd, written, shut, late, offload, sessions, lookup, copies)}
 
 
 def main() -> None:

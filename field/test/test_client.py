@@ -11,8 +11,9 @@ from typing import Any
 
 from desk_process import Desk, DeskProcess, NoAnswer, Refused, Routes
 from desk_client import REQUEST_NUMBER, new_number
-from pages import BadForm, Form
-from words import clock, counted, money, span, use_zone, volume
+from forms import BadForm, Form
+from languages import Language
+from words import clock, use_zone
 
 HEAD = b"HTTP/1.1 %d X\r\nContent-Length: %d\r\nConnection: close\r\n\r\n%s"
 
@@ -74,13 +75,18 @@ class Answers(unittest.TestCase):
 
 class Words(unittest.TestCase):
     def test_words(self) -> None:
+        english, german = Language("en"), Language("de")
+        span, volume, money = english.span, english.volume, english.money
         for told, words in ((span(0), "0 seconds"), (span(1), "1 second"), (span(59), "59 seconds"),
                             (span(60), "1 minute"), (span(3599), "59 minutes"), (span(3600), "1 hour"),
-                            (span(7500), "2 hours 5 min"),
-                            (span(86400), "1 day"), (span(100000), "1 day 3 h"), (volume(0), "0 bytes"),
+                            (span(7500), "2 hours, 5 minutes"),
+                            (span(86400), "1 day"), (span(100000), "1 day, 3 hours"), (volume(0), "0 bytes"),
                             (volume(1), "1 byte"), (volume(999), "999 bytes"), (volume(1000), "1.0 kB"),
-                            (volume(999_999), "999.9 kB"), (volume(10**9), "1.0 GB"), (volume(10**15), "1000000.0 GB"),
-                            (money(5), "0.05"), (money(300), "3.00"), (counted(2, "use"), "2 uses")):
+                            (volume(999_999), "999.9 kB"), (volume(10**9), "1.0 GB"), (volume(10**15), "1,000,000.0 GB"),
+                            (money(5), "0.05"), (money(300), "3.00"), (money(123456, "EUR"), "\u20ac1,234.56"),
+                            (money(500, "JPY"), "\u00a55"), (money(550, "JPY"), "\u00a55.50"),
+                            (german.span(100000), "1 Tag, 3 Stunden"), (german.volume(1_234_567), "1,2 MB"),
+                            (german.money(123456), "1.234,56"), (german.money(500, "EUR"), "5,00\u00a0\u20ac")):
             self.assertEqual(told, words)
 
     def test_local_times_are_those_of_the_desks_zone(self) -> None:

@@ -16,13 +16,15 @@ import urllib.parse
 from typing import Any
 from unittest import mock
 
-from desk_process import FIELD, Desk, DeskProcess, Relay, Routes     # which says where the parts stand
+from desk_process import FIELD, Desk, DeskProcess, NoAnswer, Relay, Routes     # which says where the parts stand
 
 import refusals
 from machine_time import Notes, origin
-from pages import UnixServer
-from portal_counter import Counter, CounterPage, Tries
-from test_front import UnixLink
+from clerk import Counter
+from portal_counter import pages
+from test_front import UnixLink, served
+from tries import Tries
+from sheet import wifi_text
 
 HAS_SEGNO = importlib.util.find_spec("segno") is not None
 
@@ -34,18 +36,15 @@ class Pages(unittest.TestCase):
         self.addCleanup(self.relay.close)
         self.folder = pathlib.Path(self.enterContext(tempfile.TemporaryDirectory()))
         self.path = self.folder / "socket"
-        conf = {"house": "House", "plans": str(FIELD / "settings/plans.toml"),
+        conf: dict[str, Any] = {"house": "House", "plans": str(FIELD / "settings/plans.toml"),
                 "portal_url": "https://wifi.example/portal", "snapshot": str(self.folder / "sessions.json"),
                 "notes": str(self.folder / "notes")}
+        self.conf = conf
         (self.folder / "notes").mkdir()
         self.notes = Notes(conf["notes"])
         self.counter = Counter(Desk(self.relay.port, "desk-token"), conf, {})
         self.counter.load_plans()
-        server = UnixServer.bound(str(self.path), CounterPage)
-        server.counter = self.counter
-        threading.Thread(target=server.serve_forever, kwargs={"poll_interval": 0.02}, daemon=True).start()
-        self.addCleanup(server.server_close)
-        self.addCleanup(server.shutdown)
+        served(self, pages(self.counter), self.path)
 
     def ask(self, path: str, origin: str | None = "https://counter.example", head: Any = None,
             **form: Any) -> tuple[int, str]:
@@ -62,8 +61,8 @@ class Pages(unittest.TestCase):
         self.assertEqual(status, 200)
         self.assertIn('<option value="hour">hour, 3.00</option>', text)
         numbers = re.findall(r'name="request" value="([A-Za-z0-9-]{1,36})"', text)
-        self.assertEqual((len(numbers), len(set(numbers))), (3, 3))
-        self.assertEqual(text.count('method="post"'), 3)
+        self.assertEqual((len(numbers), len(set(numbers))), (2, 2))
+        self.assertEqual(text.count('method="post"'), 2)
 
     def test_a_day_at_the_counter(self) -> None:
         for plan, told in (("gigabyte", "Batch b1: 2 codes, good until "),
@@ -253,6 +252,132 @@ class Pages(unittest.TestCase):
         status, text = self.ask("/voucher?code=2222-2222-2222")
         self.assertEqual((status, "in doubt" in text), (504, False))
 
+    # The flow of the counter
+
+    def hidden(self, text: str, action: str) -> dict[str, str]:
+        """The hidden fields of the page's form that acts so."""
+        form = text.partition(f'<form method="post" action="/{action}">')[2].partition("</form>")[0]
+        return dict(re.findall(r'<input type="hidden" name="([^"]*)" value="([^"]*)">', form))
+
+    def test_a_sale_by_scanner_is_a_scan_and_enter(self) -> None:
+        code, other = self.desk.issued("hour", "b1", 2)
+        for scan in (code, code.lower(), f"https://wifi.example/portal?code={code}", f"https://x/portal?lang=de&code={code}"):
+            text = self.ask("/voucher?" + urllib.parse.urlencode({"code": scan}))[1]
+            self.assertIn(f"<title>{code} ", text)
+            self.assertIn("Sell for 3.00", text)
+            self.assertEqual(text.count("autofocus"), 1)
+        fields = self.hidden(text, "sell")
+        self.assertEqual(fields["code"], code)
+        status, _ = self.ask("/sell", next=other, **fields)     # another code was scanned instead of Enter
+        self.assertEqual((status, self.desk.voucher(code)["sold"], self.desk.voucher(other)["sold"]), (303, None, None))
+        text = self.ask("/sell", next="", **fields)[1]
+        self.assertIn("Take 3.00", text)
+        self.assertIsNotNone(self.desk.voucher(code)["sold"])
+        self.assertIn('id="code" name="code" required maxlength="200" autocomplete="off" spellcheck="false" dir="ltr" autofocus', text)
+        self.assertIn(f"<title>Sold: {code}. Take 3.00.", text)
+
+    def test_what_can_be_done_with_a_voucher(self) -> None:
+        code, = self.desk.issued("hour", "b1")
+        for done, there, away in ((None, "Sell for", "Refund …"), (Routes.SELL, "Refund …", "Sell for"),
+                                  (Routes.REFUND, "Nothing can be done", "Sell for")):
+            if done:
+                self.desk.desk.tell(done, body={"code": code})
+            text = self.ask(f"/voucher?code={code}")[1]
+            self.assertIn(there, text)
+            self.assertNotIn(away, text)
+            self.assertEqual(text.count("autofocus"), 1)
+
+    def test_a_refusal_keeps_and_names_the_code(self) -> None:
+        code, = self.desk.sold("hour", "b1")
+        cases: tuple[tuple[str, dict[str, Any]], ...] = (
+            ("/sell", {"code": code, "request": "s1"}), ("/voucher?code=2222", {}))
+        for path, form in cases:
+            typed = code if form else "2222"
+            text = self.ask(path, **form)[1]
+            self.assertIn(f'role="alert">{typed}:<br>', text)
+            self.assertRegex(text, rf'id="code" [^>]*autofocus\n value="{typed}" aria-invalid="true" aria-describedby="told"')
+
+    def test_refunds_closes_and_sales_of_batches_are_asked_once_more(self) -> None:
+        code, = self.desk.sold("gigabyte", "b1")
+        self.desk.desk.tell(Routes.REDEEM, body={"code": code}, device="02:00:00:00:00:01")
+        told = {"at": int(time.time()), "sessions": [{"device": "02:00:00:00:00:01", "session": 1, "used": 5}]}
+        (self.folder / "sessions.json").write_text(json.dumps(told))
+        for path, action, words in ((f"/refund?code={code}", "refund", "1 of 3"), ("/close?session=1", "close", "02:00:00:00:00:01"),
+                                    ("/sell-batch?batch=b1", "sell-batch", "gigabyte"), ("/close?session=9", "close", "not in the")):
+            status, text = self.ask(path)
+            self.assertIn("This cannot be taken back.", text)
+            self.assertIn(words, text)
+            self.assertIn("request", self.hidden(text, action))
+        for page, action in ((f"/voucher?code={code}", "refund"), ("/", "close"), ("/", "sell-batch")):
+            self.assertEqual(self.hidden(self.ask(page)[1], action), {}, "nothing acts from there")
+        self.assertIsNone(self.desk.voucher(code)["refund"])
+        self.assertIn("Give back 3.33", self.ask("/refund", **self.hidden(self.ask(f"/refund?code={code}")[1], "refund"))[1])
+        self.assertIn("Session 1 is closed", self.ask("/close", **self.hidden(self.ask("/close?session=1")[1], "close"))[1])
+
+    def test_one_voucher_is_issued_and_sold_at_one_press_and_once(self) -> None:
+        fields = {**self.hidden(self.ask("/")[1], "now"), "plan": "day"}
+        for cuts in (True, False, False):       # at first the answer is lost on its way
+            self.relay.cuts = cuts
+            status, text = self.ask("/now", **fields)
+            self.assertEqual((status, "Send it again" in text, "Take 9.00" in text), (504, True, False) if cuts else (200, False, True))
+        code = re.search(r"Sold: ([0-9A-Z-]+)\.", text)
+        assert code
+        self.assertEqual(self.desk.voucher(code[1])["batch"], fields["batch"])
+        self.assertEqual(self.desk.desk.ask(Routes.PRINT, fields["batch"]).count(b"\n"), 2)
+        self.assertIn(f'<a href="/sheet?batch={fields["batch"]}">Print its sheet</a>', text)
+        day = time.strftime("%Y-%m-%d", time.gmtime())
+        self.assertIn("<b>net 9.00</b>", self.ask(f"/takings?from={day}&to={day}")[1])
+
+    def test_a_whole_batch_is_sold_and_goes_on_where_it_broke_off(self) -> None:
+        codes = self.desk.issued("hour", "b1", 4)
+        self.desk.desk.tell(Routes.SELL, body={"code": codes[1]})
+        tell, asked = self.counter.desk.tell, [0]
+
+        def breaks(route: Any, *part: str, **more: Any) -> Any:
+            told = tell(route, *part, **more)
+            asked[0] += route is Routes.SELL
+            if asked[0] == 2:       # the third sale is made, and its answer is lost
+                raise NoAnswer("cut")
+            return told
+
+        with mock.patch.object(self.counter.desk, "tell", breaks):
+            status, text = self.ask("/sell-batch", batch="b1", request="w1")
+        self.assertEqual((status, "Send it again" in text), (504, True))
+        self.assertEqual([self.desk.voucher(code)["sold"] is None for code in codes], [False, False, False, True])
+        for _ in range(2):
+            text = self.ask("/sell-batch", batch="b1", request="w1")[1]
+            for words in ("Batch b1: 3 codes sold.", "Take 9.00.", "1 code was sold before"):
+                self.assertIn(words, text)
+        day = time.strftime("%Y-%m-%d", time.gmtime())
+        self.assertIn("<b>net 12.00</b>", self.ask(f"/takings?from={day}&to={day}")[1])
+
+    def test_a_number_that_leaves_no_room_for_others_is_refused(self) -> None:
+        self.desk.issued("hour", "b1")
+        for path in ("/now", "/sell-batch"):
+            self.assertEqual(self.ask(path, batch="b2" if path == "/now" else "b1", plan="hour", request="a" * 33)[0], 400)
+
+    def test_the_counter_in_german(self) -> None:
+        self.conf.update(language="de", currency="EUR")
+        self.counter.__post_init__()
+        code, = self.desk.issued("hour", "b1")
+        text = self.ask("/")[1]
+        self.assertIn('<html lang="de" dir="ltr">', text)
+        self.assertIn('<option value="hour">hour, 3,00\xa0€</option>', text)
+        self.assertIn("Zu kassieren: 3,00\xa0€.", self.ask("/sell", code=code, request="s1")[1])
+        self.assertIn("Der Gutschein wurde schon verkauft.", self.ask("/sell", code=code, request="s2")[1])
+        day = time.strftime("%Y-%m-%d", time.gmtime())
+        self.assertIn("<b>netto 3,00\xa0€</b>", self.ask(f"/takings?from={day}&to={day}")[1])
+
+    def test_each_page_has_a_title_of_its_own(self) -> None:
+        self.desk.sold("hour", "b1")
+        code = self.desk.issued("hour", "b2")[0]
+        pages = ("/", f"/voucher?code={code}", "/voucher?code=2222", "/sheet?batch=b1", "/sheet?batch=b2", "/takings?from=2026-01-01&to=2026-01-01",
+                 f"/refund?code={code}", "/close?session=1", "/sell-batch?batch=b1", "/nothing")
+        answers = [self.ask(page) for page in pages]
+        self.assertNotIn(500, [status for status, _ in answers])
+        titles = [re.findall("<title>(.*)</title>", text)[0] for _, text in answers]
+        self.assertEqual(len(set(titles)), len(titles), titles)
+
     @unittest.skipUnless(HAS_SEGNO, "python3-segno is not installed")
     def test_a_sheet_has_a_qr_code_for_each_code(self) -> None:
         codes = self.desk.issued("day", "b1", 3)
@@ -261,6 +386,19 @@ class Pages(unittest.TestCase):
         self.assertEqual(re.findall("<b>([0-9A-Z-]+)</b>", text), codes)
         self.assertEqual(text.count("<svg"), 3)
         self.assertIn("1 day, 9.00", text)
+        self.assertNotIn("style=", text)
+        self.conf.update(wifi='A "net"; x', wifi_password="abcdefgh", currency="EUR", voucher_languages=["en", "ar"])
+        text = self.ask("/sheet?batch=b1&size=receipt58")[1]
+        self.assertIn('<div class="sheet receipt58 two">', text)
+        self.assertEqual((text.count("<svg"), text.count('dir="rtl"'), text.count("€9.00")), (6, 3, 3))
+        self.assertIn("Join the Wi‑Fi “A &#34;net&#34;; x”.", text)
+        self.assertIn("House", text)
+        self.assertIn("wifi.example/portal", text)
+        self.assertEqual(wifi_text('A "net"; x', "abcdefgh"), r'WIFI:T:WPA;S:A \"net\"\; x;P:abcdefgh;;')
+        self.assertEqual(wifi_text("Guests", ""), "WIFI:T:nopass;S:Guests;;")
+        uses = self.desk.issued("gigabyte", "b3", 1)
+        self.assertIn(uses[0], self.ask("/sheet?batch=b3")[1])
+        self.assertIn("1.0 GB, 3 times, €5.00", self.ask("/sheet?batch=b3")[1])
 
 
 class Passwords(unittest.TestCase):
@@ -295,7 +433,8 @@ class Words(unittest.TestCase):
         for refusal in refusals.TABLE:
             self.assertTrue(refusal.cause.endswith(".") and refusal.advice.endswith("."), refusal.word)
             self.assertTrue(refusal.for_guest)
-        self.assertIn("'new_word'", refusals.of_word("new_word").cause)
+        odd = Counter(Desk(1), {}, {}).refused(refusals.of_word("new_word"))
+        self.assertEqual(odd.lines[0], "The desk answered 'new_word'.")
 
 
 if __name__ == "__main__":

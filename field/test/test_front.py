@@ -13,8 +13,8 @@ import urllib.parse
 
 from desk_process import Desk, DeskProcess, Relay, Routes    # which says where the parts stand
 
-from pages import UnixServer
-from portal_front import Front, PortalPage, plain_code
+import web
+from portal_front import Front, pages, plain_code
 
 MAC, OTHER = "02:00:00:00:00:01", "02:00:00:00:00:02"
 
@@ -25,6 +25,14 @@ class Parts(unittest.TestCase):
                      "3n55wa4skh5vjr49"):
             self.assertEqual(plain_code(text), "3N55WA4SKH5VJR49")
         self.assertEqual(plain_code("\u00df"), "\u00df")
+
+
+def served(case: unittest.TestCase, app: web.Application, path: pathlib.Path) -> None:
+    """The application as it is served, on a socket, until the test ends."""
+    server = web.server(app, web.listening(str(path)), threads=4)
+    threading.Thread(target=server.run, daemon=True).start()
+    case.addCleanup(server.close)
+    case.addCleanup(server.task_dispatcher.shutdown)
 
 
 class UnixLink(http.client.HTTPConnection):
@@ -49,27 +57,26 @@ class Pages(unittest.TestCase):
         self.knocks = self.enterContext(socket.socket(socket.AF_UNIX, socket.SOCK_DGRAM))
         self.knocks.bind(str(knock))
         self.knocks.setblocking(False)
-        self.server = UnixServer.bound(str(self.path), PortalPage)
         self.conf = {"house": "A <b> House", "help": "Ask.", "knock": str(knock)}
         self.device: str | None = MAC
+        self.head: dict[str, str] = {}      # of each request
         self.start_helper("a key")
-        threading.Thread(target=self.server.serve_forever, kwargs={"poll_interval": 0.02}, daemon=True).start()
-        self.addCleanup(self.server.server_close)
-        self.addCleanup(self.server.shutdown)
+        served(self, lambda environ, start: self.app(environ, start), self.path)
         self.fields: dict[str, str] = {}    # of the last page, but for its number
 
     def start_helper(self, key: str) -> None:
         """The helper as after a start: nothing is left of what an earlier one knew."""
-        self.server.front = Front(Desk(self.relay.port, timeout=5), self.conf, lambda _: self.device, key)
+        self.front = Front(Desk(self.relay.port, timeout=5), self.conf, lambda _: self.device, key)
+        self.app = pages(self.front)
 
     def ask(self, method: str, path: str, **form: str) -> tuple[int, str, str]:
         """A page, or its form sent with the hidden fields of the last page."""
         form = {**self.fields, **form} if form else form
         link = UnixLink(self.path)
-        link.request(method, path, urllib.parse.urlencode(form) if form else None)
+        link.request(method, path, urllib.parse.urlencode(form) if form else None, self.head)
         answer = link.getresponse()
         text = answer.read().decode()
-        where = answer.getheader("Location", "")
+        where, self.cookie = answer.getheader("Location", ""), answer.getheader("Set-Cookie", "").partition(";")[0]
         link.close()
         return answer.status, text, where
 
@@ -80,15 +87,15 @@ class Pages(unittest.TestCase):
         return found[1]
 
     def test_the_device_is_named_to_nginx(self) -> None:
-        self.assertEqual(self.ask("GET", "/device")[0], 204)
+        self.assertEqual(self.ask("GET", "/device")[0], 200)
         self.device = None
         self.assertEqual(self.ask("GET", "/device")[0], 403)
         self.assertIn("no address from this network", self.ask("GET", "/portal")[1])
 
     def test_a_device_that_comes_a_moment_later_is_found(self) -> None:
         found = [None, MAC]
-        self.server.front.device_at = lambda _: found.pop(0)
-        self.assertEqual(self.ask("GET", "/device")[0], 204)
+        self.front.device_at = lambda _: found.pop(0)
+        self.assertEqual(self.ask("GET", "/device")[0], 200)
 
     def test_without_a_device_nothing_is_done(self) -> None:
         code, = self.desk.sold("hour", "b1")
@@ -192,7 +199,7 @@ class Pages(unittest.TestCase):
         for status, text, _ in (self.ask("GET", "/portal?code=%22%3E%3Cscript%3E"),
                                 self.ask("POST", "/portal", code='"><script>', request="r1")):
             self.assertNotIn("<script>", text)
-            self.assertIn("&quot;&gt;&lt;S-CRIP", text)
+            self.assertIn("&#34;&gt;&lt;S-CRIP", text)
             self.assertIn("A &lt;b&gt; House", text)
         self.assertNotIn("Your code is good", self.ask("GET", "/portal?done=1&left=9")[1])     # it is not online
 
@@ -207,9 +214,84 @@ class Pages(unittest.TestCase):
             self.device = device
             self.assertIn("You are not online yet.", self.ask("GET", "/portal")[1])
             self.desk.desk.tell(Routes.REDEEM, body={"code": code}, device=device)
-            self.assertRegex(self.ask("GET", "/portal")[1], f"You are online.*({words})")
+            self.assertRegex(self.ask("GET", "/portal")[1], f"(?s)You are online.*({words})")
         self.relay.drops = True
         self.assertIn("We cannot ask our desk just now", self.ask("GET", "/portal")[1])
+
+    # Languages
+
+    def redeemed(self, plan: str, batch: str) -> str:
+        """A code of the plan that was typed; its page knows the session from then on."""
+        code, = self.desk.sold(plan, batch)
+        number = self.number(self.ask("GET", "/portal")[1])
+        self.assertEqual(self.ask("POST", "/portal", code=code, request=number)[0], 303)
+        self.head["Cookie"] = self.cookie
+        return code
+
+    def test_a_guest_reads_the_language_of_the_browser(self) -> None:
+        for accepted, tag, way, words in (("de-AT,de;q=0.9,en;q=0.8", "de", "ltr", "Sie sind noch nicht online."),
+                                          ("ar", "ar", "rtl", "لست متصلًا بعد."), ("zh-CN,zh;q=0.9", "zh-Hans", "ltr", "您尚未上网。"),
+                                          ("nl, xx;q=0.1", "en", "ltr", "You are not online yet.")):
+            self.head["Accept-Language"] = accepted
+            text = self.ask("GET", "/portal")[1]
+            self.assertIn(f'<html lang="{tag}" dir="{way}">', text)
+            self.assertIn(words, text)
+
+    def test_a_language_that_was_chosen_on_the_page_stays(self) -> None:
+        self.head["Accept-Language"] = "de"
+        code, = self.desk.sold("gigabyte", "b1")
+        text = self.ask("GET", "/portal")[1]
+        self.assertIn('<a href="/portal?lang=ja" lang="ja" hreflang="ja">日本語</a>', text)
+        text = self.ask("GET", "/portal?lang=ja")[1]
+        self.assertIn('<html lang="ja" dir="ltr">', text)
+        number = self.number(text)
+        self.assertIn('<input type="hidden" name="lang" value="ja">', text)
+        text = self.ask("POST", "/portal", code="x", request=number, lang="ja")[1]
+        self.assertIn("当店のコードではありません", text)
+        where = self.ask("POST", "/portal", code=code, request=self.number(text), lang="ja")[2]
+        self.assertEqual(where, "/portal?done=1&left=2&lang=ja")
+        self.assertIn("コードは有効です。 あと2回使えます。", self.ask("GET", where)[1])
+        self.assertIn('<html lang="de"', self.ask("GET", "/portal?lang=nl")[1], "one that there is not")
+
+    def test_amounts_are_written_as_in_the_language(self) -> None:
+        self.redeemed("gigabyte", "b1")
+        for tag, words in (("en", "1.0 GB"), ("fr", "1,0\u202fGo|1,0.Go"), ("uk", "1,0.ГБ")):
+            self.assertRegex(self.ask("GET", f"/portal?lang={tag}")[1], words)
+
+    # What the page knows of the session
+
+    def test_the_page_shows_the_number_of_the_session_that_its_answer_named(self) -> None:
+        self.assertNotIn("Session number", self.ask("GET", "/portal")[1])
+        self.redeemed("hour", "b1")
+        shown = "<dt>Session number</dt><dd>1</dd>"
+        self.assertIn(shown, self.ask("GET", "/portal")[1])
+        self.assertTrue(self.cookie.startswith("portal_session="), "which now knows when the time ends")
+        mine = self.head["Cookie"]
+        self.head["Cookie"] = mine.replace("=", "=x", 1)
+        self.assertNotIn(shown, self.ask("GET", "/portal")[1], "a cookie that others wrote")
+        self.head["Cookie"], self.device = mine, OTHER
+        self.redeemed("hour", "b2")
+        self.head["Cookie"] = mine
+        self.assertNotIn("Session number", self.ask("GET", "/portal")[1], "a cookie of another device")
+
+    def test_what_has_ended_is_told_and_why(self) -> None:
+        self.redeemed("hour", "b1")
+        self.desk.desk.tell(Routes.CLOSE, body={"session": 1})
+        self.assertIn("its data is used up, or it was closed", self.ask("GET", "/portal")[1])
+        self.head["Cookie"] = "portal_session=" + str(self.front.cookies.dumps([MAC, 1, 1_000_000]))
+        self.assertIn("Your time has ended.", self.ask("GET", "/portal")[1])
+        del self.head["Cookie"]
+        self.assertIn("You are not online yet.", self.ask("GET", "/portal")[1])
+
+    def test_a_refused_extra_code_is_not_red_and_green_at_once(self) -> None:
+        self.redeemed("hour", "b1")
+        text = self.ask("GET", "/portal")[1]
+        self.assertIn("You may close this page now.", text)
+        text = self.ask("POST", "/portal", code="2222-2222-2222", request=self.number(text))[1]
+        self.assertEqual((text.count('class="bad"'), text.count('class="good"')), (1, 0))
+        self.assertIn('aria-invalid="true" aria-describedby="bad"', text)
+        self.assertIn('<p class="bad" id="bad" role="alert">', text)
+        self.assertIn("<title>That did not work", text)
 
 
 if __name__ == "__main__":

@@ -320,7 +320,11 @@ class Made(unittest.TestCase):
     def test_a_pages_socket_is_open_to_nginx_and_to_no_other_page(self) -> None:
         for name in ("portal-front", "portal-counter"):
             self.assertEqual(self.may_open(name), {name, "www-data"}, name)
-            self.assertEqual(self.unit(name + ".service")["Service"]["RuntimeDirectoryMode"], "0750")
+            unit, door = self.unit(name + ".service"), self.unit(name + ".socket")["Socket"]
+            self.assertEqual((unit["Unit"]["Requires"], door["SocketUser"], door["SocketGroup"], door["SocketMode"]),
+                             (name + ".socket", name, unit["Service"]["Group"], "0660"))
+            conf = tomllib.loads((self.root / f"etc/portal/{name.removeprefix('portal-')}.toml").read_text())
+            self.assertTrue(conf["socket"].endswith(door["ListenStream"]), "it listens where nginx looks")
 
     def test_packets_are_forwarded_while_the_rules_stand(self) -> None:
         text = (self.root / "etc/systemd/system/portal-rules@.service").read_text()
@@ -352,7 +356,7 @@ class Made(unittest.TestCase):
         units = [path.name for path in sorted(folder.iterdir()) if path.is_file() and "@." not in path.name]
         done = subprocess.run(["systemd-analyze", "verify", "--man=no", f"--root={self.root}", *units],
                               capture_output=True, text=True)
-        self.assertEqual((len(units), done.returncode, done.stdout + done.stderr), (11, 0, ""))
+        self.assertEqual((len(units), done.returncode, done.stdout + done.stderr), (13, 0, ""))
 
 
 if __name__ == "__main__":

@@ -1,0 +1,176 @@
+"""The pages in headless Chromium: both applications on loopback with nginx's content security policy, over a desk of their
+own. Needs Debian's chromium, chromium-driver and python3-selenium."""
+
+from __future__ import annotations
+
+import base64
+import json
+import pathlib
+import re
+import shutil
+import socket
+import tempfile
+import threading
+import time
+from typing import Any
+
+from desk_process import FIELD, Desk, DeskProcess, Routes     # which says where the parts stand
+
+import portal_counter
+import portal_front
+import web
+from clerk import Counter
+
+try:
+    from selenium import webdriver
+    from selenium.webdriver.chrome.service import Service
+    from selenium.webdriver.common.by import By
+    from selenium.webdriver.common.keys import Keys
+    HAS_DRIVER = True
+except ImportError:
+    HAS_DRIVER = False
+
+CAN = HAS_DRIVER and shutil.which("chromedriver") and shutil.which("chromium")
+MAC = "02:00:00:00:00:01"
+VENUE: dict[str, Any] = {"house": "Sample Library", "help": "No code yet, or it does not work? Please ask at the counter.",
+         "portal_url": "https://wifi.example/portal", "currency": "EUR", "wifi": "Library Guests",
+         "voucher_languages": ["en"], "language": "en"}
+LIGHT, DARK = "light", "dark"
+
+
+def policy() -> str:
+    """As set-up writes it into nginx's files."""
+    found = re.search(r'^POLICY = "(.*)"$', (FIELD / "setup").read_text(), re.M)
+    assert found
+    return found[1]
+
+
+def from_nginx(app: web.Application) -> web.Application:
+    """What nginx adds: the style, the policy, and who asks."""
+    style, rule = (FIELD / "front/style.css").read_bytes(), policy()
+
+    def answer(environ: dict[str, Any], start: Any) -> web.Answer:
+        if environ["PATH_INFO"] == "/style.css":
+            start("200 OK", [("Content-Type", "text/css")])
+            return [style]
+        environ |= {"HTTP_X_REAL_IP": "127.0.0.1", "HTTP_X_USER": "anna"}
+        return app(environ, lambda status, head, *more: start(
+            status, [*head, ("Content-Security-Policy", rule), ("X-Content-Type-Options", "nosniff")], *more))
+
+    return answer
+
+
+class Venue:
+    """Desk, guests' page and counter of one test."""
+
+    def __init__(self, **changed: Any) -> None:
+        self.place = tempfile.TemporaryDirectory()
+        folder = pathlib.Path(self.place.name)
+        self.list, notes = folder / "sessions.json", folder / "notes"
+        notes.mkdir()
+        self.desk = DeskProcess().__enter__()
+        self.conf = {**VENUE, "plans": str(FIELD / "settings/plans.toml"), "snapshot": str(self.list), "notes": str(notes),
+                     "knock": str(folder / "knock"), **changed}
+        self.counter = Counter(Desk(self.desk.port, "desk-token"), self.conf, {})
+        self.counter.load_plans()
+        self.front = portal_front.Front(Desk(self.desk.port), self.conf, lambda _: self.device, "a key")
+        self.device: str | None = MAC
+        self.servers: list[Any] = []
+        self.guests = self.serve(portal_front.pages(self.front)) + "/portal"
+        self.clerks = self.serve(portal_counter.pages(self.counter)) + "/"
+        self.gateway_tells()
+
+    def serve(self, app: web.Application) -> str:
+        door = socket.create_server(("127.0.0.1", 0))
+        server = web.server(from_nginx(app), door, threads=4)
+        threading.Thread(target=server.run, daemon=True).start()
+        self.servers.append(server)
+        return f"http://localhost:{door.getsockname()[1]}"
+
+    def gateway_tells(self) -> None:
+        """The gateway's list, as its agent would write it."""
+        rows = [{**row, "used": 123_456, "reported": 120_000, "reported-at": int(time.time()) - 40}
+                for row in self.desk.gateway.tell(Routes.SESSIONS)["sessions"]]
+        self.list.write_text(json.dumps({"at": int(time.time()), "sessions": rows}))
+
+    def close(self) -> None:
+        for server in self.servers:
+            server.task_dispatcher.shutdown()
+            server.close()
+        self.desk.__exit__()
+        self.place.cleanup()
+
+
+class Browser:
+    """One headless Chromium."""
+
+    def __init__(self) -> None:
+        self.profile = tempfile.TemporaryDirectory()
+        options = webdriver.ChromeOptions()
+        options.binary_location = shutil.which("chromium") or ""
+        for word in ("headless=new", "no-sandbox", "disable-gpu", "disable-dev-shm-usage", "hide-scrollbars", "no-first-run",
+                     "disable-background-networking", f"user-data-dir={self.profile.name}"):
+            options.add_argument("--" + word)
+        self.driver = webdriver.Chrome(service=Service(shutil.which("chromedriver") or ""), options=options)
+        self.driver.set_page_load_timeout(30)
+
+    def close(self) -> None:
+        self.driver.quit()
+        self.profile.cleanup()
+
+    def shape(self, width: int, height: int = 900, scheme: str = LIGHT, accepted: str = "") -> None:
+        """The screen, light or dark, and the languages that are accepted."""
+        tell = self.driver.execute_cdp_cmd
+        tell("Emulation.setDeviceMetricsOverride", {"width": width, "height": height, "deviceScaleFactor": 1, "mobile": False})
+        tell("Emulation.setEmulatedMedia", {"features": [{"name": "prefers-color-scheme", "value": scheme}]})
+        if accepted:
+            tell("Network.setUserAgentOverride", {"userAgent": "test", "acceptLanguage": accepted})
+
+    def open(self, url: str) -> None:
+        self.driver.get(url)
+
+    def ask(self, script: str) -> Any:
+        return self.driver.execute_script(script)
+
+    def type(self, words: str) -> None:
+        """As a keyboard or a scanner does: to what has the focus."""
+        self.driver.switch_to.active_element.send_keys(words)
+
+    def enter(self) -> None:
+        """And waits for the page that comes."""
+        old = self.driver.find_element(By.TAG_NAME, "html")
+        self.type(Keys.ENTER)
+        self.comes(old)
+
+    def press(self, words: str) -> None:
+        """A button or a link, by its name."""
+        old = self.driver.find_element(By.TAG_NAME, "html")
+        found = self.driver.find_elements(By.XPATH, f"//button[normalize-space()='{words}'] | //a[normalize-space()='{words}']")
+        found[0].click()
+        self.comes(old)
+
+    def comes(self, old: Any) -> None:
+        for _ in range(200):
+            found = self.driver.find_elements(By.TAG_NAME, "html")      # there is none between two pages
+            if found and found[0] != old and self.ask("return document.readyState") == "complete":
+                return
+            time.sleep(0.05)
+        raise AssertionError("no page came")
+
+    @property
+    def title(self) -> str:
+        return self.driver.title
+
+    @property
+    def text(self) -> str:
+        return self.driver.find_element(By.TAG_NAME, "body").text
+
+    def names(self) -> list[tuple[str, str]]:
+        """Role and name of each node of the accessibility tree that a person can use or that names a part."""
+        nodes = self.driver.execute_cdp_cmd("Accessibility.getFullAXTree", {})["nodes"]
+        return [(node["role"]["value"], node.get("name", {}).get("value", "")) for node in nodes if not node.get("ignored")]
+
+    def picture(self, path: pathlib.Path) -> None:
+        """What the screen shows."""
+        told = self.driver.execute_cdp_cmd("Page.captureScreenshot", {"format": "png"})
+        path.write_bytes(base64.b64decode(told["data"]))

@@ -1,0 +1,224 @@
+"""The pages as headless Chromium renders them: contrast, names, keyboard, narrow screens, and a day at the counter."""
+
+from __future__ import annotations
+
+import contextlib
+import io
+import unittest
+from dataclasses import dataclass, field
+from typing import Any
+
+from browser import CAN, DARK, LIGHT, MAC, Browser, Venue
+from desk_process import Routes
+
+if CAN:
+    from browser import By, Keys
+
+# Contrast of each text with what is behind it, and of each border and icon that a person needs (WCAG 2.2, 1.4.3, 1.4.11).
+CONTRAST = r"""
+const shade = text => { const m = text.match(/[\d.]+/g).map(Number); return m.length < 4 ? [...m, 1] : m };
+const light = ([r, g, b]) => { const f = [r, g, b].map(x => (x /= 255) <= .04045 ? x / 12.92 : ((x + .055) / 1.055) ** 2.4);
+  return .2126 * f[0] + .7152 * f[1] + .0722 * f[2] };
+const ratio = (a, b) => { const [x, y] = [light(a), light(b)].sort((p, q) => q - p); return (x + .05) / (y + .05) };
+const behind = node => { for (let n = node; n; n = n.parentElement) { const s = shade(getComputedStyle(n).backgroundColor);
+  if (s[3] === 1) return s } return [255, 255, 255, 1] };
+const seen = node => { const b = node.getBoundingClientRect(); return b.width > 2 && b.height > 2 };
+const faults = []; let looked = 0;
+const hold = (what, front, back, least) => { looked += 1; const r = ratio(front, back);
+  if (r < least) faults.push(`${what}: ${r.toFixed(2)} of ${least}`) };
+for (const node of document.querySelectorAll('body *')) {
+  if (!seen(node) || node.closest('svg')) continue;
+  const style = getComputedStyle(node);
+  if (style.opacity !== '1') faults.push(`${node.tagName}: opacity ${style.opacity}`);
+  if ([...node.childNodes].some(n => n.nodeType === 3 && n.data.trim()) || node.matches('input, select'))
+    hold(`${node.tagName} ${node.className} ${(node.textContent || node.name).trim().slice(0, 30)}`, shade(style.color), behind(node), 4.5);
+  if (node.matches('input:not([type=hidden]), select, button, .good, .bad'))
+    hold(`border of ${node.tagName} ${node.className} ${node.name || ''}`, shade(style.borderBlockStartColor), behind(node.parentElement), 3);
+  if (node.matches('.good, .bad')) hold('its icon', shade(getComputedStyle(node, '::before').color), behind(node), 3);
+  if (node.placeholder) hold('placeholder', shade(getComputedStyle(node, '::placeholder').color), behind(node), 4.5);
+}
+return [looked, faults];
+"""
+# What a person with a screen reader needs of the document itself.
+STRUCTURE = r"""
+const faults = [], all = (query, from) => [...(from || document).querySelectorAll(query)];
+if (!document.documentElement.lang || !document.documentElement.dir) faults.push('no language');
+if (!document.title) faults.push('no title');
+if (all('h1').length !== 1) faults.push('not one h1');
+for (const th of all('th')) if (!th.scope) faults.push(`th without scope: ${th.textContent}`);
+for (const field of all('input:not([type=hidden]), select'))
+  if (!field.labels.length || !field.labels[0].getBoundingClientRect().height) faults.push(`no visible label: ${field.name}`);
+for (const node of all('[aria-describedby]'))
+  if (!document.getElementById(node.getAttribute('aria-describedby'))) faults.push('described by nothing');
+for (const node of all('.bad')) if (node.getAttribute('role') !== 'alert') faults.push('an error that is no alert');
+for (const node of all('button, footer nav a')) { const box = node.getBoundingClientRect();
+  if (box.height < 24 || box.width < 24) faults.push(`small target: ${node.textContent} ${box.width} x ${box.height}`) }
+if (all('script, [style], [onclick]').length) faults.push('a script or an inline style');
+for (const id of new Set(all('[id]').map(n => n.id))) if (all(`[id="${id}"]`).length > 1) faults.push(`two of the id ${id}`);
+return faults;
+"""
+FOCUSABLE = "a[href], button, input:not([type=hidden]), select"
+# Fields of a date have more than one stop.
+PLACES = f"""
+const all = [...document.querySelectorAll('{FOCUSABLE}')], at = all.indexOf(document.activeElement);
+const style = getComputedStyle(document.activeElement);
+return [at, all.length, parseFloat(style.outlineWidth) >= 2 && style.outlineStyle !== 'none'];
+"""
+USED = ("textbox", "combobox", "button", "link", "spinbutton", "Date")
+BY_KEYBOARD = ("guest, not online", "guest, refused", "counter", "voucher to sell", "refund")
+WIDE = "return document.scrollingElement.scrollWidth - document.documentElement.clientWidth"
+
+
+@dataclass
+class Look:
+    """What was found on one page."""
+    contrast: dict[str, list[str]] = field(default_factory=dict)    # by scheme
+    looked: int = 0
+    structure: list[str] = field(default_factory=list)
+    names: list[tuple[str, str]] = field(default_factory=list)
+    wider: dict[str, int] = field(default_factory=dict)     # by width and size of text: points too wide
+    stops: list[int] | None = None      # of the keyboard, in their order
+    places: int = 0                     # that take the focus
+    hidden: list[int] = field(default_factory=list)         # stops at which the focus does not show
+
+
+@unittest.skipUnless(CAN, "chromium, chromium-driver or python3-selenium is not installed")
+class Shown(unittest.TestCase):
+    browser: Browser
+
+    @classmethod
+    def setUpClass(cls) -> None:
+        cls.browser = Browser()
+        cls.addClassCleanup(cls.browser.close)
+
+    def setUp(self) -> None:
+        self.venue = Venue()
+        self.addCleanup(self.venue.close)
+        self.browser.driver.delete_all_cookies()
+        self.enterContext(contextlib.redirect_stderr(io.StringIO()))
+
+    def guest(self, lang: str = "en") -> str:
+        return f"{self.venue.guests}?lang={lang}"
+
+    def types(self, code: str, lang: str = "en") -> None:
+        """A guest types a code."""
+        self.browser.open(self.guest(lang))
+        self.browser.driver.find_element(By.ID, "code").send_keys(code)
+        self.browser.enter()
+
+    def pages(self) -> list[tuple[str, Any]]:
+        """Each page, and how it is reached."""
+        desk, browser, clerks = self.venue.desk, self.browser, self.venue.clerks
+        sold, = desk.sold("gigabyte", "sold-1")
+        fresh = desk.issued("hour", "fresh-1", 2)
+        desk.desk.tell(Routes.REDEEM, body={"code": sold}, device=MAC)
+        self.venue.gateway_tells()
+
+        def of(url: str) -> Any:
+            return lambda: browser.open(url)
+
+        def device(mac: str | None, then: Any) -> Any:
+            def opened() -> None:
+                self.venue.device = mac
+                then()
+            return opened
+
+        other = "02:00:00:00:00:02"
+        return [("guest, not online", device(other, of(self.guest()))), ("guest, refused", lambda: self.types("2222-2222-2222")),
+                ("guest, online", device(MAC, of(self.guest()))), ("guest, Arabic", of(self.guest("ar"))),
+                ("guest, refused in Japanese", lambda: self.types("2222-2222-2222", "ja")),
+                ("guest without a lease", device(None, of(self.guest()))),
+                ("counter", of(clerks)), ("voucher to sell", of(f"{clerks}voucher?code={fresh[0]}")),
+                ("voucher to refund", of(f"{clerks}voucher?code={sold}")), ("refused", of(f"{clerks}voucher?code=2222")),
+                ("refund", of(f"{clerks}refund?code={sold}")), ("close", of(f"{clerks}close?session=1")),
+                ("whole batch", of(f"{clerks}sell-batch?batch=fresh-1")), ("sheet", of(f"{clerks}sheet?batch=fresh-1")),
+                ("takings", of(f"{clerks}takings?from=2026-01-01&to=2026-01-03"))]
+
+    def look(self, keyboard: bool) -> Look:
+        """At the page that is open."""
+        browser, found = self.browser, Look()
+        for scheme in (DARK, LIGHT):
+            browser.shape(1280, scheme=scheme)
+            found.looked, found.contrast[scheme] = browser.ask(CONTRAST)
+        found.structure = browser.ask(STRUCTURE)
+        found.names = [pair for pair in browser.names() if pair[0] in USED]
+        if keyboard:
+            self.walk(found)
+        for width, size in ((320, "100%"), (640, "200%")):
+            browser.shape(width)
+            browser.ask(f"document.documentElement.style.fontSize = '{size}'")
+            found.wider[f"{width} points, text of {size}"] = browser.ask(WIDE)
+        browser.shape(1280)
+        return found
+
+    def walk(self, found: Look) -> None:
+        """From the top with the tab key, until it begins anew."""
+        self.browser.ask("document.body.tabIndex = -1; document.body.focus(); document.body.removeAttribute('tabindex')")
+        found.stops = []
+        for _ in range(80):
+            self.browser.type(Keys.TAB)
+            at, found.places, shows = self.browser.ask(PLACES)
+            if at < 0 or found.stops and at < found.stops[-1]:
+                break
+            found.hidden += [] if shows else [at]
+            found.stops += [at] if at not in found.stops else []
+
+    def test_what_every_page_needs(self) -> None:
+        """Contrast, visible labels, names, targets, structure, narrow screens, large text, and the keyboard alone."""
+        for name, reach in self.pages():
+            reach()
+            found = self.look(name in BY_KEYBOARD)
+            self.assertEqual(found.contrast, {LIGHT: [], DARK: []}, name)
+            self.assertGreater(found.looked, 8, name)
+            self.assertEqual(found.structure, [], name)
+            self.assertTrue(found.names, name)
+            self.assertEqual([pair for pair in found.names if not pair[1].strip()], [], name)
+            self.assertLessEqual(max(found.wider.values()), 0, (name, found.wider))
+            if found.stops is not None:
+                self.assertEqual((found.stops, found.hidden), (list(range(found.places)), []), name)
+
+    def test_a_day(self) -> None:
+        """Sell by scan, redeem in Arabic, extend, refuse, refund, close, print, add up."""
+        browser, venue = self.browser, self.venue
+        first, second, third = venue.desk.issued("hour", "hour-1", 3)
+        browser.shape(1280)
+        browser.open(venue.clerks)
+        for code in (first, f"https://wifi.example/portal?code={second}", third):
+            browser.type(code)
+            browser.enter()     # the scanner sends it
+            browser.enter()
+            self.assertIn("Take €3.00.", browser.text)
+        self.assertEqual(browser.title, f"Sold: {third}. Take €3.00. – Counter")
+        browser.type(first)
+        browser.enter()
+        self.assertIn("Refund …", browser.text)
+        browser.shape(390)
+        self.types(first, "ar")
+        self.assertIn("أنت متصل بالإنترنت.", browser.text)
+        self.assertEqual(browser.ask("return document.documentElement.dir"), "rtl")
+        self.types(second, "ar")
+        self.assertRegex(browser.text, "ساعتان|ساعة")
+        self.types("2222-2222-2222", "ar")
+        self.assertIn("لا نعرف هذا الرمز.", browser.text)
+        venue.gateway_tells()
+        browser.shape(1280)
+        browser.open(f"{venue.clerks}voucher?code={third}")
+        browser.press("Refund …")
+        self.assertIn("This cannot be taken back.", browser.text)
+        browser.press("Refund")
+        self.assertIn("Give back €3.00.", browser.text)
+        browser.open(f"{venue.clerks}close?session=1")
+        browser.press("Close")
+        self.assertIn("Session 1 is closed.", browser.text)
+        browser.press("Issue and sell one voucher")
+        browser.press("Print its sheet")
+        self.assertIn("Good until", browser.text)
+        browser.open(venue.clerks)
+        browser.press("Add up")
+        self.assertIn("net €9.00", browser.text)
+        browser.open(self.guest())
+        self.assertIn("Your session has ended", browser.text)
+
+
+if __name__ == "__main__":
+    unittest.main()

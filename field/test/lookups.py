@@ -1,0 +1,50 @@
+"""The device look-up as a guest's phone meets it; each runs within a guest's namespace.
+
+    lookups.py ask CA COUNT         times GET /captive over one TLS connection: milliseconds, sorted, one a line
+    lookups.py idle CA COUNT        opens so many connections that say nothing, tells so, and holds them until its input ends
+"""
+
+from __future__ import annotations
+
+import http.client
+import resource
+import socket
+import ssl
+import sys
+import time
+
+GATEWAY, NAME = "10.77.0.1", "wifi.example"
+
+
+class Link(http.client.HTTPSConnection):
+    """A connection to the portal's name at the gateway's address."""
+
+    def __init__(self, authority: str) -> None:
+        self.trusted = ssl.create_default_context(cafile=authority)
+        super().__init__(NAME, context=self.trusted)
+
+    def connect(self) -> None:
+        self.sock = self.trusted.wrap_socket(socket.create_connection((GATEWAY, 443), 10), server_hostname=NAME)
+
+
+def ask(authority: str, count: int) -> None:
+    link, times = Link(authority), []
+    for _ in range(count):
+        start = time.perf_counter()
+        link.request("GET", "/captive")
+        answer = link.getresponse()
+        if answer.status != 200 or b"captive" not in answer.read():
+            sys.exit(f"answer {answer.status}")
+        times.append((time.perf_counter() - start) * 1e3)
+    print("\n".join(f"{ms:.3f}" for ms in sorted(times)))
+
+
+def idle(_: str, count: int) -> None:
+    resource.setrlimit(resource.RLIMIT_NOFILE, (count + 100, count + 100))
+    links = [socket.create_connection((GATEWAY, 443), 10) for _ in range(count)]
+    print(len(links), flush=True)
+    sys.stdin.read()
+
+
+if __name__ == "__main__":
+    {"ask": ask, "idle": idle}[sys.argv[1]](sys.argv[2], int(sys.argv[3]))

@@ -1,0 +1,103 @@
+"""The catalogues of messages, which language a guest gets, and pages in each language."""
+
+from __future__ import annotations
+
+import importlib.machinery
+import pathlib
+import shutil
+import sys
+import tempfile
+import types
+import unittest
+from typing import Any
+
+from desk_process import FIELD     # which says where the parts stand
+
+from errors import PAGES, error_pages
+from languages import CATALOGUES, COUNTER, GUESTS, Language, preferred
+from venue import COUNTER_LANGUAGES, LANGUAGES
+
+
+def tool(folder: pathlib.Path = FIELD) -> Any:
+    """The command that holds catalogues against the sources, as a module over a kit."""
+    loader = importlib.machinery.SourceFileLoader("catalogues", str(FIELD / "languages/catalogues"))
+    module: Any = types.ModuleType(loader.name)
+    module.__file__ = loader.path
+    sys.modules[loader.name] = module
+    loader.exec_module(module)
+    module.FIELD, module.CATALOGUES = folder, folder / "languages"
+    return module
+
+
+class Catalogues(unittest.TestCase):
+    def test_every_message_is_in_every_language(self) -> None:
+        found = tool()
+        for domain, tags in found.DOMAINS.items():
+            for tag in tags:
+                if tag != "en":
+                    self.assertEqual(found.faults(domain, tag), [])
+
+    def test_there_is_a_catalogue_for_each_language_and_no_other(self) -> None:
+        for domain, tags in (("guests", GUESTS), ("counter", COUNTER)):
+            have = {path.stem for path in (CATALOGUES / domain).iterdir()}
+            self.assertEqual(have, set(tags) - {"en"})
+        self.assertEqual((LANGUAGES, COUNTER_LANGUAGES), (tuple(GUESTS), tuple(COUNTER)), "as field.toml takes them")
+
+    def test_what_is_missing_unused_fuzzy_or_of_other_values_is_told(self) -> None:
+        folder = pathlib.Path(self.enterContext(tempfile.TemporaryDirectory()))
+        for part in ("front", "counter", "lib", "languages"):
+            shutil.copytree(FIELD / part, folder / part)
+        found, path = tool(folder), folder / "languages/guests/pl.po"
+        good, plural = path.read_text(), 'msgstr[2] "Można go użyć jeszcze %(num)s razy."'
+        cases = (('msgid "Time left"', '#, fuzzy\nmsgid "Time left"', "is fuzzy"),
+                 ('msgstr "Pozostały czas"', 'msgstr ""', "is missing"),
+                 (plural, 'msgstr[2] ""', "is missing"), (plural + "\n", "", "is missing"),
+                 ('msgid "Time left"', 'msgid "Time right"', "is not used"),
+                 ('msgid "Time left"', '#~ msgid "Time then"\n#~ msgstr "x"\n\nmsgid "Time left"', "is not used"),
+                 ("(%(word)s). Proszę", "(%(code)s). Proszę", "has other values"))
+        self.assertEqual(found.faults("guests", "pl"), [])
+        for old, new, told in cases:
+            self.assertIn(old, good)
+            path.write_text(good.replace(old, new))
+            self.assertTrue(any(told in line for line in found.faults("guests", "pl")), (new, found.faults("guests", "pl")))
+        path.write_text(good)
+        page = folder / "front/templates/portal.html"
+        page.write_text(page.read_text().replace('_("Add")', '_("Add it")'))
+        self.assertEqual([line.partition(": ")[2] for line in found.faults("guests", "pl")],
+                         ["'Add it' is missing", "'Add' is not used"])
+
+
+class Choice(unittest.TestCase):
+    def test_the_first_language_that_is_accepted_and_that_there_is(self) -> None:
+        for accepted, choice, tag in (((), "", "en"), ((("de-AT", 1.0), ("en", .9)), "", "de"), ((("zh-CN", 1.0),), "", "zh-Hans"),
+                                      ((("nl", 1.0), ("pt-BR", .8), ("en", .5)), "", "pt"), ((("*", 1.0),), "", "en"),
+                                      ((("de", 0.0), ("fr", .1)), "", "fr"), ((("de", 1.0),), "ar", "ar"),
+                                      ((("de", 1.0),), "nl", "de"), ((("EN-gb", 1.0), ("de", .9)), "", "en")):
+            self.assertEqual(preferred(accepted, choice), tag, (accepted, choice))
+
+    def test_which_way_each_language_is_written(self) -> None:
+        self.assertEqual({tag for tag in GUESTS if Language(tag).direction == "rtl"}, {"ar"})
+
+    def test_plural_forms_are_those_of_the_language(self) -> None:
+        def times(tag: str, number: int) -> str:
+            return Language(tag).counted("It can be used %(num)s more time.", "It can be used %(num)s more times.", number)
+
+        self.assertEqual([times("uk", number).split()[-1] for number in (1, 2, 5, 21)], ["раз.", "рази.", "разів.", "раз."])
+        self.assertEqual(len({times("ar", number).replace(str(number), "") for number in (0, 1, 2, 3, 11)}), 5)
+        self.assertEqual(times("ja", 3), "あと3回使えます。")
+
+
+class Errors(unittest.TestCase):
+    def test_nginxs_own_answers_are_made_in_each_language(self) -> None:
+        made = error_pages("A <b> House")
+        self.assertEqual(set(made), {f"{tag}/{status}.html" for tag in GUESTS for status in PAGES})
+        self.assertIn('<html lang="ar" dir="rtl">', made["ar/429.html"])
+        self.assertIn("Bitte warten Sie eine Minute", made["de/429.html"])
+        for name, text in made.items():
+            self.assertIn("A &lt;b&gt; House", text)
+            self.assertNotIn("<script", text)
+        self.assertEqual(len(set(made.values())), len(made))
+
+
+if __name__ == "__main__":
+    unittest.main()
