@@ -242,8 +242,10 @@ def lines_of(data: bytes) -> list[str]:
 
 
 def covered(wanted: list[str], came: list[str]) -> list[str]:
-    """Three dots alone stand for one line or more, whatever they say."""
-    return came if wanted == ["..."] and came else wanted
+    """Lines of three dots stand for one line or more, whatever they say; words behind the dots stand in one of them."""
+    words = [line[4:] for line in wanted if line == "..." or line.startswith("... ")]
+    is_covered = len(words) == len(wanted) > 0 and all(any(word in line for line in came) for word in words)
+    return came if is_covered else wanted
 
 
 def value_text(value: object) -> str:

@@ -5,13 +5,12 @@ import os
 import signal
 import socket
 import subprocess
+import sys
 import threading
 
-SETTINGS = """zone = "UTC0"
-portal_url = "https://wifi.example/portal"
-desk_token = "desk-token"
-gateway_token = "gate-token"
-"""
+sys.path.append(os.path.join(os.path.dirname(os.path.abspath(__file__)), "../cases"))
+
+from reader import SETTINGS  # noqa: E402
 
 PLANS = """[[plan]]
 id = "hour"

@@ -1,5 +1,5 @@
-"""The examples of the documents, run as they are written: the first request of README.md, the worked day of
-docs/TUTORIAL.md, and the tables of docs/API.md: the twelve endpoints, and the errors.
+"""The examples of the documents: the first request of README.md, run as it is written, and the tables of docs/API.md: the
+twelve endpoints, and the errors. The settings and the plans of the folder examples.
 
     documents.py PROGRAM
 """
@@ -12,11 +12,12 @@ import subprocess
 import sys
 import tempfile
 
-from cases import OTHER, PLANS, Store, code
-from desk import DESK, GATEWAY, guest
+from desk import DESK, GATEWAY, SETTINGS, guest, request
+from reader import PLANS
 
 HERE = os.path.dirname(os.path.abspath(__file__))
 CALLERS = {"desk": DESK, "gateway": GATEWAY, "guest": guest(1)}
+SEED, OTHER = "00" * 32, "01" * 32
 
 
 def read(*path: str) -> str:
@@ -46,10 +47,42 @@ def first_request(program: str, text: str) -> None:
     expect("README.md, 'prints N bytes'", said and int(said[1]), len(done.stdout))
 
 
-def worked_day(text: str) -> None:
-    """The tutorial's blocks are the day that tests/outside/run runs, with a blank line between, and what it prints."""
-    expect("docs/TUTORIAL.md, the commands (sh blocks)", "\n".join(blocks(text, "sh")), read("tests/worked-day/day"))
-    expect("docs/TUTORIAL.md, the outputs (text blocks)", "".join(blocks(text, "text")), read("tests/worked-day/expected"))
+class Store:
+    """A database file, from nothing, with the two plans of the cases loaded at 0. Each request goes to a process of `answer`."""
+
+    def __init__(self, program: str) -> None:
+        self.program, self.room = program, tempfile.TemporaryDirectory()
+        with open(os.path.join(self.room.name, "settings"), "w", encoding="utf-8") as file:
+            file.write(SETTINGS)
+        expect("the plans are loaded", self.ask(0, "POST", "/desk/plans", DESK, PLANS), (200, '{"plans":2}'))
+
+    def ask(self, now: int, method: str, path: str, field: str, body: str = "", seed: str = SEED) -> tuple[int, str]:
+        """The status and the body of the response."""
+        words = [self.program, "answer", "--db", "db", "--settings", "settings", "--now", str(now), "--seed", seed]
+        sent = request(method, path, field, body)
+        done = subprocess.run(words, cwd=self.room.name, input=sent, capture_output=True, check=False)
+        head, _, told = done.stdout.partition(b"\r\n\r\n")
+        status = int(head.split(b" ")[1])
+        expect(f"the exit code of {method} {path}", (done.returncode, done.stderr), (0 if status == 200 else 1, b""))
+        return status, told.decode()
+
+
+def code(text: str) -> str:
+    return '{"code":"%s"}' % text
+
+
+def examples(program: str) -> int:
+    """The settings and the plans of the folder examples are read, and each plan of a file is loaded."""
+    folder = os.path.join(HERE, "../../examples")
+    settings = os.path.join(folder, "settings.toml")
+    names = sorted(set(os.listdir(folder)) - {"settings.toml"})
+    for name in names:
+        sent = request("POST", "/desk/plans", "Portal-Token: change-me-desk", read("examples", name))
+        words = [program, "answer", "--settings", settings, "--now", "0", "--seed", SEED]
+        done = subprocess.run(words, input=sent, capture_output=True, check=False)
+        body = done.stdout.partition(b"\r\n\r\n")[2].decode()
+        expect(f"examples/{name}", body, '{"plans":%d}' % read("examples", name).count("[[plan]]"))
+    return len(names)
 
 
 def endpoints(program: str, text: str) -> int:
@@ -106,10 +139,9 @@ def shown(said: str, wanted: str) -> str:
 def main() -> None:
     program = os.path.abspath(sys.argv[1])
     first_request(program, read("README.md"))
-    worked_day(read("docs/TUTORIAL.md"))
     described = read("docs/API.md")
-    print(f"outside: the README's first request, the tutorial's day, the {endpoints(program, described)} endpoints of API.md "
-          f"and its {errors(described)} errors are as documented")
+    print(f"outside: the README's first request, the {endpoints(program, described)} endpoints of API.md and its {errors(described)} "
+          f"errors are as documented; {examples(program)} files of plans in examples/ are loaded")
 
 
 if __name__ == "__main__":
