@@ -1,4 +1,4 @@
-"""The third boot, after the wrong clock: what comes back by itself, and what does not start again for ever; a reset in the
+"""After the wrong clock, in the same boot: what comes back by itself, and what does not start again for ever; a reset in the
 middle of a copy, and the boot after it."""
 
 from __future__ import annotations

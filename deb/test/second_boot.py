@@ -10,7 +10,6 @@ from machine import (
     COPIES, DATABASE, HERE, PARTS, UNITS, Gap, active, all_run, apt, ask_for_a_lease, captive, certificate, check, check_all_active, code,
     count_outside, counter, forward, install, installed, is_bound, neighbour, passes, redeem, say_the_time_is_right,
     serves, sessions, sh, show, told, tokens, until, versions)
-from wrong_clock import prepare
 
 WATCH = pathlib.Path("/run/venue-watch")
 SETTINGS = pathlib.Path("/etc/portal/field.toml")
@@ -96,7 +95,8 @@ def purge() -> None:
     install(versions()[0])
     sh("debconf-set-selections", input="portal portal/drop-database boolean true\n")
     done = apt("purge", "portal")
-    check("purge with `yes` drops both", done.returncode == 0 and not DATABASE.parent.exists() and not COPIES.exists())
+    left = [str(path) for path in pathlib.Path("/var/lib").glob("portal*")]
+    check("purge with `yes` drops both, and what the parts keep", done.returncode == 0 and not left and not COPIES.exists(), left)
 
 
 def by_hand() -> None:
@@ -140,4 +140,4 @@ def package_over_it() -> None:
           f"longest gap of packets {gap.seconds} s; {[path for path in places.values() if path.startswith('/etc')]}; {told(again)}")
 
 
-STEPS = (after_the_boot, upgrade, way_back, remove_and_install, purge, by_hand, package_over_it, prepare)
+STEPS = (after_the_boot, upgrade, way_back, remove_and_install, purge, by_hand, package_over_it)

@@ -1,4 +1,4 @@
-"""The third boot: with a clock ten years ahead, ten years back, a clock that is set while the server runs, a clerk's word.
+"""A boot with a clock ten years ahead, ten years back, a clock that is set while the server runs, a clerk's word.
 
 The clock of the server and of the counter's page is that of /etc/fake-clock (libfaketime), an offset such as +3650d.
 """
@@ -27,7 +27,7 @@ def folder(unit: str) -> pathlib.Path:
 
 
 def prepare() -> None:
-    """At the end of the second boot: the next one has a clock ten years ahead, and a voucher that was sold before."""
+    """At the end of the first boot: the next one has a clock ten years ahead, and a voucher that was sold before."""
     for unit in UNITS:
         folder(unit).mkdir(exist_ok=True)
         (folder(unit) / "fake.conf").write_text(FAKE)

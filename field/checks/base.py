@@ -26,7 +26,8 @@ LARGE = 256 * MIB               # a database that is not copied to be looked at
 OLDEST_KERNEL = (5, 16)         # the first with nftables at a device's egress
 KIT = pathlib.Path(__file__).resolve().parent.parent
 LIBRARIES = {"python3-nftables": "gateway/kernel_gate.py", "python3-segno": "counter/sheet.py",
-             "python3-pyroute2": "gateway/portal_leases.py"}        # and the part of the kit that needs it
+             "python3-pyroute2": "gateway/portal_leases.py", "python3-flask": "front/portal_front.py",
+             "python3-babel": "lib/languages.py", "python3-waitress": "lib/web.py"}     # and the part of the kit that needs it
 
 
 def answer_to(portal: str, zone: str, url: str) -> str:
@@ -162,6 +163,20 @@ def sums(copy: pathlib.Path, make: str) -> Iterator[Finding]:
                     f"do not restore it; look at the disk; {make}")
     else:
         yield good("its SHA-256 is right")
+
+
+def logo(machine: Machine) -> Iterator[Finding]:
+    """Without it vouchers are printed as before: a warning."""
+    name = machine.field.logo
+    path = machine.path(name) if name else None
+    if path is None:
+        yield good("vouchers have no logo")
+    elif not path.is_file():
+        yield warning(f"logo: there is no {name}", "put the file there, or empty the line in field.toml")
+    elif not path.stat().st_mode & 0o004:
+        yield warning(f"logo: the counter's page cannot read {name}", f"`chmod 0644 {name}`")
+    else:
+        yield good(f"vouchers have the logo {name}")
 
 
 def versions(machine: Machine) -> Iterator[Finding]:

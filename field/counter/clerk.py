@@ -5,6 +5,7 @@ from __future__ import annotations
 import datetime
 import hashlib
 import json
+import os
 import pathlib
 import time
 import tomllib
@@ -12,19 +13,21 @@ from dataclasses import dataclass, field
 from typing import Any
 
 import refusals
-from typed_codes import scanned
-from desk_client import Desk, NoAnswer, Refused, Routes, new_number
+import takings
+from typed_codes import scanned_beside
+from desk_client import Desk, NoAnswer, Refused, Route, Routes, new_number
 from forms import BadForm, Form
+from journal import DONE, NO_ANSWER, Act, Entry, Journal, Sums
 from languages import Language
 from machine_time import Notes, origin, was_set
-from marks import clerk_words
 from sheet import Voucher, rows, vouchers
 from tries import Tries
 
+STATE = pathlib.Path(os.environ.get("STATE_DIRECTORY", "/var/lib/portal-counter"))
 OLD_LIST = 15       # seconds after which the gateway's list says that it is old
 LONGEST_BASE = 32   # signs of a request number from which others are made: -001 and so on follow
-SUMS = (clerk_words("day"), clerk_words("sold"), clerk_words("sales"), clerk_words("refunded"), clerk_words("refunds"),
-        clerk_words("total"), clerk_words("net"))
+MOST_BATCHES = 200  # that are listed
+Acts = list[Act]    # what the journal will have of a form
 
 
 @dataclass(frozen=True)
@@ -53,10 +56,11 @@ def base_of(number: str) -> str:
 
 @dataclass
 class Counter:
-    """What the clerk can do. An action answers what stands above the next page."""
+    """What the clerk can do. An action answers what stands above the next page, and adds to `acts` what it did."""
     desk: Desk
     conf: dict[str, Any]
     plans: dict[str, int]       # id: price
+    journal: Journal = field(default_factory=lambda: Journal(STATE / "journal.db"))
     plans_notice: Notice | None = None
     since: Any = None           # the start of the server, by its note, for which the plans were loaded
     tries: Tries = field(default_factory=Tries)
@@ -64,6 +68,12 @@ class Counter:
     def __post_init__(self) -> None:
         self.language = Language(self.conf.get("language", "en"), "counter")
         self.say = self.language.say
+
+    @property
+    def logo(self) -> pathlib.Path | None:
+        """The venue's picture, where it has one that is there."""
+        path = pathlib.Path(self.conf.get("logo") or "/nowhere")
+        return path if path.is_file() else None
 
     def money(self, hundredths: int) -> str:
         return self.language.money(hundredths, self.conf.get("currency", ""))
@@ -95,44 +105,79 @@ class Counter:
 
     # Forms that act
 
-    def sell(self, form: Form, number: str) -> Notice:
-        told = self.desk.tell(Routes.SELL, body={"code": form.word("code")}, number=number)
-        return Notice(True, (self.say("Sold: %(code)s.", code=told["code"]),
-                             self.say("Take %(sum)s.", sum=self.money(told["price"]))))
+    def command(self, acts: Acts, act: str, route: Route, body: dict[str, Any], number: str,
+                about: dict[str, Any] | None = None) -> dict[str, Any]:
+        """A command to the desk. `about`: batch, plan and codes, which are asked for where a code alone is given."""
+        told, answer = {}, NO_ANSWER
+        try:
+            told = self.desk.tell(route, body=body, number=number)
+            answer = DONE
+            return told
+        except Refused as fault:
+            answer = fault.word
+            raise
+        finally:
+            known = self.about(body.get("code"), answer) if about is None else about
+            acts.append(Act(act, number, answer, price=told.get("price", told.get("amount", 0)), **known))
 
-    def refund(self, form: Form, number: str) -> Notice:
-        told = self.desk.tell(Routes.REFUND, body={"code": form.word("code")}, number=number)
+    def about(self, code: str | None, answer: str) -> dict[str, Any]:
+        """Of which batch and plan a code is, as far as the desk says so."""
+        if code is None or answer == NO_ANSWER:
+            return {}
+        try:
+            told = self.desk.tell(Routes.VOUCHER, code)
+        except (Refused, NoAnswer):
+            return {}
+        return {"batch": told["batch"], "plan": told["plan"], "codes": 1}
+
+    def sell(self, form: Form, number: str, acts: Acts) -> Notice:
+        told = self.command(acts, "sell", Routes.SELL, {"code": form.word("code")}, number)
+        return self.sold(told)
+
+    def sold(self, told: dict[str, Any], batch: str = "") -> Notice:
+        return Notice(True, (self.say("Sold: %(code)s.", code=told["code"]),
+                             self.say("Take %(sum)s.", sum=self.money(told["price"]))), batch=batch)
+
+    def refund(self, form: Form, number: str, acts: Acts) -> Notice:
+        told = self.command(acts, "refund", Routes.REFUND, {"code": form.word("code")}, number)
         return Notice(True, (self.say("Refunded: %(code)s.", code=told["code"]),
                              self.say("Give back %(sum)s.", sum=self.money(told["amount"]))))
 
-    def close(self, form: Form, number: str) -> Notice:
-        told = self.desk.tell(Routes.CLOSE, body={"session": form.whole("session")}, number=number)
+    def close(self, form: Form, number: str, acts: Acts) -> Notice:
+        told = self.command(acts, "close", Routes.CLOSE, {"session": form.whole("session")}, number)
         return Notice(True, (self.say("Session %(number)s is closed.", number=told["session"]),
                              self.say("Within a poll nothing of it passes any more.")))
 
-    def issue(self, form: Form, number: str) -> Notice:
-        order = {"batch": form.word("batch"), "plan": form.word("plan"), "count": form.whole("count")}
-        told = self.desk.tell(Routes.ISSUE, body=order, number=number)
+    def issue(self, form: Form, number: str, acts: Acts) -> Notice:
+        told = self.issued(form, form.whole("count"), number, acts)
         line = self.language.counted("Batch %(batch)s: %(num)s code, good until %(until)s.",
                                      "Batch %(batch)s: %(num)s codes, good until %(until)s.", told["count"],
                                      batch=told["batch"], until=self.language.moment(told["expires"]))
         return Notice(True, (line,), batch=told["batch"])
 
-    def sell_one_now(self, form: Form, number: str) -> Notice:
+    def issued(self, form: Form, count: int, number: str, acts: Acts, act: str = "issue") -> dict[str, Any]:
+        batch, plan = form.word("batch"), form.word("plan")
+        return self.command(acts, act, Routes.ISSUE, {"batch": batch, "plan": plan, "count": count}, number,
+                            {"batch": batch, "plan": plan, "codes": count})
+
+    def sell_one_now(self, form: Form, number: str, acts: Acts) -> Notice:
         """A batch of one code, issued and sold; its steps have numbers made from the form's, so it acts once."""
         base, batch = base_of(number), form.word("batch")
-        self.desk.tell(Routes.ISSUE, body={"batch": batch, "plan": form.word("plan"), "count": 1}, number=base + "-001")
+        self.issued(form, 1, base + "-001", acts, "one")
         row, = rows(self.desk.ask(Routes.PRINT, batch).decode())
-        told = self.desk.tell(Routes.SELL, body={"code": row["code"]}, number=base + "-002")
-        return Notice(True, (self.say("Sold: %(code)s.", code=told["code"]),
-                             self.say("Take %(sum)s.", sum=self.money(told["price"]))), batch=batch)
+        return self.sold(self.sell_row(row, batch, base + "-002", acts), batch)
 
-    def sell_batch(self, form: Form, number: str) -> Notice:
+    def sell_row(self, row: dict[str, str], batch: str, number: str, acts: Acts) -> dict[str, Any]:
+        """Sells a code of a print file."""
+        return self.command(acts, "sell", Routes.SELL, {"code": row["code"]}, number,
+                            {"batch": batch, "plan": row["plan"], "codes": 1})
+
+    def sell_batch(self, form: Form, number: str, acts: Acts) -> Notice:
         """All codes of a batch that can be sold; a form sent again goes on where it broke off, and no code is sold twice."""
         base, batch, sold, owed, left = base_of(number), form.word("batch"), 0, 0, 0
         for i, row in enumerate(rows(self.desk.ask(Routes.PRINT, batch).decode())):
             try:
-                told = self.desk.tell(Routes.SELL, body={"code": row["code"]}, number=f"{base}-{i + 1:03}")
+                told = self.sell_row(row, batch, f"{base}-{i + 1:03}", acts)
             except Refused as refused:
                 if refused.word not in ("sold_already", "refunded", "expired", "used_up"):
                     raise
@@ -149,7 +194,8 @@ class Counter:
 
     def voucher(self, form: Form) -> dict[str, Any]:
         """What the desk says of a voucher, and what can be done with it."""
-        told = self.desk.tell(Routes.VOUCHER, scanned(form.word("code")).replace(" ", ""))
+        typed = scanned_beside(form.word("code"), form.get("kept", ""))
+        told = self.desk.tell(Routes.VOUCHER, typed.replace(" ", ""))
         open_, left = told["refund"] is None, told["uses"] - told["redeemed"]
         late = told["expires"] <= time.time()
         return {"told": told, "price": self.plans.get(told["plan"]), "sells": told["sold"] is None and not late,
@@ -173,21 +219,30 @@ class Counter:
         languages = [Language(tag) for tag in self.conf.get("voucher_languages", ["en"])]
         return vouchers(listed, uses, self.conf, languages)
 
+    # Takings, and the journal beside them
+
+    def days(self, first: str, last: str) -> list[Sums]:
+        """The server's sums of each day."""
+        return takings.days(self.desk.ask(Routes.TAKINGS, query={"from": first, "to": last}).decode())
+
     def takings(self, form: Form) -> dict[str, Any]:
-        """The table of takings, its words in the counter's language."""
-        text = self.desk.ask(Routes.TAKINGS, query={"from": form.word("from"), "to": form.word("to")}).decode()
-        head, *lines, (_, net) = (line.split() for line in text.splitlines())
-        return {"head": [self.say(name) for name in head], "rows": [self.sums(*line) for line in lines],
-                "net": self.amount(net)}
+        """The server's sums by days, weeks or months, and all together."""
+        span = form.get("by", "day")
+        listed = takings.grouped(self.days(form.word("from"), form.word("to")), span if span in takings.SPANS else "day")
+        return {"rows": listed, "total": takings.added("", listed), "by": span}
 
-    def amount(self, text: str) -> str:
-        """A sum of the table."""
-        return self.money(int(text.replace(".", "")))
+    def cash_up(self, day: datetime.date) -> dict[str, Any]:
+        """What the server took on a day, the journal's sums beside it, and what each clerk did."""
+        server, = self.days(str(day), str(day))
+        plans, clerks, doubt = self.journal.by("plan", day), self.journal.by("clerk", day), self.journal.in_doubt(day)
+        journal = takings.added("", clerks)
+        told = self.language.counted("%(num)s form got no answer: look up what it was about.",
+                                     "%(num)s forms got no answer: look up what they were about.", doubt)
+        return {"server": server, "journal": journal, "plans": plans, "clerks": clerks, "doubt": told if doubt else "",
+                "difference": takings.difference(server, journal, self.language, self.money), "acts": self.journal.day(day)}
 
-    def sums(self, day: str, sold: str, sales: str, refunded: str, refunds: str) -> list[str]:
-        number = self.language.number
-        name = self.say("total") if day == "total" else self.language.day(datetime.date.fromisoformat(day))
-        return [name, number(int(sold)), self.amount(sales), number(int(refunded)), self.amount(refunds)]
+    def batches(self) -> list[Entry]:
+        return self.journal.batches(MOST_BATCHES)
 
     # The server and its clock
 
@@ -195,7 +250,7 @@ class Counter:
     def notes(self) -> Notes:
         return Notes(self.conf.get("notes", "/run/portal-clock"))     # the file may be of before
 
-    def time_is_right(self, form: Form, number: str) -> Notice:
+    def time_is_right(self, form: Form, number: str, acts: Acts) -> Notice:
         """A clerk's word for the server that waits. It is for the clock that the page showed, and is taken once."""
         if self.notes.read("state").get("is") != "waits":
             return Notice(True, (self.say("The server does not wait for the time any more."),))
@@ -206,6 +261,7 @@ class Counter:
             self.notes.write("word", origin=form.whole("booted"), who="a clerk")
         except OSError as fault:
             return Notice(False, (self.say("Your word does not reach the server."), str(fault)))
+        acts.append(Act("time", number, DONE))
         return Notice(True, (self.say("The server starts now."),))
 
     def server_waits(self, told: dict[str, Any]) -> dict[str, Any] | None:

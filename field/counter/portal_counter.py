@@ -1,5 +1,5 @@
 #!/usr/bin/python3
-"""The counter's page: look up, sell, refund, issue and print, close, takings, open sessions.
+"""The counter's page: look up, sell, refund, issue and print, close, takings, cash up, open sessions.
 
 It holds the desk's token, listens on a socket that nginx alone may open, and is served on the counter's network only.
 Each form carries a request number: a form sent twice acts once, and a form in doubt comes back to be sent again.
@@ -7,12 +7,16 @@ Each form carries a request number: a form sent twice acts once, and a form in d
 
 from __future__ import annotations
 
+import contextlib
+import datetime
 import math
 import pathlib
+import sqlite3
 import sys
 import time
 import urllib.parse
 from collections.abc import Callable
+from dataclasses import replace
 from typing import Any
 
 HERE = pathlib.Path(__file__).resolve().parent
@@ -20,9 +24,10 @@ sys.path[:0] = [str(HERE.parent / "lib"), str(HERE)]
 import flask  # noqa: E402
 
 import refusals  # noqa: E402
+import takings  # noqa: E402
 import web  # noqa: E402
-from clerk import Counter, Notice  # noqa: E402
-from typed_codes import scanned  # noqa: E402
+from clerk import Acts, Counter, Notice  # noqa: E402
+from typed_codes import scanned_beside  # noqa: E402
 from desk_client import REQUEST_NUMBER, Desk, NoAnswer, Refused, credential, new_number, settings  # noqa: E402
 from forms import BadForm, Form  # noqa: E402
 from languages import Language  # noqa: E402
@@ -34,6 +39,10 @@ Reply = flask.Response
 ACTIONS = {"sell": clerk_words("Sell"), "refund": clerk_words("Refund"), "close": clerk_words("Close"),
            "issue": clerk_words("Issue a batch"), "now": clerk_words("Sell one now"),
            "sell-batch": clerk_words("Sell a whole batch"), "time": clerk_words("The time is right")}
+# In the journal: what was done, and its answers that are no refusal.
+DEEDS = {"issue": clerk_words("issued"), "one": clerk_words("issued for one sale"), "sell": clerk_words("sold"),
+         "refund": clerk_words("refunded"), "close": clerk_words("session closed"), "time": clerk_words("time confirmed"),
+         "done": clerk_words("done"), "no_answer": clerk_words("no answer")}
 
 
 def readable(text: str) -> str:
@@ -46,15 +55,18 @@ class Pages:
 
     def __init__(self, counter: Counter) -> None:
         self.counter = counter
-        self.actions: dict[str, Callable[[Form, str], Notice]] = {
+        self.actions: dict[str, Callable[[Form, str, Acts], Notice]] = {
             "sell": counter.sell, "refund": counter.refund, "close": counter.close, "issue": counter.issue,
             "now": counter.sell_one_now, "sell-batch": counter.sell_batch, "time": counter.time_is_right}
         self.questions: dict[str, Callable[[Form], Reply]] = {
-            "voucher": self.voucher, "sheet": self.sheet, "takings": self.takings,
+            "voucher": self.voucher, "sheet": self.sheet, "takings": self.takings, "takings.csv": self.takings_file,
+            "cash-up": self.cash_up, "batches": self.batches,
             **{name: self.confirm(name) for name in ("refund", "close", "sell-batch")}}
 
     def show(self, template: str, status: int = 200, notice: Notice | None = None, **values: Any) -> Reply:
-        language = self.counter.language
+        language, lost = self.counter.language, flask.g.get("lost")
+        if notice and lost:
+            notice = replace(notice, lines=(*notice.lines, lost))
         text = flask.render_template(template, language=language, _=language.say, notice=notice,
                                      conf=self.counter.conf, money=self.counter.money, **values)
         return flask.make_response(text, status)
@@ -63,8 +75,9 @@ class Pages:
         counter = self.counter
         return self.show(
             "home.html", status, notice, plans=counter.plans, code=code, waits=waits,
-            numbers=[new_number() for _ in range(2)], batch=time.strftime("b-%Y%m%d-%H%M%S"), one=time.strftime("one-%Y%m%d-%H%M%S-") + new_number()[:6],
-            day=time.strftime("%Y-%m-%d"), sessions=counter.sessions())
+            numbers=[new_number() for _ in range(2)], batch=time.strftime("b-%Y%m%d-%H%M%S"),
+            one=time.strftime("one-%Y%m%d-%H%M%S-") + new_number()[:6],
+            day=time.strftime("%Y-%m-%d"), spans=takings.SPANS, sessions=counter.sessions())
 
     def first(self) -> Reply:
         counter = self.counter
@@ -77,16 +90,40 @@ class Pages:
         return self.show("voucher.html", facts=self.counter.facts(found["told"]), number=new_number(), **found)
 
     def sheet(self, form: Form) -> Reply:
-        conf, size = self.counter.conf, form.get("size", SIZES[0])
-        wifi = conf.get("wifi", "")
-        return self.printed(self.counter.sheet(form), form.word("batch"), size if size in SIZES else SIZES[0],
-                            picture(wifi_text(wifi, conf.get("wifi_password", ""))) if wifi else "")
+        return self.printed(form)
 
-    def printed(self, vouchers: list[Any], batch: str, size: str, wifi: Any, notice: Notice | None = None) -> Reply:
-        return self.show("sheet.html", 200, notice, vouchers=vouchers, batch=batch, size=size, sizes=SIZES, wifi=wifi)
+    def printed(self, form: Form, notice: Notice | None = None) -> Reply:
+        conf = self.counter.conf
+        wifi, size = conf.get("wifi", ""), form.get("size") or conf.get("voucher_size", SIZES[0])
+        return self.show("sheet.html", 200, notice, vouchers=self.counter.sheet(form), batch=form.word("batch"),
+                         size=size if size in SIZES else SIZES[0], sizes=SIZES, logo=bool(self.counter.logo),
+                         wifi=picture(wifi_text(wifi, conf.get("wifi_password", ""))) if wifi else "")
 
     def takings(self, form: Form) -> Reply:
-        return self.show("takings.html", **self.counter.takings(form), first=form["from"], last=form["to"])
+        told = self.counter.takings(form)
+        return self.show("takings.html", **told, head=self.head(), spans=takings.SPANS, chart=takings.chart(told["rows"]),
+                         first=form["from"], last=form["to"], date=datetime.date.fromisoformat)
+
+    def head(self) -> list[str]:
+        return [self.counter.say(name) for name in takings.HEAD]
+
+    def takings_file(self, form: Form) -> Reply:
+        answer = flask.make_response(takings.as_csv(self.counter.takings(form)["rows"]))
+        answer.headers["Content-Type"] = "text/csv; charset=utf-8"
+        name = f"takings-{readable(form['from'])}-{readable(form['to'])}.csv"
+        answer.headers["Content-Disposition"] = f'attachment; filename="{name}"'
+        return answer
+
+    def cash_up(self, form: Form) -> Reply:
+        day = form.day("day") if form.get("day") else datetime.date.today()
+        return self.show("cash_up.html", **self.counter.cash_up(day), head=self.head(), day=day, answers=self.answered)
+
+    def batches(self, _: Form) -> Reply:
+        return self.show("batches.html", batches=self.counter.batches())
+
+    def answered(self, word: str) -> str:
+        """An answer of the journal, in words."""
+        return self.counter.say(DEEDS[word]) if word in DEEDS else self.counter.say(refusals.of_word(word).cause, word=word)
 
     def confirm(self, action: str) -> Callable[[Form], Reply]:
         """What cannot be taken back is asked once more: the form with its number, and what it is about."""
@@ -121,20 +158,39 @@ class Pages:
         if form.get("next"):        # another code was scanned where this one could have been sold
             return flask.make_response(flask.redirect("/voucher?" + urllib.parse.urlencode({"code": form["next"]}), 303))
         self.counter.catch_up()
-        what = f"{name} " + ", ".join(readable(form[key]) for key in form if key not in ("request", "next"))
+        acts: Acts = []
         try:
-            notice = self.actions[name](form, number)
+            notice: Notice | NoAnswer | Refused = self.actions[name](form, number, acts)
+        except (NoAnswer, Refused) as fault:
+            notice = fault
+        finally:
+            self.keep(acts)
+        what = f"{name} " + ", ".join(readable(form[key]) for key in form if key not in ("request", "next"))
+        if isinstance(notice, Notice):
             self.note(f"{what}: done")
-            return self.home(notice=notice)
-        except NoAnswer:
-            self.note(f"{what}: no answer")
-            told = refusals.NO_ANSWER
-        except Refused as fault:
-            self.note(f"{what}: {fault.word}")
-            if not fault.in_doubt:
-                return self.refuse(fault, form)
-            told = refusals.of_word(fault.word)
-        return self.again(name, form, told)
+            return self.done(form, notice, name == "now")
+        self.note(f"{what}: {notice.word if isinstance(notice, Refused) else 'no answer'}")
+        if isinstance(notice, NoAnswer):
+            return self.again(name, form, refusals.NO_ANSWER)
+        return self.again(name, form, refusals.of_word(notice.word)) if notice.in_doubt else self.refuse(notice, form)
+
+    def done(self, form: Form, notice: Notice, is_printed: bool) -> Reply:
+        """What was done is said in any case."""
+        if is_printed:
+            with contextlib.suppress(NoAnswer, Refused):
+                return self.printed(form, notice)
+        return self.home(notice=notice)
+
+    def keep(self, acts: Acts) -> None:
+        """In the journal. What was done is done without it, too."""
+        head = flask.request.headers
+        if not acts:
+            return
+        try:
+            self.counter.journal.add(head.get("X-User", "?"), head.get("X-Real-IP", "?"), acts)
+        except sqlite3.Error as fault:
+            flask.g.lost = self.counter.say("The journal could not be written: %(why)s.", why=fault)
+            self.note(f"the journal could not be written: {fault}")
 
     def again(self, name: str, form: Form, told: refusals.Refusal) -> Reply:
         """The same form once more, number and all: sent again it acts once."""
@@ -144,7 +200,7 @@ class Pages:
 
     def refuse(self, fault: Refused, form: Form) -> Reply:
         """The first page, with the code that was typed and what is wrong with it."""
-        code = scanned(form.get("code", ""))
+        code = scanned_beside(form.get("code", ""), form.get("kept", ""))
         return self.home(fault.status, self.counter.refused(refusals.of_word(fault.word), readable(code)), code)
 
     def note(self, what: str) -> None:
@@ -163,6 +219,8 @@ class Pages:
             told = refusals.SILENT
         except BadForm:
             told = refusals.of_word("bad_request")
+        except sqlite3.Error as fault:
+            return self.home(500, Notice(False, (self.counter.say("The journal cannot be read: %(why)s.", why=fault),)))
         return self.home(told.status, self.counter.refused(told))
 
     # Passwords, of which nginx asks
@@ -212,7 +270,12 @@ def pages(counter: Counter) -> web.Application:
     def asked() -> Form:
         return Form.asked(flask.request)
 
+    def logo() -> Reply:
+        path = counter.logo
+        return flask.send_file(path) if path else nothing(FileNotFoundError())
+
     app.add_url_rule("/", "first", page.first)
+    app.add_url_rule("/logo", "logo", logo)
     app.add_url_rule("/locked", "locked", page.locked)      # nginx asks both; nobody else can
     app.add_url_rule("/wrong", "wrong", page.wrong)
     for name, question in page.questions.items():

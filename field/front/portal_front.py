@@ -20,12 +20,14 @@ import itsdangerous  # noqa: E402
 
 import refusals  # noqa: E402
 import web  # noqa: E402
+from counts import Counts  # noqa: E402
 from typed_codes import LONGEST_CODE, in_fours, plain_code  # noqa: E402
 from desk_client import (  # noqa: E402
     REQUEST_NUMBER, Desk, NoAnswer, Refused, Routes, credential, new_number, settings)
 from forms import BadForm, Form  # noqa: E402
 from languages import GUESTS, Language, preferred  # noqa: E402
 from marks import guest_words  # noqa: E402
+from one_use import Forms, numbers  # noqa: E402
 
 ONCE_MORE = 0.05        # seconds until a device is looked for again: DHCP may just be renewing its entry
 COOKIE, COOKIE_DAYS = "portal_session", 30
@@ -56,11 +58,14 @@ class State:
 @dataclass
 class Front:
     """What the page needs: the desk, the house's words, where the gateway's agent hears knocks, which device holds the
-    lease of an address, and the key of its forms and of its cookie."""
+    lease of an address, the key of its forms and of its cookie, the forms that were sent of late, and how often each
+    refusal was shown."""
     desk: Desk
     conf: dict[str, Any]
     device_at: Callable[[str], str | None]
     key: str
+    forms: Forms = field(default_factory=Forms)
+    counts: Counts = field(default_factory=Counts)
 
     def device(self, address: str) -> str | None:
         found = self.device_at(address)
@@ -157,16 +162,18 @@ class Visit:
         more = self.language.counted("It can be used %(num)s more time.", "It can be used %(num)s more times.", left)
         return f"{good} {more}" if left else good
 
-    def page(self, status: int = 200, bad: str = "", number: str = "", shown: str | None = None) -> flask.Response:
+    def page(self, status: int = 200, bad: str = "", number: str = "", shown: str | None = None,
+             sent: str = "") -> flask.Response:
         """The portal page. That a code is good is shown to a device that is online alone; the form gets `number`, or a new
-        one. It is for the device; a form for another one, which was `shown` before, stays so and tells nothing of this
-        one."""
+        one, and what it `sent` if that is in doubt. It is for the device; a form for another one, which was `shown`
+        before, stays so and tells nothing of this one."""
         state = State() if shown else self.state()
         device = shown or self.device or ""
         text = flask.render_template(
-            "portal.html", language=self.language, _=self.language.say, choice=self.choice, languages=GUESTS, conf=self.front.conf,
-            bad=bad, good=self.done() if state.online and not bad else "", state=state, silent=bool(shown), device=device,
-            sign=self.front.signed(device), code=in_fours(self.code), number=number or new_number())
+            "portal.html", language=self.language, _=self.language.say, choice=self.choice, languages=GUESTS,
+            conf=self.front.conf, bad=bad, good=self.done() if state.online and not bad else "", state=state,
+            silent=bool(shown), device=device,
+            sign=self.front.signed(device), code=in_fours(self.code), number=number or new_number(), sent=sent)
         response = flask.make_response(text, status)
         return self.kept(response)
 
@@ -181,6 +188,7 @@ class Visit:
 
     def refuse(self, status: int, refusal: refusals.Refusal | None, **more: Any) -> flask.Response:
         """The page again, with nothing done."""
+        self.front.counts.add(refusal.word if refusal else refusals.NO_LEASE.word)
         return self.page(status, refused(refusal, self.language) if refusal else "", **more)
 
     def answer(self) -> flask.Response:
@@ -192,16 +200,39 @@ class Visit:
             return self.refuse(400, refusals.of_word("id_reused"))
         if shown != self.device:    # the form stays one for the device that its page showed
             return self.refuse(409, refusals.OTHER_DEVICE, shown=shown)
+        if self.front.forms.is_of_another_code(number, self.device, self.code):
+            return self.refuse(409, refusals.of_word("id_reused"))
         return self.redeem(self.device, number)
 
-    def redeem(self, device: str, number: str) -> flask.Response:
-        front = self.front
+    def redeem(self, device: str, form: str) -> flask.Response:
+        """Sends the numbers of this code and device one after another, until the device is online: the code may have been
+        typed at a RADIUS server before. A form that was sent before sends its own number alone."""
+        front, told = self.front, {}
+        again = front.forms.again(form, device, self.code, self.form.get("sent", ""))
+        for number in again or numbers(device, self.code):
+            front.forms.remember(form, device, self.code, number)
+            try:
+                told = front.desk.tell(Routes.REDEEM, body={"code": self.code}, device=device, number=number)
+            except Refused as fault:
+                if fault.in_doubt:
+                    return self.refuse(fault.status, refusals.of_word(fault.word), number=form, sent=number)
+                front.forms.forget(form, device)
+                return self.refuse(fault.status, refusals.of_word(fault.word))
+            except NoAnswer:
+                return self.refuse(504, refusals.NO_ANSWER, number=form, sent=number)
+            if again or not self.is_over(device):
+                break
+        return self.online(device, told) if told else self.refuse(409, refusals.of_word("used_up"))
+
+    def is_over(self, device: str) -> bool:
+        """Whether the session of the last answer is over; where the desk does not say so, it is not."""
         try:
-            told = front.desk.tell(Routes.REDEEM, body={"code": self.code}, device=device, number=number)
-        except Refused as fault:
-            return self.refuse(fault.status, refusals.of_word(fault.word), number=number if fault.in_doubt else "")
-        except NoAnswer:
-            return self.refuse(504, refusals.NO_ANSWER, number=number)
+            return bool(self.front.desk.tell(Routes.CAPTIVE, device=device)["captive"])
+        except (NoAnswer, Refused, KeyError):
+            return False
+
+    def online(self, device: str, told: dict[str, Any]) -> flask.Response:
+        front = self.front
         front.knock()
         self.keep = Last(device, told["session"])
         # Another page than the answer to the form, so that loading it again does not send the code again.
@@ -238,7 +269,8 @@ def main() -> None:
 
     for tag in GUESTS:
         Language(tag)       # the catalogues are read once
-    front = Front(Desk(conf["desk_port"]), conf, Neighbours(conf["lan"]).device, credential("form_key"))
+    front = Front(Desk(conf["desk_port"]), conf, Neighbours(conf["lan"]).device, credential("form_key"),
+                  counts=Counts(conf.get("refusals")))
     web.serve(pages(front), door, threads=32)
 
 

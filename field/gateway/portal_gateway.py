@@ -172,30 +172,43 @@ class Agent:
         if self.snapshot is None:
             return
         rows = [self.row(wanted[mac], p) for mac, p in sorted(passing.items(), key=lambda item: item[1].session)]
-        part = pathlib.Path(self.snapshot + ".part")
-        part.write_text(json.dumps({"at": int(time.time()), "sessions": rows}))
+        self.write(pathlib.Path(self.snapshot), {"at": int(time.time()), "sessions": rows})
+
+    def say(self, is_open: bool) -> None:
+        """Whether guests pass, for the metrics; what was opened shuts by itself once its grace is over."""
+        if self.snapshot is not None:
+            self.write(pathlib.Path(self.snapshot).with_name("gate.json"), {"at": time.time(), "open": is_open})
+
+    def write(self, path: pathlib.Path, told: dict[str, Any]) -> None:
+        """For those of the agent's group."""
+        part = path.with_name(path.name + ".part")
+        part.write_text(json.dumps(told))
         part.chmod(0o640)
-        part.replace(self.snapshot)
+        part.replace(path)
 
     def try_poll(self) -> bool:
         """One poll; whether all went well. The desk's silence shuts the gate by the switch, its stop at once."""
         try:
             self.poll()
             self.gate.unbar()
+            self.say(True)
             return True
         except RulesAreGone as fault:
             complain(f"{fault}; nothing is forwarded until they are loaded")
             self.gate.bar()
+            self.say(False)
             self.load_rules()
         except Refused as refusal:
             complain("the desk refuses: " + refusal.word)
             if refusal.word != "no_memory":     # a desk short of memory for a moment is as a silent one
                 self.gate.shut()
+                self.say(False)
         except (NoAnswer, OSError) as fault:
             complain(str(fault))
         except (KeyError, TypeError) as fault:
             complain("an answer that the desk does not give: " + repr(fault))
             self.gate.shut()
+            self.say(False)
         return False
 
     def load_rules(self) -> None:

@@ -2,6 +2,7 @@
 
 from __future__ import annotations
 
+import datetime
 import urllib.parse
 
 import flask
@@ -46,3 +47,12 @@ class Form(dict[str, str]):
         if not (text.isascii() and text.isdecimal() and len(text) <= 18):
             raise BadForm(name)
         return int(text)
+
+    def day(self, name: str) -> datetime.date:
+        try:
+            day = datetime.date.fromisoformat(self.word(name))
+        except ValueError as fault:
+            raise BadForm(name) from fault
+        if not 1970 <= day.year <= 9998:
+            raise BadForm(name)
+        return day

@@ -1,8 +1,8 @@
 """Languages: the catalogues of messages, and numbers, times, volumes and money as each language writes them (CLDR).
 
 A catalogue is a file of gettext, languages/DOMAIN/TAG.po; the messages in the sources are the English ones. It is compiled
-in memory at the start, so there are no compiled files. Domains: `guests` (the portal page, nginx's answers, vouchers), and
-`counter`.
+in memory at the start; a package has the compiled files, TAG.mo. Domains: `guests` (the portal page, nginx's answers,
+vouchers), and `counter`.
 """
 
 from __future__ import annotations
@@ -46,8 +46,12 @@ def preferred(accepted: Iterable[tuple[str, float]], choice: str = "") -> str:
 def catalogue(tag: str, domain: str) -> gettext.NullTranslations:
     if tag == "en":
         return gettext.NullTranslations()
+    source = CATALOGUES / domain / f"{tag}.po"
+    if not source.exists():
+        with source.with_suffix(".mo").open("rb") as file:
+            return gettext.GNUTranslations(file)
     compiled = io.BytesIO()
-    with open(CATALOGUES / domain / f"{tag}.po", "rb") as file:
+    with source.open("rb") as file:
         write_mo(compiled, read_po(file, locale=tag.replace("-", "_")))
     compiled.seek(0)
     return gettext.GNUTranslations(compiled)

@@ -7,6 +7,7 @@ import ipaddress
 import re
 import socket
 import struct
+import threading
 from collections.abc import Iterator, Mapping
 from dataclasses import dataclass
 from typing import Any
@@ -79,7 +80,14 @@ class Neighbours:
     """The table of one device. Each call raises OSError where the device is not there or the kernel refuses."""
 
     def __init__(self, lan: str) -> None:
-        self.lan = lan
+        self.lan, self.kept = lan, threading.local()
+
+    @property
+    def route(self) -> IPRoute:
+        """A socket for each thread: to open one for each question takes a fifth of its time."""
+        if not hasattr(self.kept, "route"):
+            self.kept.route = IPRoute()
+        return self.kept.route
 
     @property
     def index(self) -> int:
@@ -87,12 +95,15 @@ class Neighbours:
 
     def entry(self, address: str) -> Entry | None:
         index = self.index
-        with IPRoute() as route, told_as_os_error():
+        with told_as_os_error():
             try:
-                found = route.neigh("get", dst=address, ifindex=index)
+                found = self.route.neigh("get", dst=address, ifindex=index)
             except NetlinkError as fault:
                 if fault.code == 2:     # ENOENT
                     return None
+                raise
+            except OSError:
+                del self.kept.route     # the next question gets a new one
                 raise
         return Entry.of(found[0])
 

@@ -7,6 +7,7 @@ import urllib.parse
 
 BREAKS = re.compile(r"[\s\u2010-\u2015-]+")     # blanks and all kinds of dashes, as phones write them
 LONGEST_CODE = 40
+WHOLE = re.compile(r"[2-9A-HJKMNP-Z]{12}(?:[2-9A-HJKMNP-Z]{4})?")     # a plain code, of before or of now
 
 
 def plain_code(text: str) -> str:
@@ -25,3 +26,12 @@ def scanned(text: str) -> str:
         return text
     found = urllib.parse.parse_qs(urllib.parse.urlsplit(text.strip()).query).get("code", [""])
     return found[-1] or text
+
+
+def scanned_beside(text: str, kept: str) -> str:
+    """The same, of a field that still held what was `kept` of a refusal: a scanner writes before or behind it. What
+    completes or corrects the kept code is no whole code by itself."""
+    for rest in (text.removesuffix(kept), text.removeprefix(kept)):
+        if rest != text and WHOLE.fullmatch(plain_code(scanned(rest))):
+            return scanned(rest)
+    return scanned(text)

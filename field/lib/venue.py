@@ -10,15 +10,19 @@ from dataclasses import MISSING, dataclass, fields
 from dataclasses import field as listing
 from typing import Any
 
+from radius_settings import BadRadius, Radius
+
 HOST = re.compile(r"(?=.{1,253}\Z)([a-z0-9]([a-z0-9-]{0,61}[a-z0-9])?\.)+[a-z]{2,63}")
 DEVICE = re.compile(r"[A-Za-z0-9][A-Za-z0-9._-]{0,14}")
 PATH = re.compile(r"/[A-Za-z0-9/._-]+")
+LOGO = re.compile(PATH.pattern + r"\.(svg|png|jpg)")
 ZONE = re.compile(r"[!-~]{1,64}")
 MAC = re.compile(r"[0-9a-f][02468ace](:[0-9a-f]{2}){5}")        # of one device, not of a group
 TIME = re.compile(r"[0-9]{1,4}[mhd]?")
 CURRENCY = re.compile(r"[A-Z]{3}")
 LANGUAGES = ("en", "de", "fr", "es", "it", "pt", "pl", "tr", "uk", "ar", "ja", "zh-Hans")     # of the guests' catalogues
 COUNTER_LANGUAGES = ("en", "de")
+VOUCHER_SIZES = ("a4", "label", "receipt80", "receipt58")       # as counter/sheet.py has them
 CLOCKS = ("kernel", "host", "clerk")     # as server/right_time.py has them
 
 
@@ -53,8 +57,14 @@ class Field:
     currency: str = ""
     wifi: str = ""
     wifi_password: str = ""
+    logo: str = ""
+    voucher_size: str = "a4"
+    daily_report: list[str] = listing(default_factory=list)
     counter_language: str = "en"
     voucher_languages: list[str] = listing(default_factory=lambda: ["en"])
+    metrics: str = ""
+    metrics_takings: bool = False
+    radius: dict[str, Any] = listing(default_factory=dict)
 
     @classmethod
     def read(cls, text: str) -> Field:
@@ -100,16 +110,40 @@ class Field:
         if self.grace_seconds < 2 * self.poll_seconds:
             raise BadSettings("grace_seconds is less than two polls")
         self.check_services()
+        self.check_metrics()
         self.check_pages()
         self.check_devices()
         self.check_networks()
+        self.access_servers     # which raises what is wrong with it
 
     def check_services(self) -> None:
         if self.clock not in CLOCKS:
             raise BadSettings(f"clock = {self.clock!r}: one of {', '.join(CLOCKS)}")
-        words = self.on_failure
-        if not isinstance(words, list) or not all(isinstance(word, str) and word for word in words):
-            raise BadSettings("on_failure is a list of a command's words")
+        for key in ("on_failure", "daily_report"):
+            words = getattr(self, key)
+            if not isinstance(words, list) or not all(isinstance(word, str) and word for word in words):
+                raise BadSettings(f"{key} is a list of a command's words")
+
+    def check_metrics(self) -> None:
+        address, colon, port = self.metrics.rpartition(":") if isinstance(self.metrics, str) else ("", "", "")
+        try:
+            good = self.metrics == "" or bool(ipaddress.IPv4Address(address)) and 1 <= int(port) <= 65535
+        except ValueError:
+            good = False
+        if not good:
+            raise BadSettings(f"metrics = {self.metrics!r}: an address and a port, such as 127.0.0.1:9808, or nothing")
+        if not isinstance(self.metrics_takings, bool):
+            raise BadSettings("metrics_takings is true or false")
+
+    @property
+    def access_servers(self) -> Radius | None:
+        """The table [radius], where there is one."""
+        try:
+            return Radius.read(self.radius, LANGUAGES)
+        except BadRadius as fault:
+            raise BadSettings(str(fault)) from fault
+        except TypeError as fault:
+            raise BadSettings(f"radius: {fault}") from fault
 
     def check_pages(self) -> None:
         if not isinstance(self.currency, str) or self.currency and not CURRENCY.fullmatch(self.currency):
@@ -118,6 +152,10 @@ class Field:
             raise BadSettings("wifi: the network's name, at most 32 bytes")
         if not isinstance(self.wifi_password, str) or self.wifi_password and not 8 <= len(self.wifi_password) <= 63:
             raise BadSettings("wifi_password: 8 to 63 signs, or nothing")
+        if not isinstance(self.logo, str) or self.logo and not LOGO.fullmatch(self.logo):
+            raise BadSettings(f"logo = {self.logo!r}: the path of an svg, png or jpg file, or nothing")
+        if self.voucher_size not in VOUCHER_SIZES:
+            raise BadSettings(f"voucher_size = {self.voucher_size!r}: one of {', '.join(VOUCHER_SIZES)}")
         if self.counter_language not in COUNTER_LANGUAGES:
             raise BadSettings(f"counter_language = {self.counter_language!r}: one of {', '.join(COUNTER_LANGUAGES)}")
         tags = self.voucher_languages

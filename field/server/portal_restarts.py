@@ -18,7 +18,8 @@ from dataclasses import asdict, dataclass, field
 import portal_failed
 
 UNITS = ("portal.service", "portal-gateway.service", "portal-leases.service", "portal-front.service",
-         "portal-counter.service", "nginx.service", "dnsmasq.service")
+         "portal-counter.service", "portal-radius.service", "portal-radius-agent.service", "portal-metrics.service",
+         "nginx.service", "dnsmasq.service")
 MANY, WITHIN = 5, 600.0     # so many restarts in so many seconds are told
 
 

@@ -184,6 +184,15 @@ class Copies(Case):
                 done = self.run_it("portal-backup", desk.book, desk.folder / "copies", folder=desk.folder)
                 self.assertEqual((done.returncode, done.stderr, self.order(desk)), (0, "", ["show"]))
 
+    def test_a_database_that_nobody_writes_is_copied_while_the_server_runs_over_another(self) -> None:
+        """As an upgrade does with the two files that it copied before the server's start."""
+        with DeskProcess() as desk:
+            self.end(desk)
+            systemctl(desk.folder, "active")
+            done = self.run_it("portal-backup", "--still", "--portal", PORTAL, desk.book, desk.folder / "copies", folder=desk.folder)
+            self.assertEqual(done.returncode, 0, done.stderr)
+            self.assertFalse((desk.folder / "order").exists() and "freeze" in (desk.folder / "order").read_text())
+
     def test_one_that_runs_without_systemd_is_not_copied_as_it_writes(self) -> None:
         with DeskProcess() as desk:
             systemctl(desk.folder, "inactive")

@@ -20,6 +20,8 @@ import portal_counter
 import portal_front
 import web
 from clerk import Counter
+from journal import Journal
+from words import use_zone
 
 try:
     from selenium import webdriver
@@ -68,10 +70,11 @@ class Venue:
         folder = pathlib.Path(self.place.name)
         self.list, notes = folder / "sessions.json", folder / "notes"
         notes.mkdir()
+        use_zone("UTC0")        # the desk's
         self.desk = DeskProcess().__enter__()
-        self.conf = {**VENUE, "plans": str(FIELD / "settings/plans.toml"), "snapshot": str(self.list), "notes": str(notes),
+        self.conf: dict[str, Any] = {**VENUE, "plans": str(FIELD / "settings/plans.toml"), "snapshot": str(self.list), "notes": str(notes),
                      "knock": str(folder / "knock"), **changed}
-        self.counter = Counter(Desk(self.desk.port, "desk-token"), self.conf, {})
+        self.counter = Counter(Desk(self.desk.port, "desk-token"), self.conf, {}, Journal(folder / "journal.db"))
         self.counter.load_plans()
         self.front = portal_front.Front(Desk(self.desk.port), self.conf, lambda _: self.device, "a key")
         self.device: str | None = MAC
@@ -118,11 +121,12 @@ class Browser:
         self.driver.quit()
         self.profile.cleanup()
 
-    def shape(self, width: int, height: int = 900, scheme: str = LIGHT, accepted: str = "") -> None:
-        """The screen, light or dark, and the languages that are accepted."""
+    def shape(self, width: int, height: int = 900, scheme: str = LIGHT, accepted: str = "", media: str = "") -> None:
+        """The screen, light or dark, or paper (`print`), and the languages that are accepted."""
         tell = self.driver.execute_cdp_cmd
         tell("Emulation.setDeviceMetricsOverride", {"width": width, "height": height, "deviceScaleFactor": 1, "mobile": False})
-        tell("Emulation.setEmulatedMedia", {"features": [{"name": "prefers-color-scheme", "value": scheme}]})
+        tell("Emulation.setEmulatedMedia", {"media": media, "features": [
+            {"name": "prefers-color-scheme", "value": scheme}, {"name": "prefers-reduced-motion", "value": "reduce"}]})
         if accepted:
             tell("Network.setUserAgentOverride", {"userAgent": "test", "acceptLanguage": accepted})
 
@@ -169,6 +173,12 @@ class Browser:
         """Role and name of each node of the accessibility tree that a person can use or that names a part."""
         nodes = self.driver.execute_cdp_cmd("Accessibility.getFullAXTree", {})["nodes"]
         return [(node["role"]["value"], node.get("name", {}).get("value", "")) for node in nodes if not node.get("ignored")]
+
+    def printed(self) -> list[tuple[int, int]]:
+        """The pages that a printer gets: width and height of each, in millimetres."""
+        told = self.driver.execute_cdp_cmd("Page.printToPDF", {"preferCSSPageSize": True, "printBackground": True})
+        boxes = re.findall(rb"/MediaBox \[0 0 ([\d.]+) ([\d.]+)\]", base64.b64decode(told["data"]))
+        return [(round(float(wide) / 72 * 25.4), round(float(high) / 72 * 25.4)) for wide, high in boxes]
 
     def picture(self, path: pathlib.Path) -> None:
         """What the screen shows."""

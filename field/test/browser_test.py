@@ -4,12 +4,16 @@ from __future__ import annotations
 
 import contextlib
 import io
+import time
 import unittest
 from dataclasses import dataclass, field
 from typing import Any
 
 from browser import CAN, DARK, LIGHT, MAC, Browser, Venue
-from desk_process import Routes
+from desk_process import FIELD, Routes
+
+from desk_client import new_number
+from journal import Act
 
 if CAN:
     from browser import By, Keys
@@ -27,6 +31,7 @@ const faults = []; let looked = 0;
 const hold = (what, front, back, least) => { looked += 1; const r = ratio(front, back);
   if (r < least) faults.push(`${what}: ${r.toFixed(2)} of ${least}`) };
 for (const node of document.querySelectorAll('body *')) {
+  if (node.matches('.chart rect')) hold(`bar of ${node.className.baseVal}`, shade(getComputedStyle(node).fill), behind(node.closest('figure')), 3);
   if (!seen(node) || node.closest('svg')) continue;
   const style = getComputedStyle(node);
   if (style.opacity !== '1') faults.push(`${node.tagName}: opacity ${style.opacity}`);
@@ -51,11 +56,22 @@ for (const field of all('input:not([type=hidden]), select'))
 for (const node of all('[aria-describedby]'))
   if (!document.getElementById(node.getAttribute('aria-describedby'))) faults.push('described by nothing');
 for (const node of all('.bad')) if (node.getAttribute('role') !== 'alert') faults.push('an error that is no alert');
+for (const field of all('[aria-invalid=true]')) { const why = document.getElementById(field.getAttribute('aria-describedby'));
+  if (!why || why.getAttribute('role') !== 'alert' || !why.textContent.trim()) faults.push('an error that says nothing of its field') }
+for (const node of all('*')) { const style = getComputedStyle(node);
+  if (style.transitionDuration !== '0s' || style.animationName !== 'none' || style.scrollBehavior !== 'auto')
+    faults.push(`${node.tagName} moves for who wants no motion`) }
 for (const node of all('button, footer nav a')) { const box = node.getBoundingClientRect();
   if (box.height < 24 || box.width < 24) faults.push(`small target: ${node.textContent} ${box.width} x ${box.height}`) }
 if (all('script, [style], [onclick]').length) faults.push('a script or an inline style');
 for (const id of new Set(all('[id]').map(n => n.id))) if (all(`[id="${id}"]`).length > 1) faults.push(`two of the id ${id}`);
 return faults;
+"""
+# Vouchers that are larger than their place, and pictures that do not come.
+CUT_OFF = """
+return [...document.querySelectorAll('.sheet > div')].filter(n => n.scrollHeight > n.clientHeight || n.scrollWidth > n.clientWidth)
+  .map(n => `${n.scrollWidth} x ${n.scrollHeight} in ${n.clientWidth} x ${n.clientHeight}`)
+  .concat([...document.images].filter(i => !i.naturalWidth).map(i => i.src)).slice(0, 3);
 """
 FOCUSABLE = "a[href], button, input:not([type=hidden]), select"
 # Fields of a date have more than one stop.
@@ -65,8 +81,16 @@ const style = getComputedStyle(document.activeElement);
 return [at, all.length, parseFloat(style.outlineWidth) >= 2 && style.outlineStyle !== 'none'];
 """
 USED = ("textbox", "combobox", "button", "link", "spinbutton", "Date")
-BY_KEYBOARD = ("guest, not online", "guest, refused", "counter", "voucher to sell", "refund")
-WIDE = "return document.scrollingElement.scrollWidth - document.documentElement.clientWidth"
+REFUSED = ("guest, refused", "guest, refused in Japanese", "refused")
+BY_KEYBOARD = ("guest, not online", "guest, refused", "counter", "voucher to sell", "refund", "takings", "cash up")
+WIDE = """
+return Math.max(...[document.scrollingElement, ...document.querySelectorAll('main, section, nav, td, p')]
+  .filter(n => !n.closest('.sheet')).map(n => n.scrollWidth - n.clientWidth))
+"""
+
+
+def browser_has(browser: Browser, query: str) -> bool:
+    return bool(browser.ask(f"return document.querySelectorAll('{query}').length"))
 
 
 @dataclass
@@ -76,7 +100,7 @@ class Look:
     looked: int = 0
     structure: list[str] = field(default_factory=list)
     names: list[tuple[str, str]] = field(default_factory=list)
-    wider: dict[str, int] = field(default_factory=dict)     # by width and size of text: points too wide
+    wider: dict[str, int] = field(default_factory=dict)     # by width and size of text: points that a part is too wide
     stops: list[int] | None = None      # of the keyboard, in their order
     places: int = 0                     # that take the focus
     hidden: list[int] = field(default_factory=list)         # stops at which the focus does not show
@@ -123,7 +147,9 @@ class Shown(unittest.TestCase):
                 then()
             return opened
 
-        other = "02:00:00:00:00:02"
+        other, day = "02:00:00:00:00:02", time.strftime("%Y-%m-%d", time.gmtime())
+        for act in (Act("issue", new_number(), "done", "fresh-1", "hour", 2), Act("sell", new_number() + "-001", "done", "sold-1", "gigabyte", 1, 500)):
+            self.venue.counter.journal.add("anna", "10.88.0.2", [act])
         return [("guest, not online", device(other, of(self.guest()))), ("guest, refused", lambda: self.types("2222-2222-2222")),
                 ("guest, online", device(MAC, of(self.guest()))), ("guest, Arabic", of(self.guest("ar"))),
                 ("guest, refused in Japanese", lambda: self.types("2222-2222-2222", "ja")),
@@ -132,7 +158,8 @@ class Shown(unittest.TestCase):
                 ("voucher to refund", of(f"{clerks}voucher?code={sold}")), ("refused", of(f"{clerks}voucher?code=2222")),
                 ("refund", of(f"{clerks}refund?code={sold}")), ("close", of(f"{clerks}close?session=1")),
                 ("whole batch", of(f"{clerks}sell-batch?batch=fresh-1")), ("sheet", of(f"{clerks}sheet?batch=fresh-1")),
-                ("takings", of(f"{clerks}takings?from=2026-01-01&to=2026-01-03"))]
+                ("takings", of(f"{clerks}takings?from={day}&to={day}")), ("cash up", of(f"{clerks}cash-up")),
+                ("batches", of(f"{clerks}batches"))]
 
     def look(self, keyboard: bool) -> Look:
         """At the page that is open."""
@@ -144,7 +171,7 @@ class Shown(unittest.TestCase):
         found.names = [pair for pair in browser.names() if pair[0] in USED]
         if keyboard:
             self.walk(found)
-        for width, size in ((320, "100%"), (640, "200%")):
+        for width, size in ((320, "100%"), (640, "200%"), (1280, "100%")):
             browser.shape(width)
             browser.ask(f"document.documentElement.style.fontSize = '{size}'")
             found.wider[f"{width} points, text of {size}"] = browser.ask(WIDE)
@@ -171,11 +198,29 @@ class Shown(unittest.TestCase):
             self.assertEqual(found.contrast, {LIGHT: [], DARK: []}, name)
             self.assertGreater(found.looked, 8, name)
             self.assertEqual(found.structure, [], name)
+            self.assertEqual(browser_has(self.browser, "[aria-invalid=true]"), name in REFUSED, name)
+            self.assertEqual(browser_has(self.browser, ".chart rect.sales"), name == "takings", name)
             self.assertTrue(found.names, name)
             self.assertEqual([pair for pair in found.names if not pair[1].strip()], [], name)
             self.assertLessEqual(max(found.wider.values()), 0, (name, found.wider))
             if found.stops is not None:
                 self.assertEqual((found.stops, found.hidden), (list(range(found.places)), []), name)
+
+    def test_sheets_fit_on_their_paper(self) -> None:
+        """Sixteen vouchers on an A4 page, or twelve in two languages; a label or a receipt for each. None is cut off."""
+        for count in (12, 16, 17):
+            self.venue.desk.issued("gigabyte", f"b{count}", count)
+        self.venue.conf.update(logo=str(FIELD / "docs/pictures/voucher-screen-dark.png"), wifi="A name of a network, 32 signs ab")
+        one, two, page = ["pl"], ["de", "pl"], (210, 297)       # which take the most lines
+        for languages, count, size, pages in (
+                (one, 16, "a4", [page]), (one, 17, "a4", [page] * 2), (two, 12, "a4", [page]), (two, 16, "a4", [page] * 2),
+                (one, 12, "label", [(70, 37)] * 12), (two, 12, "label", [(70, 37)] * 12),
+                (one, 12, "receipt80", [(80, 150)] * 12), (two, 12, "receipt58", [(58, 150)] * 12)):
+            self.venue.conf["voucher_languages"] = languages
+            self.browser.shape(733, media="print")      # of A4 without its margins
+            self.browser.open(f"{self.venue.clerks}sheet?batch=b{count}&size={size}")
+            self.assertEqual(self.browser.ask(CUT_OFF), [], (languages, size))
+            self.assertEqual(self.browser.printed(), pages, (languages, count, size))
 
     def test_a_day(self) -> None:
         """Sell by scan, redeem in Arabic, extend, refuse, refund, close, print, add up."""
@@ -189,7 +234,10 @@ class Shown(unittest.TestCase):
             browser.enter()
             self.assertIn("Take €3.00.", browser.text)
         self.assertEqual(browser.title, f"Sold: {third}. Take €3.00. – Counter")
-        browser.type(first)
+        browser.type("2222")
+        browser.enter()
+        self.assertIn("No such code can exist", browser.text)
+        browser.type(first)     # beside the code that was kept
         browser.enter()
         self.assertIn("Refund …", browser.text)
         browser.shape(390)
@@ -204,6 +252,10 @@ class Shown(unittest.TestCase):
         browser.shape(1280)
         browser.open(f"{venue.clerks}voucher?code={third}")
         browser.press("Refund …")
+        browser.type(second)
+        browser.enter()     # a scan there does not refund
+        self.assertEqual((venue.desk.voucher(third)["refund"], browser.title), (None, "Counter"))
+        browser.open(f"{venue.clerks}refund?code={third}")
         self.assertIn("This cannot be taken back.", browser.text)
         browser.press("Refund")
         self.assertIn("Give back €3.00.", browser.text)
@@ -211,11 +263,14 @@ class Shown(unittest.TestCase):
         browser.press("Close")
         self.assertIn("Session 1 is closed.", browser.text)
         browser.press("Issue and sell one voucher")
-        browser.press("Print its sheet")
-        self.assertIn("Good until", browser.text)
+        self.assertRegex(browser.text, r"(?s)Sold: .*Take €3.00.*Good until")
         browser.open(venue.clerks)
         browser.press("Add up")
         self.assertIn("net €9.00", browser.text)
+        browser.open(venue.clerks)
+        browser.press("Cash up: what was sold today")
+        self.assertIn("The server's takings and the journal's sums are the same.", browser.text)
+        self.assertIn("anna 4 €12.00 1 €3.00 €9.00", browser.text)
         browser.open(self.guest())
         self.assertIn("Your session has ended", browser.text)
 

@@ -108,6 +108,10 @@ def first_voucher(house: House, check: Checks) -> None:
     status, body, _ = house.clerk("sell", code=codes[0])
     check("a second sale is refused, with what to do", status == 409 and "Do not take money twice" in body, status)
     house.curl("clerk", f"https://{COUNTER}/voucher?code={codes[0]}", *CLERK)
+    acts = house.journal()
+    check("the counter's journal has who did what, of which batch, and what was answered", acts[-2:] == [
+        ("clerk", "10.88.0.2", "sell", "hour-1", "hour", 300, "done"),
+        ("clerk", "10.88.0.2", "sell", "hour-1", "hour", 0, "sold_already")], acts)
     log = (house.root / "log/counter.log").read_text()
     check("the counter's log tells who did what, and no code", "clerk [" in log and "POST /sell 200" in log
           and "GET /voucher 200" in log and codes[0] not in log)

@@ -73,12 +73,14 @@ def answers() -> dict[str, str | tuple[int, str]]:
         "ip -j address show": as_ip_tells(NETWORKS),
         "ip -j route show default": '[{"dst":"default","gateway":"203.0.113.2","dev":"wan0","flags":[]}]',
         "ss ": LISTENERS, "timedatectl ": "yes\n", "nft list table inet portal": "", "nft list table netdev portal": "",
+        "nft -j list ruleset": '{"nftables": []}',
         "nft -j list set inet portal alive": as_nft_tells("lan0"), "systemd-escape -- lan0": "lan0\n",
         "systemctl show ": as_systemd_tells(), "journalctl ": "", "uname -r": "6.1.0-28-amd64\n",
         "/usr/bin/portal --version": "portal 1.0.0 (database schema version 4)\n", "nft --version": "nftables v1.0.6\n",
         "nginx -v": "nginx version: nginx/1.22.1\n", "dnsmasq --version": "Dnsmasq version 2.90  Copyright (c) 2000\n",
         "dpkg-query ": "portal 1.0.0 installed\npython3-nftables 1.0.6-2+deb12u2 installed\n"
-                       "python3-pyroute2 0.7.2-2 installed\npython3-segno 1.5.2-1 installed\n"}
+                       "python3-pyroute2 0.7.2-2 installed\npython3-segno 1.5.2-1 installed\n"
+                       "python3-flask 2.2.2-3 installed\npython3-babel 2.10.3-1 installed\npython3-waitress 2.1.2-2 installed\n"}
 
 
 class FakeMachine(Machine):

@@ -2,8 +2,10 @@
 
 from __future__ import annotations
 
+import contextlib
 import json
 import re
+import sqlite3
 import subprocess
 import time
 from typing import Any
@@ -73,6 +75,11 @@ class House(Lab):
         for code in codes:
             self.clerk("sell", code=code)
         return codes
+
+    def journal(self) -> list[tuple[object, ...]]:
+        """What the counter's journal has."""
+        with contextlib.closing(sqlite3.connect(self.root / "run/portal-counter/journal.db")) as link:
+            return link.execute("SELECT clerk, place, act, batch, plan, price, answer FROM acts ORDER BY number").fetchall()
 
     # A guest
 

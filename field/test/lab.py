@@ -227,7 +227,7 @@ class Lab:
         self.until(lambda: self.listening(8080), what="the desk")
 
     def service(self, name: str) -> None:
-        env = {"FIELD_SETTINGS": f"{self.root}/etc/portal/{name}.toml",
+        env = {"FIELD_SETTINGS": f"{self.root}/etc/portal/{name}.toml", "STATE_DIRECTORY": f"{self.root}/run/portal-{name}",
                "CREDENTIALS_DIRECTORY": f"{self.root}/creds-{name}"}
         self.start(name, PYTHON, FIELD / SERVICES[name], user=name, caps=name in CAPABLE, env=env)
         if name in WITH_A_SOCKET:

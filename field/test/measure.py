@@ -14,6 +14,7 @@ offload     bytes counted against the guest's device, with merged packets (offlo
 sessions    GET /gateway/sessions with 200 open among N (100,000), at 10 questions a round
 lookup      GET /captive through nginx, which asks the pages' helper for the device: 500 times, alone and beside 4,500 connections
             that say nothing
+sheet       the counter's page with 500 vouchers and their pictures, through nginx
 copies      copies of the book while the desk sells: how long it is held still, and what a sale waits
 """
 
@@ -31,8 +32,8 @@ from collections.abc import Callable
 
 from crowd import OPEN, crowd, spent, written
 from desk_process import DeskProcess, Routes
-from house import PEER, House
-from lab import FIELD, NAME, OUTSIDE, PYTHON, STAND_IN
+from house import CLERK, PEER, House
+from lab import COUNTER, FIELD, NAME, OUTSIDE, PYTHON, STAND_IN
 
 MANY = "[[plan]]\nid = '{}'\nprice = 0\nuses = 100000\nseconds = {}\nbytes = 0\nshelf_days = 9\nextend = true\n"
 
@@ -273,7 +274,23 @@ def lookup(args: argparse.Namespace) -> None:
         job.wait()
 
 
-MEASURES = {work.__name__: work for work in (first, agent, crowd, written, shut, late, offload, sessions, lookup, copies)}
+def sheet(args: argparse.Namespace) -> None:
+    with House(args.portal) as house:
+        house.open_house()
+        house.clerk("issue", plan="hour", batch="b500", count=500)
+        waits, before = [], spent(house.jobs["counter"].pid)
+        for _ in range(args.rounds):
+            start = time.perf_counter()
+            status, body, _ = house.curl("clerk", f"https://{COUNTER}/sheet?batch=b500", *CLERK)
+            waits.append((time.perf_counter() - start) * 1e3)
+            assert (status, body.count("<svg")) == (200, 500), status
+        told("a sheet of 500 vouchers", waits)
+        took = (spent(house.jobs["counter"].pid) - before) / args.rounds
+        print(f"the page's processor {took:.2f} s each", flush=True)
+
+
+MEASURES = {work.__name__: work for work in (first, agent, crowd, written, shut, late, offload, sessions, lookup, sheet,
+                                             copies)}
 
 
 def main() -> None:

@@ -9,12 +9,19 @@ from __future__ import annotations
 
 import argparse
 import contextlib
+import datetime
 import io
 import pathlib
-import time
+from collections.abc import Callable
+from unittest import mock
 
 from browser import DARK, LIGHT, MAC, Browser, By, Venue
 from desk_process import Routes
+
+from clerk import Acts, Notice
+from desk_client import new_number
+from forms import Form
+from journal import Sums
 
 PHONE, SCREEN = (390, 844), (1280, 860)
 
@@ -43,23 +50,58 @@ def guests(venue: Venue, camera: Camera, codes: list[str]) -> None:
     browser.driver.find_element(By.ID, "code").send_keys("2222-2222-2222-2222")
     browser.enter()
     camera.take("guest-refused")
-    browser.open(f"{venue.guests}?lang=ar")
+    browser.open(f"{venue.guests}?lang=en")
     browser.driver.find_element(By.ID, "code").send_keys(codes[0])
     browser.enter()
     camera.take("guest-online")
+    browser.open(f"{venue.guests}?lang=ar")
+    camera.take("guest-ar-online")
+
+
+def sold(venue: Venue, code: str) -> Acts:
+    acts: Acts = []
+    venue.counter.sell(Form(code=code), new_number(), acts)
+    return acts
+
+
+def clerks_work(venue: Venue) -> list[str]:
+    """What two clerks did today, with the journal's entries; the codes of a batch that was issued."""
+    counter = venue.counter
+
+    def does(clerk: str, act: Callable[[Form, str, Acts], Notice], **fields: str) -> None:
+        acts: Acts = []
+        act(Form(fields), new_number(), acts)
+        counter.journal.add(clerk, "10.88.0.2", acts)
+
+    does("anna", counter.issue, batch="gigabyte-1", plan="gigabyte", count="16")
+    codes = [row["code"] for row in counter.batch(Form(batch="gigabyte-1"))]
+    for clerk, code in (("anna", codes[1]), ("ben", codes[2]), ("ben", codes[3])):
+        does(clerk, counter.sell, code=code)
+    does("ben", counter.sell_one_now, batch="one-1", plan="day")
+    does("anna", counter.refund, code=codes[2])
+    return codes
+
+
+def a_month(first: str, last: str) -> list[Sums]:
+    """Takings that nobody made, for the picture of the bars."""
+    ends = [datetime.date.fromisoformat(day) for day in (first, last)]
+    return [Sums(str(ends[0] + datetime.timedelta(i)), 3 + i * 7 % 11, 900 + i * 700 % 3300, i % 5 // 4, i % 5 // 4 * 500)
+            for i in range((ends[1] - ends[0]).days + 1)]
 
 
 def counter(venue: Venue, camera: Camera, codes: list[str]) -> None:
     browser, clerks = camera.browser, venue.clerks
     venue.desk.desk.tell(Routes.REDEEM, body={"code": codes[1]}, device=MAC)
-    day = time.strftime("%Y-%m-%d", time.gmtime())
-    fresh = venue.desk.issued("gigabyte", "gigabyte-1", 16)
+    fresh = clerks_work(venue)
     for name, page in (("counter", ""), ("voucher", f"voucher?code={fresh[0]}"), ("counter-refused", "voucher?code=2222"),
-                       ("sheet", "sheet?batch=gigabyte-1"), ("takings", f"takings?from={day}&to={day}"),
-                       ("refund", f"refund?code={codes[2]}")):
+                       ("sheet", "sheet?batch=gigabyte-1"), ("refund", f"refund?code={codes[2]}"), ("cash-up", "cash-up"),
+                       ("batches", "batches")):
         venue.gateway_tells()
         browser.open(clerks + page)
         camera.take(name)
+    with mock.patch.object(venue.counter, "days", a_month):
+        browser.open(clerks + "takings?from=2026-01-01&to=2026-01-31")
+        camera.take("takings")
 
 
 def main() -> None:
@@ -68,7 +110,9 @@ def main() -> None:
     args = words.parse_args()
     venue, browser = Venue(), Browser()
     try:
-        codes = venue.desk.sold("hour", "hour-1", 3)
+        codes = venue.desk.issued("hour", "hour-1", 3)
+        for code in codes:
+            venue.counter.journal.add("anna", "10.88.0.2", sold(venue, code))
         camera = Camera(browser, args.folder)
         with contextlib.redirect_stderr(io.StringIO()):
             guests(venue, camera, codes)

@@ -6,6 +6,7 @@ import contextlib
 import importlib.util
 import io
 import json
+import os
 import pathlib
 import re
 import tempfile
@@ -21,6 +22,7 @@ from desk_process import FIELD, Desk, DeskProcess, NoAnswer, Relay, Routes     #
 import refusals
 from machine_time import Notes, origin
 from clerk import Counter
+from journal import Journal
 from portal_counter import pages
 from test_front import UnixLink, served
 from tries import Tries
@@ -29,8 +31,13 @@ from sheet import wifi_text
 HAS_SEGNO = importlib.util.find_spec("segno") is not None
 
 
-class Pages(unittest.TestCase):
+class AtCounter(unittest.TestCase):
+    """The counter's page on a socket, over a desk of its own."""
+
     def setUp(self) -> None:
+        self.addCleanup(time.tzset)
+        self.enterContext(mock.patch.dict(os.environ, TZ="UTC0"))      # the desk's
+        time.tzset()
         self.desk = self.enterContext(DeskProcess())
         self.relay = Relay(self.desk.port)
         self.addCleanup(self.relay.close)
@@ -42,7 +49,8 @@ class Pages(unittest.TestCase):
         self.conf = conf
         (self.folder / "notes").mkdir()
         self.notes = Notes(conf["notes"])
-        self.counter = Counter(Desk(self.relay.port, "desk-token"), conf, {})
+        self.journal = Journal(self.folder / "journal.db")
+        self.counter = Counter(Desk(self.relay.port, "desk-token"), conf, {}, self.journal)
         self.counter.load_plans()
         served(self, pages(self.counter), self.path)
 
@@ -56,6 +64,8 @@ class Pages(unittest.TestCase):
         link.close()
         return answer.status, text
 
+
+class Pages(AtCounter):
     def test_the_first_page_offers_the_plans_and_numbered_forms(self) -> None:
         status, text = self.ask("/")
         self.assertEqual(status, 200)
@@ -297,6 +307,19 @@ class Pages(unittest.TestCase):
             self.assertIn(f'role="alert">{typed}:<br>', text)
             self.assertRegex(text, rf'id="code" [^>]*autofocus\n value="{typed}" aria-invalid="true" aria-describedby="told"')
 
+    def test_a_scan_beside_a_code_that_was_kept_is_the_scanned_one(self) -> None:
+        code, = self.desk.issued("hour", "b1")
+        address = f"https://wifi.example/portal?code={code}"
+        half, sign = code[:9], "3" if code[0] != "3" else "4"
+        for kept, typed in (("2222", code + "2222"), ("2222", "2222" + code), ("2222", address + "2222"), ("2222", "2222" + address),
+                            (half, code), (half, code + half), (sign + code[1:], code), (code, code), (code, code + code),
+                            (code[1:], code)):
+            text = self.ask("/voucher?" + urllib.parse.urlencode({"code": typed, "kept": kept}))[1]
+            self.assertIn(f"<title>{code} ", text, (kept, typed))
+        text = self.ask("/voucher?code=2222")[1]
+        self.assertIn('<input type="hidden" name="kept" value="2222">', text)
+        self.assertNotIn('name="kept"', self.ask("/")[1])
+
     def test_refunds_closes_and_sales_of_batches_are_asked_once_more(self) -> None:
         code, = self.desk.sold("gigabyte", "b1")
         self.desk.desk.tell(Routes.REDEEM, body={"code": code}, device="02:00:00:00:00:01")
@@ -324,9 +347,15 @@ class Pages(unittest.TestCase):
         assert code
         self.assertEqual(self.desk.voucher(code[1])["batch"], fields["batch"])
         self.assertEqual(self.desk.desk.ask(Routes.PRINT, fields["batch"]).count(b"\n"), 2)
-        self.assertIn(f'<a href="/sheet?batch={fields["batch"]}">Print its sheet</a>', text)
+        self.assertIn(f"<b>{code[1]}</b>", text, "as a voucher that can be printed")
         day = time.strftime("%Y-%m-%d", time.gmtime())
         self.assertIn("<b>net 9.00</b>", self.ask(f"/takings?from={day}&to={day}")[1])
+
+    def test_what_was_sold_is_said_though_its_sheet_cannot_be_shown(self) -> None:
+        fields = {**self.hidden(self.ask("/")[1], "now"), "plan": "day"}
+        with mock.patch.object(self.counter, "sheet", side_effect=NoAnswer("gone")):
+            status, text = self.ask("/now", **fields)
+        self.assertEqual((status, "Take 9.00" in text, "Print its sheet" in text), (200, True, True))
 
     def test_a_whole_batch_is_sold_and_goes_on_where_it_broke_off(self) -> None:
         codes = self.desk.issued("hour", "b1", 4)
@@ -379,13 +408,31 @@ class Pages(unittest.TestCase):
         self.assertEqual(len(set(titles)), len(titles), titles)
 
     @unittest.skipUnless(HAS_SEGNO, "python3-segno is not installed")
+    def test_a_sheet_has_the_venues_logo(self) -> None:
+        self.desk.issued("day", "b1", 2)
+        self.assertEqual((self.ask("/sheet?batch=b1")[1].count("<img"), self.ask("/logo")[0]), (0, 404))
+        logo = self.folder / "logo.svg"
+        self.conf["logo"] = str(logo)
+        self.assertEqual((self.ask("/sheet?batch=b1")[1].count("<img"), self.ask("/logo")[0]), (0, 404), "it is not there")
+        logo.write_text("<svg/>")
+        self.assertEqual(self.ask("/sheet?batch=b1")[1].count('<img src="/logo" alt="">'), 2)
+        self.assertEqual(self.ask("/logo"), (200, "<svg/>"))
+
+    def test_vouchers_are_of_the_size_that_is_set_or_chosen(self) -> None:
+        self.desk.issued("day", "b1")
+        for query, size, there in (("", "", "a4"), ("", "receipt80", "receipt80"), ("&size=label", "receipt80", "label"),
+                                   ("&size=x", "receipt80", "a4")):
+            self.conf["voucher_size"] = size or "a4"
+            self.assertIn(f'<div class="sheet {there}">', self.ask(f"/sheet?batch=b1{query}")[1])
+
+    @unittest.skipUnless(HAS_SEGNO, "python3-segno is not installed")
     def test_a_sheet_has_a_qr_code_for_each_code(self) -> None:
         codes = self.desk.issued("day", "b1", 3)
         status, text = self.ask("/sheet?batch=b1")
         self.assertEqual(status, 200)
         self.assertEqual(re.findall("<b>([0-9A-Z-]+)</b>", text), codes)
         self.assertEqual(text.count("<svg"), 3)
-        self.assertIn("1 day, 9.00", text)
+        self.assertIn("1 day · 9.00", text)
         self.assertNotIn("style=", text)
         self.conf.update(wifi='A "net"; x', wifi_password="abcdefgh", currency="EUR", voucher_languages=["en", "ar"])
         text = self.ask("/sheet?batch=b1&size=receipt58")[1]
@@ -398,7 +445,7 @@ class Pages(unittest.TestCase):
         self.assertEqual(wifi_text("Guests", ""), "WIFI:T:nopass;S:Guests;;")
         uses = self.desk.issued("gigabyte", "b3", 1)
         self.assertIn(uses[0], self.ask("/sheet?batch=b3")[1])
-        self.assertIn("1.0 GB, 3 times, €5.00", self.ask("/sheet?batch=b3")[1])
+        self.assertIn("1.0 GB, 3 times · €5.00", self.ask("/sheet?batch=b3")[1])
 
 
 class Passwords(unittest.TestCase):

@@ -3,6 +3,7 @@
 from __future__ import annotations
 
 import http.client
+import json
 import pathlib
 import re
 import socket
@@ -11,9 +12,10 @@ import threading
 import unittest
 import urllib.parse
 
-from desk_process import Desk, DeskProcess, Relay, Routes    # which says where the parts stand
+from desk_process import FIELD, Desk, DeskProcess, Relay, Routes    # which says where the parts stand
 
 import web
+from counts import Counts
 from portal_front import Front, pages, plain_code
 
 MAC, OTHER = "02:00:00:00:00:01", "02:00:00:00:00:02"
@@ -168,6 +170,49 @@ class Pages(unittest.TestCase):
         self.assertEqual(self.ask("POST", "/portal", code=code, request=number)[0], 303)
         self.assertEqual(self.desk.voucher(code)["redeemed"], 1)
 
+    def test_a_code_takes_its_next_use_once_its_session_is_over(self) -> None:
+        code, = self.desk.sold("gigabyte", "b1")
+        for session in (1, 2, 3):
+            for _ in range(2):      # typed again while it is open: nothing more
+                number = self.number(self.ask("GET", "/portal")[1])
+                self.assertEqual(self.ask("POST", "/portal", code=code, request=number)[0], 303)
+                self.assertEqual(self.desk.voucher(code)["redeemed"], session)
+            self.desk.desk.tell(Routes.CLOSE, body={"session": session})
+        number = self.number(self.ask("GET", "/portal")[1])
+        status, text, _ = self.ask("POST", "/portal", code=code, request=number)
+        self.assertEqual(status, 409)
+        self.assertIn("This code has been used already", text)
+
+    def test_a_form_sent_again_after_its_session_is_over_acts_once(self) -> None:
+        code, = self.desk.sold("gigabyte", "b1")
+        number = self.number(self.ask("GET", "/portal")[1])
+        for _ in range(2):
+            self.assertEqual(self.ask("POST", "/portal", code=code, request=number)[0], 303)
+            if self.desk.gateway.tell(Routes.SESSIONS)["sessions"]:
+                self.desk.desk.tell(Routes.CLOSE, body={"session": 1})
+        self.assertEqual(self.desk.voucher(code)["redeemed"], 1)
+
+    def test_a_form_in_doubt_acts_once_after_its_session_and_its_helper_are_gone(self) -> None:
+        code, = self.desk.sold("gigabyte", "b1")
+        number = self.number(self.ask("GET", "/portal")[1])
+        self.relay.cuts = True
+        text = self.ask("POST", "/portal", code=code, request=number)[1]
+        self.number(text)
+        self.fields |= dict(re.findall(r'name="(sent)" value="([^"]*)"', text))
+        self.relay.cuts = False
+        self.desk.desk.tell(Routes.CLOSE, body={"session": 1})
+        self.start_helper("a key")
+        self.assertEqual(self.ask("POST", "/portal", code=code, request=number)[0], 303)
+        self.assertEqual(self.desk.voucher(code)["redeemed"], 1)
+
+    def test_each_refusal_is_counted_by_its_word(self) -> None:
+        path = self.path.with_name("refusals.json")
+        self.front.counts = Counts(str(path))
+        for code in ("2222-2222-2222", "2222-2222-2222", "x"):
+            self.ask("POST", "/portal", code=code, request=self.number(self.ask("GET", "/portal")[1]))
+        self.assertEqual(json.loads(path.read_text()), {"unknown_code": 2, "bad_code": 1})
+        self.assertEqual(path.stat().st_mode & 0o777, 0o644)
+
     def test_a_request_that_never_came_to_the_desk_is_carried_out_at_the_second_time(self) -> None:
         code, = self.desk.sold("gigabyte", "b1")
         number = self.number(self.ask("GET", "/portal")[1])
@@ -292,6 +337,14 @@ class Pages(unittest.TestCase):
         self.assertIn('aria-invalid="true" aria-describedby="bad"', text)
         self.assertIn('<p class="bad" id="bad" role="alert">', text)
         self.assertIn("<title>That did not work", text)
+
+
+class Sources(unittest.TestCase):
+    def test_pages_are_templates_alone(self) -> None:
+        """No HTML in Python, and neither of the modules that would call for it."""
+        for path in (path for part in ("front", "counter", "lib") for path in (FIELD / part).glob("*.py")):
+            for number, line in enumerate(path.read_text().splitlines(), 1):
+                self.assertNotRegex(line, r"http\.server|html\.escape|</?[a-z]+[ >/]|&lt;", f"{path.name}:{number}")
 
 
 if __name__ == "__main__":

@@ -270,6 +270,22 @@ class Polls(unittest.TestCase):
         self.desk.fault = None
         self.assertTrue(self.poll() and self.gate.is_open)
 
+    def test_whether_guests_pass_is_told_for_the_metrics(self) -> None:
+        with tempfile.TemporaryDirectory() as folder:
+            self.agent, path = self.fresh(str(pathlib.Path(folder) / "sessions.json")), pathlib.Path(folder) / "gate.json"
+            self.opened()
+            told = []
+            for fault, gone in ((None, False), (NoAnswer("x"), False), (Refused(503, "no_memory"), False),
+                                (Refused(503, "stopped"), False), (None, False), (KeyError("x"), False), (None, False),
+                                (None, True)):
+                self.desk.fault, self.gate.is_gone = fault, gone
+                self.poll()
+                told.append(json.loads(path.read_text())["open"])
+            # silence leaves it as it was: it shuts by itself, and so does what is told, once its grace is over
+            self.assertEqual(told, [True, True, True, False, True, False, True, False])
+            self.assertAlmostEqual(json.loads(path.read_text())["at"], time.time(), delta=5)
+            self.assertEqual(path.stat().st_mode & 0o777, 0o640)
+
     def test_without_its_rules_nothing_is_forwarded_until_they_are_back(self) -> None:
         self.opened()
         self.desk.fault, self.gate.is_gone = NoAnswer("x"), True

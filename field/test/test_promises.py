@@ -3,10 +3,17 @@
 from __future__ import annotations
 
 import re
+import sys
 import unittest
 
 from desk_process import FIELD
-from must_fail import DESCRIPTION, DEVICES, GATEWAY, PACKETS, UNITS
+from must_fail import UNITS
+from mutants import DESCRIPTION, DEVICES, GATEWAY, PACKETS
+
+sys.path.append(str(FIELD / "radius/test"))
+from radius_must_fail import RADIUS  # noqa: E402
+
+EVERY = (*UNITS, *DEVICES, *GATEWAY, *PACKETS, *RADIUS)
 
 
 class Promises(unittest.TestCase):
@@ -15,10 +22,10 @@ class Promises(unittest.TestCase):
         lines = (FIELD / "docs/PROMISES.md").read_text().count("\n| ") - 1
         self.assertEqual(len(rows), lines, "a promise without a wrong kit")
         named = [name for _, kits in rows for name in re.findall(r"`([a-z0-9_]+)`", kits)]
-        self.assertEqual(sorted(named), sorted(edit.name for edit in (*UNITS, *DEVICES, *GATEWAY, *PACKETS)))
+        self.assertEqual(sorted(named), sorted(edit.name for edit in EVERY))
 
     def test_each_edit_fits(self) -> None:
-        for edit in (*UNITS, *DEVICES, *GATEWAY, *PACKETS):
+        for edit in EVERY:
             if edit.file == DESCRIPTION and not (FIELD / DESCRIPTION).is_file():
                 continue        # the kit stands outside its repository
             texts = {edit.file: (FIELD / edit.file).read_text()}

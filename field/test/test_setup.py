@@ -28,7 +28,9 @@ loader.exec_module(setup)
 
 SAMPLE = (FIELD / "settings/field.toml").read_text()
 LATER = ("desk_port", "poll_seconds", "grace_seconds", "quiet_seconds", "time_quiet_seconds",
-         "without_browser", "clock", "on_failure")     # keys with a default
+         "without_browser", "clock", "on_failure", "currency", "wifi", "wifi_password", "logo", "voucher_size",
+         "daily_report", "counter_language", "voucher_languages",
+         "metrics", "metrics_takings")     # keys with a default
 SERVICES = ("portal", "portal-gateway", "portal-leases", "portal-front", "portal-counter")
 SECRETS = ("desk_token", "gateway_token", "form_key")
 
@@ -55,6 +57,11 @@ class Lines(unittest.TestCase):
                          ('"10.77.3.250"', '"10.77.3.255"'), ('"10.77.0.1/22"', '"10.77.2.7/22"'),
                          ('"10.88.0.1/24"', '"10.88.0.0/24"'), ('"10.88.0.1/24"', '"10.88.0.1/32"'),
                          ('clock = "kernel"', 'clock = "ntp"'), ("on_failure = []", "on_failure = [1]"),
+                         ('logo = ""', 'logo = "logo.svg"'), ('logo = ""', 'logo = "/etc/portal/logo.html"'),
+                         ('size = "a4"', 'size = "a5"'), ("report = []", 'report = "lp"'), ("report = []", "report = [1]"),
+                         ('currency = ""', 'currency = "€"'), ('wifi = ""', 'wifi = 1'), ('wifi = ""', f'wifi = "{"x" * 33}"'),
+                         ('wifi_password = ""', 'wifi_password = "short"'), ('_language = "en"', '_language = "fr"'),
+                         ('_languages = ["en"]', '_languages = []'), ('_languages = ["en"]', '_languages = ["xx"]'),
                          ("on_failure = []", 'on_failure = "mail"'), ("on_failure = []", 'on_failure = [""]'),
                          ("wan = ", "more = 1\nwan = "), ("house = ", "house ")):
             self.assertIn(old, SAMPLE)
@@ -341,6 +348,20 @@ class Made(unittest.TestCase):
                                      "/var/backups/portal"])
 
     @unittest.skipUnless(shutil.which("systemd-analyze"), "systemd-analyze is not installed")
+    def test_a_report_of_the_day_before_is_made_each_morning(self) -> None:
+        self.assertEqual(self.unit("portal-counter.service")["Unit"].get("Wants"), "portal-report.timer")
+        self.assertEqual(self.unit("portal-report.timer")["Timer"]["OnCalendar"], "*-*-* 06:00:00")
+        service = self.unit("portal-report.service")["Service"]
+        self.assertTrue(service["ExecStart"].endswith("/counter/portal_report.py"))
+        self.assertEqual((service["User"], service["LoadCredential"]),
+                         ("portal-counter", "desk_token:/etc/portal/credentials/desk_token"))
+
+    def test_the_journal_is_the_counters_alone(self) -> None:
+        for unit in ("portal-counter.service", "portal-report.service"):
+            service = self.unit(unit)["Service"]
+            self.assertEqual((service["User"], service["StateDirectory"], service["StateDirectoryMode"]),
+                             ("portal-counter", "portal-counter", "0700"), unit)
+
     def test_systemd_reads_the_units(self) -> None:
         """`verify` without a running systemd, under a root in which the units' programs stand: it says nothing."""
         folder = self.root / "etc/systemd/system"
@@ -348,7 +369,8 @@ class Made(unittest.TestCase):
         shutil.copy(folder / "portal-failed@.service", folder / "portal-failed@portal.service.service")
         shutil.copytree("/lib/systemd/system", self.root / "lib/systemd/system", symlinks=True)
         shutil.copytree(FIELD, self.root / "usr/share/portal/field", ignore=shutil.ignore_patterns("__pycache__"))
-        for name in ("bin/portal", "bin/python3", "sbin/nft", "sbin/sysctl"):
+        (self.root / "lib/systemd/system/freeradius.service").unlink(missing_ok=True)   # Debian's own, in older words
+        for name in ("bin/portal", "bin/python3", "bin/touch", "sbin/nft", "sbin/sysctl", "sbin/freeradius"):
             path = self.root / "usr" / name
             path.parent.mkdir(exist_ok=True)
             path.write_text("#!/bin/sh\n")
@@ -356,7 +378,7 @@ class Made(unittest.TestCase):
         units = [path.name for path in sorted(folder.iterdir()) if path.is_file() and "@." not in path.name]
         done = subprocess.run(["systemd-analyze", "verify", "--man=no", f"--root={self.root}", *units],
                               capture_output=True, text=True)
-        self.assertEqual((len(units), done.returncode, done.stdout + done.stderr), (13, 0, ""))
+        self.assertEqual((len(units), done.returncode, done.stdout + done.stderr), (18, 0, ""))
 
 
 if __name__ == "__main__":

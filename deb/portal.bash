@@ -1,0 +1,48 @@
+# Completion for bash: portal, portal-setup, portal-doctor, portal-backup, portal-restore.
+
+_portal() {
+    local cur prev words cword
+    _init_completion || return
+    case $prev in
+        --db | --settings)
+            _filedir
+            return
+            ;;
+        --port | --count | --now | --seed) return ;;
+    esac
+    if ((cword == 1)); then
+        mapfile -t COMPREPLY < <(compgen -W 'serve answer print takings check --help --version' -- "$cur")
+        return
+    fi
+    local options='--db --settings --help'
+    case ${words[1]} in
+        serve) options+=' --port --count' ;;
+        answer) options+=' --now --seed' ;;
+    esac
+    mapfile -t COMPREPLY < <(compgen -W "$options" -- "$cur")
+} && complete -F _portal portal
+
+# The commands around it: options, and files.
+_portal_command() {
+    local cur prev words cword
+    _init_completion || return
+    case $prev in
+        --clerk | --keep | --name | --pid) return ;;
+        --check | --folder | --settings)
+            _filedir
+            return
+            ;;
+    esac
+    if [[ $cur == -* ]]; then
+        local options=--help
+        case ${words[0]##*/} in
+            portal-setup) options+=' --ask --clerk --first-look --renew' ;;
+            portal-doctor) options+=' --all --json' ;;
+            portal-backup) options+=' --pid --still --check --keep --name' ;;
+            portal-restore) options+=' --drill --folder --settings' ;;
+        esac
+        mapfile -t COMPREPLY < <(compgen -W "$options" -- "$cur")
+    else
+        _filedir
+    fi
+} && complete -F _portal_command portal-setup portal-doctor portal-backup portal-restore

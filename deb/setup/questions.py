@@ -1,0 +1,119 @@
+"""Asks for what field.toml needs, on a terminal, and writes the answers into that file's lines."""
+
+from __future__ import annotations
+
+import ipaddress
+import json
+import pathlib
+import re
+import subprocess
+from collections.abc import Callable
+from dataclasses import dataclass
+from typing import Any
+
+Lines = dict[str, Any]      # keys of field.toml and their values
+VALUE = r'"(?:[^"\\]|\\.)*"|\[[^\]]*\]|[^#\s][^#\n]*?'
+LOCAL_TIME = pathlib.Path("/etc/localtime")
+
+
+def with_lines(text: str, lines: Lines) -> str:
+    """The text with these values in the places of those that it has; its comments stay."""
+    for key, value in lines.items():
+        told = f"{key} = {json.dumps(value, ensure_ascii=False)}"
+        text, count = re.subn(rf"(?m)^{key} = (?:{VALUE})(?=[ \t]*(?:#|$))", lambda _: told, text)
+        if count == 0:
+            text = text.rstrip("\n") + f"\n{told}\n"
+    return text
+
+
+def leases_in(address: str) -> list[str]:
+    """First and last address of the leases in the network of this machine's address, and for how long."""
+    own = ipaddress.IPv4Interface(address)
+    first, last = int(own.network.network_address) + 1, int(own.network.broadcast_address) - 1
+    if own.network.num_addresses >= 256:        # some stay free, for access points and printers
+        first, last = first + 49, last - 4
+    if first <= int(own.ip) <= last:            # the longer side of this machine's own address
+        first, last = max((first, int(own.ip) - 1), (int(own.ip) + 1, last), key=lambda pair: pair[1] - pair[0])
+    return [str(ipaddress.IPv4Address(first)), str(ipaddress.IPv4Address(last)), "1h"]
+
+
+class Here:
+    """What this machine can tell by itself."""
+
+    def __init__(self) -> None:
+        self.devices = {row["ifname"]: row for row in self.told("ip", "-j", "address", "show") if row.get("ifname") != "lo"}
+        self.way_out = next((str(row["dev"]) for row in self.told("ip", "-j", "route", "show", "default")), "")
+
+    @staticmethod
+    def told(*words: str) -> list[dict[str, Any]]:
+        done = subprocess.run(words, capture_output=True, text=True)
+        return list(json.loads(done.stdout)) if done.returncode == 0 and done.stdout.strip() else []
+
+    def address(self, device: str) -> str:
+        rows = self.devices.get(device, {}).get("addr_info", ())
+        return next((f"{row['local']}/{row['prefixlen']}" for row in rows if row.get("family") == "inet"), "")
+
+    def others(self, *taken: str) -> list[str]:
+        return [name for name in self.devices if name not in taken]
+
+    @staticmethod
+    def clock() -> str:
+        words = ("timedatectl", "show", "-p", "NTPSynchronized", "--value")
+        told = subprocess.run(words, capture_output=True, text=True)
+        return "kernel" if told.stdout.strip() == "yes" else "clerk"
+
+    @staticmethod
+    def zone() -> str:
+        """The POSIX rule in the last line of the machine's own time zone."""
+        try:
+            rule = LOCAL_TIME.read_bytes().rstrip(b"\n").rpartition(b"\n")[2].decode()
+        except (OSError, UnicodeDecodeError):
+            return "UTC0"
+        return rule if re.fullmatch(r"[!-~]{1,64}", rule) else "UTC0"
+
+
+@dataclass(frozen=True)
+class Question:
+    key: str
+    words: str
+    default: Callable[[Here, Lines], str]
+
+
+QUESTIONS = (
+    Question("house", "The venue's name, as guests read it", lambda here, so_far: str(so_far["house"])),
+    Question("zone", "The venue's time, as a POSIX rule", lambda here, so_far: here.zone()),
+    Question("clock", "Who says that its clock is right: kernel (a time service), host (of a virtual machine), clerk",
+             lambda here, so_far: here.clock()),
+    Question("wan", "The network device to the outside ({devices})", lambda here, so_far: here.way_out or so_far["wan"]),
+    Question("lan", "The guests' network device ({devices})",
+             lambda here, so_far: next(iter(here.others(so_far["wan"])), so_far["lan"])),
+    Question("guests", "This machine's address on it, with the network's length",
+             lambda here, so_far: here.address(so_far["lan"]) or so_far["guests"]),
+    Question("counter", "This machine's address on the counter's network, with its length",
+             lambda here, so_far: next((here.address(name) for name in here.others(so_far["wan"], so_far["lan"])
+                                        if here.address(name)), so_far["counter"])),
+    Question("name", "The portal's name (your own: a name that a certificate can be had for)",
+             lambda here, so_far: so_far["name"]),
+    Question("counter_name", "The name of the counter's page", lambda here, so_far: so_far["counter_name"]))
+
+
+def ask_all(text: str, read: Callable[[str], object], so_far: Lines, here: Here,
+            say: Callable[[str], None] = print, hear: Callable[[str], str] = input) -> str:
+    """The text with the answers in it. `read` raises ValueError where a line is not what it must be."""
+    say("An empty answer takes what is in [ ].")
+    so_far = dict(so_far)
+    for question in QUESTIONS:
+        words = question.words.format(devices=", ".join(here.devices) or "there is none")
+        default = question.default(here, so_far)
+        while True:
+            answer = hear(f"{words} [{default}]: ").strip() or default
+            lines: Lines = {question.key: answer}
+            try:
+                if question.key == "guests":
+                    lines["leases"] = leases_in(answer)
+                read(with_lines(text, lines))
+                break
+            except ValueError as fault:
+                say(f"  no: {fault}")
+        text, so_far = with_lines(text, lines), {**so_far, **lines}
+    return text
