@@ -1,7 +1,7 @@
 """The far end and the guest's end of the test's traffic.
 
     peer.py serve                   TCP 7000: `send N` or `take N`; UDP 7001: echo; UDP 7002: a stream of as many
-                                    packets of 1,000 bytes as asked for, about 1,000 a second
+                                    packets of 1,000 bytes as asked for, 1,000 a second
     peer.py stopped                 answers 503 stopped at 127.0.0.1:8080
     peer.py door ADDRESS [PORT]     takes TCP connections there, or at port 443
     peer.py knock ADDRESS [PORT]    connects there, or to port 443; status 1 where it cannot within a second
@@ -28,6 +28,7 @@ from collections.abc import Callable
 
 STOPPED = (b"HTTP/1.1 503 Service Unavailable\r\nContent-Type: application/json\r\nContent-Length: 19\r\n"
            b"Connection: close\r\n\r\n" + b'{"error":"stopped"}')
+RECEIVE_BUFFER = 33     # SO_RCVBUFFORCE of Linux, which Python does not name
 
 
 def talk(link: socket.socket) -> None:
@@ -54,9 +55,23 @@ def echo(udp: socket.socket) -> None:
 
 
 def pour(udp: socket.socket, who: tuple[str, int], count: int) -> None:
-    for _ in range(count):
+    """By the clock, also where the machine sleeps longer than asked. What is a tenth of its time late is left out, so that
+    none of it reaches the next check."""
+    start = time.monotonic()
+    for number in range(count):
+        ahead = start + number / 1000 - time.monotonic()
+        if ahead < -count / 10_000:
+            break
+        time.sleep(max(0.0, ahead))
         udp.sendto(b"s" * 972, who)
-        time.sleep(0.001)
+
+
+def listener() -> socket.socket:
+    """With room for what comes while the machine is held up."""
+    s = socket.socket(socket.AF_INET, socket.SOCK_DGRAM)
+    s.setsockopt(socket.SOL_SOCKET, RECEIVE_BUFFER, 4 << 20)
+    s.settimeout(0.5)
+    return s
 
 
 def streams(udp: socket.socket) -> None:
@@ -108,8 +123,7 @@ def first(host: str, seconds: str) -> None:
 
 
 def stream(host: str, seconds: str) -> None:
-    with socket.socket(socket.AF_INET, socket.SOCK_DGRAM) as s:
-        s.settimeout(0.5)
+    with listener() as s:
         s.sendto(b"%d" % (float(seconds) * 900), (host, 7002))
         end = time.time() + float(seconds)
         while time.time() < end:
@@ -211,8 +225,7 @@ def crowd(host: str, mac: str, count: str, first: str) -> None:
 
 
 def gap(host: str, seconds: str) -> None:
-    with socket.socket(socket.AF_INET, socket.SOCK_DGRAM) as s:
-        s.settimeout(0.5)
+    with listener() as s:
         s.sendto(b"%d" % (float(seconds) * 1000), (host, 7002))
         last, came, longest = time.monotonic(), 0, 0.0
         end = last + float(seconds)
