@@ -18,9 +18,11 @@ import tempfile
 import threading
 import time
 import unittest
+from collections.abc import Callable
 from unittest import mock
 
-from desk_process import FIELD, PORTAL, DeskProcess, Refused, Routes
+from desk_process import FIELD, PORTAL, Desk, DeskProcess, Refused, Routes
+from steady import wait_until
 
 COPIES = 3
 SLOW_CP = 'touch "$(dirname "$0")/begun"\nexec sleep 20'
@@ -75,9 +77,10 @@ class Case(unittest.TestCase):
 
 class Copies(Case):
     def sells(self, desk: DeskProcess, told: list[str], stop: threading.Event) -> None:
+        patient = Desk(desk.port, "desk-token", timeout=60)
         while not stop.is_set():
             name = f"b{len(told)}"
-            desk.desk.tell(Routes.ISSUE, body={"batch": name, "plan": "hour", "count": 1})
+            patient.tell(Routes.ISSUE, body={"batch": name, "plan": "hour", "count": 1})
             told.append(name)
             time.sleep(0.005)
 
@@ -99,10 +102,7 @@ class Copies(Case):
                 worker.join()
 
     def waits(self, told: list[str], count: int) -> None:
-        end = time.monotonic() + 10
-        while len(told) < count:
-            self.assertLess(time.monotonic(), end, "the server sells no more")
-            time.sleep(0.01)
+        self.assertTrue(wait_until(lambda: len(told) >= count, 10, 0.01), "the server sells no more")
 
     def holds(self, copy: pathlib.Path, names: list[str]) -> None:
         """Served from a copy of this one file, as opening writes, every batch that was acknowledged is there."""
@@ -155,17 +155,13 @@ class Copies(Case):
                 job = subprocess.Popen(words, env=with_stubs(desk.folder), stdin=subprocess.DEVNULL)
                 self.comes(lambda: (desk.folder / "begun").exists(), "cp")
                 job.send_signal(number)
-                job.wait(10)
+                job.wait(60)
                 self.comes(lambda: self.order(desk) == ["show", "freeze", "thaw"], f"thaw after signal {number}")
                 left = list((desk.folder / "copies").iterdir())
                 self.assertEqual(len(left), int(number == signal.SIGKILL), left)
 
-    def comes(self, true: object, what: str) -> None:
-        assert callable(true)
-        end = time.monotonic() + 10
-        while not true():
-            self.assertLess(time.monotonic(), end, f"waited in vain for {what}")
-            time.sleep(0.02)
+    def comes(self, true: Callable[[], object], what: str) -> None:
+        self.assertTrue(wait_until(true, 10, 0.02), f"waited in vain for {what}")
 
     def test_what_a_killed_backup_left_is_removed(self) -> None:
         with DeskProcess() as desk:

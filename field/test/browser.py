@@ -21,6 +21,7 @@ import portal_front
 import web
 from clerk import Counter
 from journal import Journal
+from steady import wait_until
 from words import use_zone
 
 try:
@@ -154,12 +155,12 @@ class Browser:
         self.comes(old)
 
     def comes(self, old: Any) -> None:
-        for _ in range(200):
+        def is_there() -> bool:
             found = self.driver.find_elements(By.TAG_NAME, "html")      # there is none between two pages
-            if found and found[0] != old and self.ask("return document.readyState") == "complete":
-                return
-            time.sleep(0.05)
-        raise AssertionError("no page came")
+            return bool(found) and found[0] != old and self.ask("return document.readyState") == "complete"
+
+        if not wait_until(is_there, 10):
+            raise AssertionError("no page came")
 
     @property
     def title(self) -> str:

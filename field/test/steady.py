@@ -44,13 +44,13 @@ class Span:
         return late > MOST_TIMES or late > 1 and self.held_up() < BUSY
 
 
-def wait_until(true: Callable[[], object], seconds: float) -> bool:
+def wait_until(true: Callable[[], object], seconds: float, pause: float = 0.05) -> bool:
     """Whether it was so before that time was over."""
     span = Span()
     while not true():
         if span.over(seconds):
             return False
-        time.sleep(0.05)
+        time.sleep(pause)
     return True
 
 

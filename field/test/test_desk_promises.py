@@ -3,10 +3,10 @@
 from __future__ import annotations
 
 import socket
-import time
 import unittest
 
 from desk_process import DeskProcess, NoAnswer, Refused, Routes
+from steady import wait_until
 
 ONE, TWO = "02:00:00:00:00:01", "02:00:00:00:00:02"
 
@@ -56,11 +56,7 @@ class Promises(unittest.TestCase):
         head = f"POST /desk/sales HTTP/1.0\r\nPortal-Token: desk-token\r\nContent-Length: {len(body)}\r\n\r\n"
         with socket.create_connection(("127.0.0.1", self.desk.port)) as link:
             link.sendall(head.encode() + body)
-        for _ in range(100):
-            if self.desk.voucher(code)["sold"] is not None:
-                return
-            time.sleep(0.02)
-        self.fail("not sold")
+        self.assertTrue(wait_until(lambda: self.desk.voucher(code)["sold"] is not None, 2), "not sold")
 
     def test_one_silent_connection_stops_the_desk_until_it_ends(self) -> None:
         self.desk.gateway.timeout = 0.3

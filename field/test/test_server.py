@@ -27,6 +27,7 @@ import portal_restarts
 import portal_server
 import right_time as clock
 from machine_time import Notes
+from steady import wait_until
 
 DAY, NOW, BOOT = 86_400, 1_764_000_000, 1_763_999_000.0     # seconds; the machine has run for a thousand
 WORD = "word"
@@ -207,12 +208,7 @@ class Runs(Folder):
         return server, thread
 
     def until(self, true: Callable[[], object], seconds: float = 10.0) -> bool:
-        end = time.monotonic() + seconds
-        while not true():
-            if time.monotonic() > end:
-                return False
-            time.sleep(0.02)
-        return True
+        return wait_until(true, seconds, 0.02)
 
     def answers(self) -> bool:
         try:
@@ -259,7 +255,7 @@ class Runs(Folder):
         self.addCleanup(self.end, server, thread)
         self.assertTrue(self.until(self.answers))
         with socket.create_connection(("127.0.0.1", self.port)):
-            thread.join(20)
+            self.until(lambda: not thread.is_alive(), 20)
         self.assertEqual(self.status, [portal_server.HUNG])
         self.assertIn("the server does not answer: it is ended", self.log.getvalue())
 
@@ -327,7 +323,7 @@ class Runs(Folder):
                               env={**os.environ, "FIELD_SETTINGS": str(conf)}) as job:
             self.assertTrue(self.until(self.answers))
             job.terminate()
-            self.assertEqual(job.wait(10), 0)
+            self.assertEqual(job.wait(60), 0)
         self.assertFalse(self.answers())
         self.assertFalse((self.folder / "state").exists())
 
