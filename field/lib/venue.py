@@ -34,7 +34,6 @@ class BadSettings(Exception):
 class Field:
     """The lines of field.toml."""
     house: str
-    help: str
     name: str
     zone: str
     lan: str
@@ -46,6 +45,7 @@ class Field:
     cert: str
     key: str
     # What came later has a default, so that a file of before goes on.
+    help: str = ""
     desk_port: int = 8080
     poll_seconds: float = 1.0
     grace_seconds: int = 5

@@ -35,7 +35,7 @@ except ImportError:
 
 CAN = HAS_DRIVER and shutil.which("chromedriver") and shutil.which("chromium")
 MAC = "02:00:00:00:00:01"
-VENUE: dict[str, Any] = {"house": "Sample Library", "help": "No code yet, or it does not work? Please ask at the counter.",
+VENUE: dict[str, Any] = {"house": "Sample Library", "help": "",
          "portal_url": "https://wifi.example/portal", "currency": "EUR", "wifi": "Library Guests",
          "voucher_languages": ["en"], "language": "en"}
 LIGHT, DARK = "light", "dark"

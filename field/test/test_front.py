@@ -298,6 +298,13 @@ class Pages(unittest.TestCase):
         self.assertIn("コードは有効です。 あと2回使えます。", self.ask("GET", where)[1])
         self.assertIn('<html lang="de"', self.ask("GET", "/portal?lang=nl")[1], "one that there is not")
 
+    def test_where_to_ask_is_said_in_the_venues_words_or_in_the_guests_language(self) -> None:
+        self.assertIn('<p dir="auto">Ask.</p>', self.ask("GET", "/portal?lang=de")[1])
+        self.conf["help"] = ""
+        text = self.ask("GET", "/portal?lang=de")[1]
+        self.assertIn("Noch keinen Code, oder er funktioniert nicht? Bitte fragen Sie am Empfang.", text)
+        self.assertNotIn("Please ask at the counter", text)
+
     def test_amounts_are_written_as_in_the_language(self) -> None:
         self.redeemed("gigabyte", "b1")
         for tag, words in (("en", "1.0 GB"), ("fr", "1,0\u202fGo|1,0.Go"), ("uk", "1,0.ГБ")):
