@@ -46,10 +46,9 @@ def install_and_set_up() -> None:
     check("one settings file and one command open the venue", done.returncode == 0,
           f"{time.monotonic() - start:.1f} s; {told(done)}")
     check_all_active("every unit is active")
-    page = counter("")[1]
+    good = until(lambda: waits() and "The server waits" in counter("")[1], 10) is not None
     check("a new database waits for the time: set-up, journal and counter's page say so", "the server waits" in done.stderr
-          and waits() and "The server waits" in page and any("waits, as the time" in line for line in journal("portal")),
-          told(done))
+          and good and any("waits, as the time" in line for line in journal("portal")), told(done))
     ask_for_a_lease()
     word = say_the_time_is_right()
     check("a clerk says on the counter's page that the time is right, and the server starts",
