@@ -71,14 +71,15 @@ def server(app: Application, door: socket.socket, threads: int) -> Any:
 
 
 def watch(path: str) -> None:
-    """A page that does not answer a question within its time is ended by systemd and started again."""
+    """The start is over with the first answer; a page that then does not answer within its time is ended by systemd and
+    started again."""
     while True:
         with contextlib.suppress(OSError), socket.socket(socket.AF_UNIX) as link:
             link.settimeout(ALIVE)
             link.connect(path)
             link.sendall(b"GET /alive HTTP/1.0\r\n\r\n")
             if link.recv(12).endswith(b" 204"):
-                tell_systemd(b"WATCHDOG=1")
+                tell_systemd(b"READY=1\nWATCHDOG=1")
         time.sleep(ALIVE)
 
 

@@ -217,6 +217,8 @@ UNITS = (
          "test_front.Pages", "test_a_guest_reads_the_language_of_the_browser"),
     Edit("a_choice_that_does_not_stay", FRONT, '(f"&lang={self.choice}" if self.choice else "")', '""',
          "test_front.Pages", "test_a_language_that_was_chosen_on_the_page_stays"),
+    Edit("a_start_that_is_never_over", "lib/web.py", 'b"READY=1\\nWATCHDOG=1"', 'b"WATCHDOG=1"', "test_front.Started",
+         "test_a_start_is_over_with_the_first_answer_however_long_it_takes"),
     Edit("where_to_ask_in_english_alone", "front/templates/portal.html",
          '{{ _("No code yet, or it does not work? Please ask at the counter.") }}', "Please ask at the counter.", "test_front.Pages",
          "test_where_to_ask_is_said_in_the_venues_words_or_in_the_guests_language"),

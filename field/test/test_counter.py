@@ -20,6 +20,7 @@ from unittest import mock
 from desk_process import FIELD, Desk, DeskProcess, NoAnswer, Relay, Routes     # which says where the parts stand
 
 import refusals
+import web
 from machine_time import Notes, origin
 from clerk import Counter
 from journal import Journal
@@ -52,7 +53,7 @@ class AtCounter(unittest.TestCase):
         self.journal = Journal(self.folder / "journal.db")
         self.counter = Counter(Desk(self.relay.port, "desk-token"), conf, {}, self.journal)
         self.counter.load_plans()
-        served(self, pages(self.counter), self.path)
+        served(self, pages(self.counter), web.listening(str(self.path)))
 
     def ask(self, path: str, origin: str | None = "https://counter.example", head: Any = None,
             **form: Any) -> tuple[int, str]:

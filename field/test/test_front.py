@@ -4,6 +4,7 @@ from __future__ import annotations
 
 import http.client
 import json
+import os
 import pathlib
 import re
 import socket
@@ -11,6 +12,7 @@ import tempfile
 import threading
 import unittest
 import urllib.parse
+from unittest import mock
 
 from desk_process import FIELD, Desk, DeskProcess, Relay, Routes    # which says where the parts stand
 
@@ -29,9 +31,9 @@ class Parts(unittest.TestCase):
         self.assertEqual(plain_code("\u00df"), "\u00df")
 
 
-def served(case: unittest.TestCase, app: web.Application, path: pathlib.Path) -> None:
+def served(case: unittest.TestCase, app: web.Application, door: socket.socket) -> None:
     """The application as it is served, on a socket, until the test ends."""
-    server = web.server(app, web.listening(str(path)), threads=4)
+    server = web.server(app, door, threads=4)
     threading.Thread(target=server.run, daemon=True).start()
     case.addCleanup(server.close)
     case.addCleanup(server.task_dispatcher.shutdown)
@@ -63,7 +65,7 @@ class Pages(unittest.TestCase):
         self.device: str | None = MAC
         self.head: dict[str, str] = {}      # of each request
         self.start_helper("a key")
-        served(self, lambda environ, start: self.app(environ, start), self.path)
+        served(self, lambda environ, start: self.app(environ, start), web.listening(str(self.path)))
         self.fields: dict[str, str] = {}    # of the last page, but for its number
 
     def start_helper(self, key: str) -> None:
@@ -344,6 +346,26 @@ class Pages(unittest.TestCase):
         self.assertIn('aria-invalid="true" aria-describedby="bad"', text)
         self.assertIn('<p class="bad" id="bad" role="alert">', text)
         self.assertIn("<title>That did not work", text)
+
+
+class Started(unittest.TestCase):
+    def test_a_start_is_over_with_the_first_answer_however_long_it_takes(self) -> None:
+        """What systemd ends is a page that hangs, not one whose start is slow."""
+        folder = pathlib.Path(self.enterContext(tempfile.TemporaryDirectory()))
+        told = self.enterContext(socket.socket(socket.AF_UNIX, socket.SOCK_DGRAM))
+        told.bind(str(folder / "notify"))
+        self.enterContext(mock.patch.dict(os.environ, NOTIFY_SOCKET=str(folder / "notify")))
+        self.enterContext(mock.patch.object(web, "ALIVE", 0.1))
+        door = web.listening(str(folder / "socket"))
+        threading.Thread(target=web.watch, args=(door.getsockname(),), daemon=True).start()
+        told.settimeout(0.5)
+        self.assertRaises(TimeoutError, told.recv, 99)
+        served(self, web.pages("none", folder), door)
+        told.settimeout(20)
+        self.assertEqual(told.recv(99), b"READY=1\nWATCHDOG=1")
+        for name in ("front", "counter"):
+            unit = (FIELD / f"units/portal-{name}.service").read_text()
+            self.assertIn("\nType=notify\nWatchdogSec=20\n", unit)
 
 
 class Sources(unittest.TestCase):
