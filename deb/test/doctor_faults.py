@@ -12,7 +12,7 @@ FIELD, TIME = "/etc/portal/field.toml", "/usr/local/bin/timedatectl"        # wh
 TLS, HELD, RUN = "/etc/portal/tls", "/run/held", "/run/systemd/system/portal-backup.service.d"
 NEW = "openssl req -x509 -newkey ec -pkeyopt ec_paramgen_curve:P-256 -nodes -subj /CN=wifi.example"
 NAMES = "-addext subjectAltName=DNS:wifi.example,DNS:counter.example"
-LISTEN = "import socket, time; s = socket.create_server(('', 80)); time.sleep(60)"
+LISTEN = "import socket, time; s = socket.create_server(('', 80)); time.sleep(3600)"
 
 
 @dataclass(frozen=True)

@@ -13,7 +13,7 @@ import time
 from doctor_faults import doctor_is_content, doctor_names_faults
 from machine import (
     COPIES, DATABASE, HERE, NAME, OUTSIDE, PARTS, SESSIONS, Gap, active, ask_for_a_lease, captive, certificate, check, check_all_active,
-    clerk, code, copies, count_outside, counter, curl, forward, install, is_bound, journal, lease, leased, neighbour, parts,
+    clerk, code, copies, count_outside, counter, curl, forward, install, is_bound, is_online, journal, lease, leased, neighbour, parts,
     passes, redeem, say_the_time_is_right, serves, sh, show, told, until, versions, waits)
 
 SLOW = HERE / "slow"        # a folder with a `cp` that takes its time
@@ -46,9 +46,9 @@ def install_and_set_up() -> None:
     check("one settings file and one command open the venue", done.returncode == 0,
           f"{time.monotonic() - start:.1f} s; {told(done)}")
     check_all_active("every unit is active")
-    good = until(lambda: waits() and "The server waits" in counter("")[1], 10) is not None
+    shown = until(lambda: waits() and "The server waits" in counter("")[1], 10)
     check("a new database waits for the time: set-up, journal and counter's page say so", "the server waits" in done.stderr
-          and good and any("waits, as the time" in line for line in journal("portal")), told(done))
+          and shown is not None and any("waits, as the time" in line for line in journal("portal")), told(done))
     ask_for_a_lease()
     word = say_the_time_is_right()
     check("a clerk says on the counter's page that the time is right, and the server starts",
@@ -86,7 +86,7 @@ def first_guest() -> None:
     took = until(passes, 5)
     check("a voucher is issued, sold, redeemed, and packets pass", status == 303 and took is not None,
           f"{status}, {time.monotonic() - start:.2f} s in all")
-    check("the API says so", captive().get("captive") is False, captive())
+    check("the API says so", is_online(), captive())
     for unit in (*PARTS[:1], *PARTS[2:], "portal-backup"):
         done = sh("systemd-analyze", "security", "--no-pager", unit + ".service")
         found = re.search(r"exposure level for \S+: ([0-9.]+) (\w+)", done.stdout)
@@ -301,7 +301,7 @@ def restore() -> None:
     until(lambda: captive().get("captive") is not None, 10)
     look, took = counter(f"voucher?code={text}")[0], until(passes, 10)
     check("after a restore the session of before the copy goes on, a voucher of after it is unknown", done.returncode == 0
-          and captive().get("captive") is False and look == 404 and took is not None,
+          and is_online() and look == 404 and took is not None,
           f"{told(done)}; voucher {look}, passes after {took} s")
     own = sh("stat", "-c", "%U:%G:%a", DATABASE).stdout.strip()
     check.note(f"restored database: {own}, beside it: {' '.join(os.listdir(DATABASE.parent))}")

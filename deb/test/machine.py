@@ -333,6 +333,11 @@ def begin_to_serve() -> bool:
 
 # Packets
 
+def is_online() -> bool:
+    """Whether the API says so of the guest."""
+    return until(lambda: captive().get("captive") is False, 3) is not None
+
+
 def count_outside() -> None:
     within("outside", "nft", WITNESS)
 

@@ -7,8 +7,8 @@ import pathlib
 import shutil
 
 from machine import (
-    COPIES, DATABASE, HERE, PARTS, UNITS, Gap, active, all_run, apt, ask_for_a_lease, captive, certificate, check, check_all_active, code,
-    count_outside, counter, forward, install, installed, is_bound, neighbour, passes, redeem, say_the_time_is_right,
+    COPIES, DATABASE, HERE, PARTS, UNITS, Gap, active, all_run, apt, ask_for_a_lease, certificate, check, check_all_active, code,
+    count_outside, counter, forward, install, installed, is_bound, is_online, neighbour, passes, redeem, say_the_time_is_right,
     serves, sessions, sh, show, told, tokens, until, versions)
 
 WATCH = pathlib.Path("/run/venue-watch")
@@ -32,7 +32,7 @@ def after_the_boot() -> None:
     took = until(is_bound, 5)
     check("a leased address is bound again after the reboot", took is not None, neighbour())
     ask_for_a_lease()
-    check("the session goes on after the reboot", until(passes, 5) is not None and captive().get("captive") is False)
+    check("the session goes on after the reboot", until(passes, 5) is not None and is_online())
 
 
 def kept_by_the_upgrade() -> list[pathlib.Path]:
@@ -49,7 +49,7 @@ def upgrade() -> None:
           f"longest gap of packets {gap.seconds} s; {told(done, 100)}")
     check_all_active("after it every unit is active")
     check("the same tokens, the same settings file, the same session", tokens() == before
-          and SETTINGS.read_bytes() == settings and captive().get("captive") is False and sessions() == open_then)
+          and SETTINGS.read_bytes() == settings and is_online() and sessions() == open_then)
     kept = kept_by_the_upgrade()
     check("the database of before the upgrade was kept", len(kept) == 1 and os.path.exists(f"{kept[0]}.sha256"), kept)
 
