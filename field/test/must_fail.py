@@ -417,15 +417,19 @@ def copied(folder: pathlib.Path) -> pathlib.Path:
     return kit
 
 
-def told_at_last(kit: pathlib.Path, edit: Edit, portal: str, goal: Callable[[Told], bool]) -> Told:
-    """The same, once more where the tests did not come that far while other work held the machine up; three times in
+def at_last(tell: Callable[[], Told], goal: Callable[[Told], bool]) -> Told:
+    """What is told, once more where the tests did not come that far while other work held the machine up; three times in
     all."""
-    for turn in range(3):
+    for _ in range(3):
         span = Span()
-        told = told_of(kit, edit, portal)
+        told = tell()
         if goal(told) or span.held_up() < BUSY:
             break
     return told
+
+
+def told_at_last(kit: pathlib.Path, edit: Edit, portal: str, goal: Callable[[Told], bool]) -> Told:
+    return at_last(lambda: told_of(kit, edit, portal), goal)
 
 
 def lacks(edit: Edit, told: Told) -> bool:

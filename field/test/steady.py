@@ -38,6 +38,11 @@ class Span:
         """The part of it in which the machine was held up."""
         return (waited() - self.before) / max(self.seconds(), 0.01)
 
+    def allows(self, took: float, seconds: float) -> bool:
+        """Whether a time that was taken meanwhile is at most so many seconds, or MOST_TIMES as many on a machine that is
+        held up."""
+        return took <= seconds or took <= MOST_TIMES * seconds and self.held_up() >= BUSY
+
     def over(self, seconds: float) -> bool:
         """Whether it lasts longer than so many seconds, or than MOST_TIMES as many on a machine that is held up."""
         late = self.seconds() / seconds

@@ -21,7 +21,7 @@ from concurrent import futures
 sys.dont_write_bytecode = True
 HERE = pathlib.Path(__file__).resolve().parent
 sys.path[:0] = [str(HERE.parent.parent / "test"), str(HERE)]
-from must_fail import PYTHON, Told, copied, end_all, lacks, ran  # noqa: E402
+from must_fail import PYTHON, Told, at_last, copied, end_all, lacks, ran  # noqa: E402
 from mutants import Edit  # noqa: E402
 
 ONE_USE, FRONT, PAGE = "lib/one_use.py", "front/portal_front.py", "front/templates/portal.html"
@@ -155,6 +155,13 @@ def told_of(kit: pathlib.Path, edit: Edit, portal: str, until: str = "") -> Told
     return Told(frozenset(passed), frozenset(failed), ended, more="; ".join(failed) + done.stderr[-300:])
 
 
+def unchanged(edit: Edit, edits: list[Edit], portal: str) -> Told:
+    """A step over the kit as it is: all checks of its edits are to pass."""
+    mine = [other for other in edits if other.where == edit.where]
+    return at_last(lambda: told_of(HERE.parent.parent, edit, portal),
+                   lambda told: told.ended and not any(lacks(other, told) for other in mine))
+
+
 def tried(edit: Edit, portal: str, before: Told) -> str:
     if not before.ended or lacks(edit, before):
         return "SURVIVED the kit as it is does not pass the check: " + before.more
@@ -165,10 +172,7 @@ def tried(edit: Edit, portal: str, before: Told) -> str:
             if old not in text:
                 return "SURVIVED the edit does not fit: " + old
             (kit / file).write_text(text.replace(old, new) if old else text)
-        for _ in range(2):      # once more where the tests did not come that far
-            told = told_of(kit, edit, portal, edit.check)
-            if edit.check in told.failed | told.passed:
-                break
+        told = at_last(lambda: told_of(kit, edit, portal, edit.check), lambda told: edit.check in told.failed | told.passed)
     return "refused" if edit.check in told.failed else "SURVIVED " + told.more
 
 
@@ -185,7 +189,7 @@ def main() -> int:
     failed = 0
     with futures.ThreadPoolExecutor(args.labs) as pool:
         first = {edit.where: edit for edit in edits}
-        before = dict(zip(steps, pool.map(lambda step: told_of(HERE.parent.parent, first[step], args.portal), steps)))
+        before = dict(zip(steps, pool.map(lambda step: unchanged(first[step], edits, args.portal), steps)))
         for edit, told in zip(edits, pool.map(lambda edit: tried(edit, args.portal, before[edit.where]), edits)):
             failed += told != "refused"
             print(f"{'ok  ' if told == 'refused' else 'FAIL'} {edit.name}: {told} by `{edit.check}`", flush=True)
