@@ -31,7 +31,7 @@ from one_use import Forms, numbers  # noqa: E402
 
 ONCE_MORE = 0.05        # seconds until a device is looked for again: DHCP may just be renewing its entry
 COOKIE, COOKIE_DAYS = "portal_session", 30
-NO_DESK = guest_words("We cannot ask our desk just now. Please try again in a minute.")
+NO_DESK = guest_words("We cannot ask our server just now. Please try again in a minute.")
 TIME_ENDED = guest_words("Your time has ended. To go online again, type another code.")
 ENDED = guest_words("Your session has ended: its data is used up, or it was closed at the counter.")
 

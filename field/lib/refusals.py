@@ -11,7 +11,7 @@ from marks import clerk_words, guest_words
 
 SORRY = guest_words("That did not work (%(word)s). Please ask at the counter.")
 UPDATE = clerk_words("Page and program are of different versions: update both.")
-ODD = clerk_words("The desk answered %(word)s.")
+ODD = clerk_words("The server answered %(word)s.")
 
 
 @dataclass(frozen=True)
@@ -47,13 +47,13 @@ TABLE = (
             clerk_words("The plans file is refused as a whole."),
             clerk_words("Seven lines for each plan; seconds and bytes not both 0; no id twice.")),
     Refusal(5, "forbidden", 403,
-            clerk_words("The desk does not take this page's token."),
-            clerk_words("The token file and the desk's settings differ: run the set-up again.")),
+            clerk_words("The server does not take this page's token."),
+            clerk_words("The token file and the server's settings differ: run the set-up again.")),
     Refusal(6, "no_route", 404,
-            clerk_words("The desk does not know this path."),
+            clerk_words("The server does not know this path."),
             UPDATE),
     Refusal(7, "bad_method", 405,
-            clerk_words("The desk knows the path, but not so."),
+            clerk_words("The server knows the path, but not so."),
             UPDATE),
     Refusal(8, "unknown_plan", 404,
             clerk_words("No plan of this name is loaded."),
@@ -118,10 +118,10 @@ TABLE = (
             clerk_words("No use of the voucher is left, so nothing can be refunded."),
             clerk_words("Tell the guest that all uses were redeemed.")),
     Refusal(25, "moment_range", 409,
-            clerk_words("The date is past what the desk can count."),
+            clerk_words("The date is past what the server can count."),
             clerk_words("Look at the clock of the machine.")),
     Refusal(26, "numbers_full", 409,
-            clerk_words("The desk has no number left."),
+            clerk_words("The server has no number left."),
             clerk_words("Start a new book.")),
     Refusal(27, "too_large", 413,
             clerk_words("The text is too long."),
@@ -134,10 +134,10 @@ TABLE = (
             clerk_words("Try again; if it stays so, restart the machine."),
             guest_words("We are busy. Nothing was used up: please try again in a minute.")),
     Refusal(30, "stopped", 503,
-            clerk_words("The desk has stopped. A command that got this answer is in doubt."),
+            clerk_words("The server has stopped. A command that got this answer is in doubt."),
             clerk_words("It restarts by itself. Then send the form again: it acts once, also if it was "
                         "carried out before."),
-            guest_words("Our desk has stopped for a moment. Please press the button again: your code is not "
+            guest_words("Our server has stopped for a moment. Please press the button again: your code is not "
                         "used twice by it.")),
     Refusal(31, "id_reused", 409,
             clerk_words("This form was sent before with other words."),
@@ -147,10 +147,10 @@ TABLE = (
 BY_WORD = {refusal.word: refusal for refusal in TABLE}
 
 SILENT = Refusal(0, "no_answer", 504,
-                 clerk_words("The desk did not answer."),
+                 clerk_words("The server did not answer."),
                  clerk_words("Try again. If no answer comes at all: is portal.service running?"))
 NO_ANSWER = Refusal(0, "no_answer", 504,
-                    clerk_words("The desk did not answer, so this command is in doubt."),
+                    clerk_words("The server did not answer, so this command is in doubt."),
                     clerk_words("Send this form again: it acts once, also if it was carried out before. If no answer "
                                 "comes at all: is portal.service running?"),
                     guest_words("We got no answer. Please press the button again: your code is not used twice by it."))

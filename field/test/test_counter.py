@@ -482,7 +482,7 @@ class Words(unittest.TestCase):
             self.assertTrue(refusal.cause.endswith(".") and refusal.advice.endswith("."), refusal.word)
             self.assertTrue(refusal.for_guest)
         odd = Counter(Desk(1), {}, {}).refused(refusals.of_word("new_word"))
-        self.assertEqual(odd.lines[0], "The desk answered 'new_word'.")
+        self.assertEqual(odd.lines[0], "The server answered 'new_word'.")
 
 
 if __name__ == "__main__":

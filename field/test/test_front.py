@@ -263,7 +263,7 @@ class Pages(unittest.TestCase):
             self.desk.desk.tell(Routes.REDEEM, body={"code": code}, device=device)
             self.assertRegex(self.ask("GET", "/portal")[1], f"(?s)You are online.*({words})")
         self.relay.drops = True
-        self.assertIn("We cannot ask our desk just now", self.ask("GET", "/portal")[1])
+        self.assertIn("We cannot ask our server just now", self.ask("GET", "/portal")[1])
 
     # Languages
 
