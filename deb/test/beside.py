@@ -43,7 +43,7 @@ LETS_GUESTS = ("iifname lan0 oifname wan0 accept; iifname wan0 oifname lan0 ct s
 def quick_way() -> None:
     """Two commands and one edited file, with the package at hand."""
     sh("systemctl", "stop", "venue-watch")
-    start = time.monotonic()
+    span = steady.Span()
     done = install(versions()[0])
     count_outside()
     edit_settings(house="Quick Library")
@@ -52,9 +52,9 @@ def quick_way() -> None:
     good = done.returncode == made.returncode == 0 and ask_for_a_lease() and begin_to_serve()
     text = code()
     status = redeem(text)
-    took = time.monotonic() - start if until(passes, 10) is not None else None
+    took = span.seconds() if until(passes, 10) is not None else None
     check(f"from a booted Debian to a sold and redeemed voucher with packets: at most {MINUTES} minutes", good and text
-          and status == 303 and took is not None and took <= 60 * MINUTES * PATIENCE, f"{took} s; {status}; {told(made, 200)}")
+          and status == 303 and took is not None and span.allows(took, 60 * MINUTES * PATIENCE), f"{took} s; {status}; {told(made, 200)}")
     said = made.stdout
     check("set-up ends with the counter's address and what to do next", f"https://{COUNTER}/" in said and "Next:" in said
           and "sell a voucher" in said, told(made))
@@ -137,8 +137,7 @@ def upgrade_of_many() -> None:
     check(f"upgrade over {VOUCHERS} vouchers with {len(before)} sessions open: all go on", done.returncode == 0 and good
           and len(before) == DEVICES + 1 and open_sessions() == before and any(mac == GUEST for _, mac in before),
           f"longest gap of packets {gap.seconds} s; {len(open_sessions())} sessions; {told(done, 200)}")
-    most = MOST_GAP * PATIENCE * (steady.MOST_TIMES if span.held_up() > steady.BUSY else 1)
-    check(f"guests are without packets for at most {MOST_GAP:.0f} s", gap.seconds <= most, f"{gap.seconds} s of {most:.0f}")
+    check(f"guests are without packets for at most {MOST_GAP:.0f} s", span.allows(gap.seconds, MOST_GAP * PATIENCE), gap.seconds)
     check("the copy of before is one file with its sum, and it has all vouchers", len(kept) == 1
           and sh(f"cd {COPIES} && sha256sum --check {kept[0].name}.sha256").returncode == 0
           and vouchers_in(kept[0]) >= VOUCHERS, kept)

@@ -57,6 +57,13 @@ class Times(unittest.TestCase):
         with self.assertRaises(TimeoutError):
             self.measured(TimeoutError("in vain"))
 
+    def test_a_time_that_was_taken_may_be_longer_on_a_busy_machine(self) -> None:
+        for part, most in ((steady.BUSY / 2, 10), (0.95, 10 * steady.MOST_TIMES)):
+            self.busy(part)
+            span = steady.Span()
+            self.now += 50
+            self.assertEqual([span.allows(most, 10), span.allows(most + 1, 10)], [True, False])
+
     def test_a_wait_is_longer_on_a_busy_machine_and_has_an_end(self) -> None:
         for part, seconds, is_over in ((0.0, 9, False), (0.0, 11, True), (0.95, 11, False), (0.95, 39, False),
                                        (0.95, 41, True)):
