@@ -139,10 +139,10 @@ def names(host: str, count: str) -> None:
     with socket.socket(socket.AF_INET, socket.SOCK_DGRAM) as s:
         s.connect((host, 53))
         s.settimeout(0.5)
-        got = 0
-        for _ in range(int(count)):
+        got, start = 0, time.monotonic()
+        for number in range(int(count)):
+            time.sleep(max(0.0, start + number / int(count) - time.monotonic()))
             s.send(question)
-            time.sleep(1 / int(count))
         try:
             while s.recv(512):
                 got += 1
@@ -186,10 +186,12 @@ def many(host: str, mac: str, count: str, address: str) -> None:
     goal, data = bytes.fromhex(mac.replace(":", "")), packet(host, address)
     with socket.socket(socket.AF_PACKET, socket.SOCK_RAW) as s:
         s.bind(("eth0", 0))
+        due = time.monotonic()
         while True:
             for i in range(int(count)):
                 s.send(goal + b"\2" + i.to_bytes(5, "big") + b"\x08\0" + data)
-                time.sleep(1 / int(count))
+                due += 1 / int(count)
+                time.sleep(max(0.0, due - time.monotonic()))
 
 
 def address_of(first: str, number: int) -> str:
