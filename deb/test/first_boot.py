@@ -17,7 +17,7 @@ from machine import (
     passes, redeem, say_the_time_is_right, serves, sh, show, told, until, versions, waits)
 
 SLOW = HERE / "slow"        # a folder with a `cp` that takes its time
-LOGS = pathlib.Path("/var/log/portal")
+LOGS, RULES = pathlib.Path("/var/log/portal"), pathlib.Path("/etc/portal/rules.nft")
 
 
 def install_and_set_up() -> None:
@@ -142,9 +142,12 @@ def agent_hangs_and_stops() -> None:
 
 def rules_go() -> None:
     """A firewall of the venue's own is flushed and loaded again."""
+    away = RULES.with_suffix(".away")
+    RULES.rename(away)          # so that the agent cannot load them meanwhile
     sh("nft flush ruleset")
     took = until(lambda: forward() == "0", 5)
     check("with the rules flushed nothing is forwarded", took is not None and not passes(), f"{took} s")
+    away.rename(RULES)
     sh("systemctl reload portal-rules@lan0")
     took = until(passes, 10)
     check("with the rules loaded again the session goes on", took is not None, f"{took} s")
