@@ -366,6 +366,7 @@ class Started(unittest.TestCase):
         for name in ("front", "counter"):
             unit = (FIELD / f"units/portal-{name}.service").read_text()
             self.assertIn("\nType=notify\nWatchdogSec=20\n", unit)
+            self.assertIn("\nTimeoutStartSec=10min\n", unit)
 
 
 class Sources(unittest.TestCase):
