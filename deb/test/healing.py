@@ -107,14 +107,20 @@ def settings_that_never_work() -> None:
     check("`systemctl status` says why, and what to do", "correct field.toml" in words and "systemctl restart portal" in words,
           words.splitlines()[-4:])
     check("so does the counter's page", "The server does not start" in counter("")[1])
-    mail = until((TOLD / "mail").exists, 10)
-    text = (TOLD / "mail").read_text() if mail is not None else ""
+    text = told_in("mail", 10)[1]
     check("the command of field.toml is told", text.startswith("portal.service failed on venue.") and "portal: settings" in text, text[-300:])
     SETTINGS.write_text(good)
     failed.write_text(before)
     sh("systemctl restart portal")
     check("with good settings it starts", until(lambda: serves() and passes(), 20) is not None, server_note())
     check("a failure of another part without a command is a line of the journal", failure_is_a_line())
+
+
+def told_in(name: str, seconds: float) -> tuple[float | None, str]:
+    """What the venue's command was told, and after how long; `tee` makes the file before it writes."""
+    told = TOLD / name
+    took = until(lambda: told.exists() and told.read_text(), seconds)
+    return took, told.read_text() if took is not None else ""
 
 
 def part_in_a_crash_loop() -> None:
@@ -125,8 +131,7 @@ def part_in_a_crash_loop() -> None:
     drop.mkdir(parents=True)
     (drop / "ends.conf").write_text("[Service]\nExecStart=\nExecStart=/bin/false\n")
     sh("systemctl daemon-reload; systemctl restart portal-front")
-    took = until((TOLD / "loop").exists, 150)
-    text = (TOLD / "loop").read_text() if took is not None else ""
+    took, text = told_in("loop", 150)
     check("a part that is started again and again: the command of field.toml is told", active("portal-front") != "failed"
           and text.startswith("portal-front.service ended and was started again 5 times or more"), f"{took} s; {text[:80]}")
     shutil.rmtree(drop)
