@@ -15,7 +15,11 @@ Exit codes:
   1  the request was refused, or the counters differ
   2  the command line is invalid, or a value is out of range (`portal: usage`)
   3  an error of a file, the network, the output or memory, or the server has stopped
-An error is one line on standard error: `portal: ` and a word."
+An error is one line on standard error: `portal: ` and a word. After `portal: file` a second line may
+name the path and the cause.
+
+The database is the file of `--db` and its log, PATH-wal. Each subcommand copies the log into the file
+as it ends; after a kill or a crash both files are needed."
 }
 
 pub(crate) fn serve_examples() -> &'static str {
@@ -25,7 +29,9 @@ Example:
 
 The server listens on 127.0.0.1 alone, prints `listening 127.0.0.1:8080`, and serves one connection
 after another. It locks the database while it runs: `print`, `takings` and `check` then end with
-`portal: file`. Killing the server loses nothing that was acknowledged.
+`portal: file`. Killing the server loses nothing that was acknowledged, but the database file then
+needs its log, PATH-wal, beside it. The log is copied into the file at the next start, and at the end
+of `--count`.
 
 Exit codes: 0 after N connections; 3 if the port cannot be opened (`portal: network`), if a file, the
 clock or memory fails, or if the server has stopped after an error of the database

@@ -1,7 +1,7 @@
 //! The desk: what every desk answers, whatever keeps its records.
 #![tactic(auto)]
 
-ghost use Rattle.std.specs.Prelude.{◌≡◌, ℕ, List, true, None, Some, IfOk, MatchResult};
+ghost use Rattle.std.specs.Prelude.{◌≡◌, ℕ, List, Bool, true, None, Some, IfOk, MatchResult};
 ghost use Rattle.portal_model.specs.Verdict.{IsWellFormed};
 ghost use Rattle.portal_model.specs.Captive.{captive_of, open_sessions_of};
 ghost use Rattle.portal_model.specs.History.{voucher_of};
@@ -34,7 +34,7 @@ use std::alloc::Global;
 /// What a desk stands for is known as long as its store returns what was written to it (`is_honest`), which may fail
 /// at any call. `may_leave` says which files a stop at this moment may leave, and `shows` which ledgers files stand
 /// for. By the law `leaves` they show what a reopening may find, and by the law `sound` each ledger that files show
-/// is sound.
+/// is sound. `audits` says of an answer to `audit` that it is right about what the store holds, ledger or not.
 ///
 /// A desk that works stands at a ledger. `NoMemory` leaves it as it was. After `Stopped` it stands between the ledger
 /// and the same with one command more, and answers `Stopped` until it is made anew from its store.
@@ -50,6 +50,8 @@ pub trait Desk {
     ghost may_leave: { Self → Files → Type 0 };
 
     ghost shows: { Files → Ledger → Type 0 };
+
+    ghost audits: { Self → Bool → Type 0 };
 
     /// The settings that it was made with.
     fn settings(&self) -> &Settings
@@ -109,14 +111,16 @@ pub trait Desk {
             × MatchResult result (λ days. Answers (λ H. takings_over (settings self.old).zone H range) old days.items new)
             (λ r. CannotAnswer old r new) };
 
-    /// Whether the counters that it keeps agree with what they count. They do wherever the desk stands at a ledger.
+    /// Whether the counters that it keeps agree with what they count, exactly. They do wherever the desk stands at a
+    /// ledger.
     ///
     /// Refusals: `NoMemory` and `Stopped`.
     fn audit(&mut self, alloc: Global) -> Result<bool, Refusal>
         ensures told { settings self.new ≡ settings self.old }
         ensures honest { is_honest self.new → is_honest self.old }
         ensures audit { is_honest self.new → (old : State) → stands self.old old → (new : State) × stands self.new new
-            × MatchResult result (λ agrees. Answers (λ H. true) old agrees new) (λ r. CannotAnswer old r new) };
+            × MatchResult result (λ agrees. Answers (λ H. true) old agrees new) (λ r. CannotAnswer old r new) }
+        ensures exact { is_honest self.new → IfOk result (audits self.old) };
 
     /// Whether the command of a request without a number may be accepted at a moment, and what it then changes.
     /// Nothing is kept yet.

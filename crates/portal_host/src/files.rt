@@ -1,23 +1,29 @@
 //! The machine's files.
-ghost use Rattle.std.specs.Prelude.{◌≡◌, [], IfErr, IfOk};
+ghost use Rattle.std.specs.Prelude.{◌≡◌, [], IfErr, IfOk, OnOk, ⊤};
+ghost use Rattle.portal_ends.specs.declared.fault.Fault.{Fault as Said};
 ghost use Rattle.portal_host.specs.Laws.{desk_is_honest};
+ghost use Rattle.portal_host.specs.Opening.{IsClosed, IsFound};
 ghost use Rattle.sqlite_wal.specs.Files.{image_at};
 ghost use Rattle.sqlite.specs.Files.{over_files};
 ghost use Rattle.sqlite.specs.Steps.{over_memory};
 ghost use Rattle.portal_ledger.specs.Ledger.{Ledger};
 ghost use Rattle.portal_ledger.specs.States.{running};
 ghost use Rattle.portal_program.specs.Places.{IsOfFile, IsOfStore};
+ghost use Rattle.portal_program.specs.Troubles.{IsAt};
 ghost use Rattle.portal_store.specs.DeskAt.{DeskAt, DeskIsHonest, settings_of};
 ghost use Rattle.portal_tables.specs.Images.{ImageShows};
 
-use crate::faults::fault_of_file;
-use crate::opening::{adopt_store, open_memory, open_path};
+use crate::closing::close_desk;
+use crate::faults::{fault_of_file, fault_of_store};
+use crate::opening::{adopt_store, open_memory, open_store};
 use portal_ends::Fault;
 use portal_files::Settings;
-use portal_program::place::Place;
+use portal_program::place::{Opened, Place};
+use portal_program::trouble::Trouble;
 use portal_store::StoreDesk;
 use sqlite::{FileFrom, FileStore, MemStore, Start};
 use std::alloc::Global;
+use std::fmt::Display;
 use std::fs;
 
 /// The files of the machine. `start` is what is supposed of the disk: how a stop may leave what was written to it.
@@ -27,39 +33,76 @@ pub struct HostFiles<'h, S: Start> {
     pub start: S,
 }
 
+/// What is told of the file at a path: the fault, and of `file` what the system says.
+fn trouble_at<T: Display>(alloc: Global, path: &str, fault: Fault, why: &T) -> Trouble
+    ensures fault { result.fault ≡ fault }
+    ensures at { IsAt path.now result }
+{
+    match fault {
+        Fault::File => match format!(in alloc; "{why}") {
+            Ok(text) => Trouble::of_file(alloc, path, text.as_str()),
+            Err(_) => Trouble::plain(Fault::File),
+        },
+        other => Trouble::plain(other),
+    }
+}
+
 impl<'h, S: Start> Place for HostFiles<'h, S> {
     type Stored = StoreDesk<FileStore<FileFrom<S>>>;
 
     type Fresh = StoreDesk<MemStore>;
 
+    ghost reads = { λ _ _ _. ⊤ };
+
+    ghost shows = { λ place path L. ImageShows (image_at S.Start) L };
+
+    ghost finds = { λ place path is_new. IsFound (image_at S.Start) is_new };
+
+    ghost closes = { λ desk. IsClosed desk };
+
     ghost is_fresh_honest = { λ desk. desk_is_honest desk };
 
-    fn read(&self, alloc: Global, path: &str) -> Result<Vec<u8>, Fault> {
-        let _same = alloc;
+    fn read(&self, alloc: Global, path: &str) -> Result<Vec<u8>, Trouble> {
         match fs::read(self.host, path) {
             Ok(bytes) => Ok(bytes),
-            Err(error) => Err(fault_of_file(error.kind())),
+            Err(error) => Err(trouble_at(alloc, path, fault_of_file(error.kind()), &error)),
         }
     }
 
     fn open(
         self,
+        alloc: Global,
         path: &str,
         settings: Settings,
-    ) -> Result<StoreDesk<FileStore<FileFrom<S>>>, Fault>
-        ensures why { IfErr result IsOfStore }
-        ensures told { IfOk result (λ desk. settings_of desk ≡ settings) }
+        copies: bool,
+    ) -> Result<Opened<StoreDesk<FileStore<FileFrom<S>>>>, Trouble>
+        ensures why { IfErr result (λ trouble. IsOfStore trouble.fault × IsAt path.now trouble) }
+        ensures told { IfOk result (λ opened. settings_of opened.desk ≡ settings) }
         ensures stands { (L : Ledger) → ImageShows (image_at S.Start) L
-            → IfOk result (λ desk. DeskIsHonest over_files desk → DeskAt over_files desk (running L)) }
+            → IfOk result (λ opened. DeskIsHonest over_files opened.desk → DeskAt over_files opened.desk (running L)) }
+        ensures found { IfOk result (λ opened. DeskIsHonest over_files opened.desk → IsFound (image_at S.Start) opened.is_new) }
     {
-        match open_path(self.host, path, self.start) {
-            Ok(conn) => adopt_store(conn, settings),
-            Err(fault) => Err(fault),
+        match open_store(self.host, path, self.start, copies) {
+            Ok((conn, is_new)) => match adopt_store(conn, settings) {
+                Ok(desk) => Ok(Opened { desk, is_new }),
+                Err(fault) => Err(Trouble::plain(fault)),
+            },
+            Err(unopened) => Err(trouble_at(alloc, path, unopened.fault(), &unopened)),
         }
     }
 
-    fn close(desk: StoreDesk<FileStore<FileFrom<S>>>) {
-        let _conn = desk.release();
+    fn close(
+        alloc: Global,
+        path: &str,
+        desk: StoreDesk<FileStore<FileFrom<S>>>,
+    ) -> Result<(), Trouble>
+        ensures why { IfErr result (λ trouble. IsOfFile trouble.fault × IsAt path.now trouble) }
+        ensures closed { OnOk result (IsClosed desk) }
+    {
+        match close_desk(desk) {
+            Ok(_files) => Ok(()),
+            Err((error, _store)) => Err(trouble_at(alloc, path, fault_of_store(&error), &error)),
+        }
     }
 
     fn open_fresh(alloc: Global, settings: Settings) -> Result<StoreDesk<MemStore>, Fault>

@@ -7,8 +7,9 @@ use Rattle.sqlite.specs.State.{State}
 use Rattle.sqlite.specs.Rows.{sequence}
 use Rattle.portal_sql.specs.Stands.{IsUnactedBy}
 use Rattle.portal_sql.specs.Made.{Counts, HasMade}
-use Rattle.portal_sql.specs.Harmless.{are_harmless, any_counts}
+use Rattle.portal_sql.specs.Harmless.{any_counts}
 use Rattle.portal_rows.specs.Layout.{head, plans, batches, vouchers, sessions, grants, counts, totals, requests, head_name, plans_name, batches_name, vouchers_name, sessions_name, grants_name, counts_name, totals_name, requests_name}
+use Rattle.portal_layouts.specs.Layouts.{spares_our_tables}
 use Rattle.portal_rows.specs.Contents.{Contents}
 use Rattle.portal_rows.specs.Steps.{first_head}
 use Rattle.portal_rows.specs.Holds.{Holds, LeftHolds, this_layout}
@@ -30,8 +31,7 @@ pub record IsFree (schema : Schema) : Type 0 where
 -- the same as a test
 abbrev pub is_free : Schema → Bool
 is_free schema =
-    (not (any_counts schema) || is_some (sequence schema))
-    && (are_harmless head_name schema && (are_harmless plans_name schema && (are_harmless batches_name schema && (are_harmless vouchers_name schema && (are_harmless sessions_name schema && (are_harmless grants_name schema && (are_harmless counts_name schema && (are_harmless totals_name schema && (are_harmless requests_name schema)))))))))
+    (not (any_counts schema) || is_some (sequence schema)) && spares_our_tables schema
 
 pub record HasMadeFirst (db after : Database) : Type 0 where
   pub one : Database
@@ -41,6 +41,12 @@ pub record HasMadeFirst (db after : Database) : Type 0 where
   pub plans : HasMade one (plans 0) two
   pub batches : HasMade two (batches 0) three
   pub vouchers : HasMade three (vouchers 0) after
+
+-- the two tables of counters
+pub record HasMadeCounters (db after : Database) : Type 0 where
+  pub one : Database
+  pub counts : HasMade db (counts 0) one
+  pub totals : HasMade one (totals 0) after
 
 pub record HasMadeLast (db after : Database) : Type 0 where
   pub one : Database

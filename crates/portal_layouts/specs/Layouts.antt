@@ -27,15 +27,25 @@ is_any_named schema =
     is_named schema head_name
     || (is_named schema plans_name || (is_named schema batches_name || (is_named schema vouchers_name || (is_named schema sessions_name || (is_named schema grants_name || (is_named schema counts_name || (is_named schema totals_name || (is_named schema requests_name))))))))
 
--- the table stands, and no foreign key acts on it
-abbrev pub is_spared : Schema → List ℕ → Bool
-is_spared schema name = is_some (table_named schema name) && are_harmless name schema
+-- no foreign key acts on a table of the product's names, whether such a table stands or not
+abbrev pub spares_our_tables : Schema → Bool
+spares_our_tables schema =
+    are_harmless head_name schema
+    && (are_harmless plans_name schema && (are_harmless batches_name schema && (are_harmless vouchers_name schema && (are_harmless sessions_name schema && (are_harmless grants_name schema && (are_harmless counts_name schema && (are_harmless totals_name schema && are_harmless requests_name schema)))))))
+
+-- the table stands
+abbrev pub has_table : Schema → List ℕ → Bool
+has_table schema name = is_some (table_named schema name)
 
 -- so does each of the product's tables
+abbrev pub has_our_tables : Schema → Bool
+has_our_tables schema =
+    has_table schema head_name
+    && (has_table schema plans_name && (has_table schema batches_name && (has_table schema vouchers_name && (has_table schema sessions_name && (has_table schema grants_name && (has_table schema counts_name && (has_table schema totals_name && has_table schema requests_name)))))))
+
+-- each stands, and no foreign key acts on one of them
 abbrev pub is_whole : Schema → Bool
-is_whole schema =
-    is_spared schema head_name
-    && (is_spared schema plans_name && (is_spared schema batches_name && (is_spared schema vouchers_name && (is_spared schema sessions_name && (is_spared schema grants_name && (is_spared schema counts_name && (is_spared schema totals_name && (is_spared schema requests_name))))))))
+is_whole schema = has_our_tables schema && spares_our_tables schema
 
 -- the index is that by which the last session of a device is found, on the sessions in the tree
 abbrev pub is_session_index : ℕ → Index → Bool

@@ -9,10 +9,11 @@ ghost use Rattle.portal_rows.specs.Layout.{head, plans, batches, vouchers, sessi
 ghost use Rattle.portal_rows.specs.Holds.{Holds};
 ghost use Rattle.portal_rows.specs.Others.{KeepsOthers};
 ghost use Rattle.portal_layouts.specs.Brings.{StepsFrom};
-ghost use Rattle.portal_layouts.specs.Creates.{IsFree, HasMadeFirst, HasMadeLast, Builds, IsCommitted, MayBuild, is_free, new_store};
+ghost use Rattle.portal_layouts.specs.Creates.{IsFree, HasMadeCounters, HasMadeFirst, HasMadeLast, Builds, IsCommitted, MayBuild, is_free, new_store};
 
+use crate::layouts::spares_our_tables;
 use portal_rows::inserts::insert_head;
-use portal_sql::room::{counts, has_sequence, spares_name};
+use portal_sql::room::{counts, has_sequence};
 use sqlite::{Alter, Connection, Error, Transaction};
 use sqlite_schema::schema::Schema;
 
@@ -146,6 +147,18 @@ fn make_first<S: Alter>(tx: &mut Transaction<'_, S>) -> Result<(), Error>
     Ok(())
 }
 
+/// Makes the two tables of counters.
+fn make_counters<S: Alter>(tx: &mut Transaction<'_, S>) -> Result<(), Error>
+    ensures same_reference { tx.new.conn.ghost_name ≡ tx.old.conn.ghost_name }
+    ensures made { HasCleanDisk (state S.Store tx.new.conn.now) → IsTrue (state S.Store tx.old.conn.now).in_transaction → Counts (state S.Store tx.old.conn.now).now.schema → OnOk result (HasMadeCounters (state S.Store tx.old.conn.now).now (state S.Store tx.new.conn.now).now × Counts (state S.Store tx.new.conn.now).now.schema × Shows (state S.Store tx.old.conn.now) (state S.Store tx.new.conn.now) (state S.Store tx.new.conn.now).now (state S.Store tx.old.conn.now).committed true) }
+    ensures kept { HasCleanDisk (state S.Store tx.new.conn.now) → KeepsCommit (state S.Store tx.old.conn.now) (state S.Store tx.new.conn.now) }
+    ensures survives { Survives (state S.Store tx.old.conn.now) (state S.Store tx.new.conn.now) (λ _. ⊥) }
+{
+    make_counts(tx)?;
+    make_totals(tx)?;
+    Ok(())
+}
+
 fn make_last<S: Alter>(tx: &mut Transaction<'_, S>) -> Result<(), Error>
     ensures same_reference { tx.new.conn.ghost_name ≡ tx.old.conn.ghost_name }
     ensures made { HasCleanDisk (state S.Store tx.new.conn.now) → IsTrue (state S.Store tx.old.conn.now).in_transaction → Counts (state S.Store tx.old.conn.now).now.schema → OnOk result (HasMadeLast (state S.Store tx.old.conn.now).now (state S.Store tx.new.conn.now).now × Counts (state S.Store tx.new.conn.now).now.schema × Shows (state S.Store tx.old.conn.now) (state S.Store tx.new.conn.now) (state S.Store tx.new.conn.now).now (state S.Store tx.old.conn.now).committed true) }
@@ -154,8 +167,7 @@ fn make_last<S: Alter>(tx: &mut Transaction<'_, S>) -> Result<(), Error>
 {
     make_sessions(tx)?;
     make_grants(tx)?;
-    make_counts(tx)?;
-    make_totals(tx)?;
+    make_counters(tx)?;
     make_requests(tx)?;
     Ok(())
 }
@@ -206,14 +218,5 @@ pub fn create<S: Alter>(conn: &mut Connection<S>) -> Result<(), Error>
 pub fn is_room(schema: &Schema) -> bool
     ensures { result ≡ is_free schema.now }
 {
-    (!counts(schema) || has_sequence(schema))
-        && spares_name(schema, b"portal_head")
-        && spares_name(schema, b"portal_plans")
-        && spares_name(schema, b"portal_batches")
-        && spares_name(schema, b"portal_vouchers")
-        && spares_name(schema, b"portal_sessions")
-        && spares_name(schema, b"portal_grants")
-        && spares_name(schema, b"portal_counts")
-        && spares_name(schema, b"portal_totals")
-        && spares_name(schema, b"portal_requests")
+    (!counts(schema) || has_sequence(schema)) && spares_our_tables(schema)
 }

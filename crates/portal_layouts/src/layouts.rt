@@ -8,7 +8,7 @@ ghost use Rattle.sqlite.specs.declared.error.Error.TheVariants.{SqlInputError};
 ghost use Rattle.sqlite_resolve.specs.declared.error.CompileError.{CompileError};
 ghost use Rattle.portal_sql.specs.States.{IsUndone};
 ghost use Rattle.portal_rows.specs.Holds.{Places, Stand};
-ghost use Rattle.portal_layouts.specs.Layouts.{is_named, is_any_named, is_spared, is_whole, is_indexed, is_session_index, IsRefused, Answers, IsOneRow};
+ghost use Rattle.portal_layouts.specs.Layouts.{is_named, is_any_named, has_our_tables, spares_our_tables, is_whole, is_indexed, is_session_index, IsRefused, Answers, IsOneRow};
 
 use portal_sql::room::{has_table, spares_name};
 use sqlite::types::ValueRef;
@@ -47,26 +47,41 @@ pub fn is_any_named(schema: &Schema) -> bool
         || is_named(schema, b"portal_requests")
 }
 
-/// Whether a table has the name, and no foreign key acts on it.
-fn is_spared(schema: &Schema, name: &[u8]) -> bool
-    ensures { result ≡ is_spared schema.now name.now }
+/// Whether no foreign key acts on a table of the product's names, whether such a table stands or not.
+pub fn spares_our_tables(schema: &Schema) -> bool
+    ensures { result ≡ spares_our_tables schema.now }
 {
-    has_table(schema, name) && spares_name(schema, name)
+    spares_name(schema, b"portal_head")
+        && spares_name(schema, b"portal_plans")
+        && spares_name(schema, b"portal_batches")
+        && spares_name(schema, b"portal_vouchers")
+        && spares_name(schema, b"portal_sessions")
+        && spares_name(schema, b"portal_grants")
+        && spares_name(schema, b"portal_counts")
+        && spares_name(schema, b"portal_totals")
+        && spares_name(schema, b"portal_requests")
+}
+
+/// Whether each of the product's tables stands.
+fn has_our_tables(schema: &Schema) -> bool
+    ensures { result ≡ has_our_tables schema.now }
+{
+    has_table(schema, b"portal_head")
+        && has_table(schema, b"portal_plans")
+        && has_table(schema, b"portal_batches")
+        && has_table(schema, b"portal_vouchers")
+        && has_table(schema, b"portal_sessions")
+        && has_table(schema, b"portal_grants")
+        && has_table(schema, b"portal_counts")
+        && has_table(schema, b"portal_totals")
+        && has_table(schema, b"portal_requests")
 }
 
 /// Whether each of the product's tables stands, and no foreign key acts on one of them.
 pub fn is_whole(schema: &Schema) -> bool
     ensures { result ≡ is_whole schema.now }
 {
-    is_spared(schema, b"portal_head")
-        && is_spared(schema, b"portal_plans")
-        && is_spared(schema, b"portal_batches")
-        && is_spared(schema, b"portal_vouchers")
-        && is_spared(schema, b"portal_sessions")
-        && is_spared(schema, b"portal_grants")
-        && is_spared(schema, b"portal_counts")
-        && is_spared(schema, b"portal_totals")
-        && is_spared(schema, b"portal_requests")
+    has_our_tables(schema) && spares_our_tables(schema)
 }
 
 /// Whether the index is that by which the last session of a device is found: of its name, and on the devices and then the numbers of the sessions in this tree.

@@ -21,7 +21,7 @@ use Rattle.portal_model.specs.Rows.{VoucherRow, TotalRow}
 use Rattle.portal_rows.specs.Layout.{vouchers, totals}
 use Rattle.portal_rows.specs.Contents.{Contents, voucher_cells, total_cells}
 use Rattle.portal_rows.specs.Holds.{Holds, HasTables}
-use Rattle.portal_lists.specs.Lists.{ListsAs, is_within, by_place, by_refund, by_number, sale_shown, sale_cells}
+use Rattle.portal_lists.specs.Lists.{ListsAs, is_within, by_place, by_refund, by_sale, by_number, sale_shown, sale_cells}
 use Rattle.portal_rows.proofs.Cells.{vouchers_in, totals_in}
 use Rattle.portal_lists.proofs.Listing.{number_order, option_order, sql_within, within_is, cells_listed}
 use Rattle.portal_lists.specs.Asks.{Asks, IsSimple}
@@ -90,6 +90,16 @@ module _ (old new : State) (from to : ℕ) (rows : List Row) (t : Contents) (h :
       ∙ map-map two voucher_cells listed
       ∙ sym (map-map sale_cells sale_shown listed)
 
+  pub ordered_rows_are : Shown texts.ordered_text params old new rows → ListsAs voucher_cells (λ v. is_within from to v.sold) by_sale t.vouchers rows
+  ordered_rows_are shown =
+      let place = h.places.vouchers in
+      let table = vouchers place.tree in
+      let it = selected texts.ordered_text table (texts.within_terms table 3) _ params old new texts.voucher_columns (λ r. sql_within (column r 3) (number from) (number to)) (within_tests table 3 from to (lit< tt)) (by_columns 3 0)
+      (orders_by_two table 3 0 params (lit< tt) (lit< tt)) (texts.ordered_means old.now.schema place.at place.tree h.stand.vouchers.stands) rows shown in
+      let all = subst (λ xs. IsSelection (λ r. sql_within (column r 3) (number from) (number to)) (by_columns 3 0) xs rows) (vouchers_in old.now.trees place.tree t.vouchers h.store.vouchers) it in
+      cells_listed voucher_cells (λ (v : VoucherRow). is_within from to v.sold) by_sale t.vouchers (λ r. sql_within (column r 3) (number from) (number to)) (by_columns 3 0) (λ v. within_is v.sold from to)
+      (λ a b. ap₂ ordering_then (option_order a.sold b.sold) (value_cmp-Text a.code b.code)) rows all
+
   pub refunded_rows_are : Shown texts.refunded_text params old new rows → ListsAs voucher_cells (λ v. is_within from to v.refunded) by_refund t.vouchers rows
   refunded_rows_are shown =
       let place = h.places.vouchers in
@@ -105,6 +115,12 @@ sold_simple schema h = let place = h.0.vouchers in means_simple schema texts.sol
 
 pub asks_sold : (schema : Schema) → HasTables schema → Asks texts.sold_text schema
 asks_sold schema h = simple_asks texts.sold_text schema (sold_simple schema h)
+
+pub ordered_simple : (schema : Schema) → HasTables schema → IsSimple (understood schema texts.ordered_text)
+ordered_simple schema h = let place = h.0.vouchers in means_simple schema texts.ordered_text _ _ (texts.ordered_means schema place.at place.tree h.1.vouchers.stands)
+
+pub asks_ordered : (schema : Schema) → HasTables schema → Asks texts.ordered_text schema
+asks_ordered schema h = simple_asks texts.ordered_text schema (ordered_simple schema h)
 
 pub refunded_simple : (schema : Schema) → HasTables schema → IsSimple (understood schema texts.refunded_text)
 refunded_simple schema h = let place = h.0.vouchers in means_simple schema texts.refunded_text _ _ (texts.refunded_means schema place.at place.tree h.1.vouchers.stands)

@@ -76,6 +76,22 @@ sold_means schema at tree stands =
     (Some Binary ∷ Some Binary ∷ []) sold_is_text refl refl
     (simp (stands.named, stands.there, has_rowids tree stands.low) refl) (simp (stands.low, stands.typed) refl) refl (λ base. refl)
 
+abbrev pub ordered_text : List ℕ
+ordered_text = codes "SELECT code, batch_id, place, sold, refunded, amount FROM portal_vouchers WHERE sold >= ?1 AND sold <= ?2 ORDER BY sold, code"
+
+ordered_is_text : IsText ordered_text (written.Select (select_of vouchers_name voucher_columns (where_within (codes "sold")) (up (codes "sold") ++ up (codes "code")) None)) 2
+unfolding everything
+ordered_is_text = record { parsed = _; read = refl; is = refl; timeless = refl; counted = refl }
+
+pub ordered_means : (schema : Schema) (at tree : ℕ) → Stands schema at (vouchers tree)
+    → IsSelect schema ordered_text (vouchers tree) (within_terms (vouchers tree) 3) (by (vouchers tree) 3 false ++ by (vouchers tree) 0 false) unlimited voucher_columns
+unfolding everything
+ordered_means schema at tree stands =
+    select_means schema ordered_text vouchers_name voucher_columns (where_within (codes "sold")) (up (codes "sold") ++ up (codes "code")) None 2 (lit (Int (negsuc 0)), lit (Int (pos 0)))
+    (drafted tree (within_terms (vouchers tree) 3) (all_columns (vouchers tree)) (by (vouchers tree) 3 false ++ by (vouchers tree) 0 false) unlimited)
+    (Some Binary ∷ Some Binary ∷ Some Binary ∷ Some Binary ∷ Some Binary ∷ Some Binary ∷ []) ordered_is_text refl refl
+    (simp (stands.named, stands.there) refl) (simp (stands.low, stands.typed) refl) refl (λ base. refl)
+
 abbrev pub refunded_text : List ℕ
 refunded_text = codes "SELECT code, batch_id, place, sold, refunded, amount FROM portal_vouchers WHERE refunded >= ?1 AND refunded <= ?2 ORDER BY refunded, code"
 

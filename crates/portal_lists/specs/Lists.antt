@@ -67,6 +67,10 @@ numbers_open at totals = map (λ m. m.number) (filter (may_be_open at) totals)
 abbrev pub by_place : VoucherRow → VoucherRow → Ordering
 by_place a b = nat_cmp a.place b.place
 
+-- the earlier sale first, and of two at one moment the lesser code
+abbrev pub by_sale : VoucherRow → VoucherRow → Ordering
+by_sale a b = ordering_then (option_cmp nat_cmp a.sold b.sold) (slice_cmp nat_cmp a.code b.code)
+
 -- the earlier refund first, and of two at one moment the lesser code
 abbrev pub by_refund : VoucherRow → VoucherRow → Ordering
 by_refund a b = ordering_then (option_cmp nat_cmp a.refunded b.refunded) (slice_cmp nat_cmp a.code b.code)

@@ -1,6 +1,6 @@
 //! The rows of a table that pass a test, read as values in an order.
 
-ghost use Rattle.std.specs.Prelude.{◌≡◌, IfOk, List, map, filter, true, bytes_eq, All};
+ghost use Rattle.std.specs.Prelude.{◌≡◌, IfOk, IsSome, List, map, filter, true, bytes_eq, All};
 ghost use Rattle.sqlite.specs.Held.{state};
 ghost use Rattle.sqlite.specs.State.{HasCleanDisk};
 ghost use Rattle.portal_codes.specs.Code.{IsCode, text_of};
@@ -10,7 +10,7 @@ ghost use Rattle.portal_sql.specs.Looks.{Looks};
 ghost use Rattle.portal_rows.specs.Contents.{Contents, voucher_cells, total_cells};
 ghost use Rattle.portal_rows.specs.Foreign.{AreOwn, IsOwnRefund, IsOwnTotal, IsOwnVoucher, NotForeign, AreOfOwn, SparesOwn, TellsForeign};
 ghost use Rattle.portal_rows.specs.Holds.{Holds, HasTables};
-ghost use Rattle.portal_lists.specs.Lists.{Lists, ListsAs, IsReadAs, AreReadAs, is_within, may_be_open, numbers_open, by_place, by_refund, by_number, sale_cells, sale_shown, sale_read, refund_shown, refund_read};
+ghost use Rattle.portal_lists.specs.Lists.{Lists, ListsAs, IsReadAs, AreReadAs, is_within, may_be_open, numbers_open, by_place, by_refund, by_sale, by_number, sale_cells, sale_shown, sale_read, refund_shown, refund_read};
 ghost use Rattle.portal_rows.specs.Read.{voucher_read};
 ghost use Rattle.portal_rows.specs.Steps.{ends_row};
 
@@ -75,6 +75,32 @@ fn numbers_in(alloc: Global, totals: &[Total], at: Moment) -> Result<Vec<u64>, F
         }
     }
     Ok(numbers)
+}
+
+/// The sale of a voucher. One that was not sold is a foreign row.
+fn sale_of(voucher: &KeptVoucher) -> Result<KeptSale, Fault>
+    ensures read { IfOk result (λ sale. sale_read sale ≡ sale_shown (voucher_read voucher.now)) }
+    ensures own { IsSome (voucher_read voucher.now).sold → NotForeign result }
+{
+    match voucher.sold {
+        Some(at) => Ok(KeptSale {
+            batch: voucher.batch,
+            at,
+        }),
+        None => Err(Fault::ForeignRow),
+    }
+}
+
+/// The sales of these vouchers, in their order.
+fn sales_in(alloc: Global, vouchers: &[KeptVoucher]) -> Result<Vec<KeptSale>, Fault>
+    ensures read { IfOk result (λ sales. map sale_read sales.items ≡ map (λ v. sale_shown (voucher_read v)) vouchers.now) }
+    ensures own { AreOwn (λ v. IsSome v.sold) (map voucher_read vouchers.now) → NotForeign result }
+{
+    let mut sales = Vec::new(alloc);
+    for voucher in vouchers {
+        sales.push(sale_of(voucher)?)?;
+    }
+    Ok(sales)
 }
 
 /// The refund of a voucher: the moment, and the amount in hundredths.
@@ -151,6 +177,26 @@ pub fn list_sales<S: Alter>(
         "SELECT batch_id, sold FROM portal_vouchers WHERE sold >= ?1 AND sold <= ?2 ORDER BY rowid",
         params![from.get() as i64, to.get() as i64],
     )
+}
+
+/// The sales within the two moments, both included: the earlier first, and of two at one moment the one of the voucher with the lesser printed code.
+pub fn list_ordered_sales<S: Alter>(
+    alloc: Global,
+    conn: &mut Connection<S>,
+    from: Moment,
+    to: Moment,
+) -> Result<Vec<KeptSale>, Fault>
+    ensures found { HasCleanDisk (state S.Store conn.new) → (t : Contents) → Holds (state S.Store conn.old).now t → IfOk result (λ sales. ListsAs sale_shown (λ v. is_within from to v.sold) by_sale t.vouchers (map sale_read sales.items)) }
+    ensures looks { Looks HasTables result (state S.Store conn.old) (state S.Store conn.new) }
+    ensures foreign { TellsForeign Holds (λ t. AreOwn IsOwnVoucher t.vouchers) (state S.Store conn.old) (state S.Store conn.new) result }
+{
+    let vouchers: Vec<KeptVoucher> = read_values(
+        alloc,
+        conn,
+        "SELECT code, batch_id, place, sold, refunded, amount FROM portal_vouchers WHERE sold >= ?1 AND sold <= ?2 ORDER BY sold, code",
+        params![from.get() as i64, to.get() as i64],
+    )?;
+    Ok(sales_in(alloc, &vouchers)?)
 }
 
 /// The refunds within the two moments, both included, each with its moment and its amount in hundredths: the earlier first, and of two at one moment the one of the voucher with the lesser printed code.

@@ -18,7 +18,9 @@ use Rattle.portal_ends.specs.declared.fault.Fault.TheVariants.{Usage, Cut}
 use Rattle.portal_ends.specs.Faults.{line_of, status_of}
 use Rattle.portal_ends.specs.Streams.{Prints}
 use Rattle.portal_program.specs.declared.answering.Request.{Request}
-use Rattle.portal_program.specs.Places.{IsOfSettings, IsOfStore}
+use Rattle.portal_program.specs.declared.trouble.Trouble.{Trouble}
+use Rattle.portal_program.specs.Places.{IsOfFile, IsOfSettings, IsOfStore, PlaceValue, AreRead, ByDesk}
+use Rattle.portal_program.specs.Troubles.{IsAt, Reports}
 
 -- 0 after 200, 3 after the 503 of a desk that has stopped, 1 after any other
 abbrev pub status_for : ℕ → Bool → ℕ
@@ -42,34 +44,53 @@ IsInRange now seed = (now ≤ 253370764799) × (length seed ≡ 64) × AllPass i
 abbrev pub AreLeftAlone : Wire → Type 0
 AreLeftAlone wire = Keeps wire.unread wire.unread_after × Keeps wire.sent wire.sent_after
 
--- A request is answered by a desk over the file that is named. Without one it is the one request of a run of a desk that nothing was told,
--- with the settings of the file that is named, or else the sample settings.
-abbrev pub Answers : Wire → ℕ → List ℕ → Option (Bor (List ℕ)) → SettingsValue → Result ℕ Fault → Type 0
-Answers wire moment seed (Some path) settings result =
-    (is_stopped : Bool) × EndsAnswering wire moment seed (λ arrivals responses. ⊤) is_stopped result
-Answers wire moment seed None settings result =
-    (new : State) × EndsAnswering wire moment seed (λ arrivals responses. Served settings (running []) arrivals responses new) (is_over new) result
-
--- it is answered, or the file keeps it from that: nothing is read then, and nothing goes out
-abbrev pub IsAnswered : Wire → ℕ → List ℕ → Option (Bor (List ℕ)) → SettingsValue → Result ℕ Fault → Type 0
-IsAnswered wire moment seed db settings result =
-    Answers wire moment seed db settings result
-    ⊎ ((fault : Fault) × (result ≡ Err fault) × IsOfStore fault × AreLeftAlone wire)
-
--- a value is out of its range, or the settings keep the request from being answered, or it is answered
-abbrev pub Outcome : Wire → Request → Result ℕ Fault → Type 0
-Outcome wire request result =
-    ((result ≡ Err Usage) × (¬ IsInRange request.now request.seed.now) × AreLeftAlone wire)
-    ⊎ (IsInRange request.now request.seed.now
-    × (((fault : Fault) × (result ≡ Err fault) × IsOfSettings fault × AreLeftAlone wire)
-    ⊎ ((bytes : List ℕ) × (settings : SettingsValue) × (decode_of request.seed.now ≡ Ok bytes) × (request.settings ≡ None → IsSample settings)
-    × IsAnswered wire request.now bytes request.db settings result)))
-
--- the status is that of the outcome, and a fault's line is printed
+-- the status is that of the answer, and a fault's line is printed
 abbrev pub EndsStatus : Result ℕ Fault → Option (List ℕ) → Option (List ℕ) → ℕ → Type 0
 EndsStatus (Ok given) errors errors_after status = (status ≡ given) × Keeps errors errors_after
 EndsStatus (Err fault) errors errors_after status = (status ≡ status_of fault) × Prints errors errors_after (line_of fault)
 
-abbrev pub EndsAnswer : Wire → Option (List ℕ) → Option (List ℕ) → Request → ℕ → Type 0
-EndsAnswer wire errors errors_after request status =
-    (result : Result ℕ Fault) × Outcome wire request result × EndsStatus result errors errors_after status
+-- the file keeps the request from being answered: nothing is read then, and nothing goes out but what is told of it
+abbrev pub IsKeptOff : Wire → Option (List ℕ) → Option (List ℕ) → Trouble → ℕ → Type 0
+IsKeptOff wire errors errors_after trouble status =
+    AreLeftAlone wire × (status ≡ status_of trouble.fault) × Reports trouble errors errors_after
+
+-- Without a file that is named, a request is the one request of a run of a desk that nothing was told.
+abbrev pub AnswersFresh : Wire → Option (List ℕ) → Option (List ℕ) → ℕ → List ℕ → SettingsValue → ℕ → Type 0
+AnswersFresh wire errors errors_after moment seed settings status =
+    ((new : State) × (answered : Result ℕ Fault)
+    × EndsAnswering wire moment seed (λ arrivals responses. Served settings (running []) arrivals responses new) (is_over new) answered
+    × EndsStatus answered errors errors_after status)
+    ⊎ ((fault : Fault) × IsOfFile fault × AreLeftAlone wire × EndsStatus (Err fault) errors errors_after status)
+
+-- Else it is that of the desk over the file, from the ledger that the file shows.
+abbrev pub AnswersStored : PlaceValue → List ℕ → Wire → Option (List ℕ) → Option (List ℕ) → ℕ → List ℕ → SettingsValue → ℕ → Type 0
+AnswersStored place path wire errors errors_after moment seed settings status =
+    ((is_new : Bool) × ByDesk place path is_new errors_after
+    (λ printed. (is_stopped : Bool) × (answered : Result ℕ Fault) × EndsAnswering wire moment seed (λ arrivals responses. ⊤) is_stopped answered
+    × EndsStatus answered errors printed status)
+    (λ printed old new. (answered : Result ℕ Fault)
+    × EndsAnswering wire moment seed (λ arrivals responses. Served settings old arrivals responses new) (is_over new) answered
+    × EndsStatus answered errors printed status))
+    ⊎ ((trouble : Trouble) × (IsOfStore trouble.fault × IsAt path trouble) × IsKeptOff wire errors errors_after trouble status)
+
+-- with the settings of the file that is named, or else the sample settings
+abbrev pub IsAnswered : PlaceValue → Wire → Option (List ℕ) → Option (List ℕ) → ℕ → List ℕ → Option (Bor (List ℕ)) → SettingsValue → ℕ → Type 0
+IsAnswered place wire errors errors_after moment seed None settings status =
+    AnswersFresh wire errors errors_after moment seed settings status
+IsAnswered place wire errors errors_after moment seed (Some path) settings status =
+    AnswersStored place path.now wire errors errors_after moment seed settings status
+
+-- the file with the settings is of no use, or there is no memory for the sample settings
+abbrev pub IsOfNamed : Option (Bor (List ℕ)) → Trouble → Type 0
+IsOfNamed settings trouble = IsOfSettings trouble.fault × ((path : Bor (List ℕ)) → settings ≡ Some path → IsAt path.now trouble)
+
+-- a value is out of its range, or the settings keep the request from being answered, or it is answered
+abbrev pub EndsAnswer : PlaceValue → Wire → Option (List ℕ) → Option (List ℕ) → Request → ℕ → Type 0
+EndsAnswer place wire errors errors_after request status =
+    ((¬ IsInRange request.now request.seed.now) × AreLeftAlone wire × EndsStatus (Err Usage) errors errors_after status)
+    ⊎ (IsInRange request.now request.seed.now
+    × (((trouble : Trouble) × IsOfNamed request.settings trouble × IsKeptOff wire errors errors_after trouble status)
+    ⊎ ((bytes : List ℕ) × (settings : SettingsValue) × (decode_of request.seed.now ≡ Ok bytes)
+    × (request.settings ≡ None → IsSample settings)
+    × ((path : Bor (List ℕ)) → request.settings ≡ Some path → AreRead (place.reads path.now) settings)
+    × IsAnswered place wire errors errors_after request.now bytes request.db settings status)))

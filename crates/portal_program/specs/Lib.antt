@@ -1,3 +1,4 @@
+pub mod Troubles
 pub mod Places
 pub mod Asking
 pub mod Answering

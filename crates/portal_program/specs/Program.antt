@@ -2,6 +2,7 @@
 use Rattle.std.specs.Prelude.{◌≡◌, ◌⊎◌, ◌<◌, ◌≤◌, ℕ, List, Option, Result, Err, MatchResult, string_bytes}
 use Rattle.std.specs.declared.io.ErrorKind.{ErrorKind}
 use Rattle.std.specs.declared.io.ErrorKind.TheVariants.{InvalidData}
+use Rattle.std.specs.Borrow.{Bor}
 use Rattle.std.specs.Io.KnownBytes.{Keeps}
 use Rattle.portal_cli.specs.declared.order.Order.{Order}
 use Rattle.portal_cli.specs.declared.order.Order.TheVariants as order
@@ -15,8 +16,11 @@ use Rattle.portal_ends.specs.Ends.{EndsPrinting, EndsWith}
 use Rattle.portal_ends.specs.Streams.{Outlets, Prints}
 use Rattle.portal_http.specs.Exchanges.{Wire}
 use Rattle.portal_program.specs.Answering.{EndsAnswer}
-use Rattle.portal_program.specs.Asking.{EndsAsking, EndsTakings}
-use Rattle.portal_program.specs.Serving.{EndsServe}
+use Rattle.portal_program.specs.declared.place.Files.{Files}
+use Rattle.portal_program.specs.Asking.{AsksOver, AsksRightly, PrintsBatch, TakesFrom, ChecksCounters}
+use Rattle.portal_program.specs.declared.asking.Question.TheVariants.{Counters}
+use Rattle.portal_program.specs.Places.{PlaceValue}
+use Rattle.portal_program.specs.Serving.{NetworkValue, ServesOver}
 
 -- why the words of the command line could not be copied: what the user wrote is not UTF-8, or there was no memory
 abbrev pub fault_of_words : ErrorKind → Fault
@@ -31,31 +35,39 @@ EndsTelling (told.Fault text) o status = (status ≡ 2) × Keeps o.output o.outp
 EndsTelling told.NoMemory o status = EndsWith (Err NoMemory) o status
 
 -- serving at a port; one past 65,535 is a fault of usage
-abbrev pub EndsServing : ℕ → ℕ → Outlets → ℕ → Type 0
-EndsServing port count o status =
+abbrev pub EndsServing : PlaceValue → Files → NetworkValue → ℕ → ℕ → Outlets → ℕ → Type 0
+EndsServing place files network port count o status =
     ((65535 < port) × EndsWith (Err Usage) o status)
-    ⊎ ((port ≤ 65535) × EndsServe (record { port = port; count = count }) o status)
+    ⊎ ((port ≤ 65535) × ServesOver place files network (record { port = port; count = count }) o status)
 
 -- where standard output and standard error go
 abbrev pub outlets_of : Wire → Option (List ℕ) → Option (List ℕ) → Outlets
 outlets_of wire errors errors_after = record { output = wire.sent; output_after = wire.sent_after; errors = errors; errors_after = errors_after }
 
--- an order is carried out; one without a request leaves the input alone
-abbrev pub EndsOrder : Wire → Option (List ℕ) → Option (List ℕ) → Order → ℕ → Type 0
-EndsOrder wire errors errors_after (order.Serve db settings port count) status =
-    Keeps wire.unread wire.unread_after × EndsServing port count (outlets_of wire errors errors_after) status
-EndsOrder wire errors errors_after (order.Answer db settings now seed) status =
-    EndsAnswer wire errors errors_after (record { db = db; settings = settings; now = now; seed = seed }) status
-EndsOrder wire errors errors_after (order.Print db settings batch) status =
-    Keeps wire.unread wire.unread_after × EndsAsking (outlets_of wire errors errors_after) status
-EndsOrder wire errors errors_after (order.Takings db settings from to) status =
-    Keeps wire.unread wire.unread_after × EndsTakings from.now to.now (outlets_of wire errors errors_after) status
-EndsOrder wire errors errors_after (order.Check db settings) status =
-    Keeps wire.unread wire.unread_after × EndsAsking (outlets_of wire errors errors_after) status
+-- the files that an order names
+abbrev pub files_of : Bor (List ℕ) → Bor (List ℕ) → Files
+files_of db settings = record { db = db; settings = settings }
+
+-- an order is carried out over the files of a place; one without a request leaves the input alone
+abbrev pub EndsOrder : PlaceValue → NetworkValue → Wire → Option (List ℕ) → Option (List ℕ) → Order → ℕ → Type 0
+EndsOrder place network wire errors errors_after (order.Serve db settings port count) status =
+    Keeps wire.unread wire.unread_after × EndsServing place (files_of db settings) network port count (outlets_of wire errors errors_after) status
+EndsOrder place network wire errors errors_after (order.Answer db settings now seed) status =
+    EndsAnswer place wire errors errors_after (record { db = db; settings = settings; now = now; seed = seed }) status
+EndsOrder place network wire errors errors_after (order.Print db settings batch) status =
+    Keeps wire.unread wire.unread_after
+    × AsksOver place (files_of db settings) (λ s. PrintsBatch s.zone batch.now) (outlets_of wire errors errors_after) status
+EndsOrder place network wire errors errors_after (order.Takings db settings from to) status =
+    Keeps wire.unread wire.unread_after
+    × TakesFrom place (files_of db settings) from.now to.now (outlets_of wire errors errors_after) status
+EndsOrder place network wire errors errors_after (order.Check db settings) status =
+    Keeps wire.unread wire.unread_after
+    × AsksOver place (files_of db settings) (λ s. ChecksCounters) (outlets_of wire errors errors_after) status
+    × AsksRightly place (files_of db settings) Counters (outlets_of wire errors errors_after) status
 
 -- the order of the words is carried out, or what they come to in its place is told, with the input left alone
-abbrev pub EndsProgram : Wire → Option (List ℕ) → Option (List ℕ) → List (List ℕ) → ℕ → Type 0
-EndsProgram wire errors errors_after words status =
+abbrev pub EndsProgram : PlaceValue → NetworkValue → Wire → Option (List ℕ) → Option (List ℕ) → List (List ℕ) → ℕ → Type 0
+EndsProgram place network wire errors errors_after words status =
     (read : Result Order NoOrder) × MatchResult read
-    (λ order. Orders words order × EndsOrder wire errors errors_after order status)
+    (λ order. Orders words order × EndsOrder place network wire errors errors_after order status)
     (λ told. Tells words told × Keeps wire.unread wire.unread_after × EndsTelling told (outlets_of wire errors errors_after) status)

@@ -1,5 +1,6 @@
 //! The command `answer`.
 ghost use Rattle.std.specs.Prelude.{◌≡◌, ⊤, ℕ, List, Bool, IfErr, IfOk, MatchResult, Option, Result, Ok, None, Some};
+ghost use Rattle.std.specs.Borrow.{Bor};
 ghost use Rattle.hex.specs.Hex.{decode_of};
 ghost use Rattle.portal_ledger.specs.Ledger.{Ledger};
 ghost use Rattle.portal_ledger.specs.States.{State, running};
@@ -8,11 +9,12 @@ ghost use Rattle.portal_files.specs.Sample.{IsSample};
 ghost use Rattle.portal_http.specs.Exchanges.{between};
 ghost use Rattle.portal_http.specs.Headline.{Survives};
 ghost use Rattle.portal_http.specs.Runs.{Served};
-ghost use Rattle.portal_program.specs.Places.{IsOfSettings};
-ghost use Rattle.portal_program.specs.Answering.{status_for, EndsAnswering, IsInRange, IsAnswered, Outcome, EndsAnswer};
+ghost use Rattle.portal_program.specs.Places.{AreRead, place_of};
+ghost use Rattle.portal_program.specs.Answering.{status_for, EndsAnswering, EndsStatus, IsInRange, IsOfNamed, AnswersFresh, AnswersStored, IsAnswered, EndsAnswer};
 
-use crate::place::{Place, settings_at};
+use crate::place::{Opened, Place, close_desk, settings_at};
 use crate::seed::read_seed;
+use crate::trouble::Trouble;
 use portal_desk::Desk;
 use portal_ends::Fault;
 use portal_files::{Settings, sample_settings};
@@ -93,21 +95,32 @@ fn read_values(now: u64, seed: &str) -> Result<(Moment, [u8; 32]), Fault>
 }
 
 /// The settings in the file at a path, or the sample settings where none is named. Faults: those of `settings_at`.
-fn settings_of<P: Place>(place: &P, alloc: Global, path: Option<&str>) -> Result<Settings, Fault>
+fn settings_of<P: Place>(place: &P, alloc: Global, path: Option<&str>) -> Result<Settings, Trouble>
     ensures sample { IfOk result (λ settings. path.entry ≡ None → IsSample settings) }
-    ensures why { IfErr result IsOfSettings }
+    ensures read { IfOk result (λ settings. (file : Bor (List ℕ)) → path.entry ≡ Some file → AreRead (P.reads place.now file.now) settings) }
+    ensures why { IfErr result (IsOfNamed path.entry) }
 {
     match path {
         Some(path) => settings_at(place, alloc, path),
         None => match sample_settings(alloc) {
             Ok(settings) => Ok(settings),
-            Err(_) => Err(Fault::NoMemory),
+            Err(_) => Err(Trouble::plain(Fault::NoMemory)),
         },
     }
 }
 
+/// The status of an answer. A fault's line is printed.
+fn end_answer<E: Write>(answered: Result<u8, Fault>, errors: &mut E) -> u8
+    ensures { EndsStatus answered (E.contents errors.old) (E.contents errors.new) result }
+{
+    match answered {
+        Ok(status) => status,
+        Err(fault) => fault.report(errors),
+    }
+}
+
 /// The answer of a desk over an empty store in memory. Faults: those of the store before anything is read, and `Cut`.
-fn answer_fresh<P: Place, R: Read, W: Write>(
+fn answer_fresh<P: Place, R: Read, W: Write, E: Write>(
     alloc: Global,
     settings: Settings,
     routes: &Routes,
@@ -115,22 +128,24 @@ fn answer_fresh<P: Place, R: Read, W: Write>(
     seed: [u8; 32],
     input: &mut R,
     output: &mut W,
-) -> Result<u8, Fault>
-    ensures { IsAnswered (between (R.remaining input.old) (R.remaining input.new) (W.contents output.old) (W.contents output.new))
-        moment seed None settings result }
+    errors: &mut E,
+) -> u8
+    ensures { AnswersFresh (between (R.remaining input.old) (R.remaining input.new) (W.contents output.old) (W.contents output.new))
+        (E.contents errors.old) (E.contents errors.new) moment seed settings result }
 {
     match P::open_fresh(alloc, settings) {
-        Err(fault) => Err(fault),
+        Err(fault) => fault.report(errors),
         Ok(mut desk) => {
-            let result = answer_at(&mut desk, alloc, routes, moment, seed, input, output);
+            let answered = answer_at(&mut desk, alloc, routes, moment, seed, input, output);
             P::close_fresh(desk);
-            result
+            end_answer(answered, errors)
         }
     }
 }
 
-/// The answer of a desk over a file. Faults: those of the file before anything is read, and `Cut`.
-fn answer_stored<P: Place, R: Read, W: Write>(
+/// The answer of a desk over a file, which is closed then. Faults: those of the file before anything is read, and `Cut`; a
+/// fault of closing is told after it, and the status stays.
+fn answer_stored<P: Place, R: Read, W: Write, E: Write>(
     place: P,
     alloc: Global,
     path: &str,
@@ -140,22 +155,28 @@ fn answer_stored<P: Place, R: Read, W: Write>(
     seed: [u8; 32],
     input: &mut R,
     output: &mut W,
-) -> Result<u8, Fault>
-    ensures { IsAnswered (between (R.remaining input.old) (R.remaining input.new) (W.contents output.old) (W.contents output.new))
-        moment seed (Some path.entry) settings result }
+    errors: &mut E,
+) -> u8
+    ensures { AnswersStored (place_of P.Stored.is_honest P.Stored.stands P.Stored.audits (P.reads place) (P.shows place) (P.finds place) P.closes) path.entry.now
+        (between (R.remaining input.old) (R.remaining input.new) (W.contents output.old) (W.contents output.new)) (E.contents errors.old) (E.contents errors.new) moment seed settings result }
 {
-    match place.open(path, settings) {
-        Err(fault) => Err(fault),
-        Ok(mut desk) => {
-            let result = answer_at(&mut desk, alloc, routes, moment, seed, input, output);
-            P::close(desk);
-            result
+    match place.open(alloc, path, settings, false) {
+        Err(trouble) => trouble.report(errors),
+        Ok(opened) => {
+            let Opened {
+                mut desk,
+                is_new: _,
+            } = opened;
+            let answered = answer_at(&mut desk, alloc, routes, moment, seed, input, output);
+            let status = end_answer(answered, errors);
+            close_desk::<P, E>(alloc, path, desk, errors);
+            status
         }
     }
 }
 
 /// The answer, once the moment, the seed and the settings are read.
-fn answer_by<P: Place, R: Read, W: Write>(
+fn answer_by<P: Place, R: Read, W: Write, E: Write>(
     place: P,
     alloc: Global,
     db: Option<&str>,
@@ -164,41 +185,20 @@ fn answer_by<P: Place, R: Read, W: Write>(
     seed: [u8; 32],
     input: &mut R,
     output: &mut W,
-) -> Result<u8, Fault>
-    ensures { IsAnswered (between (R.remaining input.old) (R.remaining input.new) (W.contents output.old) (W.contents output.new))
-        moment seed db.entry settings result }
+    errors: &mut E,
+) -> u8
+    ensures { IsAnswered (place_of P.Stored.is_honest P.Stored.stands P.Stored.audits (P.reads place) (P.shows place) (P.finds place) P.closes)
+        (between (R.remaining input.old) (R.remaining input.new) (W.contents output.old) (W.contents output.new)) (E.contents errors.old) (E.contents errors.new) moment seed db.entry settings result }
 {
     let Ok(routes) = Routes::new(alloc) else {
-        return Err(Fault::NoMemory);
+        return Fault::NoMemory.report(errors);
     };
     match db {
-        None => answer_fresh::<P, R, W>(alloc, settings, &routes, moment, seed, input, output),
-        Some(path) => {
-            answer_stored(
-                place, alloc, path, settings, &routes, moment, seed, input, output,
-            )
-        }
-    }
-}
-
-/// The outcome of `answer`.
-fn outcome_of<P: Place, R: Read, W: Write>(
-    place: P,
-    alloc: Global,
-    request: &Request<'_>,
-    input: &mut R,
-    output: &mut W,
-) -> Result<u8, Fault>
-    ensures { Outcome (between (R.remaining input.old) (R.remaining input.new) (W.contents output.old) (W.contents output.new)) request.entry.now result }
-{
-    let (moment, seed) = match read_values(request.now, request.seed) {
-        Ok(values) => values,
-        Err(fault) => return Err(fault),
-    };
-    match settings_of(&place, alloc, request.settings) {
-        Err(fault) => Err(fault),
-        Ok(settings) => answer_by(
-            place, alloc, request.db, settings, moment, seed, input, output,
+        None => answer_fresh::<P, R, W, E>(
+            alloc, settings, &routes, moment, seed, input, output, errors,
+        ),
+        Some(path) => answer_stored(
+            place, alloc, path, settings, &routes, moment, seed, input, output, errors,
         ),
     }
 }
@@ -209,7 +209,8 @@ fn outcome_of<P: Place, R: Read, W: Write>(
 /// A fault is printed on `errors`. The faults are found in this order, all but the last before anything is read: `usage`,
 /// status 2, where `now` is past the greatest moment, 253,370,764,799, or `seed` is not 64 hexadecimal digits; those of the
 /// settings file (`file`, `no_memory`, `settings`); those of the database file (`file`, `no_memory`, `not_ours`, `newer`);
-/// `cut`, where a read or a write fails or there is no memory for the request or for any response; each status 3.
+/// `cut`, where a read or a write fails or there is no memory for the request or for any response; each status 3. A database
+/// file is closed then: a fault of that is told last, and the status stays.
 pub fn answer<P: Place, R: Read, W: Write, E: Write>(
     place: P,
     alloc: Global,
@@ -218,11 +219,18 @@ pub fn answer<P: Place, R: Read, W: Write, E: Write>(
     output: &mut W,
     errors: &mut E,
 ) -> u8
-    ensures { EndsAnswer (between (R.remaining input.old) (R.remaining input.new) (W.contents output.old) (W.contents output.new))
+    ensures { EndsAnswer (place_of P.Stored.is_honest P.Stored.stands P.Stored.audits (P.reads place) (P.shows place) (P.finds place) P.closes)
+        (between (R.remaining input.old) (R.remaining input.new) (W.contents output.old) (W.contents output.new))
         (E.contents errors.old) (E.contents errors.new) request.entry.now result }
 {
-    match outcome_of(place, alloc, request, input, output) {
-        Ok(status) => status,
-        Err(fault) => fault.report(errors),
+    let (moment, seed) = match read_values(request.now, request.seed) {
+        Ok(values) => values,
+        Err(fault) => return fault.report(errors),
+    };
+    match settings_of(&place, alloc, request.settings) {
+        Err(trouble) => trouble.report(errors),
+        Ok(settings) => answer_by(
+            place, alloc, request.db, settings, moment, seed, input, output, errors,
+        ),
     }
 }

@@ -4,9 +4,12 @@ ghost use Rattle.portal_ledger.specs.States.{State};
 ghost use Rattle.portal_ends.specs.declared.fault.Fault.{Fault as Said};
 ghost use Rattle.portal_ends.specs.declared.ending.Told.{Told as Answered};
 ghost use Rattle.portal_ends.specs.Ends.{EndsWith};
-ghost use Rattle.portal_program.specs.Asking.{EndsAsking, IsOfDesk, ChecksCounters};
+ghost use Rattle.portal_program.specs.Asking.{AsksOver, AsksRightly, IsOfDesk, ChecksCounters, TellsRightly};
+ghost use Rattle.portal_program.specs.declared.asking.Question.TheVariants.{Counters};
+ghost use Rattle.portal_program.specs.Places.{place_of};
 
-use crate::place::{Files, Place, open_desk};
+use crate::asking::{Question, ask};
+use crate::place::{Files, Place};
 use portal_desk::Desk;
 use portal_ends::{Fault, Told, end};
 use std::alloc::Global;
@@ -19,6 +22,7 @@ fn check_told<D: Desk>(desk: &mut D, alloc: Global) -> Result<Told, Fault>
     ensures honest { D.is_honest desk.new → D.is_honest desk.old }
     ensures check { D.is_honest desk.new → (old : State) → D.stands desk.old old → (new : State) × D.stands desk.new new
         × ChecksCounters old result new }
+    ensures exact { D.is_honest desk.new → TellsRightly (D.audits desk.old) result }
 {
     match desk.audit(alloc) {
         Ok(true) => Ok(Told::Agrees),
@@ -42,6 +46,8 @@ pub fn check_at<D: Desk, W: Write, E: Write>(
     ensures check { D.is_honest desk.new → (old : State) → D.stands desk.old old → (new : State) × D.stands desk.new new
         × ((told : Result Answered Said) × ChecksCounters old told new
         × EndsWith told (record { output = W.contents output.old; output_after = W.contents output.new; errors = E.contents errors.old; errors_after = E.contents errors.new }) result) }
+    ensures exact { (told : Result Answered Said) × EndsWith told (record { output = W.contents output.old; output_after = W.contents output.new; errors = E.contents errors.old; errors_after = E.contents errors.new }) result
+        × (D.is_honest desk.new → TellsRightly (D.audits desk.old) told) }
 {
     let told = check_told(desk, alloc);
     end(&told, output, errors)
@@ -50,8 +56,7 @@ pub fn check_at<D: Desk, W: Write, E: Write>(
 /// Prints whether the counters of the desk over a file agree with its rows on `output`, `ok` or `differs`, and gives the status
 /// with which the program ends.
 ///
-/// The faults are found in this order: those of the settings file (`file`, `no_memory`, `settings`), those of the database file
-/// (`file`, `no_memory`, `not_ours`, `newer`), each status 3, and then those of `check_at`.
+/// The faults are found in the order of `ask`.
 pub fn check<P: Place, W: Write, E: Write>(
     place: P,
     alloc: Global,
@@ -59,14 +64,10 @@ pub fn check<P: Place, W: Write, E: Write>(
     output: &mut W,
     errors: &mut E,
 ) -> u8
-    ensures { EndsAsking (record { output = W.contents output.old; output_after = W.contents output.new; errors = E.contents errors.old; errors_after = E.contents errors.new }) result }
+    ensures over { AsksOver (place_of P.Stored.is_honest P.Stored.stands P.Stored.audits (P.reads place) (P.shows place) (P.finds place) P.closes) files.entry
+        (λ settings. ChecksCounters) (record { output = W.contents output.old; output_after = W.contents output.new; errors = E.contents errors.old; errors_after = E.contents errors.new }) result }
+    ensures exact { AsksRightly (place_of P.Stored.is_honest P.Stored.stands P.Stored.audits (P.reads place) (P.shows place) (P.finds place) P.closes) files.entry Counters
+        (record { output = W.contents output.old; output_after = W.contents output.new; errors = E.contents errors.old; errors_after = E.contents errors.new }) result }
 {
-    match open_desk(place, alloc, files) {
-        Err(fault) => fault.report(errors),
-        Ok(mut desk) => {
-            let status = check_at(&mut desk, alloc, output, errors);
-            P::close(desk);
-            status
-        }
-    }
+    ask(place, alloc, files, &Question::Counters, output, errors)
 }

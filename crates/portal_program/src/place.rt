@@ -1,12 +1,24 @@
 //! Where the program's files are.
-ghost use Rattle.std.specs.Prelude.{◌≡◌, ◌⊎◌, [], IfOk, IfErr};
+ghost use Rattle.std.specs.Prelude.{◌≡◌, ℕ, List, [], Bool, IfOk, IfErr, OnOk};
+ghost use Rattle.portal_ledger.specs.Ledger.{Ledger};
 ghost use Rattle.portal_ledger.specs.States.{running};
-ghost use Rattle.portal_program.specs.Places.{IsOfFile, IsOfSettings, IsOfStore};
+ghost use Rattle.portal_program.specs.Places.{IsOfFile, IsOfSettings, IsOfStore, AreRead, AreNone, Closes, KeepsOff, place_of};
+ghost use Rattle.portal_program.specs.Troubles.{IsAt};
 
+use crate::trouble::Trouble;
 use portal_desk::Desk;
 use portal_ends::Fault;
 use portal_files::{FileFault, Settings, read_settings};
 use std::alloc::Global;
+use std::io::Write;
+
+/// A desk over a file that was opened.
+pub struct Opened<D> {
+    /// The desk.
+    pub desk: D,
+    /// Whether the database was made: none stood in the file.
+    pub is_new: bool,
+}
 
 /// A place that holds files: the host, or one of a test. No contract says what its files hold.
 pub trait Place: Drop {
@@ -16,18 +28,44 @@ pub trait Place: Drop {
     /// A desk over an empty store in memory, which returns what was written to it.
     type Fresh: Desk;
 
+    /// What may be read of the file at a path.
+    ghost reads: { Self → List ℕ → List ℕ → Type 0 };
+
+    /// Which ledger the file at a path is supposed to show.
+    ghost shows: { Self → List ℕ → Ledger → Type 0 };
+
+    /// Whether the file at a path is supposed to hold no database.
+    ghost finds: { Self → List ℕ → Bool → Type 0 };
+
+    /// What is left of a desk over a file once it is closed.
+    ghost closes: { Self.Stored → Type 0 };
+
     /// The bytes of a file. Faults: `File`, and `NoMemory`.
-    fn read(&self, alloc: Global, path: &str) -> Result<Vec<u8>, Fault>
-        ensures { IfErr result IsOfFile };
+    fn read(&self, alloc: Global, path: &str) -> Result<Vec<u8>, Trouble>
+        ensures why { IfErr result (λ trouble. IsOfFile trouble.fault × IsAt path.now trouble) }
+        ensures bytes { IfOk result (λ bytes. reads self.now path.now bytes.items) };
 
-    /// The desk over the file at a path, which is made where it is missing. Faults: `File`, `NoMemory`, `NotOurs` where tables
-    /// of another program stand there, and `Newer` where a later version wrote it.
-    fn open(self, path: &str, settings: Settings) -> Result<Self::Stored, Fault>
-        ensures why { IfErr result IsOfStore }
-        ensures told { IfOk result (λ desk. Self.Stored.settings desk ≡ settings) };
+    /// The desk over the file at a path, which is made where it is missing. Where it `copies`, what its log holds stands in the
+    /// file itself then. Faults: `File`, `NoMemory`, `NotOurs` where tables of another program stand there, and `Newer` where a
+    /// later version wrote it.
+    fn open(
+        self,
+        alloc: Global,
+        path: &str,
+        settings: Settings,
+        copies: bool,
+    ) -> Result<Opened<Self::Stored>, Trouble>
+        ensures why { IfErr result (λ trouble. IsOfStore trouble.fault × IsAt path.now trouble) }
+        ensures told { IfOk result (λ opened. Self.Stored.settings opened.desk ≡ settings) }
+        ensures stands { (L : Ledger) → shows self path.now L
+            → IfOk result (λ opened. Self.Stored.is_honest opened.desk → Self.Stored.stands opened.desk (running L)) }
+        ensures found { IfOk result (λ opened. Self.Stored.is_honest opened.desk → finds self path.now opened.is_new) };
 
-    /// Lets go of a desk over a file. What stands in the file stays.
-    fn close(desk: Self::Stored);
+    /// Closes a desk over the file at a path: what its log holds is copied into the file, which then holds everything. Faults:
+    /// `File`, and `NoMemory`; the file and its log together hold everything then.
+    fn close(alloc: Global, path: &str, desk: Self::Stored) -> Result<(), Trouble>
+        ensures why { IfErr result (λ trouble. IsOfFile trouble.fault × IsAt path.now trouble) }
+        ensures closed { OnOk result (closes desk) };
 
     /// A desk over an empty store in memory. Faults: `NoMemory`, and `File` where the store failed.
     fn open_fresh(alloc: Global, settings: Settings) -> Result<Self::Fresh, Fault>
@@ -51,28 +89,51 @@ pub struct Files<'a> {
 }
 
 /// The settings in a file. Faults: `File`, `NoMemory`, and `Settings` where it is no settings file.
-pub fn settings_at<P: Place>(place: &P, alloc: Global, path: &str) -> Result<Settings, Fault>
-    ensures { IfErr result IsOfSettings }
+pub fn settings_at<P: Place>(place: &P, alloc: Global, path: &str) -> Result<Settings, Trouble>
+    ensures why { IfErr result (λ trouble. IsOfSettings trouble.fault × IsAt path.now trouble) }
+    ensures read { IfOk result (AreRead (P.reads place.now path.now)) }
+    ensures none { IfErr result (λ trouble. trouble.fault ≡ Fault.Settings → AreNone (P.reads place.now path.now)) }
 {
     match place.read(alloc, path) {
-        Err(fault) => Err(fault),
+        Err(trouble) => Err(trouble),
         Ok(bytes) => match read_settings(alloc, bytes.as_slice()) {
             Ok(settings) => Ok(settings),
-            Err(FileFault::Bad) => Err(Fault::Settings),
-            Err(FileFault::Memory) => Err(Fault::NoMemory),
+            Err(FileFault::Bad) => Err(Trouble::plain(Fault::Settings)),
+            Err(FileFault::Memory) => Err(Trouble::plain(Fault::NoMemory)),
         },
     }
 }
 
 /// The desk over the files that a command names. Faults: those of `settings_at`, and then those of `Place::open`.
-pub fn open_desk<P: Place>(place: P, alloc: Global, files: Files<'_>) -> Result<P::Stored, Fault>
-    ensures { IfErr result (λ fault. IsOfSettings fault ⊎ IsOfStore fault) }
+pub fn open_desk<P: Place>(
+    place: P,
+    alloc: Global,
+    files: Files<'_>,
+    copies: bool,
+) -> Result<Opened<P::Stored>, Trouble>
+    ensures why { IfErr result (KeepsOff (P.reads place) files.entry) }
+    ensures told { IfOk result (λ opened. AreRead (P.reads place files.entry.settings.now) (P.Stored.settings opened.desk)) }
+    ensures stands { (L : Ledger) → P.shows place files.entry.db.now L
+        → IfOk result (λ opened. P.Stored.is_honest opened.desk → P.Stored.stands opened.desk (running L)) }
+    ensures found { IfOk result (λ opened. P.Stored.is_honest opened.desk → P.finds place files.entry.db.now opened.is_new) }
 {
     match settings_at(&place, alloc, files.settings) {
-        Err(fault) => Err(fault),
-        Ok(settings) => match place.open(files.db, settings) {
-            Ok(desk) => Ok(desk),
-            Err(fault) => Err(fault),
+        Err(trouble) => Err(trouble),
+        Ok(settings) => match place.open(alloc, files.db, settings, copies) {
+            Ok(opened) => Ok(opened),
+            Err(trouble) => Err(trouble),
         },
+    }
+}
+
+/// Closes a desk over the file at a path. Where that fails, its fault is told on `errors`.
+pub fn close_desk<P: Place, E: Write>(alloc: Global, path: &str, desk: P::Stored, errors: &mut E)
+    ensures { Closes P.closes desk path.now (E.contents errors.old) (E.contents errors.new) }
+{
+    match P::close(alloc, path, desk) {
+        Ok(()) => {}
+        Err(trouble) => {
+            trouble.report(errors);
+        }
     }
 }

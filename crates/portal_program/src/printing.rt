@@ -7,9 +7,11 @@ ghost use Rattle.portal_desk.specs.Sheets.{sheet_of};
 ghost use Rattle.portal_ends.specs.declared.fault.Fault.{Fault as Said};
 ghost use Rattle.portal_ends.specs.declared.ending.Told.{Told as Answered};
 ghost use Rattle.portal_ends.specs.Ends.{EndsWith};
-ghost use Rattle.portal_program.specs.Asking.{EndsAsking, IsOfDesk, IsBatchFile, PrintsBatch};
+ghost use Rattle.portal_program.specs.Asking.{AsksOver, IsOfDesk, IsBatchFile, PrintsBatch};
+ghost use Rattle.portal_program.specs.Places.{place_of};
 
-use crate::place::{Files, Place, open_desk};
+use crate::asking::{Question, ask};
+use crate::place::{Files, Place};
 use portal_desk::Desk;
 use portal_ends::{Fault, Told, end};
 use portal_model::name::Id;
@@ -77,8 +79,7 @@ pub fn print_at<D: Desk, W: Write, E: Write>(
 /// Prints the print file of a batch of the desk over the file at `db` on `output`, and gives the status with which the program
 /// ends.
 ///
-/// The faults are found in this order: those of the settings file (`file`, `no_memory`, `settings`), those of the database file
-/// (`file`, `no_memory`, `not_ours`, `newer`), each status 3, and then those of `print_at`.
+/// The faults are found in the order of `ask`.
 pub fn print<P: Place, W: Write, E: Write>(
     place: P,
     alloc: Global,
@@ -87,14 +88,8 @@ pub fn print<P: Place, W: Write, E: Write>(
     output: &mut W,
     errors: &mut E,
 ) -> u8
-    ensures { EndsAsking (record { output = W.contents output.old; output_after = W.contents output.new; errors = E.contents errors.old; errors_after = E.contents errors.new }) result }
+    ensures { AsksOver (place_of P.Stored.is_honest P.Stored.stands P.Stored.audits (P.reads place) (P.shows place) (P.finds place) P.closes) files.entry
+        (λ settings. PrintsBatch settings.zone batch.now) (record { output = W.contents output.old; output_after = W.contents output.new; errors = E.contents errors.old; errors_after = E.contents errors.new }) result }
 {
-    match open_desk(place, alloc, files) {
-        Err(fault) => fault.report(errors),
-        Ok(mut desk) => {
-            let status = print_at(&mut desk, alloc, batch, output, errors);
-            P::close(desk);
-            status
-        }
-    }
+    ask(place, alloc, files, &Question::Batch(batch), output, errors)
 }

@@ -1,8 +1,10 @@
 //! The whole program, over its words, a place that holds its files, a reader and two writers.
 ghost use Rattle.std.specs.Prelude.{◌≡◌, map};
 ghost use Rattle.portal_http.specs.Exchanges.{between};
+ghost use Rattle.portal_program.specs.Places.{place_of};
+ghost use Rattle.portal_program.specs.Serving.{network_of};
+ghost use Rattle.portal_serve.specs.Turns.{host_of};
 ghost use Rattle.portal_program.specs.Program.{EndsTelling, EndsOrder, EndsProgram, EndsServing};
-ghost use Rattle.portal_ends.specs.Streams.{Prints};
 ghost use Rattle.portal_ends.specs.Streams.{Prints};
 
 use crate::answering::{Request, answer};
@@ -54,7 +56,8 @@ fn serve_order<P: Place, N: Network, W: Write, E: Write>(
     output: &mut W,
     errors: &mut E,
 ) -> u8
-    ensures { EndsServing port count (record { output = W.contents output.old; output_after = W.contents output.new; errors = E.contents errors.old; errors_after = E.contents errors.new }) result }
+    ensures { EndsServing (place_of P.Stored.is_honest P.Stored.stands P.Stored.audits (P.reads place) (P.shows place) (P.finds place) P.closes) files.entry
+        (network_of (host_of N.Bound.accepts N.Bound.stamps N.Bound.closes N.Bound.pauses N.Bound.Reader.remaining N.Bound.Writer.contents) (N.listens network.now)) port count (record { output = W.contents output.old; output_after = W.contents output.new; errors = E.contents errors.old; errors_after = E.contents errors.new }) result }
 {
     if port > 65_535 {
         return Fault::Usage.report(errors);
@@ -76,7 +79,9 @@ fn run_order<P: Place, N: Network, R: Read, W: Write, E: Write>(
     output: &mut W,
     errors: &mut E,
 ) -> u8
-    ensures { EndsOrder (between (R.remaining input.old) (R.remaining input.new) (W.contents output.old) (W.contents output.new)) (E.contents errors.old) (E.contents errors.new) order.entry result }
+    ensures { EndsOrder (place_of P.Stored.is_honest P.Stored.stands P.Stored.audits (P.reads place) (P.shows place) (P.finds place) P.closes)
+        (network_of (host_of N.Bound.accepts N.Bound.stamps N.Bound.closes N.Bound.pauses N.Bound.Reader.remaining N.Bound.Writer.contents) (N.listens network.now))
+        (between (R.remaining input.old) (R.remaining input.new) (W.contents output.old) (W.contents output.new)) (E.contents errors.old) (E.contents errors.new) order.entry result }
 {
     match order {
         Order::Serve {
@@ -152,7 +157,9 @@ pub fn run_program<P: Place, N: Network, S: AsStr, R: Read, W: Write, E: Write>(
     output: &mut W,
     errors: &mut E,
 ) -> u8
-    ensures { EndsProgram (between (R.remaining input.old) (R.remaining input.new) (W.contents output.old) (W.contents output.new)) (E.contents errors.old) (E.contents errors.new) (map S.text words.now) result }
+    ensures { EndsProgram (place_of P.Stored.is_honest P.Stored.stands P.Stored.audits (P.reads place) (P.shows place) (P.finds place) P.closes)
+        (network_of (host_of N.Bound.accepts N.Bound.stamps N.Bound.closes N.Bound.pauses N.Bound.Reader.remaining N.Bound.Writer.contents) (N.listens network.now))
+        (between (R.remaining input.old) (R.remaining input.new) (W.contents output.old) (W.contents output.new)) (E.contents errors.old) (E.contents errors.new) (map S.text words.now) result }
 {
     match read_words(alloc, words) {
         Ok(order) => run_order(place, network, alloc, order, input, output, errors),

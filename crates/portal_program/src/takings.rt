@@ -7,9 +7,11 @@ ghost use Rattle.portal_desk.specs.Calls.{CannotAnswer};
 ghost use Rattle.portal_ends.specs.declared.fault.Fault.{Fault as Said};
 ghost use Rattle.portal_ends.specs.declared.ending.Told.{Told as Answered};
 ghost use Rattle.portal_ends.specs.Ends.{EndsWith};
-ghost use Rattle.portal_program.specs.Asking.{EndsAsking, EndsTakings, IsOfDesk, IsReportOver, IsRangeText, TakesOver};
+ghost use Rattle.portal_program.specs.Asking.{IsOfDesk, IsReportOver, IsRangeText, TakesOver, TakesFrom};
+ghost use Rattle.portal_program.specs.Places.{place_of};
 
-use crate::place::{Files, Place, open_desk};
+use crate::asking::{Question, ask};
+use crate::place::{Files, Place};
 use portal_days::DayRange;
 use portal_desk::Desk;
 use portal_ends::{Fault, Told, end};
@@ -92,9 +94,7 @@ pub fn takings_at<D: Desk, W: Write, E: Write>(
 /// Prints the takings report of the desk over a file on `output`, over the days from `from` to `to`, and gives the status with
 /// which the program ends.
 ///
-/// The faults are found in this order: `usage`, status 2, where `read_range` gives None; those of the settings file (`file`,
-/// `no_memory`, `settings`), those of the database file (`file`, `no_memory`, `not_ours`, `newer`), each status 3, and then those
-/// of `takings_at`.
+/// The faults are found in this order: `usage`, status 2, where `read_range` gives None; and then in that of `ask`.
 pub fn takings<P: Place, W: Write, E: Write>(
     place: P,
     alloc: Global,
@@ -104,31 +104,18 @@ pub fn takings<P: Place, W: Write, E: Write>(
     output: &mut W,
     errors: &mut E,
 ) -> u8
-    ensures { EndsTakings from.now to.now (record { output = W.contents output.old; output_after = W.contents output.new; errors = E.contents errors.old; errors_after = E.contents errors.new }) result }
+    ensures { TakesFrom (place_of P.Stored.is_honest P.Stored.stands P.Stored.audits (P.reads place) (P.shows place) (P.finds place) P.closes) files.entry
+        from.now to.now (record { output = W.contents output.old; output_after = W.contents output.new; errors = E.contents errors.old; errors_after = E.contents errors.new }) result }
 {
     match read_range(from, to) {
         None => Fault::Usage.report(errors),
-        Some(range) => takings_over(place, alloc, files, range, output, errors),
-    }
-}
-
-/// The same over a range of days.
-fn takings_over<P: Place, W: Write, E: Write>(
-    place: P,
-    alloc: Global,
-    files: Files<'_>,
-    range: DayRange,
-    output: &mut W,
-    errors: &mut E,
-) -> u8
-    ensures { EndsAsking (record { output = W.contents output.old; output_after = W.contents output.new; errors = E.contents errors.old; errors_after = E.contents errors.new }) result }
-{
-    match open_desk(place, alloc, files) {
-        Err(fault) => fault.report(errors),
-        Ok(mut desk) => {
-            let status = takings_at(&mut desk, alloc, range, output, errors);
-            P::close(desk);
-            status
-        }
+        Some(range) => ask(
+            place,
+            alloc,
+            files,
+            &Question::Takings(range),
+            output,
+            errors,
+        ),
     }
 }

@@ -16,8 +16,8 @@ use Rattle.portal_http.specs.declared.exchanges.Done.{Done}
 use Rattle.portal_http.specs.declared.exchanges.Cut.{Cut}
 use Rattle.portal_http.specs.declared.exchanges.Cause.{Cause}
 use Rattle.portal_http.specs.declared.exchanges.Cause.TheVariants.{Read, NoRoom, Write}
-use Rattle.portal_serve.specs.Serving.{Serves, ComeWith}
-use Rattle.portal_serve.specs.Command.{IsUntold}
+use Rattle.portal_serve.specs.Serving.{Serves, ComeWith, EndsServing}
+use Rattle.portal_serve.specs.Command.{IsUntold, EndsAt, status_at}
 
 -- ---- one exchange
 
@@ -85,3 +85,9 @@ module _ (Files : Type 0) (may_leave : Files → Type 0) (shows : Files → Ledg
 pub untold_status : (fault : Fault) (old new : Option (List ℕ)) (line : List ℕ) → IsUntold fault old new line → status_of fault ≡ 3
 untold_status fault old new line (inl h) = ap status_of h.0
 untold_status fault old new line (inr h) = ap status_of h.0
+
+pub ends_at : (new : State) (result : Result (Unit {0}) Fault) → EndsServing new result → EndsAt new (status_at result)
+ends_at new (Ok done) works = inl (refl, works)
+ends_at new (Err fault) (inl stopped) = inr (ap status_of stopped.0)
+ends_at new (Err fault) (inr (inl file)) = inr (ap status_of file)
+ends_at new (Err fault) (inr (inr memory)) = inr (ap status_of memory)

@@ -7,7 +7,9 @@ use Rattle.portal_ends.specs.declared.fault.Fault.{Fault}
 use Rattle.portal_ends.specs.declared.fault.Fault.TheVariants.{Cut, NoMemory}
 use Rattle.portal_ends.specs.Faults.{line_of, status_of}
 use Rattle.portal_ends.specs.Streams.{Outlets, Prints}
+use Rattle.portal_files.specs.SettingsFile.{SettingsValue}
 use Rattle.portal_serve.specs.Serving.{SaysOfEach}
+use Rattle.portal_serve.specs.Turns.{HostValue, TakesTurns}
 
 -- the line that tells where the program listens
 unfoldable pub listening_line : ℕ → List ℕ
@@ -42,3 +44,9 @@ status_at (Err fault) = status_of fault
 -- after status 0 the desk works; else the status is 3
 abbrev pub EndsAt : State → ℕ → Type 0
 EndsAt new status = ((status ≡ 0) × (is_over new ≡ false)) ⊎ (status ≡ 3)
+
+-- turns are taken; or the line did not go out, and nothing comes of it
+abbrev pub TellsTurns : (host : HostValue) → SettingsValue → ℕ → ℕ → Outlets → host.Host → State → Result (Unit {0}) Fault → host.Host → State → Type 0
+TellsTurns host settings port count o before old ended after new =
+    TakesTurns host settings count before old ended after new
+    ⊎ ((fault : Fault) × (ended ≡ Err fault) × IsUntold fault o.output o.output_after (listening_line port) × (after ≡ before) × (new ≡ old))

@@ -1,11 +1,47 @@
 //! The clock's moment.
-ghost use Rattle.std.specs.Prelude.{◌≡◌, min, IfErr};
+ghost use Rattle.std.specs.Prelude.{◌≡◌, ℕ, min, Result, IfOk, IfErr, ⊤};
+ghost use Rattle.std.specs.declared.io.Error.{Error as Why};
+ghost use Rattle.std.specs.declared.time.Duration.{Duration as Since};
 ghost use Rattle.portal_serve.specs.Serving.{fault_of_host, IsOfHost};
+ghost use Rattle.portal_serve.specs.Turns.{IsMomentOf};
 
 use portal_ends::Fault;
 use portal_model::moment::Moment;
-use std::io::ErrorKind;
+use std::io::{self, ErrorKind};
 use std::rt::Clock;
+use std::thread;
+use std::time::Duration;
+
+/// A clock, by what it says, and how long it waited. No contract says more of one.
+pub trait Watch {
+    /// What it says.
+    ghost says: { Self → Result Since Why → Type 0 };
+
+    /// So many seconds were waited.
+    ghost waits: { Self → ℕ → Type 0 };
+
+    /// The time since 1970.
+    fn watch(&self) -> io::Result<Duration>
+        ensures { says self.now result };
+
+    /// Waits so many seconds.
+    fn wait(&self, seconds: u64)
+        ensures { waits self.now seconds };
+}
+
+impl<C: Clock> Watch for C {
+    ghost says = { λ _ _. ⊤ };
+
+    ghost waits = { λ _ _. ⊤ };
+
+    fn watch(&self) -> io::Result<Duration> {
+        self.since_1970()
+    }
+
+    fn wait(&self, seconds: u64) {
+        thread::sleep(self, Duration::from_secs(seconds));
+    }
+}
 
 /// The fault of a clock or a source of seeds that failed: want of memory, or `File`.
 pub fn fault_of_host(kind: ErrorKind) -> Fault
@@ -31,10 +67,11 @@ fn moment_at(seconds: u64) -> Moment
 /// The moment of the clock in whole UTC seconds: 0 before 1970, and the greatest moment past it.
 ///
 /// A clock that is set before 1970 answers `InvalidData`. Faults: `File`, and `NoMemory`.
-pub fn moment_now<C: Clock>(clock: &C) -> Result<Moment, Fault>
-    ensures { IfErr result IsOfHost }
+pub fn moment_now<C: Watch>(clock: &C) -> Result<Moment, Fault>
+    ensures why { IfErr result IsOfHost }
+    ensures moment { IfOk result (λ moment. (said : Result Since Why) × C.says clock.now said × IsMomentOf said moment) }
 {
-    match clock.since_1970() {
+    match clock.watch() {
         Ok(since) => Ok(moment_at(since.as_secs())),
         Err(error) => match error.kind() {
             ErrorKind::InvalidData => Ok(moment_at(0)),

@@ -7,7 +7,8 @@ ghost use Rattle.portal_ends.specs.declared.fault.Fault.{Fault as Said};
 ghost use Rattle.portal_http.specs.Runs.{Run};
 ghost use Rattle.portal_http.specs.Headline.{Survives};
 ghost use Rattle.portal_serve.specs.Serving.{Serves};
-ghost use Rattle.portal_serve.specs.Command.{listening_line, status_at, IsUntold, Tells, TellsAll, EndsAt};
+ghost use Rattle.portal_serve.specs.Turns.{host_of};
+ghost use Rattle.portal_serve.specs.Command.{listening_line, status_at, IsUntold, Tells, TellsAll, TellsTurns, EndsAt};
 
 use crate::host::Host;
 use crate::serving::serve_connections;
@@ -55,6 +56,9 @@ fn tell_and_serve<D: Desk, H: Host, W: Write, E: Write>(
     ensures printed { Tells port count (record { output = W.contents output.old; output_after = W.contents output.new; errors = E.contents errors.old; errors_after = E.contents errors.new }) result }
     ensures served { D.is_honest desk.new → (old : State) → D.stands desk.old old → (new : State) × D.stands desk.new new
         × Serves count (λ arrivals responses. Run (D.settings desk.old) old arrivals responses new) × EndsAt new (status_at result) }
+    ensures turns { D.is_honest desk.new → (old : State) → D.stands desk.old old → (new : State) × D.stands desk.new new
+        × TellsTurns (host_of H.accepts H.stamps H.closes H.pauses H.Reader.remaining H.Writer.contents) (D.settings desk.old) port count
+        (record { output = W.contents output.old; output_after = W.contents output.new; errors = E.contents errors.old; errors_after = E.contents errors.new }) host.old old result host.new new }
 {
     match tell_port(alloc, port, output) {
         Err(fault) => Err(fault),
@@ -66,7 +70,8 @@ fn tell_and_serve<D: Desk, H: Host, W: Write, E: Write>(
 ///
 /// `listening 127.0.0.1:` and the port are printed on `output` first. Then one connection after another is served: its
 /// request is carried out at the clock's moment with a fresh seed, as `exchange` says. On `errors` `portal: cut` is
-/// printed of a connection that breaks off, and `portal: network` of one that is not accepted.
+/// printed of a connection that breaks off, and `portal: network` of one that is not accepted; from the second of those in a
+/// row on, a second is waited after each.
 ///
 /// Status 0: so many connections were served, and the desk works. Status 3, with the fault's line on `errors`: the desk
 /// has stopped (`portal: stopped`), at once; the clock or the source of seeds failed (`portal: file`,
@@ -89,6 +94,9 @@ pub fn serve<D: Desk, H: Host, W: Write, E: Write>(
         × Serves count (λ arrivals responses. Run (D.settings desk.old) old arrivals responses new) × EndsAt new result }
     ensures survives { D.is_honest desk.new → (L : Ledger) → D.stands desk.old (running L)
         → Serves count (λ arrivals responses. Survives D.Files (D.may_leave desk.new) D.shows (D.settings desk.old) L arrivals responses) }
+    ensures turns { D.is_honest desk.new → (old : State) → D.stands desk.old old → (new : State) × D.stands desk.new new
+        × ((ended : Result (Unit {0}) Said) × (result ≡ status_at ended) × TellsTurns (host_of H.accepts H.stamps H.closes H.pauses H.Reader.remaining H.Writer.contents) (D.settings desk.old) port count
+        (record { output = W.contents output.old; output_after = W.contents output.new; errors = E.contents errors.old; errors_after = E.contents errors.new }) host.old old ended host.new new) }
 {
     match tell_and_serve(desk, alloc, routes, host, port, count, output, errors) {
         Ok(()) => 0,

@@ -9,10 +9,10 @@ mod peers;
 mod seeds;
 mod serving;
 
-pub use clock::moment_now;
+pub use clock::{Watch, moment_now};
 pub use command::serve;
 pub use host::Host;
 pub use loopback::{Loopback, bind_loopback, loopback_address};
 pub use peers::serve_peer;
-pub use seeds::fresh_seed;
+pub use seeds::{Draw, fresh_seed};
 pub use serving::serve_connections;

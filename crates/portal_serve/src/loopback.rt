@@ -1,18 +1,19 @@
 //! A host that serves the machine itself: a port of its loopback address, its clock and its source of seeds.
-ghost use Rattle.std.specs.Prelude.{◌≡◌, ◌∷◌, [], IfErr};
+ghost use Rattle.std.specs.Prelude.{◌≡◌, ◌∷◌, [], Result, IfOk, IfErr, ⊤};
+ghost use Rattle.std.specs.declared.io.Error.{Error as Why};
+ghost use Rattle.std.specs.declared.time.Duration.{Duration as Since};
+ghost use Rattle.portal_serve.specs.Turns.{IsMomentOf};
 ghost use Rattle.std.specs.Net.Addr.{ipv4_octets};
 ghost use Rattle.std.specs.Net.Socket.{v4_ip, v4_port};
 ghost use Rattle.portal_ends.specs.declared.fault.Fault.TheVariants.{Network};
 
-use crate::clock::moment_now;
+use crate::clock::{Watch, moment_now};
 use crate::host::Host;
-use crate::seeds::fresh_seed;
+use crate::seeds::{Draw, fresh_seed};
 use portal_ends::Fault;
 use portal_model::moment::Moment;
 use std::io::Read;
 use std::net::{Ipv4Addr, Net, Shutdown, SocketAddr, SocketAddrV4, TcpListener, TcpStream};
-use std::random::RandomSource;
-use std::rt::Clock;
 
 /// The address that is served: a port of 127.0.0.1, which no other machine reaches.
 pub fn loopback_address(port: u16) -> SocketAddrV4
@@ -63,10 +64,19 @@ fn drain(mut reader: TcpStream, writer: &TcpStream) {
     }
 }
 
-impl<'h, H: Clock + RandomSource> Host for Loopback<'h, H> {
+impl<'h, H: Watch + Draw> Host for Loopback<'h, H> {
     type Reader = TcpStream;
 
     type Writer = TcpStream;
+
+    ghost accepts = { λ _ _ _. ⊤ };
+
+    ghost stamps = { λ before given after. IfOk given (λ stamp.
+        ((said : Result Since Why) × H.says before.host.now said × IsMomentOf said stamp.0) × H.draws before.host.now stamp.1) };
+
+    ghost closes = { λ _ _ _ _. ⊤ };
+
+    ghost pauses = { λ before after. H.waits before.host.now 1 };
 
     fn accept(&mut self) -> Option<(TcpStream, TcpStream)> {
         let Ok(accepted) = self.listener.accept() else {
@@ -91,5 +101,9 @@ impl<'h, H: Clock + RandomSource> Host for Loopback<'h, H> {
 
     fn close(&mut self, reader: TcpStream, writer: TcpStream) {
         drain(reader, &writer);
+    }
+
+    fn pause(&mut self) {
+        self.host.wait(1);
     }
 }

@@ -1,8 +1,11 @@
 //! One peer.
-ghost use Rattle.std.specs.Prelude.{◌≡◌, ℕ, List, Option};
+ghost use Rattle.std.specs.Prelude.{◌≡◌, ℕ, List, Option, Result};
+ghost use Rattle.portal_http.specs.declared.exchanges.Done.{Done as Ended};
+ghost use Rattle.portal_http.specs.declared.exchanges.Cut.{Cut as Broken};
+ghost use Rattle.portal_http.specs.Exchanges.{between, EndsExchange};
 ghost use Rattle.portal_ledger.specs.States.{State};
 ghost use Rattle.portal_ends.specs.declared.fault.Fault.{Fault as Said};
-ghost use Rattle.portal_http.specs.Runs.{Run};
+ghost use Rattle.portal_http.specs.Runs.{Run, Served};
 ghost use Rattle.portal_serve.specs.Serving.{Serves, ComeWith, Says};
 
 use portal_desk::Desk;
@@ -27,6 +30,8 @@ fn ask<D: Desk, R: Read, W: Write>(
     ensures honest { D.is_honest desk.new → D.is_honest desk.old }
     ensures served { D.is_honest desk.new → (old : State) → D.stands desk.old old → (new : State) × D.stands desk.new new
         × Serves 1 (λ arrivals responses. ComeWith moment seed arrivals × Run (D.settings desk.old) old arrivals responses new) }
+    ensures exchanged { D.is_honest desk.new → (old : State) → D.stands desk.old old → (new : State) × D.stands desk.new new
+        × ((ended : Result Ended Broken) × EndsExchange (between (R.remaining reader.old) (R.remaining reader.new) (W.contents writer.old) (W.contents writer.new)) moment seed (λ arrivals responses. Served (D.settings desk.old) old arrivals responses new) ended) }
 {
     exchange(desk, alloc, routes, moment, seed, reader, writer)
 }
@@ -48,6 +53,8 @@ pub fn serve_peer<D: Desk, R: Read, W: Write, E: Write>(
     ensures said { (said : Option Said) × Says said (E.contents errors.old) (E.contents errors.new) }
     ensures served { D.is_honest desk.new → (old : State) → D.stands desk.old old → (new : State) × D.stands desk.new new
         × Serves 1 (λ arrivals responses. ComeWith moment seed arrivals × Run (D.settings desk.old) old arrivals responses new) }
+    ensures exchanged { D.is_honest desk.new → (old : State) → D.stands desk.old old → (new : State) × D.stands desk.new new
+        × ((ended : Result Ended Broken) × EndsExchange (between (R.remaining reader.old) (R.remaining reader.new) (W.contents writer.old) (W.contents writer.new)) moment seed (λ arrivals responses. Served (D.settings desk.old) old arrivals responses new) ended) }
 {
     match ask(desk, alloc, routes, moment, seed, reader, writer) {
         Ok(_) => {}

@@ -13,7 +13,7 @@ module _ {S : Type 0} (g : Ghosts S) where
   abbrev pub HasStopped : StoreDesk S → Type 0
   HasStopped desk = IsStopped g desk.tables
 
-  -- no table of ours stands in the store, or the head has a layout that this version reads
+  -- no foreign key acts on a table of ours, and none of ours stands in the store, or the head has a layout that this version reads
   unfoldable pub MayBeTaken : Held S → Type 0
   MayBeTaken conn = IsKnown (state g conn).now
 

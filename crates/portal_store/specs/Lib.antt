@@ -1,5 +1,6 @@
 pub mod Acting
 pub mod Adopting
+pub mod Counters
 pub mod DeskAt
 pub mod Judging
 pub mod Laws

@@ -2,8 +2,8 @@
 ghost use Rattle.std.specs.Prelude.{◌≡◌, ◌≢◌, ℕ, Option, MatchResult, IfErr, IfOk};
 ghost use Rattle.portal_ledger.specs.Ledger.{Ledger};
 ghost use Rattle.portal_ledger.specs.States.{running};
-ghost use Rattle.portal_tables.specs.Adopting.{FailsToAdopt, IsExact, IsRead};
-ghost use Rattle.portal_tables.specs.TablesAt.{ConnAt, ConnIsHonest, ConnMayLeave, Files};
+ghost use Rattle.portal_tables.specs.Adopting.{FailsToAdopt, IsExact, IsRead, OthersTaken};
+ghost use Rattle.portal_tables.specs.TablesAt.{ConnAt, ConnIsHonest, ConnMayLeave, Files, OthersLeft};
 ghost use Rattle.portal_tables.specs.declared.fault.OpenFault.TheVariants.{Store};
 ghost use Rattle.portal_store.specs.Adopting.{HasStopped, IsAsItWas, IsCause, IsOpen, IsSpared, MayBeTaken, TellsHead};
 ghost use Rattle.portal_store.specs.DeskAt.{DeskAt, DeskIsHonest, DeskMayLeave, settings_of};
@@ -22,7 +22,7 @@ impl<S: Alter> StoreDesk<S> {
     /// Refused: `NotOurs` where a table has one of the product's names and the head is not one row with a layout,
     /// `Newer` where its layout is past this version's, `Memory`, and `Store` where the store failed. But for `Store`
     /// nothing has changed then. A store that shows a ledger is never refused as `NotOurs` or `Newer`, and shows the
-    /// ledger still. The settings are dropped on a refusal.
+    /// ledger still, and each table beside the product's keeps its rows. The settings are dropped on a refusal.
     pub fn adopt(conn: Connection<S>, settings: Settings) -> Result<StoreDesk<S>, Refused<S>>
         ensures honest { MatchResult result
             (λ desk. DeskIsHonest S.Store desk → ConnIsHonest S.Store conn)
@@ -30,6 +30,9 @@ impl<S: Alter> StoreDesk<S> {
         ensures adopted { (L : Ledger) → ConnAt S.Store conn L → MatchResult result
             (λ desk. DeskIsHonest S.Store desk → DeskAt S.Store desk (running L))
             (λ refused. ConnIsHonest S.Store refused.connection → FailsToAdopt S.Store L refused) }
+        ensures others { (L : Ledger) → ConnAt S.Store conn L → MatchResult result
+            (λ desk. DeskIsHonest S.Store desk → OthersTaken S.Store conn desk.tables)
+            (λ refused. ConnIsHonest S.Store refused.connection → OthersLeft S.Store conn refused.connection) }
         ensures told { IfOk result (λ desk. settings_of desk ≡ settings) }
         ensures works { IfOk result (λ desk. ¬ HasStopped S.Store desk) }
         ensures why { MatchResult result

@@ -1,6 +1,7 @@
 //! The desk.
 ghost use Rattle.std.specs.Prelude.{◌≡◌};
 ghost use Rattle.portal_tables.specs.TablesAt.{Files, FilesShow, IsHonest, MayLeave, TablesAt};
+ghost use Rattle.portal_store.specs.Counters.{CountersAre};
 ghost use Rattle.portal_store.specs.Laws.{left_by, shown_sound};
 ghost use Rattle.portal_store.specs.OpenIs.{OpenIs};
 
@@ -43,6 +44,8 @@ impl<S: Alter> Desk for StoreDesk<S> {
     ghost may_leave = { λ d files. MayLeave S.Store d.tables files };
 
     ghost shows = { FilesShow };
+
+    ghost audits = { λ d agrees. CountersAre S.Store d.tables agrees };
 
     ghost leaves = { λ d s stands files may. left_by _ d.tables s stands.0 files may };
 

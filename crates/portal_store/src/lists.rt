@@ -4,6 +4,7 @@ ghost use Rattle.portal_model.specs.Captive.{all_sessions};
 ghost use Rattle.portal_model.specs.History.{codes_of, is_open_at};
 ghost use Rattle.portal_tables.specs.Lists.{AreSales, AreRefunds};
 ghost use Rattle.portal_tables.specs.TablesAt.{IsHonest};
+ghost use Rattle.portal_store.specs.Counters.{CountersAre};
 ghost use Rattle.portal_store.specs.Paid.{paid_days};
 ghost use Rattle.portal_store.specs.Rest.{KeepsRest};
 ghost use Rattle.portal_store.specs.Steps.{Leads, Tells};
@@ -51,7 +52,7 @@ impl<S: Alter> StoreDesk<S> {
         }
     }
 
-    /// The sales within the two moments, both included.
+    /// The sales within the two moments, both included, in the order in which their vouchers were issued.
     pub(crate) fn find_sales(
         &mut self,
         alloc: Global,
@@ -63,7 +64,7 @@ impl<S: Alter> StoreDesk<S> {
         ensures read { Leads S.Store self.old.tables self.new.tables
             (λ old new. Tells result (λ found H. AreSales H from to found.items) old new) }
     {
-        match self.tables.sales_between(alloc, from, to) {
+        match self.tables.sales_as_issued(alloc, from, to) {
             Ok(found) => Ok(found),
             Err(fault) => Err(refused(fault)),
         }
@@ -87,12 +88,13 @@ impl<S: Alter> StoreDesk<S> {
         }
     }
 
-    /// Whether the counters agree with what they count.
+    /// Whether the counters agree with what they count, exactly.
     pub(crate) fn check_counters(&mut self) -> Result<bool, Refusal>
         ensures rest { KeepsRest self.old self.new }
         ensures honest { IsHonest S.Store self.new.tables → IsHonest S.Store self.old.tables }
         ensures read { Leads S.Store self.old.tables self.new.tables
             (λ old new. Tells result (λ agrees H. agrees ≡ true) old new) }
+        ensures exact { IsHonest S.Store self.new.tables → IfOk result (CountersAre S.Store self.old.tables) }
     {
         match self.tables.audit() {
             Ok(agrees) => Ok(agrees),

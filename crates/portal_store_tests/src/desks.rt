@@ -1,21 +1,25 @@
-//! Desks over new stores in memory: what they answer, exchanges with them, serving by them, and one that has stopped.
+//! Desks over new stores in memory: what they answer, exchanges with them, serving by them, and one that has
+//! stopped.
 //!
 //! All of it is written for the desks of any place. Only `InMemory` and the last functions name the store.
+ghost use Rattle.std.specs.Prelude.{⊤};
 ghost use Rattle.portal_host.specs.Laws.{desk_is_honest};
 
-use crate::exchanges::{Met, Peer, meet_all};
-use crate::orders::{Order, command};
-use crate::requests::MOMENT;
-use crate::values::{PLANS, moment};
+use crate::day::{PLANS, all_questions};
+use crate::exchanges::{Met, Peer, meet, meet_all, whole_peer};
+use crate::requests::{MOMENT, NO_ROUTE, REQUEST, STOPPED, UNROUTED};
 use crate::{serving, subcommands};
 use portal_desk::Desk;
 use portal_desk::prepared::Prepared;
 use portal_ends::Fault;
-use portal_files::{Settings, sample_settings};
+use portal_files::{Settings, read_plans, sample_settings};
 use portal_host::HostFiles;
 use portal_http::{Arrival, run};
+use portal_model::command::Command;
+use portal_model::moment::Moment;
 use portal_model::refusal::Refusal;
-use portal_program::place::Place;
+use portal_program::place::{Opened, Place};
+use portal_program::trouble::Trouble;
 use portal_route::Routes;
 use portal_serve::Host;
 use portal_store::StoreDesk;
@@ -32,18 +36,33 @@ impl Place for InMemory {
 
     type Fresh = StoreDesk<MemStore>;
 
+    ghost reads = { λ _ _ _. ⊥ };
+
+    ghost shows = { λ _ _ _. ⊥ };
+
+    ghost finds = { λ _ _ _. ⊤ };
+
+    ghost closes = { λ _. ⊤ };
+
     ghost is_fresh_honest = { λ desk. desk_is_honest desk };
 
-    fn read(&self, _alloc: Global, _path: &str) -> Result<Vec<u8>, Fault> {
-        Err(Fault::File)
+    fn read(&self, _alloc: Global, _path: &str) -> Result<Vec<u8>, Trouble> {
+        Err(Trouble::plain(Fault::File))
     }
 
-    fn open(self, _path: &str, _settings: Settings) -> Result<StoreDesk<MemStore>, Fault> {
-        Err(Fault::File)
+    fn open(
+        self,
+        _alloc: Global,
+        _path: &str,
+        _settings: Settings,
+        _copies: bool,
+    ) -> Result<Opened<StoreDesk<MemStore>>, Trouble> {
+        Err(Trouble::plain(Fault::File))
     }
 
-    fn close(desk: StoreDesk<MemStore>) {
+    fn close(_alloc: Global, _path: &str, desk: StoreDesk<MemStore>) -> Result<(), Trouble> {
         let _conn = desk.release();
+        Ok(())
     }
 
     fn open_fresh(alloc: Global, settings: Settings) -> Result<StoreDesk<MemStore>, Fault> {
@@ -71,7 +90,7 @@ fn arrivals(alloc: Global, requests: &[(u64, &[u8])]) -> Option<Vec<Arrival>> {
     Some(arrivals)
 }
 
-/// What the desk answers to requests that arrive at moments, one after another.
+/// What the desk answers to requests that arrive one after another.
 fn answers_of<D: Desk>(alloc: Global, desk: &mut D, arrivals: &[Arrival]) -> Option<Vec<Vec<u8>>> {
     let routes = Routes::new(alloc).ok()?;
     let mut out = Vec::new(alloc);
@@ -79,8 +98,13 @@ fn answers_of<D: Desk>(alloc: Global, desk: &mut D, arrivals: &[Arrival]) -> Opt
     Some(out)
 }
 
-fn answers_at<P: Place>(alloc: Global, arrivals: &[Arrival]) -> Option<Vec<Vec<u8>>> {
+fn answers_at<P: Place>(
+    alloc: Global,
+    before: &[Arrival],
+    arrivals: &[Arrival],
+) -> Option<Vec<Vec<u8>>> {
     let mut desk = new_desk::<P>(alloc)?;
+    let _before = answers_of(alloc, &mut desk, before);
     let answers = answers_of(alloc, &mut desk, arrivals);
     P::close_fresh(desk);
     answers
@@ -107,11 +131,15 @@ fn served_at<P: Place, H: Host, W: Write>(
 
 /// A file of plans as it would be kept.
 fn plans_prepared<D: Desk>(alloc: Global, desk: &mut D) -> Option<Prepared> {
-    let plans = command(alloc, Order::Plans(PLANS)).ok()?;
-    desk.prepare(alloc, moment(0).ok()?, plans).ok()
+    let moment = Moment::new(0)?;
+    match read_plans(alloc, PLANS.as_bytes()) {
+        Ok(plans) => desk.prepare(alloc, moment, Command::Load { plans }).ok(),
+        Err(_) => None,
+    }
 }
 
-/// Whether the desk stops where the same plans are prepared twice and kept twice: the store meets rows that it has.
+/// Whether the desk stops where the same plans are prepared twice and kept twice: the store meets rows that
+/// it has.
 fn stops<D: Desk>(alloc: Global, desk: &mut D) -> Option<bool> {
     let first = plans_prepared(alloc, desk)?;
     let second = plans_prepared(alloc, desk)?;
@@ -120,11 +148,54 @@ fn stops<D: Desk>(alloc: Global, desk: &mut D) -> Option<bool> {
     Some(is_kept && is_refused && desk.is_stopped())
 }
 
-/// Whether serving by a desk that has stopped ends, and each subcommand says so.
+fn is_answered<D: Desk>(
+    alloc: Global,
+    desk: &mut D,
+    routes: &Routes,
+    request: &[u8],
+    whole: &str,
+) -> Option<bool> {
+    let met = meet(alloc, desk, routes, &whole_peer(MOMENT, request, 80_000))?;
+    Some(met.taken.as_slice() == whole.as_bytes())
+}
+
+/// Whether a desk that has stopped answers so, by all bytes: to the peer, to a guest, and to a request that
+/// does not reach it.
+pub fn is_refused_by_stopped<D: Desk>(
+    alloc: Global,
+    desk: &mut D,
+    routes: &Routes,
+    peer: &Peer<'_>,
+) -> Option<bool> {
+    let met = meet(alloc, desk, routes, peer)?;
+    let is_refused = met
+        .taken
+        .as_slice()
+        .ends_with(b"\r\n\r\n{\"error\":\"stopped\"}");
+    let is_guest_refused = is_answered(alloc, desk, routes, REQUEST, STOPPED)?;
+    let is_unrouted = is_answered(alloc, desk, routes, UNROUTED, NO_ROUTE)?;
+    Some(is_refused && is_guest_refused && is_unrouted && desk.is_stopped())
+}
+
+/// Whether a desk that has stopped answers each question so.
+fn are_refused_by_stopped<D: Desk>(alloc: Global, desk: &mut D) -> Option<bool> {
+    let routes = Routes::new(alloc).ok()?;
+    for sent in &all_questions(alloc)? {
+        let peer = whole_peer(sent.at, sent.bytes.as_slice(), 80_000);
+        if !is_refused_by_stopped(alloc, desk, &routes, &peer)? {
+            return Some(false);
+        }
+    }
+    Some(true)
+}
+
+/// Whether serving by a desk that has stopped ends, and each question and each subcommand says so.
 fn is_stopped_told<D: Desk>(alloc: Global, desk: &mut D) -> Option<bool> {
     let is_stopped = stops(alloc, desk)?;
+    let is_answered = are_refused_by_stopped(alloc, desk)?;
     let is_served = serving::is_stopped_told(alloc, desk)?;
-    Some(is_stopped && is_served && subcommands::is_stopped_told(alloc, desk)?)
+    let is_said = subcommands::is_stopped_told(alloc, desk)?;
+    Some(is_stopped && is_answered && is_served && is_said)
 }
 
 fn is_stopped_told_at<P: Place>(alloc: Global) -> Option<bool> {
@@ -134,29 +205,20 @@ fn is_stopped_told_at<P: Place>(alloc: Global) -> Option<bool> {
     is_told
 }
 
-/// What a new desk answers to requests that arrive at moments, one after another.
-pub fn answers_in_memory(alloc: Global, requests: &[(u64, &[u8])]) -> Option<Vec<Vec<u8>>> {
+/// What a new desk answers to requests that arrive in one run, after others in a run before it.
+pub fn answers_in_memory(
+    alloc: Global,
+    before: &[(u64, &[u8])],
+    requests: &[(u64, &[u8])],
+) -> Option<Vec<Vec<u8>>> {
+    let before = arrivals(alloc, before)?;
     let arrivals = arrivals(alloc, requests)?;
-    answers_at::<InMemory>(alloc, arrivals.as_slice())
+    answers_at::<InMemory>(alloc, before.as_slice(), arrivals.as_slice())
 }
 
 /// What a new desk answers to a request.
 pub fn answer(alloc: Global, request: &[u8]) -> Option<Vec<u8>> {
-    let mut answers = answers_in_memory(alloc, &[(MOMENT, request)])?;
-    answers.pop()
-}
-
-/// Whether a new desk answers the request with a response that begins and ends so.
-pub fn is_answered(alloc: Global, request: &[u8], front: &str, end: &str) -> Option<bool> {
-    let response = answer(alloc, request)?;
-    let is_begun = response.as_slice().starts_with(front.as_bytes());
-    Some(is_begun && response.as_slice().ends_with(end.as_bytes()))
-}
-
-/// Whether a new desk answers the request with this response.
-pub fn is_whole(alloc: Global, request: &[u8], wanted: &str) -> Option<bool> {
-    let response = answer(alloc, request)?;
-    Some(response.as_slice() == wanted.as_bytes())
+    answers_in_memory(alloc, &[], &[(MOMENT, request)])?.pop()
 }
 
 /// One exchange of a new desk with each peer, in their order.
@@ -174,7 +236,7 @@ pub fn served_in_memory<H: Host, W: Write>(
     served_at::<InMemory, H, W>(alloc, host, count, output)
 }
 
-/// Serving ends where the desk has stopped, and each subcommand says so.
+/// Serving ends where the desk has stopped, and each request and each subcommand says so.
 #[test]
 fn stopped_desk(rt: HostRuntime) {
     assert!(rt; is_stopped_told_at::<InMemory>(rt.alloc()) == Some(true));

@@ -41,8 +41,8 @@ impl<'b> Read for Sender<'b> {
     }
 }
 
-/// Keeps what it takes, at most `size` bytes a write, counts the writes, and once it took `room` bytes fails or takes
-/// nothing.
+/// Keeps what it takes, at most `size` bytes a write, counts the writes, and once it took `room` bytes fails
+/// or takes nothing.
 #[derive(Drop)]
 pub struct Taker {
     pub taken: Vec<u8>,
@@ -80,8 +80,8 @@ impl Write for Taker {
     }
 }
 
-/// A peer that sends these bytes at a moment, so many at once, and takes so many at once. A read of it may fail (0:
-/// none), and once it took `room` bytes it fails, or takes nothing.
+/// A peer that sends these bytes at a moment, so many at once, and takes so many at once. A read of it may
+/// fail (0: none), and once it took `room` bytes it fails, or takes nothing.
 #[derive(Clone, Copy)]
 pub struct Peer<'b> {
     pub at: u64,
@@ -115,7 +115,8 @@ pub struct Met {
     pub taken: Vec<u8>,
 }
 
-fn meet<D: Desk>(alloc: Global, desk: &mut D, routes: &Routes, peer: &Peer<'_>) -> Option<Met> {
+/// One exchange with the peer.
+pub fn meet<D: Desk>(alloc: Global, desk: &mut D, routes: &Routes, peer: &Peer<'_>) -> Option<Met> {
     let moment = Moment::new(peer.at)?;
     let mut reader = sends(peer.bytes, peer.size);
     reader.fails_at = peer.fails_at;

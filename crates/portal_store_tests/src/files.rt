@@ -90,7 +90,8 @@ impl Image {
     }
 }
 
-/// What is left of files where the process ends, and where the power fails: then writes that were not synced are lost.
+/// What is left of files where the process ends, and where the power fails: then writes that were not synced
+/// are lost.
 pub fn remains(alloc: Global, files: Files<FileDisk>) -> Result<(Image, Image), Fail> {
     let ended = Image::of(alloc, &files)?;
     let Files { mut log, mut db } = files;

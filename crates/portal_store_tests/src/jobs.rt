@@ -1,24 +1,28 @@
 //! What is done with a store, whatever kind of store it is.
-use crate::sql::whole;
-use crate::steps::{Step, take_all};
-use crate::stops::play;
+use crate::day::Sent;
+use crate::desks::is_refused_by_stopped;
+use crate::exchanges::{meet, whole_peer};
+use crate::sql::{execute_all, whole};
 use portal_desk::Desk;
-use portal_files::{Settings, read_settings};
+use portal_files::{Settings, sample_settings};
+use portal_http::exchanges::status_shown;
+use portal_model::refusal::Refusal;
+use portal_route::Routes;
 use portal_store::StoreDesk;
 use portal_tables::adopt::Refused;
 use portal_tables::fault::OpenFault;
 use sqlite::{Alter, Connection};
 use std::alloc::Global;
-use std::process::Abort;
 use std::test::Fail;
 
 #[derive(Clone, Copy)]
 pub enum Job<'a> {
-    /// Each step is taken, and told as it says.
-    Steps(&'a [Step]),
-    /// Commands are sent until the desk stops.
-    Play(&'a [Step]),
-    /// The counters are what the rows come to, and all that stands there is told.
+    /// SQL beside the desk.
+    Sql(&'a [&'a str]),
+    /// A desk over the store is sent the requests until it stops. Each is answered as it says, and in the end
+    /// the counters are what the rows come to.
+    Send(&'a [Sent]),
+    /// All that stands there is told.
     Whole,
 }
 
@@ -30,71 +34,110 @@ pub enum Told {
     Unopened,
     /// The store was not adopted.
     Unadopted(OpenFault),
-    /// So many commands were acknowledged, and whether the desk stopped then.
-    Played(usize, bool),
+    /// So many requests were accepted, and whether the desk stopped then.
+    Accepted(usize, bool),
+    /// The request at that place was answered otherwise than it says; one more than there are stands for the
+    /// counters.
+    Otherwise(usize),
     Whole(String),
 }
 
-fn with_desk<S: Alter>(
-    rt: &impl Abort,
+/// What came of requests: how many were accepted, and whether the desk stopped then; or the place of one that
+/// was answered otherwise than it says. One more than there are requests stands for the counters.
+type Outcome = Result<(usize, bool), usize>;
+
+/// Sends the requests in their order until the desk stops. One that stopped answers nothing more.
+fn send_to<D: Desk>(
     alloc: Global,
-    desk: &mut StoreDesk<S>,
-    job: Job<'_>,
-) -> Result<Told, Fail> {
-    match job {
-        Job::Steps(steps) => take_all(rt, alloc, desk, steps)?,
-        Job::Play(script) => return play(rt, alloc, desk, script),
-        Job::Whole => assert!(rt; desk.audit(alloc)?),
+    desk: &mut D,
+    routes: &Routes,
+    requests: &[Sent],
+) -> Option<Outcome> {
+    for (place, sent) in requests.iter().enumerate() {
+        let peer = whole_peer(sent.at, sent.bytes.as_slice(), 80_000);
+        let met = meet(alloc, desk, routes, &peer)?;
+        if status_shown(met.taken.as_slice()) == 503 {
+            let is_right = is_refused_by_stopped(alloc, desk, routes, &peer)?;
+            return Some(if is_right {
+                Ok((place, true))
+            } else {
+                Err(place)
+            });
+        }
+        if !met.taken.as_slice().ends_with(sent.answer.as_bytes()) {
+            return Some(Err(place));
+        }
     }
-    Ok(Told::Nothing)
+    Some(match desk.audit(alloc) {
+        Ok(true) => Ok((requests.len(), false)),
+        Err(Refusal::Stopped) => Ok((requests.len(), true)),
+        _ => Err(requests.len().saturating_add(1)),
+    })
 }
 
-/// A desk over the store does the job, and the connection is handed back.
+/// The same of all routes.
+fn send<D: Desk>(alloc: Global, desk: &mut D, requests: &[Sent]) -> Option<Outcome> {
+    let routes = Routes::new(alloc).ok()?;
+    send_to(alloc, desk, &routes, requests)
+}
+
+fn told_of(outcome: Option<Outcome>) -> Told {
+    match outcome {
+        Some(Ok((count, is_stopped))) => Told::Accepted(count, is_stopped),
+        Some(Err(place)) => Told::Otherwise(place),
+        None => Told::Nothing,
+    }
+}
+
+/// A desk over the store is sent the requests, and the connection is handed back.
 fn with_settings<S: Alter + Drop>(
-    rt: &impl Abort,
     alloc: Global,
     conn: Connection<S>,
     settings: Settings,
-    job: Job<'_>,
+    requests: &[Sent],
 ) -> Result<(Connection<S>, Told), Fail> {
     match StoreDesk::adopt(conn, settings) {
         Ok(adopted) => {
             let mut desk = adopted;
-            let outcome = with_desk(rt, alloc, &mut desk, job);
+            let outcome = send(alloc, &mut desk, requests);
             let conn = desk.release();
-            Ok((conn, outcome?))
+            Ok((conn, told_of(outcome)))
         }
-        Err(Refused { fault, connection }) => match job {
-            Job::Play(_) => Ok((connection, Told::Unadopted(fault))),
-            _ => {
-                drop(connection);
-                Err(fault.into())
-            }
-        },
+        Err(Refused { fault, connection }) => Ok((connection, Told::Unadopted(fault))),
+    }
+}
+
+/// The same by the sample settings.
+fn with_desk<S: Alter + Drop>(
+    alloc: Global,
+    conn: Connection<S>,
+    requests: &[Sent],
+) -> Result<(Connection<S>, Told), Fail> {
+    match sample_settings(alloc) {
+        Ok(settings) => with_settings(alloc, conn, settings, requests),
+        Err(fault) => {
+            drop(conn);
+            Err(fault.into())
+        }
     }
 }
 
 /// Does the job, and hands the connection back.
 pub fn run<S: Alter + Drop>(
-    rt: &impl Abort,
     alloc: Global,
     conn: Connection<S>,
-    settings: &str,
     job: Job<'_>,
 ) -> Result<(Connection<S>, Told), Fail> {
-    let settings = match read_settings(alloc, settings.as_bytes()) {
-        Ok(settings) => settings,
-        Err(fault) => {
-            drop(conn);
-            return Err(fault.into());
-        }
-    };
-    let (mut conn, told) = with_settings(rt, alloc, conn, settings, job)?;
+    let mut conn = conn;
     match job {
+        Job::Sql(texts) => {
+            execute_all(&mut conn, texts)?;
+            Ok((conn, Told::Nothing))
+        }
+        Job::Send(requests) => with_desk(alloc, conn, requests),
         Job::Whole => {
             let whole = whole(alloc, &mut conn)?;
             Ok((conn, Told::Whole(whole)))
         }
-        _ => Ok((conn, told)),
     }
 }

@@ -1,60 +1,41 @@
-//! Tests of the tables and of the desk over real stores, in memory and over files that are closed or stopped and opened
-//! again, of whole requests and of the program over such a desk, by the cases that the desk is described with.
+//! Tests at real stores, in memory and over files, of what no request and no command reaches: stops at each
+//! call of the files, requests in pieces, reads and writes that fail, hosts and places that are made up.
+//! Requests are the one vocabulary; what they are answered as a whole is in tests/cases.
 #![tactic(auto)]
 
 #[cfg(test)]
-mod asked;
+mod adopting;
 #[cfg(test)]
-mod callers;
-#[cfg(test)]
-mod cases;
-#[cfg(test)]
-mod counter;
-#[cfg(test)]
-mod cut_off;
+mod day;
 #[cfg(test)]
 mod desks;
+#[cfg(test)]
+mod disks;
 #[cfg(test)]
 mod exchanges;
 #[cfg(test)]
 mod files;
 #[cfg(test)]
-mod hostile;
-#[cfg(test)]
 mod jobs;
 #[cfg(test)]
-mod kept;
-#[cfg(test)]
-mod largest;
-#[cfg(test)]
-mod orders;
-#[cfg(test)]
-mod place;
+mod pieces;
 #[cfg(test)]
 mod places;
-#[cfg(test)]
-mod plans;
 #[cfg(test)]
 mod program;
 #[cfg(test)]
 mod requests;
 #[cfg(test)]
-mod script;
+mod runs;
+#[cfg(test)]
+mod sales;
 #[cfg(test)]
 mod serving;
 #[cfg(test)]
 mod sql;
 #[cfg(test)]
-mod steps;
-#[cfg(test)]
-mod stopped;
-#[cfg(test)]
 mod stops;
 #[cfg(test)]
 mod subcommands;
 #[cfg(test)]
-mod tables;
-#[cfg(test)]
-mod told;
-#[cfg(test)]
-mod values;
+mod versions;

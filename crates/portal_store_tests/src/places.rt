@@ -1,9 +1,12 @@
 //! A place of one settings file, with the faults that it is to answer.
+ghost use Rattle.std.specs.Prelude.{⊤};
+
 use portal_ends::Fault;
 use portal_files::Settings;
 use portal_model::moment::Moment;
-use portal_program::place::{Files, Place};
+use portal_program::place::{Files, Opened, Place};
 use portal_program::serving::Network;
+use portal_program::trouble::Trouble;
 use portal_serve::Host;
 use std::alloc::Global;
 use std::io::{self, Read, Write};
@@ -15,9 +18,21 @@ pub const SETTINGS: &str = "zone = \"UTC0\"\n\
     desk_token = \"desk-token\"\n\
     gateway_token = \"gate-token\"\n";
 
-/// The paths of the two files. There is no other.
+/// The paths of a database and of the settings file.
 pub const FILES: Files<'static> = Files {
     db: "portal.db",
+    settings: "portal.toml",
+};
+
+/// The same with a database that was made just now.
+pub const NEW: Files<'static> = Files {
+    db: "new.db",
+    settings: "portal.toml",
+};
+
+/// The same with a database that cannot be closed. There is no other file.
+pub const STUCK: Files<'static> = Files {
+    db: "stuck.db",
     settings: "portal.toml",
 };
 
@@ -62,42 +77,61 @@ impl<P: Place> Place for GivenPlace<P> {
 
     type Fresh = P::Fresh;
 
+    ghost reads = { λ _ _ _. ⊤ };
+
+    ghost shows = { λ _ _ _. ⊥ };
+
+    ghost finds = { λ _ _ _. ⊤ };
+
+    ghost closes = { λ _. ⊤ };
+
     ghost is_fresh_honest = { λ desk. P.is_fresh_honest desk };
 
-    fn read(&self, alloc: Global, path: &str) -> Result<Vec<u8>, Fault> {
+    fn read(&self, alloc: Global, path: &str) -> Result<Vec<u8>, Trouble> {
         if path != FILES.settings {
-            return Err(Fault::File);
+            return Err(Trouble::plain(Fault::File));
         }
         match self.shelf.reading {
-            Some(Fault::NoMemory) => return Err(Fault::NoMemory),
-            Some(_) => return Err(Fault::File),
+            Some(Fault::NoMemory) => return Err(Trouble::plain(Fault::NoMemory)),
+            Some(_) => return Err(Trouble::plain(Fault::File)),
             None => {}
         }
         match self.shelf.text.as_bytes().to_vec(alloc) {
             Ok(bytes) => Ok(bytes),
-            Err(_) => Err(Fault::NoMemory),
+            Err(_) => Err(Trouble::plain(Fault::NoMemory)),
         }
     }
 
-    fn open(self, path: &str, settings: Settings) -> Result<P::Fresh, Fault> {
-        if path != FILES.db {
-            return Err(Fault::File);
+    fn open(
+        self,
+        alloc: Global,
+        path: &str,
+        settings: Settings,
+        _copies: bool,
+    ) -> Result<Opened<P::Fresh>, Trouble> {
+        let is_new = path == NEW.db;
+        if path != FILES.db && path != STUCK.db && !is_new {
+            return Err(Trouble::plain(Fault::File));
         }
         match self.shelf.opening {
-            None => match P::open_fresh(self.shelf.alloc, settings) {
-                Ok(desk) => Ok(desk),
-                Err(Fault::NoMemory) => Err(Fault::NoMemory),
-                Err(_) => Err(Fault::File),
+            None => match P::open_fresh(alloc, settings) {
+                Ok(desk) => Ok(Opened { desk, is_new }),
+                Err(Fault::NoMemory) => Err(Trouble::plain(Fault::NoMemory)),
+                Err(_) => Err(Trouble::plain(Fault::File)),
             },
-            Some(Fault::NotOurs) => Err(Fault::NotOurs),
-            Some(Fault::Newer) => Err(Fault::Newer),
-            Some(Fault::NoMemory) => Err(Fault::NoMemory),
-            Some(_) => Err(Fault::File),
+            Some(Fault::NotOurs) => Err(Trouble::plain(Fault::NotOurs)),
+            Some(Fault::Newer) => Err(Trouble::plain(Fault::Newer)),
+            Some(Fault::NoMemory) => Err(Trouble::plain(Fault::NoMemory)),
+            Some(_) => Err(Trouble::plain(Fault::File)),
         }
     }
 
-    fn close(desk: P::Fresh) {
+    fn close(alloc: Global, path: &str, desk: P::Fresh) -> Result<(), Trouble> {
         P::close_fresh(desk);
+        if path == STUCK.db {
+            return Err(Trouble::of_file(alloc, path, "no room"));
+        }
+        Ok(())
     }
 
     fn open_fresh(alloc: Global, settings: Settings) -> Result<P::Fresh, Fault> {
@@ -144,6 +178,14 @@ impl Host for Broken {
 
     type Writer = Nothing;
 
+    ghost accepts = { λ _ _ _. ⊤ };
+
+    ghost stamps = { λ _ _ _. ⊤ };
+
+    ghost closes = { λ _ _ _ _. ⊤ };
+
+    ghost pauses = { λ _ _. ⊤ };
+
     fn accept(&mut self) -> Option<(Nothing, Nothing)> {
         None
     }
@@ -153,10 +195,14 @@ impl Host for Broken {
     }
 
     fn close(&mut self, _reader: Nothing, _writer: Nothing) {}
+
+    fn pause(&mut self) {}
 }
 
 impl Network for Line {
     type Bound = Broken;
+
+    ghost listens = { λ _ _ _. ⊤ };
 
     fn listen(&self, _port: u16) -> Result<Broken, Fault> {
         if self.is_free {

@@ -6,13 +6,10 @@ use portal_ends::Fault;
 use portal_program::answering::{Request, answer};
 use portal_program::place::Place;
 use portal_program::program::run_program;
-use portal_program::seed::read_seed;
 use portal_program::words::words_of;
 use std::alloc::Global;
 use std::env::{Env, FillError};
 use std::io::{self, Error, ErrorKind, Read, Write};
-
-const LAST_MOMENT: u64 = 253_370_764_799;
 
 const SEED: &str = "0000000000000000000000000000000000000000000000000000000000000000";
 
@@ -38,8 +35,8 @@ impl<'b> Read for FailingReader<'b> {
     }
 }
 
-/// A writer that keeps what it takes: at most 100 bytes a write, and no more than it has room for. Then it fails,
-/// or takes nothing.
+/// A writer that keeps what it takes: at most 100 bytes a write, and no more than it has room for. Then it
+/// fails, or takes nothing.
 #[derive(Drop)]
 struct FailingWriter {
     taken: Vec<u8>,
@@ -91,7 +88,8 @@ impl<'w> Env for GivenWords<'w> {
     }
 }
 
-/// Whether the answer to what the reader gives ends with this status, and says just this beside what it writes.
+/// Whether the answer to what the reader gives ends with this status, and says just this beside what it
+/// writes.
 fn ends_at<P: Place, R: Read, W: Write>(
     alloc: Global,
     now: u64,
@@ -158,108 +156,6 @@ fn is_framed(bytes: &[u8], front: &str, end: &str) -> bool {
         && bytes.ends_with(end.as_bytes())
 }
 
-/// The moment, the request, the status, and how the response begins and ends.
-const REQUESTS: &[(u64, &[u8], u8, &str, &str)] = &[
-    (MOMENT, REQUEST, 0, CAPTIVE, ""),
-    (
-        0,
-        REQUEST,
-        0,
-        "HTTP/1.1 200 OK\r\nDate: Thu, 01 Jan 1970 00:00:00 GMT\r\n",
-        "",
-    ),
-    (
-        LAST_MOMENT,
-        REQUEST,
-        0,
-        "HTTP/1.1 200 OK\r\nDate: Thu, 31 Dec 9998 23:59:59 GMT\r\n",
-        "",
-    ),
-    (
-        MOMENT,
-        b"",
-        1,
-        "HTTP/1.1 400 Bad Request\r\n",
-        "{\"error\":\"bad_request\"}",
-    ),
-    (
-        MOMENT,
-        b"GET /captive HTTP/1.1\r\nHost: api\r\n\r\n",
-        1,
-        "HTTP/1.1 400 Bad Request\r\n",
-        "{\"error\":\"bad_device\"}",
-    ),
-    (
-        MOMENT,
-        b"GET /desk//x HTTP/1.1\r\nHost: api\r\n\r\n",
-        1,
-        "HTTP/1.1 404 Not Found\r\n",
-        "{\"error\":\"no_route\"}",
-    ),
-    (
-        MOMENT,
-        b"POST /desk/plans HTTP/1.1\r\nHost: api\r\n\r\n",
-        1,
-        "HTTP/1.1 403 Forbidden\r\n",
-        "{\"error\":\"forbidden\"}",
-    ),
-];
-
-/// Whether the request is read whole, and answered so.
-fn is_answered(
-    alloc: Global,
-    now: u64,
-    request: &[u8],
-    status: u8,
-    front: &str,
-    end: &str,
-) -> bool {
-    let mut input = request;
-    let mut output = Vec::new(alloc);
-    let is_ended = ends_so(alloc, now, SEED, &mut input, &mut output, status, "");
-    is_ended && input.is_empty() && is_framed(output.as_slice(), front, end)
-}
-
-#[test]
-fn one_request(rt: HostRuntime) {
-    for (n, (now, request, status, front, end)) in REQUESTS.iter().enumerate() {
-        let is_answered = is_answered(rt.alloc(), *now, request, *status, front, end);
-        assert!(rt; is_answered, "request {n}");
-    }
-}
-
-/// Moments and seeds that are none.
-const NONE: &[(u64, &str)] = &[
-    (253_370_764_800, SEED),
-    (u64::MAX, SEED),
-    (MOMENT, ""),
-    (MOMENT, "00"),
-    (
-        MOMENT,
-        "00000000000000000000000000000000000000000000000000000000000000000",
-    ),
-    (
-        MOMENT,
-        "0123456789abcdefABCDEF0000000000000000000000000000000000000000gg",
-    ),
-];
-
-/// Whether they are refused before a byte is read or written.
-fn is_refused(alloc: Global, now: u64, seed: &str) -> bool {
-    let mut input = REQUEST;
-    let mut output = Vec::new(alloc);
-    let said = "portal: usage\n";
-    let is_ended = ends_so(alloc, now, seed, &mut input, &mut output, 2, said);
-    is_ended && output.is_empty() && input.len() == REQUEST.len()
-}
-
-#[test]
-fn usage_faults(rt: HostRuntime) {
-    for (now, seed) in NONE {
-        assert!(rt; is_refused(rt.alloc(), *now, seed), "at {now} {seed}");
-    }
-}
-
 /// Whether a request of which so many bytes are read ends so, and so many bytes are written.
 fn is_read(alloc: Global, reads_left: usize, status: u8, said: &str, written: usize) -> bool {
     let mut input = FailingReader {
@@ -280,8 +176,8 @@ fn requests_cut_off(rt: HostRuntime) {
     assert!(rt; is_read(rt.alloc(), 70, 0, "", 224));
 }
 
-/// Whether the response is begun, and it ends so, where there is room for so many bytes. Then a write fails, or takes
-/// nothing.
+/// Whether the response is begun, and it ends so, where there is room for so many bytes. Then a write fails,
+/// or takes nothing.
 fn is_written(alloc: Global, room: usize, fails: bool, status: u8, said: &str) -> bool {
     let mut input = REQUEST;
     let mut output = FailingWriter {
@@ -326,62 +222,8 @@ type Call = (
     &'static str,
 );
 
-const ANSWERS: &[Call] = &[
-    (
-        &["portal", "answer", "--now", "1583125693", "--seed", SEED],
-        1000,
-        0,
-        CAPTIVE,
-        "",
-    ),
-    (
-        &["portal", "answer", "--now", "253370764800", "--seed", SEED],
-        1000,
-        2,
-        "",
-        "portal: usage\n",
-    ),
-    (
-        &["portal", "answer", "--now", "1583125693", "--seed", "0"],
-        1000,
-        2,
-        "",
-        "portal: usage\n",
-    ),
-    (
-        &["portal", "answer", "--seed", SEED],
-        1000,
-        2,
-        "",
-        "error: ",
-    ),
-];
-
 const CALLS: &[Call] = &[
-    (
-        &["portal", "--help"],
-        10_000,
-        0,
-        "The voucher and session desk",
-        "",
-    ),
     (&["portal", "--help"], 10, 3, "The vouche", "portal: cut\n"),
-    (&["portal"], 1000, 2, "", "error: "),
-    (&["portal", "check"], 1000, 2, "", "error: "),
-    (
-        &[
-            "portal",
-            "check",
-            "--db",
-            "portal.db",
-            "--settings",
-            "portal.toml",
-        ],
-        1000,
-        0,
-        "ok\n",
-        "",
-    ),
     (
         &[
             "portal",
@@ -423,53 +265,6 @@ const CALLS: &[Call] = &[
         3,
         "",
         "portal: file\n",
-    ),
-    (
-        &[
-            "portal",
-            "print",
-            "b1",
-            "--db",
-            "portal.db",
-            "--settings",
-            "portal.toml",
-        ],
-        1000,
-        1,
-        "",
-        "portal: unknown_batch\n",
-    ),
-    (
-        &[
-            "portal",
-            "takings",
-            "1970-01-01",
-            "1970-01-01",
-            "--db",
-            "portal.db",
-            "--settings",
-            "portal.toml",
-        ],
-        1000,
-        0,
-        "day ",
-        "",
-    ),
-    (
-        &[
-            "portal",
-            "takings",
-            "1970-01-02",
-            "1970-01-01",
-            "--db",
-            "portal.db",
-            "--settings",
-            "portal.toml",
-        ],
-        1000,
-        2,
-        "",
-        "portal: usage\n",
     ),
     (
         &[
@@ -522,9 +317,6 @@ fn is_ended(alloc: Global, call: &Call) -> bool {
 
 #[test]
 fn words_to_status(rt: HostRuntime) {
-    for (n, call) in ANSWERS.iter().enumerate() {
-        assert!(rt; is_ended(rt.alloc(), call), "answer {n}");
-    }
     for (n, call) in CALLS.iter().enumerate() {
         assert!(rt; is_ended(rt.alloc(), call), "call {n}");
     }
@@ -548,16 +340,4 @@ fn words_in_utf8(rt: HostRuntime) {
     assert!(rt; read_words(rt.alloc(), latin) == Err(Fault::Usage));
     let first: &[&[u8]] = &[b"\xff", b"answer"];
     assert!(rt; read_words(rt.alloc(), first) == Err(Fault::Usage));
-}
-
-/// The bytes 0 to 29, and then 254 and 255.
-const SEED_BYTES: [u8; 32] = [
-    0, 1, 2, 3, 4, 5, 6, 7, 8, 9, 10, 11, 12, 13, 14, 15, 16, 17, 18, 19, 20, 21, 22, 23, 24, 25,
-    26, 27, 28, 29, 254, 255,
-];
-
-#[test]
-fn seeds(rt: HostRuntime) {
-    let seed = read_seed("000102030405060708090a0B0c0D0e0F101112131415161718191A1b1C1dFefF");
-    assert!(rt; seed == Some(SEED_BYTES));
 }

@@ -1,4 +1,7 @@
-//! Serving: what peers are sent, what is printed, and the status, over a host that is made up; a port that is taken.
+//! Serving: what peers are sent, what is printed, and the status, over a host that is made up; a port that is
+//! taken.
+ghost use Rattle.std.specs.Prelude.{⊤};
+
 use crate::desks::served_in_memory;
 use crate::exchanges::{Sender, Taker, sends, takes};
 use crate::requests::{BAD_REQUEST, CAPTIVE, MOMENT, REQUEST};
@@ -27,14 +30,15 @@ enum Peer {
     Gone,
 }
 
-/// A host of so many peers, whose clock may fail. It counts how often it was asked for a connection, and keeps what
-/// peers were sent.
+/// A host of so many peers, whose clock may fail. It counts how often it was asked for a connection and for a
+/// pause, and keeps what peers were sent.
 #[derive(Drop)]
 struct Script<'p> {
     alloc: Global,
     peers: &'p [Peer],
     clock: Result<(), Fault>,
     accepts: usize,
+    pauses: usize,
     sent: Vec<u8>,
 }
 
@@ -42,6 +46,14 @@ impl<'p> Host for Script<'p> {
     type Reader = Sender<'static>;
 
     type Writer = Taker;
+
+    ghost accepts = { λ _ _ _. ⊤ };
+
+    ghost stamps = { λ _ _ _. ⊤ };
+
+    ghost closes = { λ _ _ _ _. ⊤ };
+
+    ghost pauses = { λ _ _. ⊤ };
 
     fn accept(&mut self) -> Option<(Sender<'static>, Taker)> {
         self.accepts = self.accepts.saturating_add(1);
@@ -73,6 +85,10 @@ impl<'p> Host for Script<'p> {
         let _kept = self.sent.extend_from_slice(writer.taken.as_slice());
         let _closed = reader;
     }
+
+    fn pause(&mut self) {
+        self.pauses = self.pauses.saturating_add(1);
+    }
 }
 
 /// A host of these peers.
@@ -82,6 +98,7 @@ fn played(alloc: Global, peers: &[Peer], clock: Result<(), Fault>) -> Script<'_>
         peers,
         clock,
         accepts: 0,
+        pauses: 0,
         sent: Vec::new(alloc),
     }
 }
@@ -100,7 +117,8 @@ pub fn served<D: Desk, H: Host, W: Write>(
     Some((status, errors))
 }
 
-/// What came of serving: the status, how often a connection was asked for, what peers were sent, and what was printed.
+/// What came of serving: the status, how often a connection was asked for, what peers were sent, and what was
+/// printed.
 #[derive(Drop)]
 struct Ended {
     status: u8,
@@ -139,6 +157,32 @@ fn outcome(
         output: output.taken,
         errors,
     })
+}
+
+/// Peers of which some are gone before they are accepted, and the pauses that are made: after the second in a
+/// row, and after each further one.
+const GONE: &[(&[Peer], usize)] = &[
+    (&[Peer::Gone, Peer::Asks, Peer::Gone], 0),
+    (&[Peer::Gone, Peer::Gone], 1),
+    (
+        &[Peer::Gone, Peer::Gone, Peer::Gone, Peer::Asks, Peer::Gone],
+        2,
+    ),
+];
+
+/// How often a server pauses that serves these peers.
+fn pauses(alloc: Global, peers: &[Peer]) -> Option<usize> {
+    let mut host = played(alloc, peers, Ok(()));
+    let mut output = takes(alloc, 10);
+    let (status, _errors) = served_in_memory(alloc, &mut host, peers.len() as u64, &mut output)?;
+    if status == 0 { Some(host.pauses) } else { None }
+}
+
+#[test]
+fn pauses_after_failing_accepts(rt: HostRuntime) {
+    for (peers, wanted) in GONE {
+        assert_eq!(rt; pauses(rt.alloc(), peers), Some(*wanted));
+    }
 }
 
 /// The line that tells the port.

@@ -1,8 +1,15 @@
-//! What stands in a store, read by SQL beside the desk.
+//! SQL beside the desk, and what stands in a store.
 use sqlite::{Alter, Connection};
 use std::alloc::Global;
 use std::test::Fail;
 
+/// Carries the statements of each text out.
+pub fn execute_all<S: Alter>(conn: &mut Connection<S>, texts: &[&str]) -> Result<(), Fail> {
+    for text in texts {
+        conn.execute_batch(text)?;
+    }
+    Ok(())
+}
 /// Adds each row that the query answers to the text.
 fn write_rows<S: Alter>(
     conn: &mut Connection<S>,

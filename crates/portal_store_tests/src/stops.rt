@@ -1,291 +1,381 @@
-//! A day at the desk that is stopped at each call of its files, opened again, also with a further stop, and gone on
-//! with: what stands there is the commands that were acknowledged, or one more, whole.
-use crate::files::{Image, Limit, Part};
+//! A day at the desk, and openings of stores of each schema version, that are stopped at each call of the
+//! files. They are opened again, also with a further stop, and gone on with: what stands there is the
+//! requests that were accepted, or one more, whole.
+use crate::day::{COMMANDS, Sent, all_questions, all_sent};
+use crate::disks::{InFiles, Remains};
+use crate::files::{AT_END, Image, Limit, Part};
 use crate::jobs::{Job, Told};
-use crate::script::{CLOSED_DAY, script};
-use crate::steps::{Step, outcome_of, wanted_of};
-use crate::stopped::{InFiles, Remains};
-use crate::values::{FIRST_DEVICE, SEED_CODE, UTC, code, device, id, moment};
-use portal_desk::Desk;
-use portal_model::refusal::Refusal;
-use portal_store::StoreDesk;
+use crate::versions::{FIRST, SECOND, THIRD};
 use portal_tables::fault::OpenFault;
-use sqlite::Alter;
 use std::alloc::Global;
 use std::process::Abort;
 use std::test::Fail;
 
-/// A desk that stopped answers nothing more.
-fn check_stopped<S: Alter>(
-    rt: &impl Abort,
-    alloc: Global,
-    desk: &mut StoreDesk<S>,
-    step: Step,
-) -> Result<(), Fail> {
-    assert!(rt; desk.is_stopped());
-    let stopped = Some(Refusal::Stopped);
-    assert_eq!(rt; outcome_of(alloc, desk, step)?.err(), stopped);
-    let at = moment(4000)?;
-    assert_eq!(rt; desk.state(at, device(FIRST_DEVICE)?).err(), stopped);
-    assert_eq!(rt; desk.voucher(&code(SEED_CODE)?).err(), stopped);
-    assert!(rt; matches!(desk.batch(alloc, &id("b1")?), Err(Refusal::Stopped)));
-    assert!(rt; matches!(desk.open_now(alloc, at), Err(Refusal::Stopped)));
-    assert_eq!(rt; desk.audit(alloc).err(), stopped);
-    assert!(rt; desk.is_stopped());
-    Ok(())
-}
-
-/// Sends the commands in their order until the desk stops. Each is answered as it is to be.
-pub fn play<S: Alter>(
-    rt: &impl Abort,
-    alloc: Global,
-    desk: &mut StoreDesk<S>,
-    script: &[Step],
-) -> Result<Told, Fail> {
-    for (place, step) in script.iter().enumerate() {
-        let outcome = outcome_of(alloc, desk, *step)?;
-        if outcome == Err(Refusal::Stopped) {
-            check_stopped(rt, alloc, desk, *step)?;
-            return Ok(Told::Played(place, true));
-        }
-        assert_eq!(rt; outcome, wanted_of(*step)?, "command {place}");
-    }
-    assert!(rt; !desk.is_stopped());
-    Ok(Told::Played(script.len(), false))
-}
-
-/// So many commands are carried out by one desk.
-const GROUP: usize = 3;
-
-/// A day: its commands, all that stands in the store after so many of them, and the files before each group of them.
-#[derive(Drop)]
-struct Day {
-    alloc: Global,
-    is_numbered: bool,
-    script: Vec<Step>,
-    states: Vec<String>,
-    starts: Vec<(usize, Image)>,
-}
-
-/// All that stands in the store.
-fn left_in(rt: &impl Abort, files: &mut InFiles) -> Result<String, Fail> {
-    match files.visit(rt, UTC, Job::Whole)? {
+/// All that stands in the store of these files.
+fn left_in(alloc: Global, image: &Image) -> Result<String, Fail> {
+    let mut files = InFiles::of(alloc, image)?;
+    match files.visit(Job::Whole)? {
         Told::Whole(left) => Ok(left),
         _ => Err("the files are not opened again".into()),
     }
 }
 
-/// The day, carried out in new files without a stop.
-fn prepared(rt: &impl Abort, alloc: Global, is_numbered: bool) -> Result<Day, Fail> {
-    let script = script(alloc, is_numbered)?;
-    let mut states = Vec::new(alloc);
-    let mut starts = Vec::new(alloc);
-    let mut files = InFiles::new(alloc);
-    states.push(left_in(rt, &mut files)?)?;
-    for (count, step) in script.iter().enumerate() {
-        if count % GROUP == 0 {
-            starts.push((count, files.image()?))?;
-        }
-        drop(files.visit(rt, UTC, Job::Steps(&[*step]))?);
-        states.push(left_in(rt, &mut files)?)?;
-    }
-    drop(files.visit(rt, UTC, Job::Steps(CLOSED_DAY))?);
-    Ok(Day {
-        alloc,
-        is_numbered,
-        script,
-        states,
-        starts,
-    })
-}
-
-/// How many commands of the day stand in files with these bytes. The counters are what the rows come to.
-fn found(rt: &impl Abort, day: &Day, image: &Image) -> Result<usize, Fail> {
-    let mut files = InFiles::of(day.alloc, image)?;
-    let left = left_in(rt, &mut files)?;
-    for (count, state) in day.states.iter().enumerate() {
-        if state.as_str() == left.as_str() {
-            return Ok(count);
-        }
-    }
-    Err("what is left is no part of the day".into())
-}
-
-/// Goes on from files in which `count` commands stand, until `to` do. Numbered requests are all sent again.
-fn go_on(rt: &impl Abort, day: &Day, image: &Image, count: usize, to: usize) -> Result<(), Fail> {
-    let from = if day.is_numbered { 0 } else { count };
-    let rest = day.script.get(from..to).ok_or("past the day")?;
-    let mut files = InFiles::of(day.alloc, image)?;
-    match files.visit(rt, UTC, Job::Play(rest))? {
-        Told::Played(played, false) => assert_eq!(rt; played, rest.len()),
+/// The requests are all accepted, and the files kept.
+fn accept_all(rt: &impl Abort, files: &mut InFiles, requests: &[Sent]) -> Result<(), Fail> {
+    let count = match files.visit(Job::Send(requests))? {
+        Told::Accepted(count, false) | Told::Otherwise(count) => count,
         _ => return Err("the day does not go on".into()),
-    }
-    assert_eq!(rt; found(rt, day, &files.image()?)?, to);
+    };
+    assert_eq!(rt; count, requests.len());
     Ok(())
 }
 
-/// Stops an opening of files in which `count` commands stand, and opens them again: the same stand there. Answers
-/// whether the opening was stopped.
-fn stop_opening(
-    rt: &impl Abort,
-    day: &Day,
-    image: &Image,
-    count: usize,
-    limit: Limit,
-) -> Result<bool, Fail> {
-    let files = InFiles::of(day.alloc, image)?;
-    let Remains {
-        is_closed,
-        ended,
-        failed,
-        ..
-    } = files.stop(rt, UTC, Job::Play(&[]), limit)?;
-    for left in [ended, failed] {
-        if !left.is(image) {
-            assert_eq!(rt; found(rt, day, &left)?, count, "{limit:?}");
-        }
-    }
-    Ok(!is_closed)
+/// What is stopped: an opening of the files, and requests to the desk over them.
+#[derive(Drop)]
+struct Trial<'a> {
+    alloc: Global,
+    /// Requests up to the last of those that are stopped.
+    day: &'a [Sent],
+    /// How many of them stand in the files before.
+    from: usize,
+    is_numbered: bool,
+    start: Image,
+    /// All that stands there before the files are opened, once they are, and after each request.
+    states: Vec<String>,
+    /// Files that stops left, and the last of the states that stands in them.
+    known: Vec<(Image, usize)>,
 }
 
-/// More calls than a group of commands makes of a file, with the opening and the closing.
+/// The trial, with what comes of it where nothing is stopped.
+fn prepared<'a>(
+    rt: &impl Abort,
+    alloc: Global,
+    start: Image,
+    day: &'a [Sent],
+    from: usize,
+    is_numbered: bool,
+) -> Result<Trial<'a>, Fail> {
+    let mut states = Vec::new(alloc);
+    states.push(left_in(alloc, &start)?)?;
+    let mut files = InFiles::of(alloc, &start)?;
+    accept_all(rt, &mut files, &[])?;
+    states.push(left_in(alloc, &files.image()?)?)?;
+    let requests = day.get(from..).ok_or("past the day")?;
+    for request in requests.chunks(1) {
+        accept_all(rt, &mut files, request)?;
+        states.push(left_in(alloc, &files.image()?)?)?;
+    }
+    Ok(Trial {
+        alloc,
+        day,
+        from,
+        is_numbered,
+        start,
+        states,
+        known: Vec::new(alloc),
+    })
+}
+
+/// More calls than a trial makes of a file.
 const MANY: u64 = 1024;
 
 /// Further stops are so many calls apart.
 const STRIDE: usize = 8;
 
-/// Stops openings of the files at this call of the file, and at each that is a stride further, until one is not stopped.
-fn stop_openings(
-    rt: &impl Abort,
-    day: &Day,
-    image: &Image,
-    count: usize,
-    first: Limit,
-) -> Result<(), Fail> {
-    for calls in (first.calls..MANY).step_by(STRIDE) {
-        if !stop_opening(rt, day, image, count, Limit { calls, ..first })? {
-            return Ok(());
-        }
-    }
-    Err("it was never opened".into())
-}
-
-/// A group of commands that is stopped: the first of them, the files before, and files that stops left, with the
-/// number of the commands that stand in them.
-#[derive(Drop)]
-struct Group<'a> {
-    day: &'a Day,
-    from: usize,
-    start: &'a Image,
-    known: Vec<(Image, usize)>,
-}
-
-impl Group<'_> {
-    fn to(&self) -> usize {
-        self.from.saturating_add(GROUP)
-    }
-
-    /// How many commands stand in the files. They are gone on with, and opened with a further stop in each file, at
-    /// every eighth call, of each files from another on; files with the same bytes once.
-    fn found(&mut self, rt: &impl Abort, image: Image) -> Result<usize, Fail> {
-        for (seen, count) in &self.known {
-            if seen.is(&image) {
-                return Ok(*count);
+impl Trial<'_> {
+    /// The last of the states that stands in files with these bytes.
+    fn state_in(&self, image: &Image) -> Result<usize, Fail> {
+        let left = left_in(self.alloc, image)?;
+        let mut found = None;
+        for (place, state) in self.states.iter().enumerate() {
+            if state.as_str() == left.as_str() {
+                found = Some(place);
             }
         }
-        let count = found(rt, self.day, &image)?;
-        go_on(rt, self.day, &image, count, self.to())?;
-        let calls = (self.known.len() % STRIDE) as u64;
-        for part in [Part::Log, Part::Database] {
-            stop_openings(rt, self.day, &image, count, Limit { part, calls })?;
-        }
-        self.known.push((image, count))?;
-        Ok(count)
+        Ok(found.ok_or("what is left is no part of the day")?)
     }
 
-    /// Stops the commands so. Answers whether they were not stopped.
+    /// The last state that is like the first.
+    fn first(&self) -> usize {
+        match self.states.as_slice() {
+            [before, opened, ..] if before.as_str() == opened.as_str() => 1,
+            _ => 0,
+        }
+    }
+
+    /// The requests that are stopped.
+    fn requests(&self) -> Result<&[Sent], Fail> {
+        Ok(self.day.get(self.from..).ok_or("past the day")?)
+    }
+
+    /// Goes on from files of that state to the end. Numbered requests are all sent again.
+    fn go_on(&self, rt: &impl Abort, image: &Image, state: usize) -> Result<(), Fail> {
+        let done = if self.is_numbered {
+            0
+        } else {
+            self.from.saturating_add(state.saturating_sub(1))
+        };
+        let rest = self.day.get(done..).ok_or("past the day")?;
+        let mut files = InFiles::of(self.alloc, image)?;
+        accept_all(rt, &mut files, rest)?;
+        let last = self.states.len().saturating_sub(1);
+        assert_eq!(rt; self.state_in(&files.image()?)?, last);
+        Ok(())
+    }
+
+    /// Stops an opening of files of that state so, and opens them again: the same stands there.
+    /// Answers whether the opening was stopped.
+    fn stop_opening(
+        &self,
+        rt: &impl Abort,
+        image: &Image,
+        state: usize,
+        limit: Limit,
+    ) -> Result<bool, Fail> {
+        let files = InFiles::of(self.alloc, image)?;
+        let Remains {
+            is_closed,
+            ended,
+            failed,
+            ..
+        } = files.stop(Job::Send(&[]), limit)?;
+        for left in [ended, failed] {
+            if !left.is(image) {
+                let found = self.state_in(&left)?;
+                assert_eq!(rt; found, state, "{limit:?}");
+            }
+        }
+        Ok(!is_closed)
+    }
+
+    /// Stops openings of the files at this call of the file, and at each that is a stride further, until one
+    /// is not stopped.
+    fn stop_openings(
+        &self,
+        rt: &impl Abort,
+        image: &Image,
+        state: usize,
+        first: Limit,
+    ) -> Result<(), Fail> {
+        for calls in (first.calls..MANY).step_by(STRIDE) {
+            if !self.stop_opening(rt, image, state, Limit { calls, ..first })? {
+                return Ok(());
+            }
+        }
+        Err("it was never opened".into())
+    }
+
+    /// The state of the files. They are gone on with. On a day they are opened with a further stop in each
+    /// file, at every eighth call, of each files from another on; files with the same bytes once.
+    fn found(&mut self, rt: &impl Abort, image: Image) -> Result<usize, Fail> {
+        for (seen, state) in &self.known {
+            if seen.is(&image) {
+                return Ok(*state);
+            }
+        }
+        let state = self.state_in(&image)?;
+        self.go_on(rt, &image, state)?;
+        let calls = (self.known.len() % STRIDE) as u64;
+        if !self.day.is_empty() {
+            for part in [Part::Log, Part::Database] {
+                self.stop_openings(rt, &image, state, Limit { part, calls })?;
+            }
+        }
+        self.known.push((image, state))?;
+        Ok(state)
+    }
+
+    /// Stops the trial so. Answers whether it was not stopped.
     fn stopped(&mut self, rt: &impl Abort, limit: Limit) -> Result<bool, Fail> {
-        let files = InFiles::of(self.day.alloc, self.start)?;
-        let script = self
-            .day
-            .script
-            .get(self.from..self.to())
-            .ok_or("past the day")?;
+        let files = InFiles::of(self.alloc, &self.start)?;
         let Remains {
             told,
             is_closed,
             ended,
             failed,
-        } = files.stop(rt, UTC, Job::Play(script), limit)?;
-        let (played, is_stopped) = acknowledged(told)?;
-        let least = self.from.saturating_add(played);
-        let most = if is_stopped {
-            least.saturating_add(1)
-        } else {
-            least
+        } = files.stop(Job::Send(self.requests()?), limit)?;
+        let (least, most, is_done) = match told {
+            Told::Unopened => (self.first(), self.first(), false),
+            Told::Unadopted(OpenFault::Store) => (self.first(), 1, false),
+            Told::Accepted(count, is_stopped) => (
+                count.saturating_add(1),
+                count.saturating_add(if is_stopped { 2 } else { 1 }),
+                !is_stopped,
+            ),
+            _ => return Err("neither stopped nor accepted".into()),
         };
         for image in [ended, failed] {
-            let count = self.found(rt, image)?;
+            let state = self.found(rt, image)?;
             assert!(rt;
-                least <= count && count <= most,
-                "{limit:?} {least} {count}"
+                least <= state && state <= most,
+                "{limit:?} {least} {state}"
             );
         }
-        Ok(is_closed && least == self.to())
+        Ok(is_closed && is_done)
     }
-}
 
-/// How many commands were acknowledged, and whether the desk stopped at the next.
-fn acknowledged(told: Told) -> Result<(usize, bool), Fail> {
-    match told {
-        Told::Played(count, is_stopped) => Ok((count, is_stopped)),
-        Told::Unopened | Told::Unadopted(OpenFault::Store) => Ok((0, false)),
-        _ => Err("neither stopped nor played".into()),
-    }
-}
-
-/// Stops the group at each call of the file, from none upward, until it is not stopped. Answers how often it was.
-fn stop_group(rt: &impl Abort, group: &mut Group<'_>, part: Part) -> Result<u64, Fail> {
-    for calls in 0..MANY {
-        if group.stopped(rt, Limit { part, calls })? {
-            return Ok(calls);
+    /// Stops it at each call of the file, from none upward, until it is not stopped.
+    fn stop_at_each(&mut self, rt: &impl Abort, part: Part) -> Result<(), Fail> {
+        for calls in 0..MANY {
+            if self.stopped(rt, Limit { part, calls })? {
+                assert!(rt; calls > 2, "{part:?} {calls}");
+                return Ok(());
+            }
         }
+        Err("it was never done".into())
     }
-    Err("it was never done".into())
 }
 
-/// Stops each group of the day at each call of the file.
-fn stop_day(rt: &impl Abort, alloc: Global, is_numbered: bool, part: Part) -> Result<(), Fail> {
-    let day = prepared(rt, alloc, is_numbered)?;
-    for (from, start) in &day.starts {
-        let mut group = Group {
-            day: &day,
-            from: *from,
-            start,
-            known: Vec::new(alloc),
-        };
-        let stops = stop_group(rt, &mut group, part)?;
-        assert!(rt; stops > 8, "{part:?} {from} {stops}");
+/// So many requests are stopped at each of their calls in one trial.
+const GROUP: usize = 5;
+
+/// The commands of the day.
+fn commands_sent(alloc: Global, is_numbered: bool) -> Result<Vec<Sent>, Fail> {
+    Ok(all_sent(alloc, COMMANDS, is_numbered).ok_or("no day")?)
+}
+
+/// Stops a group of the day, after so many commands, at each call of the file. After the whole day the
+/// questions are answered as after one without a stop.
+fn stop_group(
+    rt: &impl Abort,
+    alloc: Global,
+    from: usize,
+    is_numbered: bool,
+    part: Part,
+) -> Result<(), Fail> {
+    let day = commands_sent(alloc, is_numbered)?;
+    let before = day.get(..from).ok_or("past the day")?;
+    let group = day.get(..from.saturating_add(GROUP)).ok_or("past the day")?;
+    let mut files = InFiles::new(alloc);
+    accept_all(rt, &mut files, before)?;
+    let mut trial = prepared(rt, alloc, files.image()?, group, from, is_numbered)?;
+    trial.stop_at_each(rt, part)?;
+    accept_all(rt, &mut files, trial.requests()?)?;
+    if group.len() == day.len() {
+        let questions = all_questions(alloc).ok_or("no questions")?;
+        accept_all(rt, &mut files, questions.as_slice())?;
     }
     Ok(())
 }
 
 #[test]
-fn day_stopped_by_the_log(rt: HostRuntime) -> Result<(), Fail> {
-    stop_day(&rt, rt.alloc(), false, Part::Log)
+fn morning_stopped_by_the_log(rt: HostRuntime) -> Result<(), Fail> {
+    stop_group(&rt, rt.alloc(), 0, false, Part::Log)
 }
 
 #[test]
-fn day_stopped_by_the_database(rt: HostRuntime) -> Result<(), Fail> {
-    stop_day(&rt, rt.alloc(), false, Part::Database)
+fn evening_stopped_by_the_log(rt: HostRuntime) -> Result<(), Fail> {
+    stop_group(&rt, rt.alloc(), GROUP, false, Part::Log)
 }
 
 #[test]
-fn numbered_day_stopped_by_the_log(rt: HostRuntime) -> Result<(), Fail> {
-    stop_day(&rt, rt.alloc(), true, Part::Log)
+fn morning_stopped_by_the_database(rt: HostRuntime) -> Result<(), Fail> {
+    stop_group(&rt, rt.alloc(), 0, false, Part::Database)
 }
 
 #[test]
-fn numbered_day_stopped_by_the_database(rt: HostRuntime) -> Result<(), Fail> {
-    stop_day(&rt, rt.alloc(), true, Part::Database)
+fn evening_stopped_by_the_database(rt: HostRuntime) -> Result<(), Fail> {
+    stop_group(&rt, rt.alloc(), GROUP, false, Part::Database)
+}
+
+#[test]
+fn numbered_morning_stopped_by_the_log(rt: HostRuntime) -> Result<(), Fail> {
+    stop_group(&rt, rt.alloc(), 0, true, Part::Log)
+}
+
+#[test]
+fn numbered_evening_stopped_by_the_log(rt: HostRuntime) -> Result<(), Fail> {
+    stop_group(&rt, rt.alloc(), GROUP, true, Part::Log)
+}
+
+#[test]
+fn numbered_morning_stopped_by_the_database(rt: HostRuntime) -> Result<(), Fail> {
+    stop_group(&rt, rt.alloc(), 0, true, Part::Database)
+}
+
+#[test]
+fn numbered_evening_stopped_by_the_database(rt: HostRuntime) -> Result<(), Fail> {
+    stop_group(&rt, rt.alloc(), GROUP, true, Part::Database)
+}
+
+/// Stops an opening of the files at each call of one of them.
+fn stop_opening_of(
+    rt: &impl Abort,
+    alloc: Global,
+    files: &InFiles,
+    part: Part,
+) -> Result<(), Fail> {
+    let mut trial = prepared(rt, alloc, files.image()?, &[], 0, false)?;
+    trial.stop_at_each(rt, part)
+}
+
+/// The same of a store that these texts make.
+fn stop_store(rt: &impl Abort, alloc: Global, texts: &[&str], part: Part) -> Result<(), Fail> {
+    let mut files = InFiles::new(alloc);
+    drop(files.visit(Job::Sql(texts))?);
+    stop_opening_of(rt, alloc, &files, part)
+}
+
+#[test]
+fn new_tables_stopped_by_the_log(rt: HostRuntime) -> Result<(), Fail> {
+    stop_store(&rt, rt.alloc(), &[], Part::Log)
+}
+
+#[test]
+fn new_tables_stopped_by_the_database(rt: HostRuntime) -> Result<(), Fail> {
+    stop_store(&rt, rt.alloc(), &[], Part::Database)
+}
+
+const FIRST_STORE: &[&str] = &["BEGIN", FIRST, "COMMIT"];
+
+#[test]
+fn first_version_stopped_by_the_log(rt: HostRuntime) -> Result<(), Fail> {
+    stop_store(&rt, rt.alloc(), FIRST_STORE, Part::Log)
+}
+
+#[test]
+fn first_version_stopped_by_the_database(rt: HostRuntime) -> Result<(), Fail> {
+    stop_store(&rt, rt.alloc(), FIRST_STORE, Part::Database)
+}
+
+const SECOND_STORE: &[&str] = &["BEGIN", FIRST, SECOND, "COMMIT"];
+
+#[test]
+fn second_version_stopped_by_the_log(rt: HostRuntime) -> Result<(), Fail> {
+    stop_store(&rt, rt.alloc(), SECOND_STORE, Part::Log)
+}
+
+#[test]
+fn second_version_stopped_by_the_database(rt: HostRuntime) -> Result<(), Fail> {
+    stop_store(&rt, rt.alloc(), SECOND_STORE, Part::Database)
+}
+
+const THIRD_STORE: &[&str] = &["BEGIN", FIRST, SECOND, THIRD, "COMMIT"];
+
+#[test]
+fn third_version_stopped_by_the_log(rt: HostRuntime) -> Result<(), Fail> {
+    stop_store(&rt, rt.alloc(), THIRD_STORE, Part::Log)
+}
+
+#[test]
+fn third_version_stopped_by_the_database(rt: HostRuntime) -> Result<(), Fail> {
+    stop_store(&rt, rt.alloc(), THIRD_STORE, Part::Database)
+}
+
+/// What was accepted stands in the log alone, since the process ended: the opening reads it there.
+fn stop_log(rt: &impl Abort, alloc: Global, part: Part) -> Result<(), Fail> {
+    let day = commands_sent(alloc, false)?;
+    let files = InFiles::new(alloc);
+    let Remains { ended, .. } = files.stop(Job::Send(day.as_slice()), AT_END)?;
+    stop_opening_of(rt, alloc, &InFiles::of(alloc, &ended)?, part)
+}
+
+#[test]
+fn reading_of_a_log_stopped_by_the_log(rt: HostRuntime) -> Result<(), Fail> {
+    stop_log(&rt, rt.alloc(), Part::Log)
+}
+
+#[test]
+fn reading_of_a_log_stopped_by_the_database(rt: HostRuntime) -> Result<(), Fail> {
+    stop_log(&rt, rt.alloc(), Part::Database)
 }

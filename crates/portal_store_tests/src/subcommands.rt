@@ -1,13 +1,13 @@
 //! The subcommands over a place: which fault comes first, what is printed, and the status.
 use crate::desks::InMemory;
-use crate::places::{FILES, Line, SETTINGS, Shelf, good_shelf};
+use crate::places::{FILES, Line, NEW, SETTINGS, STUCK, Shelf, good_shelf};
 use crate::requests::{CAPTIVE, MOMENT};
 use portal_desk::Desk;
 use portal_ends::Fault;
 use portal_model::moment::Moment;
 use portal_program::answering::{Request, answer, answer_at};
 use portal_program::checking::{check, check_at};
-use portal_program::place::Place;
+use portal_program::place::{Files, Place};
 use portal_program::printing::{print, print_at};
 use portal_program::serving::{Listening, serve};
 use portal_program::takings::{read_range, takings, takings_at};
@@ -124,7 +124,8 @@ fn outcome<P: Place>(shelf: &Shelf, asked: &Asked<'_>) -> Ended {
     }
 }
 
-/// Whether the subcommand over the shelf, with desks in memory, ends with a status and with these texts alone.
+/// Whether the subcommand over the shelf, with desks in memory, ends with a status and with these texts
+/// alone.
 fn ends(shelf: &Shelf, asked: &Asked<'_>, status: u8, output: &str, errors: &str) -> bool {
     outcome::<InMemory>(shelf, asked).is(status, output, errors)
 }
@@ -229,32 +230,27 @@ fn no_fault(rt: HostRuntime) {
     }
 }
 
-/// Ranges of days that are named, from one to the other.
-const RANGES: &[(&str, &str)] = &[
-    ("1969-01-01", "1969-01-01"),
-    ("9999-12-31", "9999-12-31"),
-    ("2020-01-01", "2020-12-31"),
-    ("2019-03-01", "2020-02-29"),
-];
+/// Whether `check` finds a good database in these files, and prints that on its errors.
+fn is_checked<P: Place>(alloc: Global, files: Files<'_>, said: &str) -> bool {
+    let mut output = Vec::new(alloc);
+    let mut errors = Vec::new(alloc);
+    let place = good_shelf(alloc).place::<P>();
+    let status = check(place, alloc, files, &mut output, &mut errors);
+    let ended = Ended {
+        status,
+        output,
+        errors,
+    };
+    ended.is(0, "ok\n", said)
+}
 
-const NO_RANGES: &[(&str, &str)] = &[
-    ("1968-12-31", "1969-01-01"),
-    ("1970-01-02", "1970-01-01"),
-    ("2020-01-01", "2021-01-01"),
-    ("2021-02-29", "2021-03-01"),
-    ("2021-2-1", "2021-03-01"),
-    ("", "2021-03-01"),
-    ("2021-03-01", "10000-01-01"),
-];
-
+/// A database that is new, and one that cannot be closed: the answer and the status stay.
 #[test]
-fn ranges(rt: HostRuntime) {
-    for (from, to) in RANGES {
-        assert!(rt; read_range(from, to).is_some(), "{from} {to}");
-    }
-    for (from, to) in NO_RANGES {
-        assert!(rt; read_range(from, to).is_none(), "{from} {to}");
-    }
+fn new_and_not_closed(rt: HostRuntime) {
+    let alloc = rt.alloc();
+    assert!(rt; is_checked::<InMemory>(alloc, FILES, ""));
+    assert!(rt; is_checked::<InMemory>(alloc, NEW, "portal: new database new.db\n"));
+    assert!(rt; is_checked::<InMemory>(alloc, STUCK, "portal: file\n  stuck.db: no room\n"));
 }
 
 /// Whether these printed nothing but that the desk has stopped.
@@ -302,7 +298,8 @@ fn answer_status<D: Desk>(alloc: Global, desk: &mut D, request: &str) -> Option<
     .ok()
 }
 
-/// Whether each subcommand says that the desk has stopped. A request that does not reach it is answered as ever.
+/// Whether each subcommand says that the desk has stopped. A request that does not reach it is answered as
+/// ever.
 pub fn is_stopped_told<D: Desk>(alloc: Global, desk: &mut D) -> Option<bool> {
     let are_said = is_print_stopped(alloc, desk)
         && is_check_stopped(alloc, desk)

@@ -1,34 +1,55 @@
 -- How the steps of adopting a store follow one another.
-use Rattle.std.proofs.Common.{◌⊎◌, ℕ, false, inl, inr, IfSome, IfNone, List, Option, Some, None, sym, subst, arith}
+use Rattle.std.proofs.Common.{◌≡◌, ◌⊎◌, ℕ, true, false, inl, inr, IfSome, IfNone, List, Option, Some, None, sym, subst, arith}
 use Rattle.sqlite.specs.Order.{Row}
+use Rattle.sqlite.specs.Schema.{Schema}
 use Rattle.sqlite.specs.Effect.{Database}
 use Rattle.sqlite.specs.State.{State, HasCleanDisk, IsUnchanged, Survives}
 use Rattle.sqlite.proofs.StateLemmas.{survives_then}
+use Rattle.portal_sql.proofs.HarmlessLemmas.{both}
 use Rattle.portal_rows.specs.Contents.{Contents}
 use Rattle.portal_rows.specs.Holds.{Holds, HoldsIn, this_layout}
 use Rattle.portal_rows.specs.Others.{KeepsOthers, LeftOthers}
-use Rattle.portal_layouts.specs.Layouts.{Answers, IsOneRow, TellsLayout}
-use Rattle.portal_layouts.specs.Brings.{HasUpgraded, MayUpgrade, number_of, upgraded}
+use Rattle.portal_layouts.specs.Creates.{is_free}
+use Rattle.portal_layouts.specs.Layouts.{Answers, IsOneRow, TellsLayout, is_whole}
+use Rattle.portal_layouts.specs.Brings.{HasUpgraded, number_of, upgraded}
 use Rattle.portal_layouts.specs.declared.layouts.OldLayout.{OldLayout}
 use Rattle.portal_layouts.specs.declared.layouts.OldLayout.TheVariants.{Fourth}
-use Rattle.portal_tables.specs.Adopting.{IsCarried, IsCompleted, LeftCarried}
+use Rattle.portal_tables.specs.Adopting.{IsCarried, IsCompleted, LeftCarried, MayBeUpgraded, SparesOurTables}
 
 -- what was made of the rows that the head answered
 pub tells_by : (db : Database) (rows : List Row) (o : Option ℕ) → Answers db rows → IfSome o (IsOneRow rows) → IfNone o ((layout : ℕ) → ¬ IsOneRow rows layout) → TellsLayout db o
 tells_by db rows (Some n) answers one none = (rows, answers, one)
 tells_by db rows None answers one none = inr (rows, answers, none)
 
--- a look at the head, and then the upgrade
-pub upgrades_crash : (from : OldLayout) (old mid new : State) → (HasCleanDisk mid → TellsLayout old.now (Some (number_of from)) × IsUnchanged old mid) → Survives old mid (λ _. ⊥) → Survives mid new (MayUpgrade from mid)
-    → Survives old new (LeftCarried old.now)
+-- ---- foreign keys
+
+-- tables that stand, and on which no foreign key acts
+pub whole_spares : (schema : Schema) → is_whole schema ≡ true → SparesOurTables schema
+whole_spares schema whole = (both _ _ whole).1
+
+-- a schema with room for the tables
+pub free_spares : (schema : Schema) → is_free schema ≡ true → SparesOurTables schema
+free_spares schema free = (both _ _ free).1
+
+-- a look changed nothing
+pub spared_before : (old mid : State) → IsUnchanged old mid → SparesOurTables mid.now.schema → SparesOurTables old.now.schema
+spared_before old mid same spared = subst (λ (db : Database). SparesOurTables db.schema) same.0.now_is spared
+
+-- ---- a look at the head, and then the upgrade
+
+pub upgrades_crash : (from : OldLayout) (old mid new : State) → (HasCleanDisk mid → TellsLayout old.now (Some (number_of from)) × IsUnchanged old mid) → Survives old mid (λ _. ⊥) → Survives mid new (MayBeUpgraded from mid)
+    → Survives old new (λ trees. SparesOurTables old.now.schema × LeftCarried old.now trees)
 upgrades_crash from old mid new look one two =
-    survives_then old mid new _ _ (LeftCarried old.now) (λ _ db none. absurd none)
+    survives_then old mid new _ _ (λ trees. SparesOurTables old.now.schema × LeftCarried old.now trees) (λ _ db none. absurd none)
     (λ clean db may. let it = look (omega (arith, two.clean)) in (
-      from,
-      it.0,
-      λ t h.
-          let left = may it.1.0.is_open t (subst (λ db. HoldsIn (number_of from) false db t) (sym it.1.0.now_is) h) in
-          (left.0, subst (λ (was : Database). LeftOthers was db) it.1.0.now_is left.1),
+      spared_before old mid it.1 may.0,
+      (
+        from,
+        it.0,
+        λ t h.
+            let left = may.1 it.1.0.is_open t (subst (λ db. HoldsIn (number_of from) false db t) (sym it.1.0.now_is) h) in
+            (left.0, subst (λ (was : Database). LeftOthers was db) it.1.0.now_is left.1),
+      ),
     )) one two
 
 -- a look at the head, and what it led to

@@ -28,7 +28,7 @@ use Rattle.portal_tables.specs.declared.adopt.Refused.{Refused}
 use Rattle.portal_tables.specs.declared.fault.OpenFault.{OpenFault}
 use Rattle.portal_tables.specs.declared.fault.OpenFault.TheVariants.{NotOurs, Newer, Memory, Store}
 use Rattle.portal_tables.specs.declared.tables.Tables.{Tables}
-use Rattle.portal_tables.specs.Adopting.{Carries, Stays, IsBrought, FailsToAdopt, HeadIsNoView, IsExact, IsKept, IsKnown, IsReady, IsWhy, LeftCarried, MayAdopt}
+use Rattle.portal_tables.specs.Adopting.{Carries, Stays, IsBrought, FailsToAdopt, HeadIsNoView, IsExact, IsKept, IsKnown, IsReady, IsWhy, LeftCarried, MayAdopt, TellsKnown}
 use Rattle.portal_tables.specs.Older.{ShowsIn}
 use Rattle.portal_tables.specs.Shown.{ShowsLedger, all_contents_of}
 use Rattle.portal_tables.specs.Stores.{IsBare, IsNamed, ShowsOlder, StoreShows}
@@ -142,12 +142,15 @@ new_left : (L : Ledger) (trees : Trees) → L ≡ [] → LeftHolds trees new_sto
 new_left L trees none left = (left.0, left.1, new_shown L (record { schema = left.0; trees = trees }) none left.2)
 
 left_shown : (L : Ledger) (old : Database) (trees : Trees) → StoreShows L old → MayAdopt old trees → LeftShows (ShowsLedger L) trees × LeftOthers old trees
-left_shown L old trees (inl shown) (inl made) = let it = as_older L old shown in never_both old.schema (named (number_of it.0) L old it.1) made.0
-left_shown L old trees (inl shown) (inr kept) = left_carried L old trees kept.1 (as_older L old shown)
-left_shown L old trees (inr (inl shown)) (inl made) = never_both old.schema (named (number_of shown.0) L old shown.1) made.0
-left_shown L old trees (inr (inl shown)) (inr kept) = left_carried L old trees kept.1 shown
-left_shown L old trees (inr (inr is)) (inl made) = (new_left L trees is.0 made.1, made.2)
-left_shown L old trees (inr (inr is)) (inr kept) = never_both old.schema kept.0 is.1
+left_shown L old trees shows may = go shows may.1
+  where
+    go : StoreShows L old → (IsBare old.schema × LeftHolds trees new_store × LeftOthers old trees) ⊎ (IsNamed old.schema × LeftCarried old trees) → LeftShows (ShowsLedger L) trees × LeftOthers old trees
+    go (inl shown) (inl made) = let it = as_older L old shown in never_both old.schema (named (number_of it.0) L old it.1) made.0
+    go (inl shown) (inr kept) = left_carried L old trees kept.1 (as_older L old shown)
+    go (inr (inl shown)) (inl made) = never_both old.schema (named (number_of shown.0) L old shown.1) made.0
+    go (inr (inl shown)) (inr kept) = left_carried L old trees kept.1 shown
+    go (inr (inr is)) (inl made) = (new_left L trees is.0 made.1, made.2)
+    go (inr (inr is)) (inr kept) = never_both old.schema kept.0 is.1
 
 -- a store that shows a ledger is ours, and not newer
 none_is_not_some : (n : ℕ) → ◌≡◌ {A = Option ℕ} None (Some n) → ⊥
@@ -176,8 +179,11 @@ never_newer L old (inr (inr is)) why = never_both old.schema why.0 is.1
 
 module _ (db : Database) (no_view : HeadIsNoView db.schema) (ours : IsNamed db.schema) (told : Option ℕ) (tells_this : TellsLayout db told) where
   pub exact_known : IsKnown db → (layout : ℕ) × (1 ≤ layout) × (layout ≤ this_layout) × (told ≡ Some layout)
-  exact_known (inl bare) = never_both db.schema ours bare
-  exact_known (inr (named, known)) = (known.0, known.1, known.2, tells_once db no_view told (Some known.0) tells_this known.3)
+  exact_known known = go known.1
+    where
+      go : IsBare db.schema ⊎ (IsNamed db.schema × TellsKnown db) → (layout : ℕ) × (1 ≤ layout) × (layout ≤ this_layout) × (told ≡ Some layout)
+      go (inl bare) = never_both db.schema ours bare
+      go (inr (named, it)) = (it.0, it.1, it.2, tells_once db no_view told (Some it.0) tells_this it.3)
 
   pub exact_why : (fault : OpenFault) → IsWhy fault db → IsExact told fault
   exact_why NotOurs why = tells_once db no_view told None tells_this why.1
@@ -188,8 +194,11 @@ module _ (db : Database) (no_view : HeadIsNoView db.schema) (ours : IsNamed db.s
 -- ---- a store that is not known
 
 known_by : (db : Database) (trees : Trees) → MayAdopt db trees → IsKnown db
-known_by db trees (inl made) = inl made.0
-known_by db trees (inr kept) = let it = kept.1 in inr (kept.0, (number_of it.0, low_enough it.0, high_enough it.0, it.1))
+known_by db trees may = (may.0, go may.1)
+  where
+    go : (IsBare db.schema × LeftHolds trees new_store × LeftOthers db trees) ⊎ (IsNamed db.schema × LeftCarried db trees) → IsBare db.schema ⊎ (IsNamed db.schema × TellsKnown db)
+    go (inl made) = inl made.0
+    go (inr kept) = let it = kept.1 in inr (kept.0, (number_of it.0, low_enough it.0, high_enough it.0, it.1))
 
 -- nothing is added to what a stop may leave of it
 pub spares : (old new : State) → ¬ IsKnown old.now → Survives old new (MayAdopt old.now) → Survives old new (λ _. ⊥)

@@ -13,10 +13,10 @@ use Rattle.portal_model.specs.Rows.{VoucherRow, rows_of, vouchers_of, batches_of
 use Rattle.portal_model.specs.Verdict.{IsLegal}
 use Rattle.portal_laws.proofs.Basics.{map-map, filter-map}
 use Rattle.portal_laws.proofs.Paid.{sales_are_rows, refunds_are_rows}
-use Rattle.portal_lists.specs.Lists.{Lists, ListsAs, is_within, by_refund, sale_shown, sale_read, refund_shown, refund_read}
+use Rattle.portal_lists.specs.Lists.{Lists, ListsAs, is_within, by_refund, by_sale, sale_shown, sale_read, refund_shown, refund_read}
 use Rattle.portal_lists.specs.declared.lists.KeptSale.{KeptSale}
 use Rattle.portal_lists.proofs.Listing.{sorted_from_map}
-use Rattle.portal_tables.specs.Lists.{AreSales, AreRefunds, paid, is_paid_within}
+use Rattle.portal_tables.specs.Lists.{AreOrderedSales, AreSales, AreRefunds, paid, is_paid_within}
 use Rattle.portal_tables.specs.Prices.{price_among, is_priced}
 use Rattle.portal_tables.specs.Shown.{voucher_kept}
 
@@ -121,6 +121,29 @@ module _ (h : History) (legal : IsLegal h) (from to : ℕ) where
       ∙ priced in
       record {
         payments = payments_are (sale_from (rows_of h)) (is_paid_within from to) sold sale_within (sales_of h) (vouchers_of h) vouchers (sales_are_rows h legal) (IsPermutation-refl vouchers) answer each;
+        each = each;
+      }
+
+  -- the same of those that were listed in their order
+  pub ordered_sales_priced : (sales : List KeptSale) → ListsAs sale_shown (λ (v : VoucherRow). is_within from to v.sold) by_sale (map voucher_kept (vouchers_of h)) (map sale_read sales) → (price_of : List ℕ → Option ℕ)
+      → ((id : List ℕ) → price_of id ≡ price_among (plans_of h) (batches_of h) id) → (answer : List (ℕ × ℕ)) → map (λ s. is_priced (price_of s.batch) (sale_read s)) sales ≡ map (λ p. Some (paid p)) answer
+      → AreOrderedSales h from to answer
+  ordered_sales_priced sales l price_of prices answer priced =
+      let sold : VoucherRow → Bool = λ (v : VoucherRow). is_within from to v.sold in
+      let it = behind sold by_sale (λ v. refl) (vouchers_of h) l.listed l.lists in
+      let tell : List ℕ × Option ℕ → Option Payment = λ (s : List ℕ × Option ℕ). is_priced (price_among (plans_of h) (batches_of h) s.0) s in
+      let each : map (sale_from (rows_of h)) it.vouchers ≡ map (λ p. Some (paid p)) answer =
+      (λ i. map (λ v. sale_is v i) it.vouchers)
+      ∙ sym (map-map sale_shown tell it.vouchers)
+      ∙ ap (map tell) (sym (map-map voucher_kept sale_shown it.vouchers) ∙ ap (map sale_shown) (sym it.kept) ∙ sym l.shows)
+      ∙ map-map sale_read tell sales
+      ∙ sym (λ i. map (λ (s : KeptSale). is_priced (prices s.batch i) (sale_read s)) sales)
+      ∙ priced in
+      record {
+        payments = payments_are (sale_from (rows_of h)) (is_paid_within from to) sold sale_within (sales_of h) (vouchers_of h) it.vouchers (sales_are_rows h legal) it.same answer each;
+        vouchers = it.vouchers;
+        same = it.same;
+        sorted = it.sorted;
         each = each;
       }
 

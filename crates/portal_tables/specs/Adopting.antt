@@ -1,5 +1,5 @@
 -- What adopting a store comes to.
-use Rattle.std.specs.Prelude.{◌≡◌, ◌⊎◌, ◌<◌, ◌≤◌, ℕ, false, IsTrue, Option, Some, None}
+use Rattle.std.specs.Prelude.{◌≡◌, ◌⊎◌, ◌<◌, ◌≤◌, ℕ, false, true, IsTrue, Option, Some, None}
 use Rattle.sqlite.specs.Tree.{Trees}
 use Rattle.sqlite.specs.Effect.{Database}
 use Rattle.sqlite.specs.Schema.{Schema}
@@ -13,8 +13,8 @@ use Rattle.portal_layouts.specs.Creates.{new_store}
 use Rattle.portal_rows.specs.Holds.{Holds, HoldsIn, LeftHolds, this_layout}
 use Rattle.portal_rows.specs.Layout.{head_name}
 use Rattle.portal_rows.specs.Others.{KeepsOthers, LeftOthers}
-use Rattle.portal_layouts.specs.Layouts.{TellsLayout}
-use Rattle.portal_layouts.specs.Brings.{number_of, upgraded}
+use Rattle.portal_layouts.specs.Layouts.{TellsLayout, spares_our_tables}
+use Rattle.portal_layouts.specs.Brings.{MayUpgrade, number_of, upgraded}
 use Rattle.portal_layouts.specs.declared.layouts.OldLayout.{OldLayout}
 use Rattle.portal_layouts.specs.declared.layouts.OldLayout.TheVariants.{Fourth}
 use Rattle.portal_tables.specs.declared.fault.OpenFault.{OpenFault}
@@ -30,9 +30,14 @@ use Rattle.portal_tables.specs.TablesAt.{ConnAt, ConnLeaves, OthersLeft, OthersS
 abbrev pub TellsKnown : Database → Type 0
 TellsKnown db = (layout : ℕ) × (1 ≤ layout) × (layout ≤ this_layout) × TellsLayout db (Some layout)
 
--- a store that may be adopted: no table of ours stands there, or the head has a layout that is known
+-- no foreign key acts on a table of ours, whether the table stands or not
+abbrev pub SparesOurTables : Schema → Type 0
+SparesOurTables schema = spares_our_tables schema ≡ true
+
+-- A store that may be adopted: no foreign key acts on a table of ours, and none of ours stands there, or the head has a
+-- layout that is known.
 abbrev pub IsKnown : Database → Type 0
-IsKnown db = IsBare db.schema ⊎ (IsNamed db.schema × TellsKnown db)
+IsKnown db = SparesOurTables db.schema × (IsBare db.schema ⊎ (IsNamed db.schema × TellsKnown db))
 
 -- the head is one row with a layout past this version's
 abbrev pub TellsNewer : Database → Type 0
@@ -66,6 +71,10 @@ IsExact told Store = Unit {0}
 
 -- ---- what became of the tables
 
+-- what a stop may leave of an upgrade beside what it could leave before: nothing where a foreign key acts on a table of ours
+abbrev pub MayBeUpgraded : OldLayout → State → Trees → Type 0
+MayBeUpgraded from old trees = SparesOurTables old.now.schema × MayUpgrade from old trees
+
 -- a store of this version's layout has its index, and all is committed
 pub record IsCompleted (old new : State) : Type 0 where
   pub holds : ((t : Contents) → HoldsIn this_layout false old.now t → Holds new.now t) ⊎ ((t : Contents) → HoldsIn this_layout false old.now t → Holds new.now (upgraded Fourth t))
@@ -89,9 +98,10 @@ Carries db after = Stays db after ⊎ IsBrought db after
 abbrev pub LeftCarried : Database → Trees → Type 0
 LeftCarried db trees = (from : OldLayout) × TellsLayout db (Some (number_of from)) × ((t : Contents) → HoldsIn (number_of from) false db t → LeftHolds trees (upgraded from t) × LeftOthers db trees)
 
--- what a stop may leave beside what it could leave before: a new store where there was none, or the rows that were there
+-- What a stop may leave beside what it could leave before: a new store where there was none, or the rows that were there.
+-- It is nothing where a foreign key acts on a table of ours.
 abbrev pub MayAdopt : Database → Trees → Type 0
-MayAdopt db trees = (IsBare db.schema × LeftHolds trees new_store × LeftOthers db trees) ⊎ (IsNamed db.schema × LeftCarried db trees)
+MayAdopt db trees = SparesOurTables db.schema × ((IsBare db.schema × LeftHolds trees new_store × LeftOthers db trees) ⊎ (IsNamed db.schema × LeftCarried db trees))
 
 -- the rows of our tables were carried over, and all is committed
 pub record IsCarried (old new : State) : Type 0 where

@@ -1,5 +1,5 @@
 -- When tables stand so, and what a stop may leave of them. The layers above cite these words and none of SQL.
-use Rattle.std.specs.Prelude.{◌≡◌, ◌⊎◌, ◌∷◌, Some, None, true, false}
+use Rattle.std.specs.Prelude.{◌≡◌, ◌⊎◌, ◌∷◌, Some, None, Result, MatchResult, true, false}
 use Rattle.sqlite.specs.Tree.{Trees}
 use Rattle.sqlite.specs.State.{HasCleanDisk}
 use Rattle.sqlite.specs.Held.{Held, state}
@@ -8,6 +8,8 @@ use Rattle.portal_sql.specs.StandsAt.{LeftShows, StandsAt}
 use Rattle.portal_ledger.specs.Ledger.{Ledger}
 use Rattle.portal_ledger.specs.States.{State as Standing, running, stopped}
 use Rattle.portal_rows.specs.Others.{KeepsOthers, LeftOthers}
+use Rattle.portal_tables.specs.declared.fault.StoreFault.{StoreFault}
+use Rattle.portal_tables.specs.declared.fault.StoreFault.TheVariants.{Memory, Stopped}
 use Rattle.portal_tables.specs.declared.tables.Tables.{Tables}
 use Rattle.portal_tables.specs.Shown.{ShowsLedger}
 use Rattle.portal_tables.specs.Stores.{StoreShows}
@@ -81,6 +83,14 @@ module _ {S : Type 0} (g : Ghosts S) where
   -- they have stopped
   abbrev pub IsStopped : Tables S → Type 0
   IsStopped tables = tables.is_stopped ≡ true
+
+  -- the fault tells what became of it: want of memory leaves them stopped or working as they were, and after `Stopped` they have stopped
+  abbrev pub TellsStop : Tables S → Tables S → StoreFault → Type 0
+  TellsStop old new fault = ((fault ≡ Memory) × (new.is_stopped ≡ old.is_stopped)) ⊎ ((fault ≡ Stopped) × IsStopped new)
+
+  -- after `Stopped` they have stopped, and any other answer leaves them stopped or working as they were; whatever the disk did
+  abbrev pub KeepsStop : {T : Type 0} → Tables S → Tables S → Result T StoreFault → Type 0
+  KeepsStop old new result = MatchResult result (λ _. new.is_stopped ≡ old.is_stopped) (TellsStop old new)
 
   -- each set of files that a stop may leave after is one that it might leave before
   abbrev pub LeavesNoMore : Tables S → Tables S → Type 0

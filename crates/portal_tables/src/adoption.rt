@@ -8,16 +8,16 @@ ghost use Rattle.portal_layouts.specs.Creates.{IsCommitted, new_store};
 ghost use Rattle.portal_rows.specs.Holds.{Holds, LeftHolds};
 ghost use Rattle.portal_rows.specs.Others.{KeepsOthers, LeftOthers};
 ghost use Rattle.portal_layouts.specs.Layouts.{TellsLayout};
-ghost use Rattle.portal_layouts.specs.Brings.{MayUpgrade};
+ghost use Rattle.portal_layouts.specs.Brings.{HasUpgraded};
 ghost use Rattle.portal_layouts.specs.declared.layouts.OldLayout.TheVariants.{Fourth};
-ghost use Rattle.portal_tables.specs.Adopting.{IsCarried, IsCompleted, IsKnown, IsReady, IsWhy, LeftCarried, MayAdopt, TellsKnown, TellsNewer};
+ghost use Rattle.portal_tables.specs.Adopting.{IsCarried, IsCompleted, IsKnown, IsReady, IsWhy, LeftCarried, MayAdopt, MayBeUpgraded, SparesOurTables, TellsKnown, TellsNewer};
 ghost use Rattle.portal_tables.specs.declared.fault.OpenFault.TheVariants.{NotOurs, Newer, Memory, Store};
 
 use crate::fault::OpenFault;
 use crate::upgrade::upgrade;
 use portal_layouts::creates::{create, is_room};
 use portal_layouts::layouts::{
-    OldLayout, is_any_named, is_indexed, is_whole, layout_in, layout_rows,
+    OldLayout, is_any_named, is_indexed, is_whole, layout_in, layout_rows, spares_our_tables,
 };
 use portal_sql::query::answers;
 use sqlite::{Alter, Connection, Error, ErrorCode};
@@ -54,9 +54,10 @@ fn read_layout<S: Alter>(conn: &mut Connection<S>) -> Result<Option<u64>, OpenFa
 fn start<S: Alter>(conn: &mut Connection<S>) -> Result<(), OpenFault>
     requires { conn.old.in_transaction ≡ false }
     ensures made { HasCleanDisk (state S.Store conn.new) → OnOk result (Holds (state S.Store conn.new).now new_store × KeepsOthers (state S.Store conn.old).now (state S.Store conn.new).now × IsCommitted (state S.Store conn.new)) }
+    ensures spared { OnOk result (SparesOurTables (state S.Store conn.old).now.schema) }
     ensures faults { IfErr result (λ fault. (fault ≡ Memory) ⊎ (fault ≡ Store)) }
     ensures memory { HasCleanDisk (state S.Store conn.new) → IfErr result (λ fault. fault ≡ Memory → IsAsBefore (state S.Store conn.old) (state S.Store conn.new)) }
-    ensures crash { Survives (state S.Store conn.old) (state S.Store conn.new) (λ trees. LeftHolds trees new_store × LeftOthers (state S.Store conn.old).now trees) }
+    ensures crash { Survives (state S.Store conn.old) (state S.Store conn.new) (λ trees. SparesOurTables (state S.Store conn.old).now.schema × LeftHolds trees new_store × LeftOthers (state S.Store conn.old).now trees) }
 {
     if !is_room(conn.schema()) {
         return Err(OpenFault::Store);
@@ -67,15 +68,35 @@ fn start<S: Alter>(conn: &mut Connection<S>) -> Result<(), OpenFault>
     }
 }
 
+/// Upgrades the tables of an older layout. Where a foreign key acts on a table of ours, also on one that the layout does not
+/// have yet, nothing is written.
+fn upgrade_spared<S: Alter>(conn: &mut Connection<S>, from: OldLayout) -> Result<(), OpenFault>
+    requires { conn.old.in_transaction ≡ false }
+    ensures done { HasCleanDisk (state S.Store conn.new) → IsTrue (state S.Store conn.old).is_open
+        → OnOk result (HasUpgraded from (state S.Store conn.old) (state S.Store conn.new)) }
+    ensures spared { OnOk result (SparesOurTables (state S.Store conn.old).now.schema) }
+    ensures faults { IfErr result (λ fault. (fault ≡ Memory) ⊎ (fault ≡ Store)) }
+    ensures memory { HasCleanDisk (state S.Store conn.new) → IsTrue (state S.Store conn.old).is_open → (state S.Store conn.old).now ≡ (state S.Store conn.old).committed
+        → IfErr result (λ fault. fault ≡ Memory → IsAsBefore (state S.Store conn.old) (state S.Store conn.new)) }
+    ensures crash { Survives (state S.Store conn.old) (state S.Store conn.new) (MayBeUpgraded from (state S.Store conn.old)) }
+{
+    if !spares_our_tables(conn.schema()) {
+        return Err(OpenFault::Store);
+    }
+    upgrade(conn, from)?;
+    Ok(())
+}
+
 /// Makes the index of this layout's tables, where it is missing.
 fn complete<S: Alter>(conn: &mut Connection<S>) -> Result<(), OpenFault>
     requires { conn.old.in_transaction ≡ false }
     ensures done { HasCleanDisk (state S.Store conn.new) → IsTrue (state S.Store conn.old).is_open → (state S.Store conn.old).now ≡ (state S.Store conn.old).committed
         → OnOk result (IsCompleted (state S.Store conn.old) (state S.Store conn.new)) }
+    ensures spared { OnOk result (SparesOurTables (state S.Store conn.old).now.schema) }
     ensures faults { IfErr result (λ fault. (fault ≡ Memory) ⊎ (fault ≡ Store)) }
     ensures memory { HasCleanDisk (state S.Store conn.new) → IsTrue (state S.Store conn.old).is_open → (state S.Store conn.old).now ≡ (state S.Store conn.old).committed
         → IfErr result (λ fault. fault ≡ Memory → IsAsBefore (state S.Store conn.old) (state S.Store conn.new)) }
-    ensures crash { Survives (state S.Store conn.old) (state S.Store conn.new) (MayUpgrade Fourth (state S.Store conn.old)) }
+    ensures crash { Survives (state S.Store conn.old) (state S.Store conn.new) (MayBeUpgraded Fourth (state S.Store conn.old)) }
 {
     if !is_whole(conn.schema()) {
         return Err(OpenFault::Store);
@@ -90,26 +111,26 @@ fn complete<S: Alter>(conn: &mut Connection<S>) -> Result<(), OpenFault>
 /// Goes on with the tables that stand in a store; those of an older layout are upgraded.
 fn resume<S: Alter>(conn: &mut Connection<S>) -> Result<(), OpenFault>
     requires { conn.old.in_transaction ≡ false }
-    ensures why { HasCleanDisk (state S.Store conn.new) → MatchResult result (λ _. TellsKnown (state S.Store conn.old).now)
+    ensures why { HasCleanDisk (state S.Store conn.new) → MatchResult result (λ _. SparesOurTables (state S.Store conn.old).now.schema × TellsKnown (state S.Store conn.old).now)
         (λ fault. (fault ≡ NotOurs → TellsLayout (state S.Store conn.old).now None) × (fault ≡ Newer → TellsNewer (state S.Store conn.old).now)) }
     ensures done { HasCleanDisk (state S.Store conn.new) → (state S.Store conn.old).now ≡ (state S.Store conn.old).committed
         → OnOk result (IsCarried (state S.Store conn.old) (state S.Store conn.new)) }
     ensures kept { HasCleanDisk (state S.Store conn.new) → (state S.Store conn.old).now ≡ (state S.Store conn.old).committed
         → IfErr result (λ fault. fault ≢ Store → IsAsBefore (state S.Store conn.old) (state S.Store conn.new)) }
-    ensures crash { Survives (state S.Store conn.old) (state S.Store conn.new) (LeftCarried (state S.Store conn.old).now) }
+    ensures crash { Survives (state S.Store conn.old) (state S.Store conn.new) (λ trees. SparesOurTables (state S.Store conn.old).now.schema × LeftCarried (state S.Store conn.old).now trees) }
 {
     match read_layout(conn)? {
         None => Err(OpenFault::NotOurs),
         Some(1) => {
-            upgrade(conn, OldLayout::First)?;
+            upgrade_spared(conn, OldLayout::First)?;
             Ok(())
         }
         Some(2) => {
-            upgrade(conn, OldLayout::Second)?;
+            upgrade_spared(conn, OldLayout::Second)?;
             Ok(())
         }
         Some(3) => {
-            upgrade(conn, OldLayout::Third)?;
+            upgrade_spared(conn, OldLayout::Third)?;
             Ok(())
         }
         Some(4) => {

@@ -7,12 +7,12 @@ ghost use Rattle.portal_model.specs.Captive.{all_sessions};
 ghost use Rattle.portal_model.specs.History.{is_open_at};
 ghost use Rattle.portal_sql.specs.Looks.{Looks};
 ghost use Rattle.portal_rows.specs.Holds.{HasTables};
-ghost use Rattle.portal_tables.specs.Lists.{AreSales, open_numbered};
+ghost use Rattle.portal_tables.specs.Lists.{AreOrderedSales, AreSales, open_numbered};
 ghost use Rattle.portal_tables.specs.Shown.{OfShown};
 
 use crate::prices::{priced_sales, prices_by_batch};
 use crate::records::read_session;
-use portal_lists::lists::{list_numbers, list_sales};
+use portal_lists::lists::{list_numbers, list_ordered_sales, list_sales};
 use portal_lists::whole::{all_batches, all_plans};
 use portal_model::moment::Moment;
 use portal_model::record::{Session, is_open};
@@ -86,5 +86,22 @@ pub(crate) fn read_sales<S: Alter>(
     let batches = all_batches(conn)?;
     let prices = prices_by_batch(alloc, &plans, &batches)?;
     let sales = list_sales(alloc, conn, from, to)?;
+    Ok(priced_sales(alloc, &prices, &sales)?)
+}
+
+/// The sales within the two moments, both included: of each the moment, and the price in hundredths. They are ordered by moment, and at one moment by the voucher's printed code. The plans and the batches are read once, however many sales there are.
+pub(crate) fn read_ordered_sales<S: Alter>(
+    alloc: Global,
+    conn: &mut Connection<S>,
+    from: Moment,
+    to: Moment,
+) -> Result<Vec<(Moment, u64)>, Fault>
+    ensures found { OfShown (state S.Store conn.old) (state S.Store conn.new) (λ h. IfOk result (λ payments. AreOrderedSales h from to payments.items)) }
+    ensures looks { Looks HasTables result (state S.Store conn.old) (state S.Store conn.new) }
+{
+    let plans = all_plans(conn)?;
+    let batches = all_batches(conn)?;
+    let prices = prices_by_batch(alloc, &plans, &batches)?;
+    let sales = list_ordered_sales(alloc, conn, from, to)?;
     Ok(priced_sales(alloc, &prices, &sales)?)
 }

@@ -7,7 +7,7 @@ ghost use Rattle.portal_rows.specs.Commands.{Fits as FitsColumns, FitsSession, F
 ghost use Rattle.portal_ledger.specs.States.{State as Standing, running};
 ghost use Rattle.portal_ledger.specs.Calls.{Fits, Keeps, FailsToKeep, ReadsOf, ReadsThat, FailsToRead};
 ghost use Rattle.portal_tables.specs.Shown.{IsHeldUnder};
-ghost use Rattle.portal_tables.specs.TablesAt.{ConnAt, ConnIsHonest, ConnMayLeave, Files, IsHonest, MayLeave, OthersKept, TablesAt, LeavesNoMore, IsStopped};
+ghost use Rattle.portal_tables.specs.TablesAt.{ConnAt, ConnIsHonest, ConnMayLeave, Files, IsHonest, MayLeave, OthersKept, TablesAt, LeavesNoMore, IsStopped, KeepsStop, TellsStop};
 ghost use Rattle.portal_tables.specs.declared.fault.StoreFault.TheVariants.{Memory, Stopped};
 
 mod audits;
@@ -72,7 +72,7 @@ impl<S: Alter> Tables<S> {
 
     /// What a fault comes to. Want of memory is told only where the connection still answers, and so nothing has changed.
     fn fault(&mut self, fault: Fault) -> StoreFault
-        ensures told { ((result ≡ Memory) × (self.new.is_stopped ≡ self.old.is_stopped)) ⊎ ((result ≡ Stopped) × (self.new.is_stopped ≡ true)) }
+        ensures told { TellsStop S.Store self.old self.new result }
         ensures same { HasCleanDisk (state S.Store self.new.conn) → result ≡ Memory → IsUnchanged (state S.Store self.old.conn) (state S.Store self.new.conn) }
         ensures survives { Survives (state S.Store self.old.conn) (state S.Store self.new.conn) (λ _. ⊥) }
     {
@@ -93,6 +93,7 @@ impl<S: Alter> Tables<S> {
     pub fn commit(&mut self, marked: &MarkedChanges) -> Result<(), StoreFault>
         ensures honest { IsHonest S.Store self.new → IsHonest S.Store self.old }
         ensures stopped { IsStopped S.Store self.old → IsErrOf result Stopped × (self.new ≡ self.old) }
+        ensures stops { KeepsStop S.Store self.old self.new result }
         ensures commit { IsHonest S.Store self.new → (old : Standing) → TablesAt S.Store self.old old → (a : Accepted) → Fits old marked.now a
             → (new : Standing) × TablesAt S.Store self.new new × MatchResult result (λ _. Keeps old a new) (λ fault. FailsToKeep Memory Stopped old a fault new) }
         ensures others { IsHonest S.Store self.new → (L : Ledger) → TablesAt S.Store self.old (running L) → OthersKept S.Store self.old self.new }
@@ -114,6 +115,7 @@ impl<S: Alter> Tables<S> {
     pub fn head(&mut self) -> Result<Head, StoreFault>
         ensures honest { IsHonest S.Store self.new → IsHonest S.Store self.old }
         ensures stopped { IsStopped S.Store self.old → IsErrOf result Stopped × (self.new ≡ self.old) }
+        ensures stops { KeepsStop S.Store self.old self.new result }
         ensures head { IsHonest S.Store self.new → (old : Standing) → TablesAt S.Store self.old old → (new : Standing) × TablesAt S.Store self.new new
             × LeavesNoMore S.Store self.old self.new × MatchResult result (λ found. ReadsThat old (λ h. found ≡ head_of h) new) (λ fault. FailsToRead Memory Stopped old fault new) }
     {
@@ -130,6 +132,7 @@ impl<S: Alter> Tables<S> {
     pub fn plan(&mut self, id: &Id) -> Result<Option<Plan>, StoreFault>
         ensures honest { IsHonest S.Store self.new → IsHonest S.Store self.old }
         ensures stopped { IsStopped S.Store self.old → IsErrOf result Stopped × (self.new ≡ self.old) }
+        ensures stops { KeepsStop S.Store self.old self.new result }
         ensures plan { IsHonest S.Store self.new → (old : Standing) → TablesAt S.Store self.old old → (new : Standing) × TablesAt S.Store self.new new
             × LeavesNoMore S.Store self.old self.new × MatchResult result (λ found. ReadsThat old (λ h. found ≡ plan_of h id.now) new) (λ fault. FailsToRead Memory Stopped old fault new) }
     {
@@ -146,6 +149,7 @@ impl<S: Alter> Tables<S> {
     pub fn batch(&mut self, id: &Id) -> Result<Option<Batch>, StoreFault>
         ensures honest { IsHonest S.Store self.new → IsHonest S.Store self.old }
         ensures stopped { IsStopped S.Store self.old → IsErrOf result Stopped × (self.new ≡ self.old) }
+        ensures stops { KeepsStop S.Store self.old self.new result }
         ensures batch { IsHonest S.Store self.new → (old : Standing) → TablesAt S.Store self.old old → (new : Standing) × TablesAt S.Store self.new new
             × LeavesNoMore S.Store self.old self.new × MatchResult result (λ found. ReadsThat old (λ h. found ≡ batch_of h id.now) new) (λ fault. FailsToRead Memory Stopped old fault new) }
     {
@@ -162,6 +166,7 @@ impl<S: Alter> Tables<S> {
     pub fn voucher(&mut self, code: &Code) -> Result<Option<Voucher>, StoreFault>
         ensures honest { IsHonest S.Store self.new → IsHonest S.Store self.old }
         ensures stopped { IsStopped S.Store self.old → IsErrOf result Stopped × (self.new ≡ self.old) }
+        ensures stops { KeepsStop S.Store self.old self.new result }
         ensures voucher { IsHonest S.Store self.new → (old : Standing) → TablesAt S.Store self.old old → (new : Standing) × TablesAt S.Store self.new new
             × LeavesNoMore S.Store self.old self.new × MatchResult result (λ found. ReadsThat old (λ h. found ≡ voucher_of h code.now) new) (λ fault. FailsToRead Memory Stopped old fault new) }
     {
@@ -178,6 +183,7 @@ impl<S: Alter> Tables<S> {
     pub fn is_held(&mut self, code: &Code) -> Result<bool, StoreFault>
         ensures honest { IsHonest S.Store self.new → IsHonest S.Store self.old }
         ensures stopped { IsStopped S.Store self.old → IsErrOf result Stopped × (self.new ≡ self.old) }
+        ensures stops { KeepsStop S.Store self.old self.new result }
         ensures is_held { IsHonest S.Store self.new → (old : Standing) → TablesAt S.Store self.old old → (new : Standing) × TablesAt S.Store self.new new
             × LeavesNoMore S.Store self.old self.new × MatchResult result (λ held. ReadsThat old (λ h. held ≡ is_some (issued_of h code.now)) new) (λ fault. FailsToRead Memory Stopped old fault new) }
     {
@@ -194,6 +200,7 @@ impl<S: Alter> Tables<S> {
     pub fn session(&mut self, number: u64) -> Result<Option<Session>, StoreFault>
         ensures honest { IsHonest S.Store self.new → IsHonest S.Store self.old }
         ensures stopped { IsStopped S.Store self.old → IsErrOf result Stopped × (self.new ≡ self.old) }
+        ensures stops { KeepsStop S.Store self.old self.new result }
         ensures session { IsHonest S.Store self.new → (old : Standing) → TablesAt S.Store self.old old → (new : Standing) × TablesAt S.Store self.new new
             × LeavesNoMore S.Store self.old self.new × MatchResult result (λ found. ReadsThat old (λ h. found ≡ session_of h number) new) (λ fault. FailsToRead Memory Stopped old fault new) }
     {
@@ -210,6 +217,7 @@ impl<S: Alter> Tables<S> {
     pub fn last_session(&mut self, device: &Device) -> Result<Option<Session>, StoreFault>
         ensures honest { IsHonest S.Store self.new → IsHonest S.Store self.old }
         ensures stopped { IsStopped S.Store self.old → IsErrOf result Stopped × (self.new ≡ self.old) }
+        ensures stops { KeepsStop S.Store self.old self.new result }
         ensures last_session { IsHonest S.Store self.new → (old : Standing) → TablesAt S.Store self.old old → (new : Standing) × TablesAt S.Store self.new new
             × LeavesNoMore S.Store self.old self.new × MatchResult result (λ found. ReadsThat old (λ h. found ≡ last_session_of h device.now) new) (λ fault. FailsToRead Memory Stopped old fault new) }
     {
@@ -231,6 +239,7 @@ impl<S: Alter> Tables<S> {
     ) -> Result<Option<KeptRequest>, StoreFault>
         ensures honest { IsHonest S.Store self.new → IsHonest S.Store self.old }
         ensures stopped { IsStopped S.Store self.old → IsErrOf result Stopped × (self.new ≡ self.old) }
+        ensures stops { KeepsStop S.Store self.old self.new result }
         ensures request { IsHonest S.Store self.new → (old : Standing) → TablesAt S.Store self.old old → (new : Standing) × TablesAt S.Store self.new new
             × LeavesNoMore S.Store self.old self.new × MatchResult result (λ found. ReadsOf old (λ L. IsHeldUnder L caller.now number.now found) new) (λ fault. FailsToRead Memory Stopped old fault new) }
     {

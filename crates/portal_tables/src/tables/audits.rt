@@ -8,7 +8,7 @@ ghost use Rattle.portal_rows.specs.Holds.{Holds};
 ghost use Rattle.portal_ledger.specs.States.{State as Standing};
 ghost use Rattle.portal_ledger.specs.Calls.{ReadsThat, FailsToRead};
 ghost use Rattle.portal_tables.specs.declared.fault.StoreFault.TheVariants.{Memory, Stopped};
-ghost use Rattle.portal_tables.specs.TablesAt.{IsHonest, TablesAt, LeavesNoMore, IsStopped};
+ghost use Rattle.portal_tables.specs.TablesAt.{IsHonest, TablesAt, LeavesNoMore, IsStopped, KeepsStop};
 
 use super::Tables;
 use crate::fault::StoreFault;
@@ -21,6 +21,7 @@ impl<S: Alter> Tables<S> {
     pub fn audit(&mut self) -> Result<bool, StoreFault>
         ensures honest { IsHonest S.Store self.new → IsHonest S.Store self.old }
         ensures stopped { IsStopped S.Store self.old → IsErrOf result Stopped × (self.new ≡ self.old) }
+        ensures stops { KeepsStop S.Store self.old self.new result }
         ensures audit { IsHonest S.Store self.new → (old : Standing) → TablesAt S.Store self.old old → (new : Standing) × TablesAt S.Store self.new new
             × LeavesNoMore S.Store self.old self.new × MatchResult result (λ audited. ReadsThat old (λ h. audited ≡ true) new) (λ fault. FailsToRead Memory Stopped old fault new) }
         ensures exact { IsHonest S.Store self.new → IsTrue (state S.Store self.old.conn).is_open → (t : Contents) → Holds (state S.Store self.old.conn).now t → IfOk result (λ audited. IsTrue audited ↔ IsAudited t) }

@@ -1,4 +1,4 @@
-use Rattle.std.proofs.Common.{Some, inr, refl}
+use Rattle.std.proofs.Common.{Some, inl, inr, refl}
 use Rattle.portal_ends.specs.declared.fault.Fault.TheVariants.{Network}
 use Rattle.portal_serve.proofs.ServingLemmas.{serves_none}
 use Rattle.portal_serve.proofs.serving.serve_turn.Goals as goal
@@ -8,3 +8,15 @@ returns-in-None-clause-said g c = (Some Network, (inr refl, c.report.ensures.pri
 
 pub returns-in-None-clause-served : goal.returns-in-None-clause-served
 returns-in-None-clause-served g c = λ honest old stands. (old, stands, serves_none (g.D.Desk.settings c.args.desk.now) 1 old)
+
+pub returns-in-None-clause-turn : goal.returns-in-None-clause-turn
+returns-in-None-clause-turn g c = λ honest old stands. (old, stands, inl (refl, refl, c.accept.new.self, c.in-None.ensures, c.pause_after.ensures))
+
+pub returns-in-Ok-clause-turn : goal.returns-in-Ok-clause-turn
+returns-in-Ok-clause-turn g c = λ honest old stands.
+    let met = c.in-Ok.ensures.met honest old stands in (met.0, met.1, inr (refl, c.in-Some.peer, c.accept.new.self, c.in-Some.ensures, met.2))
+
+pub returns-in-Err-clause-turn : goal.returns-in-Err-clause-turn
+returns-in-Err-clause-turn g c = λ honest old stands.
+    let met = c.in-Err.ensures.met honest old stands in
+    (met.0, met.1, (met.2.0, (c.in-Some.peer, c.accept.new.self, c.in-Some.ensures, met.2.1)))

@@ -7,6 +7,8 @@ use Rattle.portal_layouts.specs.Creates.{IsFree, new_store}
 use Rattle.portal_rows.specs.Holds.{LeftHolds}
 use Rattle.portal_rows.specs.Others.{LeftOthers}
 use Rattle.portal_layouts.proofs.FreeLemmas.{free_is}
+use Rattle.portal_tables.specs.Adopting.{SparesOurTables}
+use Rattle.portal_tables.proofs.AdoptLemmas.{free_spares}
 use Rattle.portal_tables.proofs.adoption.start.Goals as goal
 
 pub returns-in-Ok-clause-made : goal.returns-in-Ok-clause-made
@@ -15,11 +17,18 @@ returns-in-Ok-clause-made g c clean =
     let free = subst IsFree c.schema.ensures.value (free_is c.schema.result.now (sym c.is_room.ensures ∙ roomy)) in
     (c.in-Ok.ensures.made clean free, c.in-Ok.ensures.others clean free, c.in-Ok.ensures.committed clean)
 
+pub returns-in-Ok-clause-spared : goal.returns-in-Ok-clause-spared
+returns-in-Ok-clause-spared g c =
+    let roomy : IsTrue c.is_room.result = search rules in
+    subst SparesOurTables c.schema.ensures.value (free_spares c.schema.result.now (sym c.is_room.ensures ∙ roomy))
+
 pub returns-in-Ok-clause-crash : goal.returns-in-Ok-clause-crash
 returns-in-Ok-clause-crash g c =
     let roomy : IsTrue c.is_room.result = search rules in
-    let free = subst IsFree c.schema.ensures.value (free_is c.schema.result.now (sym c.is_room.ensures ∙ roomy)) in
-    survives_weaker _ _ _ _ (λ _ db may. may free) c.create.ensures.crash
+    let is_free = sym c.is_room.ensures ∙ roomy in
+    let free = subst IsFree c.schema.ensures.value (free_is c.schema.result.now is_free) in
+    let spared = subst SparesOurTables c.schema.ensures.value (free_spares c.schema.result.now is_free) in
+    survives_weaker _ _ _ _ (λ _ db may. (spared, (may free).0, (may free).1)) c.create.ensures.crash
 
 pub returns-in-Err-clause-memory : goal.returns-in-Err-clause-memory
 returns-in-Err-clause-memory g c clean is =
@@ -30,7 +39,11 @@ returns-in-Err-clause-memory g c clean is =
 
 pub returns-in-Err-clause-crash : goal.returns-in-Err-clause-crash
 returns-in-Err-clause-crash g c =
+    let old = (state g.S.Store c.args.conn.now).now in
     let roomy : IsTrue c.is_room.result = search rules in
-    let free = subst IsFree c.schema.ensures.value (free_is c.schema.result.now (sym c.is_room.ensures ∙ roomy)) in
-    survives_then (state g.S.Store c.args.conn.now) (state g.S.Store c.create.new.conn) (state g.S.Store c.told.new.conn) _ _ (λ trees. LeftHolds trees new_store × LeftOthers (state g.S.Store c.args.conn.now).now trees)
-    (λ _ db may. may free) (λ _ db none. absurd none) c.create.ensures.crash c.told.ensures.survives
+    let is_free = sym c.is_room.ensures ∙ roomy in
+    let free = subst IsFree c.schema.ensures.value (free_is c.schema.result.now is_free) in
+    let spared = subst SparesOurTables c.schema.ensures.value (free_spares c.schema.result.now is_free) in
+    survives_then (state g.S.Store c.args.conn.now) (state g.S.Store c.create.new.conn) (state g.S.Store c.told.new.conn) _ _
+    (λ trees. SparesOurTables old.schema × LeftHolds trees new_store × LeftOthers old trees)
+    (λ _ db may. (spared, (may free).0, (may free).1)) (λ _ db none. absurd none) c.create.ensures.crash c.told.ensures.survives

@@ -5,9 +5,9 @@ use Rattle.portal_store.proofs.desks.StoreDesk.find_sales.Goals as goal
 
 pub returns-in-Ok-clause-read : goal.returns-in-Ok-clause-read
 returns-in-Ok-clause-read g c honest old at =
-    read g.S.Store c.args.self.now.tables c.sales_between.new.self old (λ L. AreSales (history_of L) c.args.from c.args.to c.in-Ok.found.items) (c.in-Ok.ensures.sales_between honest old at)
+    read g.S.Store c.args.self.now.tables c.sales_as_issued.new.self old (λ L. AreSales (history_of L) c.args.from c.args.to c.in-Ok.found.items) (c.in-Ok.ensures.sales_as_issued honest old at)
 
 pub returns-in-Err-clause-read : goal.returns-in-Err-clause-read
 returns-in-Err-clause-read g c honest old at =
-    cannot g.S.Store c.args.self.now.tables c.sales_between.new.self c.in-Err.fault c.refused.result old
-    (c.in-Err.ensures.sales_between honest old at) c.refused.ensures.memory c.refused.ensures.stopped
+    cannot g.S.Store c.args.self.now.tables c.sales_as_issued.new.self c.in-Err.fault c.refused.result old
+    (c.in-Err.ensures.sales_as_issued honest old at) c.refused.ensures.memory c.refused.ensures.stopped

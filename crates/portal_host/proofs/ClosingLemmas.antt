@@ -1,0 +1,34 @@
+-- Files that were closed hold what the connection had committed, with their log and without it.
+use Rattle.std.proofs.Common.{[], inl, subst}
+use Rattle.std.proofs.Math.Logic.{∥∥₁_map}
+use Rattle.sqlite_disk.specs.declared.Disk.{Ghosts}
+use Rattle.sqlite_disk.specs.declared.Files.{Files}
+use Rattle.sqlite_wal.specs.Recovery.{Image}
+use Rattle.sqlite.specs.declared.FileStore.{FileStore}
+use Rattle.sqlite.specs.Effect.{Database}
+use Rattle.sqlite.specs.Held.{Held}
+use Rattle.sqlite.specs.Closing.{IsCopied}
+use Rattle.sqlite.specs.Files.{HoldsDatabase, file_state, over_files}
+use Rattle.portal_ledger.specs.Ledger.{Ledger}
+use Rattle.portal_sql.specs.StandsAt.{LeftShows}
+use Rattle.portal_tables.specs.Stores.{StoreShows}
+use Rattle.portal_tables.specs.Images.{ImageHolds, ImageShows}
+use Rattle.portal_tables.specs.TablesAt.{ConnAt, Files as Tables, FilesShow}
+use Rattle.portal_host.specs.Opening.{AreWhole}
+
+module _ {D : Type 0} {g : Ghosts D} (L : Ledger) (old : Held (FileStore D g)) (at : ConnAt over_files old L) where
+  unfoldable committed : Tables
+  unfolding Tables
+  committed = (file_state old).committed.trees
+
+  committed_shows : FilesShow committed L
+  unfolding Tables committed ConnAt FilesShow
+  committed_shows = subst (λ (db : Database). LeftShows (StoreShows L) db.trees) at.settled ((file_state old).now.schema, at.sound, at.shown)
+
+  held_shows : (image : Image) → ∥ HoldsDatabase image (file_state old).committed.trees ∥₁ → ∥ ImageShows image L ∥₁
+  unfolding Tables committed ImageHolds
+  held_shows image held = ∥∥₁_map held (λ holds. let r : ImageShows image L = inl (committed, holds, committed_shows) in r)
+
+  pub closed_whole : (files : Files D) → IsCopied old files → AreWhole g files L
+  closed_whole files copied image may =
+      let held = copied.left image may in (held_shows image held.both, held_shows (record image { log = [] }) held.alone)

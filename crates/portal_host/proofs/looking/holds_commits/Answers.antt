@@ -1,0 +1,27 @@
+use Rattle.std.proofs.Common.{◌≡◌, Option, Some, None, subst}
+use Rattle.sqlite_wal.specs.declared.page_size.PageSize.{PageSize}
+use Rattle.sqlite_wal.specs.PageSize.{Names}
+use Rattle.sqlite_wal.specs.Format.{be32}
+use Rattle.sqlite_wal.specs.Reads.{AreClean, IsClean}
+use Rattle.sqlite_wal.proofs.CleanLemmas.{halves}
+use Rattle.std.proofs.lemmas.Bool.{and_from}
+use Rattle.portal_host.proofs.LookingLemmas.{holds_on, none_named}
+use Rattle.portal_host.proofs.looking.holds_commits.Goals as goal
+
+pub returns-in-Some-clause-value : goal.returns-in-Some-clause-value
+returns-in-Some-clause-value g c =
+    let disk = g.D.Disk in
+    let log = disk.seen c.args.files.now.log in
+    let probed = c.probe_page_size.new.files in
+    let ended = c.takes_frames.new.log in
+    holds_on c.takes_frames.result (IsClean disk ended) (AreClean disk ended probed.db) log (disk.seen probed.log) c.in-Some.size
+    c.takes_frames.ensures.value (λ clean. (halves disk ended probed.db clean).0) c.in-Ok.ensures.log.seen
+    (λ clean read.
+    let half = halves disk ended probed.db clean in
+    subst (λ (f : Option PageSize). Names f (be32 log 8)) c.in-Some.is
+    (c.in-Ok.ensures.by_log (and_from (disk.is_clean probed.log) (disk.is_clean probed.db) (c.takes_frames.ensures.same.clean half.0) half.1) read))
+
+pub returns-in-None-clause-value : goal.returns-in-None-clause-value
+returns-in-None-clause-value g c clean holds =
+    let log = g.D.Disk.seen c.args.files.now.log in
+    absurd (none_named log (λ read. subst (λ (f : Option PageSize). Names f (be32 log 8)) c.in-None.is (c.in-Ok.ensures.by_log clean read)) holds)

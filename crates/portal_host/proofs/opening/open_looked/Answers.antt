@@ -1,0 +1,13 @@
+use Rattle.sqlite_store.specs.Laws.{settled_at}
+use Rattle.portal_tables.proofs.OpeningLemmas.{opens}
+use Rattle.portal_host.proofs.OpeningLemmas.{honest_on, stands_on}
+use Rattle.portal_host.proofs.opening.open_looked.Goals as goal
+
+pub returns-in-Ok-clause-honest : goal.returns-in-Ok-clause-honest
+returns-in-Ok-clause-honest g c = honest_on c.copy_log_if.result _ _ _ c.copy_log_if.ensures.honest (λ clean. (c.in-Ok.ensures.found clean).honest)
+
+pub returns-in-Ok-clause-opened : goal.returns-in-Ok-clause-opened
+returns-in-Ok-clause-opened g c L shown =
+    stands_on c.copy_log_if.result _ _ _ _ c.copy_log_if.ensures.honest (c.copy_log_if.ensures.stands L)
+    (λ clean. opens L c.args.files c.in-Ok.conn (λ db. settled_at c.in-Ok.conn.store g.met.D.Disk.seen_may_stay db)
+    shown (c.in-Ok.ensures.opened clean) (c.in-Ok.ensures.found clean))

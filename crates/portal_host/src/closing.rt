@@ -1,0 +1,29 @@
+//! A desk over files is closed.
+ghost use Rattle.std.specs.Prelude.{IfErr, IfOk};
+ghost use Rattle.sqlite_wal.specs.Reads.{AreClean};
+ghost use Rattle.sqlite.specs.Files.{over_files};
+ghost use Rattle.portal_ledger.specs.Ledger.{Ledger};
+ghost use Rattle.portal_ledger.specs.States.{running};
+ghost use Rattle.portal_store.specs.DeskAt.{DeskAt};
+ghost use Rattle.portal_tables.specs.Images.{StoreMayLeave};
+ghost use Rattle.portal_tables.specs.TablesAt.{Files as Tables, FilesShow};
+ghost use Rattle.portal_host.specs.Opening.{AreWhole};
+
+use portal_store::StoreDesk;
+use sqlite::{Error, FileStore};
+use sqlite_disk::{Disk, Files};
+
+/// Closes the files of a desk: what the log holds is copied into the database file. What the desk stood at stands in the
+/// two files then, and in the database file with no log beside it. Where that fails, a stop leaves what shows it still.
+pub fn close_desk<D: Disk + Drop>(
+    desk: StoreDesk<FileStore<D>>,
+) -> Result<Files<D>, (Error, FileStore<D>)>
+    ensures whole { IfOk result (λ files. AreClean D.Disk files.log files.db → (L : Ledger) → DeskAt over_files desk (running L) → AreWhole D.Disk files L) }
+    ensures unclosed { (L : Ledger) → DeskAt over_files desk (running L)
+        → IfErr result (λ e. (tables : Tables) → StoreMayLeave e.1 tables → FilesShow tables L) }
+{
+    match desk.release().close_files() {
+        Ok(files) => Ok(files),
+        Err(unclosed) => Err(unclosed),
+    }
+}

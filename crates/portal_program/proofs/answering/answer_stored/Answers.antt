@@ -1,0 +1,38 @@
+use Rattle.std.proofs.Common.{◌≡◌, ◌∙◌, inl, inr, subst}
+use Rattle.portal_files.specs.SettingsFile.{SettingsValue}
+use Rattle.portal_ledger.specs.States.{running}
+use Rattle.portal_desk.specs.Calls.{is_over}
+use Rattle.portal_http.specs.Exchanges.{between}
+use Rattle.portal_http.specs.Runs.{Served}
+use Rattle.portal_program.specs.Answering.{EndsAnswering}
+use Rattle.portal_program.proofs.answering.answer_stored.Goals as goal
+
+pub returns-in-Ok : goal.returns-in-Ok
+returns-in-Ok g c =
+    let call = c.answer_at-answered in
+    let ends = c.end_answer-status in
+    let wire = between (g.R.Read.remaining c.args.input.now) (g.R.Read.remaining call.new.input) (g.W.Write.contents c.args.output.now) (g.W.Write.contents call.new.output) in
+    inl (
+      c.in-Ok.opened.is_new,
+      (
+        call.new.desk,
+        g.E.Write.contents ends.new.errors,
+        c.close_desk.ensures,
+        (call.ensures.wire.0, call.result, call.ensures.wire.1, ends.ensures),
+        λ honest.
+            let was = call.ensures.honest honest in (
+              c.in-Ok.ensures.found was,
+              λ L shows.
+                  let it = call.ensures.served honest (running L) (c.in-Ok.ensures.stands L shows was) in (
+                    it.0,
+                    it.1,
+                    (
+                      call.result,
+                      subst (λ (s : SettingsValue). EndsAnswering wire c.args.moment c.args.seed (λ arrivals responses. Served s (running L) arrivals responses it.0) (is_over it.0) call.result)
+                          c.in-Ok.ensures.told it.2,
+                      ends.ensures,
+                    ),
+                  ),
+            ),
+      ),
+    )

@@ -1,0 +1,8 @@
+use Rattle.std.proofs.Common.{List, ℕ, subst}
+use Rattle.portal_files.specs.SettingsFile.{IsSettingsFile}
+use Rattle.portal_program.proofs.place.settings_at.Goals as goal
+
+pub returns-in-Err-Bad-clause-none : goal.returns-in-Err-Bad-clause-none
+returns-in-Err-Bad-clause-none g c = λ same.
+    let none = c.in-Err-Bad.ensures.bad c.in-Err-Bad.field-0-is in
+    (c.in-Ok.bytes.items, c.in-Ok.ensures.bytes, subst (λ (bytes : List ℕ). (s : _) → ¬ IsSettingsFile bytes s) c.as_slice.ensures.value none)

@@ -1,0 +1,84 @@
+//! What the commands share that only ask the desk: `print`, `takings` and `check`.
+ghost use Rattle.std.specs.Prelude.{◌≡◌, Result};
+ghost use Rattle.portal_ledger.specs.States.{State};
+ghost use Rattle.portal_ends.specs.declared.fault.Fault.{Fault as Said};
+ghost use Rattle.portal_ends.specs.declared.ending.Told.{Told as Answered};
+ghost use Rattle.portal_ends.specs.Ends.{EndsWith};
+ghost use Rattle.portal_program.specs.Asking.{AsksOver, AsksRightly, IsOfDesk, IsRight, TellsOf};
+ghost use Rattle.portal_program.specs.Places.{place_of};
+
+use crate::checking::check_at;
+use crate::place::{Files, Opened, Place, close_desk, open_desk};
+use crate::printing::print_at;
+use crate::takings::takings_at;
+use crate::trouble::announce;
+use portal_days::DayRange;
+use portal_desk::Desk;
+use std::alloc::Global;
+use std::io::Write;
+
+/// What a desk is asked.
+#[derive(Clone, Copy, Debug)]
+pub enum Question<'a> {
+    /// The print file of the batch of this id.
+    Batch(&'a str),
+    /// The takings report over these days.
+    Takings(DayRange),
+    /// Whether the counters of the file agree with its rows.
+    Counters,
+}
+
+/// Asks the desk, prints what it tells, and gives the status with which the program ends, as `print_at`, `takings_at` and
+/// `check_at` say.
+pub fn ask_at<D: Desk, W: Write, E: Write>(
+    desk: &mut D,
+    alloc: Global,
+    question: &Question<'_>,
+    output: &mut W,
+    errors: &mut E,
+) -> u8
+    ensures told { D.settings desk.new ≡ D.settings desk.old }
+    ensures honest { D.is_honest desk.new → D.is_honest desk.old }
+    ensures ends { (told : Result Answered Said) × IsOfDesk told × EndsWith told (record { output = W.contents output.old; output_after = W.contents output.new; errors = E.contents errors.old; errors_after = E.contents errors.new }) result }
+    ensures asked { D.is_honest desk.new → (old : State) → D.stands desk.old old → (new : State) × D.stands desk.new new
+        × ((told : Result Answered Said) × TellsOf question.entry.now (D.settings desk.old) old told new
+        × EndsWith told (record { output = W.contents output.old; output_after = W.contents output.new; errors = E.contents errors.old; errors_after = E.contents errors.new }) result) }
+    ensures exact { (told : Result Answered Said) × EndsWith told (record { output = W.contents output.old; output_after = W.contents output.new; errors = E.contents errors.old; errors_after = E.contents errors.new }) result
+        × (D.is_honest desk.new → IsRight question.entry.now (D.audits desk.old) told) }
+{
+    match *question {
+        Question::Batch(batch) => print_at(desk, alloc, batch, output, errors),
+        Question::Takings(range) => takings_at(desk, alloc, range, output, errors),
+        Question::Counters => check_at(desk, alloc, output, errors),
+    }
+}
+
+/// Asks the desk over a file, prints what it tells, closes the desk, and gives the status with which the program ends.
+///
+/// The faults are found in this order: those of the settings file (`file`, `no_memory`, `settings`), those of the database file
+/// (`file`, `no_memory`, `not_ours`, `newer`), each status 3, and then those of `ask_at`. A database that is made, since none stood
+/// there, is told on `errors` in one line first, and a fault of closing last; the status stays.
+pub fn ask<P: Place, W: Write, E: Write>(
+    place: P,
+    alloc: Global,
+    files: Files<'_>,
+    question: &Question<'_>,
+    output: &mut W,
+    errors: &mut E,
+) -> u8
+    ensures over { AsksOver (place_of P.Stored.is_honest P.Stored.stands P.Stored.audits (P.reads place) (P.shows place) (P.finds place) P.closes) files.entry
+        (TellsOf question.entry.now) (record { output = W.contents output.old; output_after = W.contents output.new; errors = E.contents errors.old; errors_after = E.contents errors.new }) result }
+    ensures exact { AsksRightly (place_of P.Stored.is_honest P.Stored.stands P.Stored.audits (P.reads place) (P.shows place) (P.finds place) P.closes) files.entry question.entry.now
+        (record { output = W.contents output.old; output_after = W.contents output.new; errors = E.contents errors.old; errors_after = E.contents errors.new }) result }
+{
+    match open_desk(place, alloc, files, false) {
+        Err(trouble) => trouble.report(errors),
+        Ok(opened) => {
+            let Opened { mut desk, is_new } = opened;
+            announce(alloc, files.db, is_new, errors);
+            let status = ask_at(&mut desk, alloc, question, output, errors);
+            close_desk::<P, E>(alloc, files.db, desk, errors);
+            status
+        }
+    }
+}

@@ -1,0 +1,220 @@
+//! A day at the desk: at least one request of each kind, and its answer.
+use crate::requests::{DESK, GATE, GUEST, request};
+use std::alloc::Global;
+
+/// A request at its moment: its line, the caller's field, its body, the end of its response, and that of the
+/// response where it is sent once more.
+#[derive(Clone, Copy)]
+pub struct Ask {
+    at: u64,
+    line: &'static str,
+    caller: &'static str,
+    body: &'static str,
+    answer: &'static str,
+    again: &'static str,
+}
+
+/// A plans file with an hour for 3.00 and three times a gigabyte for 5.00.
+pub const PLANS: &str =
+    "[[plan]]\nid = \"hour\"\nprice = 300\nuses = 1\nseconds = 3600\nbytes = 0\nshelf_days = 30\n\
+    extend = true\n\n[[plan]]\nid = \"gig\"\nprice = 500\nuses = 3\nseconds = 0\n\
+    bytes = 1073741824\nshelf_days = 30\nextend = false\n";
+
+/// The bodies that name the first three codes of a seed of zeros.
+const FIRST: &str = "{\"code\":\"3N55-WA4S-KH5V-JR49\"}";
+
+const SECOND: &str = "{\"code\":\"VX9P-KPN3-9M27-5E2M\"}";
+
+const THIRD: &str = "{\"code\":\"AXU5-SDWY-DBCH-DQCK\"}";
+
+const SOLD_ALREADY: &str = "{\"error\":\"sold_already\"}";
+
+/// Commands of each kind: a redemption that opens a session and one that extends it, and a refund.
+pub const COMMANDS: &[Ask] = &[
+    Ask {
+        at: 0,
+        line: "POST /desk/plans",
+        caller: DESK,
+        body: PLANS,
+        answer: "{\"plans\":2}",
+        again: "{\"plans\":2}",
+    },
+    Ask {
+        at: 1000,
+        line: "POST /desk/batches",
+        caller: DESK,
+        body: "{\"batch\":\"b1\",\"plan\":\"hour\",\"count\":3}",
+        answer: "{\"batch\":\"b1\",\"count\":3,\"expires\":2593000}",
+        again: "{\"error\":\"batch_exists\"}",
+    },
+    Ask {
+        at: 1000,
+        line: "POST /desk/sales",
+        caller: DESK,
+        body: FIRST,
+        answer: "{\"code\":\"3N55-WA4S-KH5V-JR49\",\"price\":300}",
+        again: SOLD_ALREADY,
+    },
+    Ask {
+        at: 1000,
+        line: "POST /portal/redeem",
+        caller: GUEST,
+        body: FIRST,
+        answer: "{\"extended\":false,\"session\":1,\"uses_left\":0}",
+        again: "{\"error\":\"used_up\"}",
+    },
+    Ask {
+        at: 2000,
+        line: "POST /gateway/reports",
+        caller: GATE,
+        body: "{\"session\":1,\"bytes\":7}",
+        answer: "{\"open\":true,\"session\":1,\"used\":7}",
+        again: "{\"open\":true,\"session\":1,\"used\":7}",
+    },
+    Ask {
+        at: 2000,
+        line: "POST /desk/sales",
+        caller: DESK,
+        body: SECOND,
+        answer: "{\"code\":\"VX9P-KPN3-9M27-5E2M\",\"price\":300}",
+        again: SOLD_ALREADY,
+    },
+    Ask {
+        at: 2000,
+        line: "POST /portal/redeem",
+        caller: GUEST,
+        body: SECOND,
+        answer: "{\"extended\":true,\"session\":1,\"uses_left\":0}",
+        again: "{\"error\":\"used_up\"}",
+    },
+    Ask {
+        at: 3000,
+        line: "POST /desk/sales",
+        caller: DESK,
+        body: THIRD,
+        answer: "{\"code\":\"AXU5-SDWY-DBCH-DQCK\",\"price\":300}",
+        again: SOLD_ALREADY,
+    },
+    Ask {
+        at: 3500,
+        line: "POST /desk/refunds",
+        caller: DESK,
+        body: THIRD,
+        answer: "{\"amount\":300,\"code\":\"AXU5-SDWY-DBCH-DQCK\"}",
+        again: "{\"error\":\"refunded\"}",
+    },
+    Ask {
+        at: 4000,
+        line: "POST /desk/closes",
+        caller: DESK,
+        body: "{\"session\":1}",
+        answer: "{\"session\":1}",
+        again: "{\"error\":\"closed_already\"}",
+    },
+];
+
+/// A question: its line, the caller's field, and the end of its response.
+pub type Question = (&'static str, &'static str, &'static str);
+
+/// What is answered after these commands, also of a code that is none of the desk's.
+pub const QUESTIONS: &[Question] = &[
+    (
+        "GET /captive",
+        GUEST,
+        "{\"captive\":true,\"user-portal-url\":\"https://wifi.example/portal\"}",
+    ),
+    ("GET /gateway/sessions", GATE, "{\"sessions\":[]}"),
+    (
+        "GET /desk/vouchers/3N55-WA4S-KH5V-JR49",
+        DESK,
+        "{\"batch\":\"b1\",\"code\":\"3N55-WA4S-KH5V-JR49\",\"expires\":2593000,\"plan\":\"hour\",\
+        \"redeemed\":1,\"refund\":null,\"sold\":1000,\"uses\":1}",
+    ),
+    (
+        "GET /desk/vouchers/AXU5-SDWY-DBCH-DQCK",
+        DESK,
+        "{\"batch\":\"b1\",\"code\":\"AXU5-SDWY-DBCH-DQCK\",\"expires\":2593000,\"plan\":\"hour\",\
+        \"redeemed\":0,\"refund\":300,\"sold\":3000,\"uses\":1}",
+    ),
+    (
+        "GET /desk/vouchers/2222-2222-2222",
+        DESK,
+        "{\"error\":\"unknown_code\"}",
+    ),
+    (
+        "GET /desk/batches/b1/print",
+        DESK,
+        "code,plan,seconds,bytes,price,expires\n\
+        3N55-WA4S-KH5V-JR49,hour,3600,,3.00,1970-01-31 00:16\n\
+        VX9P-KPN3-9M27-5E2M,hour,3600,,3.00,1970-01-31 00:16\n\
+        AXU5-SDWY-DBCH-DQCK,hour,3600,,3.00,1970-01-31 00:16\n",
+    ),
+    (
+        "GET /desk/takings?from=1970-01-01&to=1970-01-01",
+        DESK,
+        "day            sold             sales refunded           refunds\n\
+        1970-01-01        3              9.00        1              3.00\n\
+        total             3              9.00        1              3.00\n\
+        net 6.00\n",
+    ),
+];
+
+/// The bytes of a request, its moment and its two answers.
+#[derive(Drop)]
+pub struct Sent {
+    pub at: u64,
+    pub bytes: Vec<u8>,
+    pub answer: String,
+    pub again: String,
+}
+
+/// The request, with that place as its number or without a number.
+fn request_of(alloc: Global, ask: &Ask, place: usize, is_numbered: bool) -> Option<Sent> {
+    let caller = ask.caller;
+    let fields = if is_numbered {
+        format!(in alloc; "{caller}Portal-Request: n{place}\r\n").ok()?
+    } else {
+        String::from_str(alloc, caller).ok()?
+    };
+    Some(Sent {
+        at: ask.at,
+        bytes: request(alloc, ask.line, fields.as_str(), ask.body.as_bytes())?,
+        answer: String::from_str(alloc, ask.answer).ok()?,
+        again: String::from_str(alloc, ask.again).ok()?,
+    })
+}
+
+/// The requests, each with its place as its number or none with a number.
+pub fn all_sent(alloc: Global, asks: &[Ask], is_numbered: bool) -> Option<Vec<Sent>> {
+    let mut all = Vec::new(alloc);
+    for (place, ask) in asks.iter().enumerate() {
+        all.push(request_of(alloc, ask, place, is_numbered)?).ok()?;
+    }
+    Some(all)
+}
+
+/// The questions.
+pub fn all_questions(alloc: Global) -> Option<Vec<Sent>> {
+    let mut all = Vec::new(alloc);
+    for (line, caller, answer) in QUESTIONS {
+        let ask = Ask {
+            at: 4000,
+            line: *line,
+            caller: *caller,
+            body: "",
+            answer: *answer,
+            again: *answer,
+        };
+        all.push(request_of(alloc, &ask, 0, false)?).ok()?;
+    }
+    Some(all)
+}
+
+/// The commands, and then the questions.
+pub fn whole_day(alloc: Global, is_numbered: bool) -> Option<Vec<Sent>> {
+    let mut day = all_sent(alloc, COMMANDS, is_numbered)?;
+    for question in all_questions(alloc)? {
+        day.push(question).ok()?;
+    }
+    Some(day)
+}

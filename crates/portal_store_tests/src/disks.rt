@@ -1,0 +1,95 @@
+//! A store in files in memory, which are closed after each job, or which stop answering.
+//!
+//! Only the functions of this file name a connection over files.
+use crate::files::{Image, Limit, remains};
+use crate::jobs::{Job, Told, run};
+use sqlite::{Connection, Files, Options};
+use sqlite_disk::Disk;
+use std::alloc::Global;
+use std::test::Fail;
+
+/// What is left of files that stopped: what the job tells, whether they were closed, and their bytes where
+/// the process ends and where the power fails. Then writes that were not synced are lost.
+#[derive(Drop)]
+pub struct Remains {
+    pub told: Told,
+    pub is_closed: bool,
+    pub ended: Image,
+    pub failed: Image,
+}
+
+/// A store in files in memory.
+#[derive(Drop)]
+pub struct InFiles {
+    alloc: Global,
+    image: Image,
+}
+
+/// Opens the store, does the job and closes the store. Answers what the job tells, whether the store was
+/// closed, and the files.
+fn open<D: Disk + Drop>(
+    alloc: Global,
+    files: Files<D>,
+    job: Job<'_>,
+) -> Result<(Told, bool, Files<D>), Fail> {
+    if !files.may_be_used() {
+        return Err("the files may not be used".into());
+    }
+    match Connection::open_files(alloc, files, Options::new(1)) {
+        Ok(conn) => {
+            let (conn, told) = run(alloc, conn, job)?;
+            match conn.close_files() {
+                Ok(files) => Ok((told, true, files)),
+                Err((_, store)) => Ok((told, false, store.close())),
+            }
+        }
+        Err((_, left)) => Ok((Told::Unopened, false, left.into_files())),
+    }
+}
+
+impl InFiles {
+    /// Two new files.
+    pub fn new(alloc: Global) -> InFiles {
+        InFiles {
+            alloc,
+            image: Image::new(alloc),
+        }
+    }
+
+    /// Files with these bytes.
+    pub fn of(alloc: Global, image: &Image) -> Result<InFiles, Fail> {
+        Ok(InFiles {
+            alloc,
+            image: image.copy()?,
+        })
+    }
+
+    /// The bytes of the files.
+    pub fn image(&self) -> Result<Image, Fail> {
+        self.image.copy()
+    }
+
+    /// Does the job with the store, and keeps the files.
+    pub fn visit(&mut self, job: Job<'_>) -> Result<Told, Fail> {
+        let files = self.image.files(self.alloc)?;
+        let (told, is_closed, files) = open(self.alloc, files, job)?;
+        if !is_closed {
+            return Err("the files are not closed".into());
+        }
+        self.image = Image::of(self.alloc, &files)?;
+        Ok(told)
+    }
+
+    /// Does the job in files that stop so. What stands in these files stays.
+    pub fn stop(&self, job: Job<'_>, limit: Limit) -> Result<Remains, Fail> {
+        let files = self.image.stopping_files(self.alloc, limit)?;
+        let (told, is_closed, files) = open(self.alloc, files, job)?;
+        let (ended, failed) = remains(self.alloc, files)?;
+        Ok(Remains {
+            told,
+            is_closed,
+            ended,
+            failed,
+        })
+    }
+}

@@ -1,0 +1,465 @@
+//! Requests that come in pieces, and whose reads or writes fail: they are answered as a whole one is, before
+//! the last read nothing is carried out, and at a write all of it stands.
+use crate::day::{COMMANDS, Sent, all_sent, whole_day};
+use crate::desks::{answer, met_in_memory};
+use crate::exchanges::{Met, Peer, is_done, is_unread, is_unsent, whole_peer};
+use crate::requests::MOMENT;
+use portal_http::exchanges::status_shown;
+use std::alloc::Global;
+
+/// Whether the exchange ended with a whole response that ends so.
+fn is_answered(met: &Met, end: &str) -> bool {
+    let is_whole = match met.ended {
+        Ok(done) => {
+            done.status == status_shown(met.taken.as_slice()) && done.written == met.taken.len()
+        }
+        Err(_) => false,
+    };
+    is_whole && met.taken.as_slice().ends_with(end.as_bytes())
+}
+
+/// Whether each exchange is cut off where a read of its peer fails, and each other one answered as the next
+/// of the requests says. None is left.
+fn are_answered(met: &[Met], peers: &[Peer<'_>], day: &[Sent]) -> bool {
+    let mut left = day.iter();
+    for (met, peer) in met.iter().zip(peers) {
+        let is_due = if peer.fails_at > 0 {
+            is_unread(met)
+        } else {
+            match left.next() {
+                Some(sent) => is_answered(met, sent.answer.as_str()),
+                None => false,
+            }
+        };
+        if !is_due {
+            return false;
+        }
+    }
+    met.len() == peers.len() && left.next().is_none()
+}
+
+/// Whether the day is answered where each request comes in pieces of that size.
+fn is_day_answered(alloc: Global, size: usize, is_numbered: bool) -> Option<bool> {
+    let day = whole_day(alloc, is_numbered)?;
+    let mut peers: Vec<Peer<'_>> = Vec::new(alloc);
+    for sent in &day {
+        peers
+            .push(whole_peer(sent.at, sent.bytes.as_slice(), size))
+            .ok()?;
+    }
+    let met = met_in_memory(alloc, peers.as_slice())?;
+    Some(are_answered(met.as_slice(), peers.as_slice(), day.as_slice()))
+}
+
+#[test]
+fn day_in_pieces(rt: HostRuntime) {
+    for size in [1usize, 2, 7, 80_000] {
+        assert!(rt;
+            is_day_answered(rt.alloc(), size, false) == Some(true),
+            "{size}"
+        );
+    }
+}
+
+#[test]
+fn numbered_day_in_pieces(rt: HostRuntime) {
+    for size in [2usize, 80_000] {
+        assert!(rt;
+            is_day_answered(rt.alloc(), size, true) == Some(true),
+            "{size}"
+        );
+    }
+}
+
+/// Whether the day is answered where before each request comes the same with each of its reads failing in
+/// turn.
+fn is_nothing_kept(alloc: Global, is_numbered: bool) -> Option<bool> {
+    let day = whole_day(alloc, is_numbered)?;
+    let mut peers: Vec<Peer<'_>> = Vec::new(alloc);
+    for sent in &day {
+        let whole = whole_peer(sent.at, sent.bytes.as_slice(), 1);
+        for fails_at in 1..=sent.bytes.len() {
+            peers.push(Peer { fails_at, ..whole }).ok()?;
+        }
+        peers.push(whole).ok()?;
+    }
+    let met = met_in_memory(alloc, peers.as_slice())?;
+    Some(are_answered(met.as_slice(), peers.as_slice(), day.as_slice()))
+}
+
+#[test]
+fn commands_cut_at_reads(rt: HostRuntime) {
+    assert!(rt; is_nothing_kept(rt.alloc(), false) == Some(true));
+}
+
+#[test]
+fn numbered_commands_cut_at_reads(rt: HostRuntime) {
+    assert!(rt; is_nothing_kept(rt.alloc(), true) == Some(true));
+}
+
+/// The lengths of the responses to the commands.
+fn lengths(alloc: Global, day: &[Sent]) -> Option<Vec<usize>> {
+    let mut peers: Vec<Peer<'_>> = Vec::new(alloc);
+    for sent in day {
+        peers
+            .push(whole_peer(sent.at, sent.bytes.as_slice(), 4_096))
+            .ok()?;
+    }
+    let mut lengths = Vec::new(alloc);
+    for met in &met_in_memory(alloc, peers.as_slice())? {
+        lengths.push(met.taken.len()).ok()?;
+    }
+    Some(lengths)
+}
+
+/// How much of a response is taken before it is cut off: so many sixteenths, short of the last byte.
+fn room(length: usize, part: usize) -> usize {
+    let parts = (length / 16).saturating_mul(part);
+    parts.min(length.saturating_sub(1))
+}
+
+/// Whether of each two exchanges the first was cut off in the response, and the second answered as the same
+/// request sent once more: under a number as before.
+fn are_kept(met: &[Met], lengths: &[usize], day: &[Sent], part: usize, is_numbered: bool) -> bool {
+    for ((two, length), sent) in met.chunks(2).zip(lengths).zip(day) {
+        let [cut, whole] = two else {
+            return false;
+        };
+        let end = if is_numbered {
+            &sent.answer
+        } else {
+            &sent.again
+        };
+        if !is_unsent(cut, room(*length, part), *length) || !is_answered(whole, end) {
+            return false;
+        }
+    }
+    lengths.len() == day.len() && met.len() / 2 == day.len()
+}
+
+/// Whether all stands of each command although its response was cut off once so many sixteenths of it were
+/// taken: a write failed, or took nothing.
+fn is_kept(alloc: Global, part: usize, is_numbered: bool) -> Option<bool> {
+    let day = all_sent(alloc, COMMANDS, is_numbered)?;
+    let lengths = lengths(alloc, day.as_slice())?;
+    let mut peers: Vec<Peer<'_>> = Vec::new(alloc);
+    for (sent, length) in day.iter().zip(&lengths) {
+        let whole = whole_peer(sent.at, sent.bytes.as_slice(), 4_096);
+        let mut cut = whole;
+        cut.room = room(*length, part);
+        cut.fails = part % 2 == 0;
+        peers.push(cut).ok()?;
+        peers.push(whole).ok()?;
+    }
+    let met = met_in_memory(alloc, peers.as_slice())?;
+    Some(are_kept(
+        met.as_slice(),
+        lengths.as_slice(),
+        day.as_slice(),
+        part,
+        is_numbered,
+    ))
+}
+
+#[test]
+fn commands_cut_at_writes(rt: HostRuntime) {
+    for part in 0..=16 {
+        assert!(rt; is_kept(rt.alloc(), part, false) == Some(true), "{part}");
+    }
+}
+
+#[test]
+fn numbered_commands_cut_at_writes(rt: HostRuntime) {
+    for part in [0usize, 7, 16] {
+        assert!(rt; is_kept(rt.alloc(), part, true) == Some(true), "{part}");
+    }
+}
+
+/// A front, one piece so many times, and an end. `reads` are those of a peer that sends a byte a read, up to
+/// that which decides the request.
+#[derive(Clone, Copy)]
+struct Hostile {
+    front: &'static [u8],
+    times: usize,
+    piece: &'static [u8],
+    end: &'static [u8],
+    reads: usize,
+}
+
+/// Requests that no honest client sends, and their reads. Of HTTP/1.2 the line is read up to there.
+const REQUESTS: &[(&[u8], usize)] = &[
+    (b"", 1),
+    (b"GET /captive HTTP/1.1\r\nHost: api\r\nPortal", 41),
+    (
+        b"GET /captive HTTP/1.1\r\nHost: api\r\nPortal-Device: 02:00:00:00:00:01\r\n\r\n",
+        70,
+    ),
+    (
+        b"GET /captive HTTP/1.0\r\nPortal-Device: 02:00:00:00:00:01\r\n\r\n",
+        59,
+    ),
+    (
+        b"GET /captive HTTP/1.1\r\nPortal-Device: 02:00:00:00:00:01\r\n\r\n",
+        59,
+    ),
+    (b"GET /captive HTTP/1.0\r\n\r\n", 25),
+    (b"GET /captive HTTP/1.2\r\nHost: api\r\n\r\n", 21),
+    (
+        b"GET /captive HTTP/1.1\r\nHost: api\r\nPortal-Device: 02:00:00:00:00:01\r\nContent-Length: 0000\r\n\r\n",
+        92,
+    ),
+    (
+        b"POST /desk/sales HTTP/1.1\r\nHost: api\r\nContent-Length: 65537\r\n\r\n",
+        63,
+    ),
+    (
+        b"GET /captive HTTP/1.1\r\nHost: api\r\nPortal-Device: 02:00:00:00:00:01\r\n\r",
+        70,
+    ),
+    (b"GET / HTTP/1.0\r\nHost: a\r\nHost: a\r\n\r\n", 36),
+    (b"GET / HTTP/1.1\r\nTransfer-Encoding: x\r\n\r\n", 40),
+    (
+        b"GET / HTTP/1.1\r\nHost: a\r\nTransfer-Encoding: x\r\nContent-Length: 1\r\nContent-Length: 2\r\n\r\n",
+        87,
+    ),
+    (
+        b"GET / HTTP/1.1\r\nHost: a\r\nContent-Length: 5\r\nContent-Length: 5\r\n\r\nhello",
+        65,
+    ),
+    (
+        b"GET / HTTP/1.1\r\nHost: a\r\nContent-Length: +5\r\n\r\nhello",
+        47,
+    ),
+    (
+        b"GET / HTTP/1.1\r\nHost: a\r\nContent-Length: \r\n\r\nhello",
+        45,
+    ),
+    (
+        b"GET / HTTP/1.1\r\nHost: a\r\nContent-Length: 999999999999999999999999999999\r\n\r\n",
+        75,
+    ),
+    (
+        b"POST /desk/sales HTTP/1.1\r\nHost: api\r\nPortal-Token: desk-token\r\nContent-Length: 0000000025\r\n\r\n\
+        {\"code\":\"2222-2222-2222\"}",
+        119,
+    ),
+    (
+        b"POST /desk/sales HTTP/1.1\r\nHost: api\r\nContent-Length: 25\r\n\r\n{\"code\":\"2222-2222-2222\"",
+        85,
+    ),
+    (b"GET * HTTP/1.1\r\nHost: api\r\n\r\n", 29),
+    (
+        b"GET /captive HTTP/1.1\r\nHost: api\r\nPortal-Device: 02:00:00:00:00:01\r\n\
+        Portal-Device: 02:00:00:00:00:01\r\n\r\n",
+        104,
+    ),
+    (b"\r\nGET / HTTP/1.1\r\nHost: a\r\n\r\n", 29),
+    (
+        b"GET / HTTP/1.1\r\nHost: a\r\nContent-Length: 5\r\n\r\nhello and more",
+        51,
+    ),
+    (b"DELETE /captive HTTP/1.1\r\nHost: api\r\n\r\n", 39),
+    (
+        b"POST /desk/sales HTTP/1.1\r\nHost: a\r\nContent-Length: 1\r\n\r\n\xff",
+        58,
+    ),
+];
+
+const LONG_FIELD: Hostile = Hostile {
+    front: b"GET /captive HTTP/1.1\r\nHost: api\r\nPortal-Device: 02:00:00:00:00:01\r\nX: ",
+    times: 8_117,
+    piece: b"a",
+    end: b"\r\n\r\n",
+    reads: 8_192,
+};
+
+const MANY_FIELDS: Hostile = Hostile {
+    front: b"GET /captive HTTP/1.1\r\nHost: api\r\nPortal-Device: 02:00:00:00:00:01\r\n",
+    times: 30,
+    piece: b"X: a\r\n",
+    end: b"\r\n",
+    reads: 250,
+};
+
+/// Requests at the limits of a head and of a body, and one more.
+const LIMITS: &[Hostile] = &[
+    LONG_FIELD,
+    Hostile {
+        times: 8_118,
+        ..LONG_FIELD
+    },
+    MANY_FIELDS,
+    Hostile {
+        times: 31,
+        reads: 254,
+        ..MANY_FIELDS
+    },
+    Hostile {
+        front: b"POST /desk/sales HTTP/1.1\r\nHost: api\r\nPortal-Token: desk-token\r\nContent-Length: 65536\r\n\r\n\
+            {\"code\":\"2222-2222-2222\"}",
+        times: 65_511,
+        piece: b" ",
+        end: b"",
+        reads: 65_625,
+    },
+];
+
+/// A request that is written out.
+fn written(row: &(&'static [u8], usize)) -> Hostile {
+    let (front, reads) = *row;
+    Hostile {
+        front,
+        times: 0,
+        piece: b"",
+        end: b"",
+        reads,
+    }
+}
+
+fn bytes_of(alloc: Global, row: &Hostile) -> Option<Vec<u8>> {
+    let mut bytes = row.front.to_vec(alloc).ok()?;
+    for _ in 0..row.times {
+        bytes.extend_from_slice(row.piece).ok()?;
+    }
+    bytes.extend_from_slice(row.end).ok()?;
+    Some(bytes)
+}
+
+/// The sizes of the pieces in which a request is sent, the least first.
+fn sizes(length: usize) -> &'static [usize] {
+    if length < 1_000 {
+        &[1, 2, 7, 4_096, 80_000]
+    } else {
+        &[512, 4_096, 80_000]
+    }
+}
+
+/// The size of the pieces of which each fails in turn, and how many decide a request of that length.
+fn pieces(length: usize, reads: usize) -> (usize, usize) {
+    if length < 1_000 {
+        (1, reads)
+    } else {
+        (512, reads.div_ceil(512))
+    }
+}
+
+/// Whether each exchange sent that response whole.
+fn are_done(met: &[Met], response: &[u8]) -> bool {
+    for met in met {
+        if !is_done(met, status_shown(response), response) {
+            return false;
+        }
+    }
+    true
+}
+
+fn are_unread(met: &[Met]) -> bool {
+    for met in met {
+        if !is_unread(met) {
+            return false;
+        }
+    }
+    true
+}
+
+/// Whether the request is answered as by a run, in pieces of each size; of the least none is read past that
+/// which decides it.
+fn is_same_in_pieces(alloc: Global, row: &Hostile) -> Option<bool> {
+    let bytes = bytes_of(alloc, row)?;
+    let response = answer(alloc, bytes.as_slice())?;
+    let mut peers = Vec::new(alloc);
+    for size in sizes(bytes.len()) {
+        peers
+            .push(whole_peer(MOMENT, bytes.as_slice(), *size))
+            .ok()?;
+    }
+    let met = met_in_memory(alloc, peers.as_slice())?;
+    let (_size, reads) = pieces(bytes.len(), row.reads);
+    let is_read = met.first()?.reads == reads;
+    let is_same = met.len() == peers.len() && are_done(met.as_slice(), response.as_slice());
+    Some(is_read && is_same)
+}
+
+#[test]
+fn hostile_requests_in_pieces(rt: HostRuntime) {
+    for (place, row) in REQUESTS.iter().enumerate() {
+        assert!(rt;
+            is_same_in_pieces(rt.alloc(), &written(row)) == Some(true),
+            "{place}"
+        );
+    }
+}
+
+#[test]
+fn limits_in_pieces(rt: HostRuntime) {
+    for (place, row) in LIMITS.iter().enumerate() {
+        assert!(rt; is_same_in_pieces(rt.alloc(), row) == Some(true), "{place}");
+    }
+}
+
+/// Whether nothing is written where a read of the request fails, each of them in turn. A read more is not
+/// made.
+fn is_cut_at_reads(alloc: Global, row: &Hostile) -> Option<bool> {
+    let bytes = bytes_of(alloc, row)?;
+    let (size, reads) = pieces(bytes.len(), row.reads);
+    let whole = whole_peer(MOMENT, bytes.as_slice(), size);
+    let mut peers: Vec<Peer<'_>> = Vec::new(alloc);
+    for fails_at in 1..=reads.saturating_add(1) {
+        peers.push(Peer { fails_at, ..whole }).ok()?;
+    }
+    let met = met_in_memory(alloc, peers.as_slice())?;
+    let (unread, done) = (met.get(..reads)?, met.get(reads..)?);
+    Some(done.len() == 1 && are_unread(unread) && done.first()?.ended.is_ok())
+}
+
+#[test]
+fn hostile_requests_cut_at_reads(rt: HostRuntime) {
+    for (place, row) in REQUESTS.iter().enumerate() {
+        assert!(rt;
+            is_cut_at_reads(rt.alloc(), &written(row)) == Some(true),
+            "{place}"
+        );
+    }
+}
+
+#[test]
+fn limits_cut_at_reads(rt: HostRuntime) {
+    for (place, row) in LIMITS.iter().enumerate() {
+        assert!(rt; is_cut_at_reads(rt.alloc(), row) == Some(true), "{place}");
+    }
+}
+
+/// Whether the response to the request is cut off where a write fails, or takes nothing, once so many bytes
+/// are taken, each number of them.
+fn is_cut_at_writes(alloc: Global, row: &Hostile) -> Option<bool> {
+    let bytes = bytes_of(alloc, row)?;
+    let response = answer(alloc, bytes.as_slice())?;
+    let mut peers: Vec<Peer<'_>> = Vec::new(alloc);
+    for room in 0..response.len() {
+        for fails in [true, false] {
+            let mut peer = whole_peer(MOMENT, bytes.as_slice(), 80_000);
+            peer.takes = 100;
+            peer.room = room;
+            peer.fails = fails;
+            peers.push(peer).ok()?;
+        }
+    }
+    let met = met_in_memory(alloc, peers.as_slice())?;
+    for (met, peer) in met.iter().zip(&peers) {
+        let is_begun = response.as_slice().starts_with(met.taken.as_slice());
+        if !is_begun || !is_unsent(met, peer.room, response.len()) {
+            return Some(false);
+        }
+    }
+    Some(met.len() == peers.len())
+}
+
+#[test]
+fn hostile_requests_cut_at_writes(rt: HostRuntime) {
+    for (place, row) in REQUESTS.iter().enumerate() {
+        assert!(rt;
+            is_cut_at_writes(rt.alloc(), &written(row)) == Some(true),
+            "{place}"
+        );
+    }
+}
