@@ -33,6 +33,7 @@ extend = false
 INDENT = "    "
 REQUEST = re.compile(r"(?:at (\d+) (?:seed (\S+) )?)?(desk|gateway|guest \d|nobody) ([A-Z]+) (\S+)(?: (.*))?")
 SENT = re.compile(r"(?:at (\d+) )?send")
+SERVED = re.compile(r"(serve)(?: ([1-9]\d*))?|stop")
 TIMES = re.compile(r'(?<!\\)<(\d+) times "((?:[^"\\]|\\.)*)">')
 ESCAPE = re.compile(r"\\(x[0-9a-f]{2}|.?)")
 PLAIN = {"r": b"\r", "n": b"\n", "t": b"\t", "\\": b"\\", '"': b'"', "<": b"<"}
@@ -73,12 +74,13 @@ class Ask(Step):
 
 @dataclass
 class Call(Step):
-    """A subcommand, its exit code, and the lines of its output and of its errors."""
+    """A subcommand, its exit code, the lines of its output and of its errors, and the files that it leaves as they were."""
 
     words: list[str]
     code: int
     output: list[str]
     errors: list[str]
+    same: list[str]
 
 
 @dataclass
@@ -97,9 +99,10 @@ class File(Step):
 
 @dataclass
 class Serve(Step):
-    """Starts the server, or stops it."""
+    """Starts the server, for so many connections where a number is given, or stops it."""
 
     starts: bool
+    count: int | None
 
 
 @dataclass
@@ -123,6 +126,7 @@ class Item:
     arrow: str | None = None
     wanted: list[str] | None = None
     errors: list[str] = field(default_factory=list)
+    same: list[str] = field(default_factory=list)
     shown: list[str] = field(default_factory=list)
 
 
@@ -191,7 +195,7 @@ def added(block: list[str] | None, text: str, empty: int) -> list[str]:
 
 def add_line(items: list[Item], number: int, line: str) -> None:
     kind, _, rest = line.partition(" ")
-    if kind not in ("+", "->", "!"):
+    if kind not in ("+", "->", "!", "="):
         items.append(Item(number, line))
         return
     if not items:
@@ -201,10 +205,8 @@ def add_line(items: list[Item], number: int, line: str) -> None:
         if item.arrow is not None:
             raise BadCase(number, "a step has one `->`")
         item.arrow = rest
-    elif kind == "+":
-        item.fields.append(rest)
     else:
-        item.errors.append(rest)
+        {"+": item.fields, "!": item.errors, "=": item.same}[kind].append(rest)
 
 
 def add_item(case: Case, item: Item) -> None:
@@ -220,8 +222,9 @@ def add_item(case: Case, item: Item) -> None:
         case.steps.append(sql_of(item))
     elif item.text.startswith("file "):
         case.steps.append(File(item.line, item.shown, item.text[5:], text_of(item)))
-    elif item.text in ("serve", "stop"):
-        case.steps.append(Serve(item.line, item.shown, item.text == "serve"))
+    elif served := SERVED.fullmatch(item.text):
+        count = int(served[2]) if served[2] else None
+        case.steps.append(Serve(item.line, item.shown, served[1] is not None, count))
     else:
         raise BadCase(item.line, f"no step begins so: {item.text}")
     refuse_rest(case.steps[-1], item)
@@ -245,8 +248,8 @@ def refuse_rest(step: Step, item: Item) -> None:
     is_asked = isinstance(step, (Ask, Call, Sql))
     if item.arrow is not None and not is_asked:
         raise BadCase(item.line, "nothing comes of this step: it has no `->`")
-    if item.errors and not isinstance(step, Call):
-        raise BadCase(item.line, "`!` belongs to a subcommand")
+    if (item.errors or item.same) and not isinstance(step, Call):
+        raise BadCase(item.line, "`!` and `=` belong to a subcommand")
     if item.fields and not (isinstance(step, Ask) and REQUEST.fullmatch(item.text)):
         raise BadCase(item.line, "`+` belongs to a request that is not written out")
     if item.block is not None and isinstance(step, (Call, Serve)):
@@ -351,7 +354,7 @@ def call_of(item: Item) -> Call:
     match = re.fullmatch(r"exit (\d)", item.arrow)
     if words[:1] != ["portal"] or not match:
         raise BadCase(item.line, "a subcommand is `$ portal WORDS` with `-> exit N`")
-    return Call(item.line, item.shown, words[1:], int(match[1]), item.wanted or [], item.errors)
+    return Call(item.line, item.shown, words[1:], int(match[1]), item.wanted or [], item.errors, item.same)
 
 
 def sql_of(item: Item) -> Sql:

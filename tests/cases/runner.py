@@ -118,8 +118,8 @@ def outcome(done: subprocess.CompletedProcess[bytes], output: list[str]) -> list
 class Server:
     """`portal serve` over the files of the case, on a port that was free."""
 
-    def __init__(self, program: str, folder: Path) -> None:
-        self.errors = folder / "errors-of-serve"
+    def __init__(self, program: str, folder: Path, count: int | None) -> None:
+        self.errors, self.count = folder / "errors-of-serve", count
         for _ in range(5):
             self.process, self.port, line = self.start(program, folder)
             if line == f"listening 127.0.0.1:{self.port}\n":
@@ -132,6 +132,8 @@ class Server:
             free.bind(("127.0.0.1", 0))
             port = int(free.getsockname()[1])
         words = [program, "serve", "--db", "portal.db", "--settings", "settings.toml", "--port", str(port)]
+        if self.count is not None:
+            words += ["--count", str(self.count)]
         with open(self.errors, "w", encoding="utf-8") as errors:
             process = subprocess.Popen(words, cwd=folder, stdout=subprocess.PIPE, stderr=errors, text=True)
         assert process.stdout is not None
@@ -151,6 +153,10 @@ class Server:
         for now in range(int(before), int(time.time()) + 1):
             came = came.replace(b"\r\n" + date_line(now) + b"\r\n", b"\r\n" + MASKED + b"\r\n", 1)
         return came
+
+    def code(self) -> int:
+        """The exit code of a server that ends by itself."""
+        return self.process.wait(SECONDS)
 
     def end(self) -> None:
         self.process.kill()
@@ -210,10 +216,16 @@ class Run:
         compare_bytes(wanted, done.stdout, [f"exit {code}"], outcome(done, []))
 
     def call(self, call: Call) -> None:
+        before = {name: self.bytes_in(name) for name in call.same}
         done = self.process(call.words, b"")
         output, errors = lines_of(done.stdout), covered(call.errors, lines_of(done.stderr))
         wanted = [f"exit {call.code}", *covered(call.output, output), *(f"! {line}" for line in errors)]
-        compare(wanted, outcome(done, output))
+        changed = [f"{name} has changed" for name, data in before.items() if self.bytes_in(name) != data]
+        compare(wanted, [*outcome(done, output), *changed])
+
+    def bytes_in(self, name: str) -> bytes | None:
+        path = self.folder / name
+        return path.read_bytes() if path.exists() else None
 
     def sql(self, sql: Sql) -> None:
         try:
@@ -228,8 +240,10 @@ class Run:
 
     def serve(self, step: Serve) -> None:
         if step.starts:
-            self.server = Server(self.program, self.folder)
+            self.server = Server(self.program, self.folder, step.count)
         elif self.server is not None:
+            if self.server.count is not None:
+                compare(["exit 0"], [f"exit {self.server.code()}"])
             self.server.end()
             compare([], lines_of(self.server.errors.read_bytes()))
             self.server = None

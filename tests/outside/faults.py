@@ -23,6 +23,7 @@ SEED = "0" * 64
 DOCUMENT = os.path.join(os.path.dirname(os.path.abspath(__file__)), "../../docs/CLI.md")
 VERSION = os.path.join(os.path.dirname(DOCUMENT), "../VERSION")
 MEBIBYTE = 1 << 20
+NONE = "No such file or directory (os error 2)"
 Said = tuple[int, str, str]
 Wanted = tuple[int, str | None, str | None]
 Limit = tuple[int, int]
@@ -76,6 +77,11 @@ def at(db: str = "portal.db", settings: str = "settings") -> tuple[str, ...]:
     return ("--db", db, "--settings", settings)
 
 
+def file_at(path: str, text: str) -> str:
+    """What is told of a file that is of no use, with what the system says."""
+    return f"portal: file\n  {path}: {text}\n"
+
+
 def cases() -> Iterator[tuple[tuple[str | bytes, ...], Wanted]]:
     """The words, and what they come to: status, standard output (None: any), standard error (None: any)."""
     moment = ("--now", "1583125693", "--seed", SEED)
@@ -92,16 +98,17 @@ def cases() -> Iterator[tuple[tuple[str | bytes, ...], Wanted]]:
     yield ("takings", "2020-03-02", "2020-03-01", *at(settings="none")), (2, "", "portal: usage\n")
     yield ("takings", "2020-03-01", "2021-03-02", *at(settings="none")), (2, "", "portal: usage\n")
     yield ("takings", "2020-03-01", "2021-03-01", *at()), (0, None, "")
-    yield ("check", *at(settings="none")), (3, "", "portal: file\n")
-    yield ("check", *at(settings="folder")), (3, "", "portal: file\n")
+    yield ("check", *at(settings="none")), (3, "", file_at("none", NONE))
+    yield ("check", *at(settings="folder")), (3, "", file_at("folder", "Is a directory (os error 21)"))
     yield ("check", *at(db="text", settings="open")), (3, "", "portal: settings\n")
-    for db, word in (("text", "file"), ("folder", "file"), ("none/portal.db", "file"), ("other.db", "not_ours"),
-                     ("later.db", "newer")):
-        yield ("check", *at(db=db)), (3, "", f"portal: {word}\n")
-        yield ("print", "b1", *at(db=db)), (3, "", f"portal: {word}\n")
-        yield ("takings", "2020-03-01", "2020-03-01", *at(db=db)), (3, "", f"portal: {word}\n")
-        yield ("answer", *moment, *at(db=db)), (3, "", f"portal: {word}\n")
-        yield ("serve", *at(db=db)), (3, "", f"portal: {word}\n")
+    for db, said in (("text", file_at("text", "file is not a database that obeys its schema")), ("folder", file_at("folder", "unsupported")),
+                     ("none/portal.db", file_at("none/portal.db", NONE)), ("other.db", "portal: not_ours\n"),
+                     ("later.db", "portal: newer\n")):
+        yield ("check", *at(db=db)), (3, "", said)
+        yield ("print", "b1", *at(db=db)), (3, "", said)
+        yield ("takings", "2020-03-01", "2020-03-01", *at(db=db)), (3, "", said)
+        yield ("answer", *moment, *at(db=db)), (3, "", said)
+        yield ("serve", *at(db=db)), (3, "", said)
     yield ("print", "b9", *at()), (1, "", "portal: unknown_batch\n")
     yield ("print", "B 1", *at()), (1, "", "portal: unknown_batch\n")
     yield ("print", "b1", *at()), (0, None, "")
@@ -133,8 +140,8 @@ class Shown:
     def note(self, words: tuple[str | bytes, ...], said: Said) -> None:
         self.count += 1
         status, output, errors = said
-        last = (errors.splitlines() or [""])[-1]
-        told = last.removeprefix("portal: ") if last.startswith("portal: ") else ""
+        words_told = [line.removeprefix("portal: ") for line in errors.splitlines() if line.startswith("portal: ")]
+        told = (words_told or [""])[0]
         if told:
             self.messages.add(told)
         if output == "differs\n":
@@ -192,7 +199,7 @@ def taken(shown: Shown) -> None:
         holds.stdout.readline()
         for words in (("check", *at()), ("print", "b1", *at()), ("takings", "2020-03-01", "2020-03-01", *at()),
                       ("answer", "--now", "1", "--seed", SEED, *at()), ("serve", *at(), "--port", free_port())):
-            shown.call(words, (3, "", "portal: file\n"))
+            shown.call(words, (3, "", file_at("portal.db", "the database is in use")))
         holds.kill()
 
 
@@ -205,7 +212,7 @@ def stopped(shown: Shown) -> None:
     """A full disk, here a limit to the length of files: the desk stops and says so, and its file is good afterwards."""
     seed = ("--now", "1000", "--seed", "1" * 64, *at("full.db"))
     order = request("POST", "/desk/batches", DESK, '{"batch":"b1","plan":"hour","count":500}')
-    shown.call(("answer", *seed), (3, "", "portal: file\n"), limit=(resource.RLIMIT_FSIZE, 0))
+    shown.call(("answer", *seed), (3, "", file_at("full.db", "disk I/O error")), limit=(resource.RLIMIT_FSIZE, 0))
     shown.call(("answer", *seed), (0, None, ""), data=request("POST", "/desk/plans", DESK, PLANS))
     limit = (resource.RLIMIT_FSIZE, length_of(shown, "full.db") + 4096)
     said = shown.call(("answer", *seed), (3, None, ""), data=order, limit=limit)

@@ -83,7 +83,7 @@ def main():
             is_answered(desk)
             assert time.monotonic() - start < 20, kind.__name__
         locked = desk.run("check")
-        assert (locked.returncode, locked.stdout, locked.stderr) == (3, "", "portal: file\n"), locked
+        assert (locked.returncode, locked.stdout, locked.stderr) == (3, "", "portal: file\n  portal.db: the database is in use\n"), locked
         desk.kill()
         desk.start("--count", "2")
         is_answered(desk)

@@ -1,0 +1,225 @@
+"""The two files of a database: after each end that is no kill the database file holds everything alone, a log is never lost beside a
+database that is missing or blank, and what is told of a new database, of a file that is of no use, and of connections that fail.
+
+    whole.py PROGRAM
+"""
+
+from __future__ import annotations
+
+import json
+import os
+import resource
+import shutil
+import sqlite3
+import subprocess
+import sys
+import tempfile
+import time
+
+from desk import DESK, PLANS, Desk, codes_of, request
+
+SEED = "0" * 64
+SALES = 200
+DAY = "1970-01-01"
+
+
+def expect(what: str, came: object, wanted: object) -> None:
+    if came != wanted:
+        sys.exit(f"outside: {what}\n  expected: {wanted}\n  came:     {came}")
+
+
+def answer(desk: Desk, now: int, data: bytes) -> None:
+    done = desk.run("answer", "--now", str(now), "--seed", SEED, data=data)
+    expect("answer", (done.returncode, done.stderr), (0, ""))
+
+
+def sale(code: str) -> bytes:
+    return request("POST", "/desk/sales", DESK, json.dumps({"code": code}))
+
+
+def batch() -> bytes:
+    return request("POST", "/desk/batches", DESK, json.dumps({"batch": "b1", "plan": "hour", "count": SALES}))
+
+
+def printed_codes(desk: Desk) -> list[str]:
+    return [line.split(",")[0] for line in desk.run("print", "b1").stdout.splitlines()[1:]]
+
+
+def is_whole_alone(desk: Desk, day: str, what: str) -> None:
+    """The database file, copied elsewhere without its log, has all sales: by the program and by SQLite."""
+    with tempfile.TemporaryDirectory() as folder:
+        alone = Desk(desk.program, folder)
+        shutil.copy(os.path.join(desk.folder, "portal.db"), folder)
+        with sqlite3.connect(os.path.join(folder, "portal.db")) as file:
+            [(sold,)] = file.execute("SELECT count(*) FROM portal_vouchers WHERE sold IS NOT NULL")
+        file.close()
+        expect(f"{what}: sales in portal.db alone, by SQLite", sold, SALES)
+        total = alone.run("takings", day, day).stdout.splitlines()[-1]
+        expect(f"{what}: takings of portal.db alone", total, f"net {SALES * 3}.00")
+
+
+def sold_by_answer(program: str, folder: str) -> Desk:
+    desk = Desk(program, folder)
+    answer(desk, 0, request("POST", "/desk/plans", DESK, PLANS))
+    answer(desk, 0, batch())
+    for code in printed_codes(desk):
+        answer(desk, 60, sale(code))
+    return desk
+
+
+def answers_leave_it_whole(program: str) -> None:
+    with tempfile.TemporaryDirectory() as folder:
+        desk = sold_by_answer(program, folder)
+        is_whole_alone(desk, DAY, "answer")
+        for words in (("print", "b1"), ("takings", DAY, DAY), ("check",)):
+            expect(f"{words[0]} of a database that is there", (desk.run(*words).returncode, desk.run(*words).stderr), (0, ""))
+            is_whole_alone(desk, DAY, words[0])
+
+
+def served(desk: Desk, ends: int) -> None:
+    """All vouchers are sold by a server, which ends by itself after so many connections, or goes on."""
+    desk.start("--count", str(ends))
+    desk.told("POST", "/desk/plans", DESK, PLANS)
+    desk.told("POST", "/desk/batches", DESK, json.dumps({"batch": "b1", "plan": "hour", "count": SALES}))
+    for code in codes_of(desk, "b1"):
+        desk.told("POST", "/desk/sales", DESK, json.dumps({"code": code}))
+
+
+def today() -> str:
+    return time.strftime("%Y-%m-%d", time.gmtime())
+
+
+def serving_leaves_it_whole(program: str) -> None:
+    with tempfile.TemporaryDirectory() as folder:
+        desk, day = Desk(program, folder), today()
+        served(desk, SALES + 3)
+        expect("serve --count", desk.process.wait(timeout=30), 0)
+        desk.process.stdout.close()
+        if day == today():
+            is_whole_alone(desk, day, "serve --count")
+
+
+def starting_makes_it_whole(program: str) -> None:
+    """A server that was killed leaves its sales in the log; the next one copies them as it starts, and may be killed at once."""
+    with tempfile.TemporaryDirectory() as folder:
+        desk, day = Desk(program, folder), today()
+        served(desk, 1000000)
+        desk.kill()
+        desk.start()
+        desk.kill()
+        if day == today():
+            is_whole_alone(desk, day, "serve, after a kill")
+
+
+def killed(program: str, folder: str) -> Desk:
+    """A database whose sales are in its log."""
+    desk = Desk(program, folder)
+    served(desk, 1000000)
+    desk.kill()
+    return desk
+
+
+def content(desk: Desk, name: str) -> bytes:
+    with open(os.path.join(desk.folder, name), "rb") as file:
+        return file.read()
+
+
+def log_is_kept(program: str) -> None:
+    """A log that holds commits beside a database that is missing or blank is `portal: file`, and stays as it is."""
+    with tempfile.TemporaryDirectory() as folder:
+        desk = killed(program, folder)
+        database, log = content(desk, "portal.db"), content(desk, "portal.db-wal")
+        text = "  portal.db: the database is empty or missing, and its log holds commits\n"
+        for blank in (False, True):
+            for words in (("check",), ("print", "b1"), ("takings", DAY, DAY), ("serve", "--count", "1", "--port", str(desk.port)),
+                          ("answer", "--now", "1", "--seed", SEED)):
+                os.remove(os.path.join(folder, "portal.db"))
+                if blank:
+                    with open(os.path.join(folder, "portal.db"), "wb"):
+                        pass
+                done = desk.run(*words, data=request("GET", "/gateway/sessions", "Portal-Token: gate-token"))
+                expect(f"{words[0]} over a log alone", (done.returncode, done.stdout, done.stderr), (3, "", "portal: file\n" + text))
+                expect(f"{words[0]} over a log alone: the database", content(desk, "portal.db"), b"")
+                expect(f"{words[0]} over a log alone: the log is as it was", content(desk, "portal.db-wal") == log, True)
+        with open(os.path.join(folder, "portal.db"), "wb") as file:
+            file.write(database)
+        done = desk.run("check")
+        expect("check, with the database put back", (done.returncode, done.stdout, done.stderr), (0, "ok\n", ""))
+        if today() == time.strftime("%Y-%m-%d", time.gmtime(os.path.getmtime(os.path.join(folder, "settings.toml")))):
+            is_whole_alone(desk, today(), "check, with the database put back")
+
+
+def new_database_is_told(program: str) -> None:
+    for words in (("print", "b1"), ("takings", DAY, DAY), ("check",)):
+        with tempfile.TemporaryDirectory() as folder:
+            desk = Desk(program, folder)
+            done = desk.run(*words)
+            status, word = (1, "portal: unknown_batch\n") if words[0] == "print" else (0, "")
+            expect(f"{words[0]} of no database", (done.returncode, done.stderr), (status, "portal: new database portal.db\n" + word))
+            done = desk.run(*words)
+            expect(f"{words[0]} the second time", (done.returncode, done.stderr), (status, word))
+    with tempfile.TemporaryDirectory() as folder:
+        desk = Desk(program, folder)
+        answer(desk, 0, request("POST", "/desk/plans", DESK, PLANS))
+
+
+def file_is_explained(program: str) -> None:
+    """The line of `portal: file` is followed by one that has the path and what the system says."""
+    with tempfile.TemporaryDirectory() as folder:
+        desk = Desk(program, folder)
+        words = [program, "check", "--settings", "settings.toml", "--db"]
+        cases = [("none/portal.db", "No such file or directory (os error 2)"), ("settings.toml", "file is not a database that obeys its schema")]
+        for path, text in cases:
+            done = subprocess.run([*words, path], cwd=folder, capture_output=True, text=True, check=False)
+            expect(f"check --db {path}", (done.returncode, done.stderr), (3, f"portal: file\n  {path}: {text}\n"))
+        done = subprocess.run([program, "check", "--db", "portal.db", "--settings", "none.toml"], cwd=folder, capture_output=True, text=True,
+                              check=False)
+        expect("check --settings none.toml", (done.returncode, done.stderr),
+               (3, "portal: file\n  none.toml: No such file or directory (os error 2)\n"))
+        desk.start()
+        done = desk.run("check")
+        expect("check beside a server", (done.returncode, done.stderr), (3, "portal: file\n  portal.db: the database is in use\n"))
+        desk.kill()
+        done = subprocess.run([*words, "two\nlines/portal.db"], cwd=folder, capture_output=True, text=True, check=False)
+        expect("check --db with a line feed", (done.returncode, done.stderr), (3, "portal: file\n"))
+
+
+def told_without_descriptors(desk: Desk) -> None:
+    """Lets the server have no more descriptors than it has, while peers come, and then more again."""
+    used = len(os.listdir(f"/proc/{desk.process.pid}/fd"))
+    resource.prlimit(desk.process.pid, resource.RLIMIT_NOFILE, (used, 256))
+    peers = [desk.connect() for _ in range(8)]
+    time.sleep(2)
+    lines = content(desk, "errors").decode().splitlines()
+    expect("lines in 2 s", (1 <= len(lines) <= 4, set(lines)), (True, {"portal: network"}))
+    resource.prlimit(desk.process.pid, resource.RLIMIT_NOFILE, (256, 256))
+    for peer in peers:
+        peer.close()
+    expect("a request afterwards", desk.ask("GET", "/gateway/sessions", "Portal-Token: gate-token")[0], 200)
+
+
+def accepts_without_descriptors(program: str) -> None:
+    """With no descriptors left the server tells of failed connections, at most 4 times in the first 2 seconds, and then serves on."""
+    with tempfile.TemporaryDirectory() as folder:
+        desk = Desk(program, folder)
+        with open(os.path.join(folder, "errors"), "wb") as errors:
+            desk.process = subprocess.Popen(desk.words("serve", "--port", str(desk.port)), cwd=folder, stdout=subprocess.PIPE,
+                                            stderr=errors, text=True)
+        try:
+            assert desk.process.stdout
+            desk.process.stdout.readline()
+            told_without_descriptors(desk)
+        finally:
+            desk.kill()
+
+
+def main() -> None:
+    parts = (answers_leave_it_whole, serving_leaves_it_whole, starting_makes_it_whole, log_is_kept, new_database_is_told, file_is_explained,
+             accepts_without_descriptors)
+    chosen = [part for part in parts if not sys.argv[2:] or part.__name__ in sys.argv[2:]]
+    for part in chosen:
+        part(sys.argv[1])
+    print(f"outside: the database file is whole at each end, and a log is never lost ({len(chosen)} parts)")
+
+
+main()
