@@ -15,6 +15,7 @@ ghost use Rattle.portal_desk.specs.Sheets.{sheet_of, takings_over};
 
 pub mod prepared;
 
+use crate::prepared::{Marked, Prepared};
 use portal_codes::Code;
 use portal_days::{DayRange, DayTakings};
 use portal_files::{BatchSheet, Settings};
@@ -25,7 +26,6 @@ use portal_model::moment::Moment;
 use portal_model::name::{Device, Id};
 use portal_model::record::Voucher;
 use portal_model::refusal::Refusal;
-pub use prepared::{Marked, Prepared};
 use std::alloc::Global;
 
 /// A desk, seen by what it stands for. Several ledgers may show in the same records, so what a desk stands for is a

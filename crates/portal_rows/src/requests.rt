@@ -51,7 +51,7 @@ pub fn insert_kept<S: Alter>(
     ensures kept { HasCleanDisk (state S.Store tx.new.conn.now) → KeepsCommit (state S.Store tx.old.conn.now) (state S.Store tx.new.conn.now) }
     ensures survives { Survives (state S.Store tx.old.conn.now) (state S.Store tx.new.conn.now) (λ _. ⊥) }
 {
-    let text = CallerText::of(&mark.caller);
+    let text = CallerText::of(&mark.caller());
     let row = answer_row(answer);
     let n2 = signed(row.n2);
     let n3 = signed(row.n3);
@@ -61,10 +61,10 @@ pub fn insert_kept<S: Alter>(
             Signs {
                 bytes: text.as_bytes()
             },
-            mark.number.text(),
-            mark.method.as_str(),
-            mark.path.as_str(),
-            mark.body.as_slice(),
+            mark.number().text(),
+            mark.method(),
+            mark.path(),
+            mark.body(),
             row.kind,
             &row.word,
             row.n1 as i64,

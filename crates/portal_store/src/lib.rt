@@ -11,4 +11,3 @@ mod reading;
 mod takings;
 
 pub use desks::StoreDesk;
-pub use portal_tables::{OpenFault, Refused};

@@ -139,7 +139,7 @@ impl<S: Alter> StoreDesk<S> {
             (λ found. ReadsOf old (λ L. repeat_in L (Some mark.now) ≡ Ok found) new)
             (λ r. ReadsOf old (λ L. repeat_in L (Some mark.now) ≡ Err r) new ⊎ CannotAnswer old r new)) }
     {
-        match self.tables.request(alloc, &mark.caller, &mark.number) {
+        match self.tables.request(alloc, &mark.caller(), mark.number()) {
             Ok(kept) => decide_repeat(kept.as_ref(), mark),
             Err(fault) => Err(refused(fault)),
         }
