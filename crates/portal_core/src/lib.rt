@@ -10,6 +10,7 @@ pub use decide::{
     decide_sell,
 };
 pub use portal_days::{Day, DayRange, DayTakings};
+pub use portal_ledger::{Caller, KeptRequest, RequestMark, RequestNumber, decide_repeat};
 pub use portal_model::captive::{Captive, OpenSession};
 pub use portal_model::change::{
     Answer, Changes, Closing, Issuance, Loading, Redemption, Repayment, Sale, Usage,

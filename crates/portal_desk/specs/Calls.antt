@@ -1,5 +1,5 @@
 -- What each call of a desk may answer, from the state before it to the state after it.
-use Rattle.std.specs.Prelude.{◌≡◌, ◌⊎◌, ℕ, Bool, true, false, Option, Some, None, Ok, Err}
+use Rattle.std.specs.Prelude.{◌≡◌, ◌≢◌, ◌⊎◌, ℕ, Bool, true, false, Option, Some, None, Result, Ok, Err, MatchResult}
 use Rattle.portal_model.specs.declared.command.Command.{Command}
 use Rattle.portal_model.specs.declared.change.Answer.{Answer}
 use Rattle.portal_model.specs.declared.refusal.Refusal.{Refusal}
@@ -18,6 +18,18 @@ use Rattle.portal_desk.specs.declared.prepared.Marked.TheVariants.{Fresh, Kept}
 abbrev pub is_over : State → Bool
 is_over (running L) = false
 is_over (stopped L doubt) = true
+
+-- Whether the desk has stopped, before a refusal and after it: after `Stopped` it has, and any other leaves that as it was.
+abbrev pub TellsStop : Bool → Bool → Refusal → Type 0
+TellsStop old new r = ((r ≡ Stopped) × (new ≡ true)) ⊎ ((r ≢ Stopped) × (new ≡ old))
+
+-- the same of a call, whatever the disk did: an answer leaves it as it was
+abbrev pub KeepsStop : {T : Type 0} → Bool → Bool → Result T Refusal → Type 0
+KeepsStop old new result = MatchResult result (λ _. new ≡ old) (TellsStop old new)
+
+-- several calls of a desk: one that had stopped has stopped still
+abbrev pub StaysStopped : Bool → Bool → Type 0
+StaysStopped old new = old ≡ true → new ≡ true
 
 -- it answers what the history gives, and stays as it is
 abbrev pub Answers : {A : Type 0} → (History → A) → State → A → State → Type 0

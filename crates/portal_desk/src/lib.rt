@@ -10,12 +10,11 @@ ghost use Rattle.portal_files.specs.SettingsFile.{SettingsValue};
 ghost use Rattle.portal_ledger.specs.Ledger.{Accepted, Ledger, IsSound};
 ghost use Rattle.portal_ledger.specs.States.{State, MayStand};
 ghost use Rattle.portal_ledger.specs.Calls.{Fits, Keeps};
-ghost use Rattle.portal_desk.specs.Calls.{is_over, Answers, CannotAnswer, Misses, Prepares, PreparesMarked, Refuses, CannotKeep};
+ghost use Rattle.portal_desk.specs.Calls.{is_over, Answers, CannotAnswer, KeepsStop, Misses, Prepares, PreparesMarked, Refuses, CannotKeep};
 ghost use Rattle.portal_desk.specs.Sheets.{sheet_of, takings_over};
 
 pub mod prepared;
 
-use crate::prepared::{Marked, Prepared};
 use portal_codes::Code;
 use portal_days::{DayRange, DayTakings};
 use portal_files::{BatchSheet, Settings};
@@ -26,6 +25,7 @@ use portal_model::moment::Moment;
 use portal_model::name::{Device, Id};
 use portal_model::record::Voucher;
 use portal_model::refusal::Refusal;
+pub use prepared::{Marked, Prepared};
 use std::alloc::Global;
 
 /// A desk, seen by what it stands for. Several ledgers may show in the same records, so what a desk stands for is a
@@ -36,6 +36,9 @@ use std::alloc::Global;
 /// for. By the law `leaves` they show what a reopening may find, and by the law `sound` each ledger that files show
 /// is sound. `audits` says of an answer to `audit` that it is right about what the store holds, ledger or not.
 ///
+/// Whatever the store returns, `has_stopped` is known: after the answer `Stopped` the desk has stopped, and any
+/// other answer leaves it stopped or working as it was.
+///
 /// A desk that works stands at a ledger. `NoMemory` leaves it as it was. After `Stopped` it stands between the ledger
 /// and the same with one command more, and answers `Stopped` until it is made anew from its store.
 pub trait Desk {
@@ -44,6 +47,8 @@ pub trait Desk {
     ghost stands: { Self → State → Type 0 };
 
     ghost settings: { Self → SettingsValue };
+
+    ghost has_stopped: { Self → Bool };
 
     ghost is_honest: { Self → Type 0 };
 
@@ -59,7 +64,8 @@ pub trait Desk {
 
     /// Whether it has stopped.
     fn is_stopped(&self) -> bool
-        ensures { (s : State) → stands self.now s → result ≡ is_over s };
+        ensures told { result ≡ has_stopped self.now }
+        ensures over { (s : State) → stands self.now s → result ≡ is_over s };
 
     /// What a device is told at a moment (RFC 8908 section 5).
     ///
@@ -67,6 +73,7 @@ pub trait Desk {
     fn state(&mut self, moment: Moment, device: Device) -> Result<Captive, Refusal>
         ensures told { settings self.new ≡ settings self.old }
         ensures honest { is_honest self.new → is_honest self.old }
+        ensures stops { KeepsStop (has_stopped self.old) (has_stopped self.new) result }
         ensures state { is_honest self.new → (old : State) → stands self.old old → (new : State) × stands self.new new
             × MatchResult result (λ captive. Answers (λ H. captive_of H device moment) old captive new) (λ r. CannotAnswer old r new) };
 
@@ -76,6 +83,7 @@ pub trait Desk {
     fn voucher(&mut self, code: &Code) -> Result<Voucher, Refusal>
         ensures told { settings self.new ≡ settings self.old }
         ensures honest { is_honest self.new → is_honest self.old }
+        ensures stops { KeepsStop (has_stopped self.old) (has_stopped self.new) result }
         ensures voucher { is_honest self.new → (old : State) → stands self.old old → (new : State) × stands self.new new
             × MatchResult result (λ v. Answers (λ H. voucher_of H code.now) old (Some v) new)
             (λ r. Misses Refusal.UnknownCode (λ H. voucher_of H code.now) old r new) };
@@ -86,6 +94,7 @@ pub trait Desk {
     fn batch(&mut self, alloc: Global, id: &Id) -> Result<BatchSheet, Refusal>
         ensures told { settings self.new ≡ settings self.old }
         ensures honest { is_honest self.new → is_honest self.old }
+        ensures stops { KeepsStop (has_stopped self.old) (has_stopped self.new) result }
         ensures batch { is_honest self.new → (old : State) → stands self.old old → (new : State) × stands self.new new
             × MatchResult result (λ sheet. Answers (λ H. sheet_of H id.now) old (Some sheet) new)
             (λ r. Misses Refusal.UnknownBatch (λ H. sheet_of H id.now) old r new) };
@@ -96,6 +105,7 @@ pub trait Desk {
     fn open_now(&mut self, alloc: Global, moment: Moment) -> Result<Vec<OpenSession>, Refusal>
         ensures told { settings self.new ≡ settings self.old }
         ensures honest { is_honest self.new → is_honest self.old }
+        ensures stops { KeepsStop (has_stopped self.old) (has_stopped self.new) result }
         ensures open_now { is_honest self.new → (old : State) → stands self.old old → (new : State) × stands self.new new
             × MatchResult result (λ sessions. Answers (λ H. open_sessions_of H moment) old sessions.items new) (λ r. CannotAnswer old r new) };
 
@@ -106,6 +116,7 @@ pub trait Desk {
     fn takings(&mut self, alloc: Global, range: DayRange) -> Result<Vec<DayTakings>, Refusal>
         ensures told { settings self.new ≡ settings self.old }
         ensures honest { is_honest self.new → is_honest self.old }
+        ensures stops { KeepsStop (has_stopped self.old) (has_stopped self.new) result }
         ensures totals { IfOk result (λ days. TotalsFit days.items) }
         ensures takings { is_honest self.new → (old : State) → stands self.old old → (new : State) × stands self.new new
             × MatchResult result (λ days. Answers (λ H. takings_over (settings self.old).zone H range) old days.items new)
@@ -118,6 +129,7 @@ pub trait Desk {
     fn audit(&mut self, alloc: Global) -> Result<bool, Refusal>
         ensures told { settings self.new ≡ settings self.old }
         ensures honest { is_honest self.new → is_honest self.old }
+        ensures stops { KeepsStop (has_stopped self.old) (has_stopped self.new) result }
         ensures audit { is_honest self.new → (old : State) → stands self.old old → (new : State) × stands self.new new
             × MatchResult result (λ agrees. Answers (λ H. true) old agrees new) (λ r. CannotAnswer old r new) }
         ensures exact { is_honest self.new → IfOk result (audits self.old) };
@@ -135,6 +147,7 @@ pub trait Desk {
         requires { IsWellFormed command }
         ensures told { settings self.new ≡ settings self.old }
         ensures honest { is_honest self.new → is_honest self.old }
+        ensures stops { KeepsStop (has_stopped self.old) (has_stopped self.new) result }
         ensures prepare { is_honest self.new → (old : State) → stands self.old old → (new : State) × stands self.new new
             × MatchResult result (λ p. Prepares old command moment None p new) (λ r. Refuses old command moment None r new) };
 
@@ -153,6 +166,7 @@ pub trait Desk {
         requires { IsWellFormed command }
         ensures told { settings self.new ≡ settings self.old }
         ensures honest { is_honest self.new → is_honest self.old }
+        ensures stops { KeepsStop (has_stopped self.old) (has_stopped self.new) result }
         ensures prepare { is_honest self.new → (old : State) → stands self.old old → (new : State) × stands self.new new
             × MatchResult result (λ marked. PreparesMarked old command moment mark.now marked new)
             (λ r. Refuses old command moment (Some mark.now) r new) };
@@ -163,6 +177,7 @@ pub trait Desk {
     fn finish(&mut self, prepared: Prepared) -> Result<(), Refusal>
         ensures told { settings self.new ≡ settings self.old }
         ensures honest { is_honest self.new → is_honest self.old }
+        ensures stops { KeepsStop (has_stopped self.old) (has_stopped self.new) result }
         ensures finish { is_honest self.new → (old : State) → stands self.old old → (a : Accepted) → Fits old prepared a
             → (new : State) × stands self.new new × MatchResult result (λ _. Keeps old a new) (λ r. CannotKeep old a r new) };
 

@@ -12,8 +12,10 @@ use Rattle.sqlite.specs.Files.{HoldsDatabase, file_state, over_files}
 use Rattle.portal_ledger.specs.Ledger.{Ledger}
 use Rattle.portal_sql.specs.StandsAt.{LeftShows}
 use Rattle.portal_tables.specs.Stores.{StoreShows}
-use Rattle.portal_tables.specs.Images.{ImageHolds, ImageShows}
-use Rattle.portal_tables.specs.TablesAt.{ConnAt, Files as Tables, FilesShow}
+use Rattle.sqlite_store.specs.FileStore.{view, faults, recovers, is_shielded}
+use Rattle.sqlite_trees.specs.View.{IsQuiet}
+use Rattle.portal_tables.specs.Images.{ImageHolds, ImageShows, StoreMayLeave}
+use Rattle.portal_tables.specs.TablesAt.{ConnAt, ConnMayLeave, Files as Tables, FilesShow}
 use Rattle.portal_host.specs.Opening.{AreWhole}
 
 module _ {D : Type 0} {g : Ghosts D} (L : Ledger) (old : Held (FileStore D g)) (at : ConnAt over_files old L) where
@@ -32,3 +34,9 @@ module _ {D : Type 0} {g : Ghosts D} (L : Ledger) (old : Held (FileStore D g)) (
   pub closed_whole : (files : Files D) → IsCopied old files → AreWhole g files L
   closed_whole files copied image may =
       let held = copied.left image may in (held_shows image held.both, held_shows (record image { log = [] }) held.alone)
+
+-- a store that was not closed leaves no more than its connection did
+pub unclosed_leaves : {D : Type 0} {g : Ghosts D} (old : Held (FileStore D g)) (last : FileStore D g) → IsQuiet view faults recovers is_shielded old.store last
+    → (tables : Tables) → StoreMayLeave last tables → ConnMayLeave over_files old tables
+unfolding Tables StoreMayLeave ConnMayLeave
+unclosed_leaves old last quiet tables may = quiet.outcomes tables may

@@ -4,23 +4,26 @@ ghost use Rattle.sqlite_wal.specs.Reads.{AreClean};
 ghost use Rattle.sqlite.specs.Files.{over_files};
 ghost use Rattle.portal_ledger.specs.Ledger.{Ledger};
 ghost use Rattle.portal_ledger.specs.States.{running};
-ghost use Rattle.portal_store.specs.DeskAt.{DeskAt};
+ghost use Rattle.portal_store.specs.DeskAt.{DeskAt, DeskMayLeave};
 ghost use Rattle.portal_tables.specs.Images.{StoreMayLeave};
 ghost use Rattle.portal_tables.specs.TablesAt.{Files as Tables, FilesShow};
-ghost use Rattle.portal_host.specs.Opening.{AreWhole};
+ghost use Rattle.portal_host.specs.Opening.{AreCopied, AreWhole};
 
 use portal_store::StoreDesk;
 use sqlite::{Error, FileStore};
 use sqlite_disk::{Disk, Files};
 
-/// Closes the files of a desk: what the log holds is copied into the database file. What the desk stood at stands in the
-/// two files then, and in the database file with no log beside it. Where that fails, a stop leaves what shows it still.
+/// Closes the files of a desk: what the log holds is copied into the database file. All tables of the desk's store, ours and
+/// those of others, stand in the two files then as they were committed, and in the database file with no log beside it. Where
+/// that fails, a stop leaves what it might leave of the desk.
 pub fn close_desk<D: Disk + Drop>(
     desk: StoreDesk<FileStore<D>>,
 ) -> Result<Files<D>, (Error, FileStore<D>)>
+    ensures copied { IfOk result (λ files. AreClean D.Disk files.log files.db → AreCopied desk files) }
     ensures whole { IfOk result (λ files. AreClean D.Disk files.log files.db → (L : Ledger) → DeskAt over_files desk (running L) → AreWhole D.Disk files L) }
     ensures unclosed { (L : Ledger) → DeskAt over_files desk (running L)
         → IfErr result (λ e. (tables : Tables) → StoreMayLeave e.1 tables → FilesShow tables L) }
+    ensures left { IfErr result (λ e. (tables : Tables) → StoreMayLeave e.1 tables → DeskMayLeave over_files desk tables) }
 {
     match desk.release().close_files() {
         Ok(files) => Ok(files),

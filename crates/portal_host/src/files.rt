@@ -2,7 +2,7 @@
 ghost use Rattle.std.specs.Prelude.{◌≡◌, [], IfErr, IfOk, OnOk, ⊤};
 ghost use Rattle.portal_ends.specs.declared.fault.Fault.{Fault as Said};
 ghost use Rattle.portal_host.specs.Laws.{desk_is_honest};
-ghost use Rattle.portal_host.specs.Opening.{IsClosed, IsFound};
+ghost use Rattle.portal_host.specs.Opening.{IsClosed, IsFound, IsUnclosed, OpensTo, RefusesFiles};
 ghost use Rattle.sqlite_wal.specs.Files.{image_at};
 ghost use Rattle.sqlite.specs.Files.{over_files};
 ghost use Rattle.sqlite.specs.Steps.{over_memory};
@@ -22,6 +22,7 @@ use portal_program::place::{Opened, Place};
 use portal_program::trouble::Trouble;
 use portal_store::StoreDesk;
 use sqlite::{FileFrom, FileStore, MemStore, Start};
+use sqlite_disk::Disk;
 use std::alloc::Global;
 use std::fmt::Display;
 use std::fs;
@@ -58,7 +59,17 @@ impl<'h, S: Start> Place for HostFiles<'h, S> {
 
     ghost finds = { λ place path is_new. IsFound (image_at S.Start) is_new };
 
+    ghost opens = { λ place path copies desk. OpensTo (image_at S.Start) copies desk };
+
     ghost closes = { λ desk. IsClosed desk };
+
+    ghost fails_to_read = { λ _ _ _. ⊤ };
+
+    ghost refuses = { λ place path trouble. RefusesFiles ⟦<FileFrom<S> as Disk>⟧ (image_at S.Start) trouble.fault };
+
+    ghost fails_to_close = { λ desk path trouble. IsUnclosed desk };
+
+    ghost fails_to_make = { λ fault. IsOfFile fault };
 
     ghost is_fresh_honest = { λ desk. desk_is_honest desk };
 
@@ -77,10 +88,12 @@ impl<'h, S: Start> Place for HostFiles<'h, S> {
         copies: bool,
     ) -> Result<Opened<StoreDesk<FileStore<FileFrom<S>>>>, Trouble>
         ensures why { IfErr result (λ trouble. IsOfStore trouble.fault × IsAt path.now trouble) }
+        ensures refused { IfErr result (λ trouble. RefusesFiles ⟦<FileFrom<S> as Disk>⟧ (image_at S.Start) trouble.fault) }
         ensures told { IfOk result (λ opened. settings_of opened.desk ≡ settings) }
         ensures stands { (L : Ledger) → ImageShows (image_at S.Start) L
             → IfOk result (λ opened. DeskIsHonest over_files opened.desk → DeskAt over_files opened.desk (running L)) }
         ensures found { IfOk result (λ opened. DeskIsHonest over_files opened.desk → IsFound (image_at S.Start) opened.is_new) }
+        ensures opened { IfOk result (λ opened. OpensTo (image_at S.Start) copies opened.desk) }
     {
         match open_store(self.host, path, self.start, copies) {
             Ok((conn, is_new)) => match adopt_store(conn, settings) {
@@ -97,6 +110,7 @@ impl<'h, S: Start> Place for HostFiles<'h, S> {
         desk: StoreDesk<FileStore<FileFrom<S>>>,
     ) -> Result<(), Trouble>
         ensures why { IfErr result (λ trouble. IsOfFile trouble.fault × IsAt path.now trouble) }
+        ensures refused { IfErr result (λ trouble. IsUnclosed desk) }
         ensures closed { OnOk result (IsClosed desk) }
     {
         match close_desk(desk) {

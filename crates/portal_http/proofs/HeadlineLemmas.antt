@@ -1,18 +1,17 @@
 -- What a run leaves, from the steps of its requests.
-use Rattle.std.proofs.Common.{◌≡◌, ◌⊎◌, inl, inr, ℕ, List, [], ◌∷◌, ◌++◌, length, take, Bool, true, false, cond, Option, Some, None, refl, sym, ap, subst, ◌∙◌}
+use Rattle.std.proofs.Common.{◌≡◌, ◌⊎◌, inl, inr, ℕ, List, [], ◌∷◌, ◌++◌, length, take, true, false, Option, Some, None, refl, sym, ap, subst, ◌∙◌}
 use Rattle.std.specs.Prelude.{◌≢◌, MatchOption, Result, Ok, Err, IfErr}
 use Rattle.portal_model.specs.declared.command.Command.{Command}
 use Rattle.portal_model.specs.declared.change.Answer.{Answer}
 use Rattle.portal_model.specs.declared.refusal.Refusal.{Refusal}
-use Rattle.portal_model.specs.declared.refusal.Refusal.TheVariants.{NoMemory, Stopped, IdReused, UnknownBatch, UnknownCode}
+use Rattle.portal_model.specs.declared.refusal.Refusal.TheVariants.{NoMemory, Stopped, UnknownBatch, UnknownCode}
 use Rattle.portal_model.specs.Change.{answer_of}
 use Rattle.portal_model.specs.History.{voucher_of}
 use Rattle.portal_model.specs.Captive.{captive_of, open_sessions_of}
 use Rattle.portal_model.specs.Verdict.{verdict}
 use Rattle.portal_laws.proofs.Granted.{grants_bounded}
-use Rattle.portal_ledger.specs.declared.request.KeptRequest.{KeptRequest}
-use Rattle.portal_ledger.specs.Mark.{Mark, same_request}
-use Rattle.portal_ledger.specs.Ledger.{Accepted, Ledger, history_of, held_in, repeat_of, repeat_in, taken_at, new_by, IsSound}
+use Rattle.portal_ledger.specs.Mark.{Mark}
+use Rattle.portal_ledger.specs.Ledger.{Accepted, Ledger, history_of, held_in, repeat_in, taken_at, new_by, IsSound}
 use Rattle.portal_ledger.specs.States.{State, running, stopped, MayStand}
 use Rattle.portal_ledger.proofs.Ledgers.{the_sound_is_legal}
 use Rattle.portal_files.specs.SettingsFile.{SettingsValue}
@@ -26,7 +25,7 @@ use Rattle.portal_http.specs.Replies.{IsRefusal, IsSheet, IsVoucher, IsAnswer, I
 use Rattle.portal_desk.specs.Sheets.{sheet_of, takings_over}
 use Rattle.portal_http.specs.Runs.{Stops, Step, Run, Served}
 use Rattle.portal_http.specs.Headline.{is_ok, with_command, Acknowledges, Replies, Leads, IsInDoubt, IsFound, Survives}
-use Rattle.portal_http.proofs.Verdicts.{verdict_is_no_stop}
+use Rattle.portal_desk.proofs.Verdicts.{verdict_is_no_stop, repeat_is_no_stop}
 use Rattle.portal_http.proofs.Lines.{state_ok, sheet_ok, voucher_ok, takings_ok, sessions_ok, answer_ok, refused_off, other_apart, ok_apart}
 
 memory_is_no_stop : NoMemory ≢ Stopped
@@ -38,21 +37,10 @@ batch_is_no_stop e = cc
 code_is_no_stop : UnknownCode ≢ Stopped
 code_is_no_stop e = cc
 
-reused_is_no_stop : IdReused ≢ Stopped
-reused_is_no_stop e = cc
-
 -- what is held under a key refuses with one refusal alone
 held_is_no_stop : (L : Ledger) (mark : Option Mark) (r : Refusal) → repeat_in L mark ≡ Err r → r ≢ Stopped
 held_is_no_stop L None r e = absurd (cc)
-held_is_no_stop L (Some mark) r e = go (held_in L mark) e
-  where
-    go : (o : Option KeptRequest) → repeat_of o mark ≡ Err r → r ≢ Stopped
-    go None h = absurd (cc)
-    go (Some k) h = by (same_request k.mark mark) h
-      where
-        by : (b : Bool) → ◌≡◌ {A = Result (Option Answer) Refusal} (cond b (Ok (Some k.answer)) (Err IdReused)) (Err r) → r ≢ Stopped
-        by true h = absurd (cc)
-        by false h = let same : IdReused ≡ r = cc in subst (λ (x : Refusal). x ≢ Stopped) same reused_is_no_stop
+held_is_no_stop L (Some mark) r e = repeat_is_no_stop (held_in L mark) mark r e
 
 module _ (settings : SettingsValue) where
   -- a request that was not answered 200 adds nothing

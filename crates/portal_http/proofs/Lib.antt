@@ -1,7 +1,6 @@
 pub mod ResponseLemmas
 pub mod ServeLemmas
 pub mod RunLemmas
-pub mod Verdicts
 pub mod Lines
 pub mod HeadlineLemmas
 pub mod LifeLemmas

@@ -2,6 +2,7 @@
 ghost use Rattle.std.specs.Prelude.{◌≡◌, ◌≤◌, MatchOption, ⊤};
 ghost use Rattle.portal_ledger.specs.Ledger.{Ledger};
 ghost use Rattle.portal_ledger.specs.States.{State, running};
+ghost use Rattle.portal_desk.specs.Calls.{StaysStopped};
 ghost use Rattle.portal_http.specs.Runs.{Step, Served};
 ghost use Rattle.portal_http.specs.Headline.{Survives};
 ghost use Rattle.portal_http.specs.Exchanges.{between, EndsExchange, digit_shown, status_shown, StatusIsShown};
@@ -92,19 +93,20 @@ fn arrival_at(moment: Moment, seed: [u8; 32], bytes: Vec<u8>) -> Arrival
 
 /// The response of a run of one request. None where there was no memory for one.
 fn respond<D: Desk>(
-    desk: &mut D,
     alloc: Global,
+    desk: &mut D,
     routes: &Routes,
     arrival: Arrival,
 ) -> Option<Vec<u8>>
     ensures told { D.settings desk.new ≡ D.settings desk.old }
     ensures honest { D.is_honest desk.new → D.is_honest desk.old }
+    ensures stays { StaysStopped (D.has_stopped desk.old) (D.has_stopped desk.new) }
     ensures step { D.is_honest desk.new → (old : State) → D.stands desk.old old → (new : State) × D.stands desk.new new
         × MatchOption result (new ≡ old) (λ response. Step (D.settings desk.old) old arrival response.items new) }
 {
     let mut responses = Vec::new(alloc);
     let arrivals = [arrival];
-    match run(desk, alloc, routes, arrivals.as_slice(), &mut responses) {
+    match run(alloc, desk, routes, arrivals.as_slice(), &mut responses) {
         Ok(()) => responses.pop(),
         Err(_) => None,
     }
@@ -112,8 +114,8 @@ fn respond<D: Desk>(
 
 /// The exchange, as far as the desk goes.
 fn carry_out<D: Desk, R: Read, W: Write>(
-    desk: &mut D,
     alloc: Global,
+    desk: &mut D,
     routes: &Routes,
     moment: Moment,
     seed: [u8; 32],
@@ -122,6 +124,7 @@ fn carry_out<D: Desk, R: Read, W: Write>(
 ) -> Result<Done, Cut>
     ensures told { D.settings desk.new ≡ D.settings desk.old }
     ensures honest { D.is_honest desk.new → D.is_honest desk.old }
+    ensures stays { StaysStopped (D.has_stopped desk.old) (D.has_stopped desk.new) }
     ensures wire { EndsExchange (between (R.remaining reader.old) (R.remaining reader.new) (W.contents writer.old) (W.contents writer.new))
         moment seed (λ arrivals responses. ⊤) result }
     ensures served { D.is_honest desk.new → (old : State) → D.stands desk.old old → (new : State) × D.stands desk.new new
@@ -134,7 +137,7 @@ fn carry_out<D: Desk, R: Read, W: Write>(
         Err(ReadFault::NoRoom) => return Err(cut_before(Cause::NoRoom)),
     };
     let arrival = arrival_at(moment, seed, bytes);
-    let Some(response) = respond(desk, alloc, routes, arrival) else {
+    let Some(response) = respond(alloc, desk, routes, arrival) else {
         return Err(cut_before(Cause::NoRoom));
     };
     let whole = response.len();
@@ -163,9 +166,10 @@ fn carry_out<D: Desk, R: Read, W: Write>(
 ///
 /// A stop at the end of the exchange, however it ends, leaves the commands of before with that of the request, where
 /// its response is 200, also if no byte of it went out; and at most one more, where its response is that of `stopped`.
+/// A desk that has stopped stays so, whatever the disk did.
 pub fn exchange<D: Desk, R: Read, W: Write>(
-    desk: &mut D,
     alloc: Global,
+    desk: &mut D,
     routes: &Routes,
     moment: Moment,
     seed: [u8; 32],
@@ -174,6 +178,7 @@ pub fn exchange<D: Desk, R: Read, W: Write>(
 ) -> Result<Done, Cut>
     ensures told { D.settings desk.new ≡ D.settings desk.old }
     ensures honest { D.is_honest desk.new → D.is_honest desk.old }
+    ensures stays { StaysStopped (D.has_stopped desk.old) (D.has_stopped desk.new) }
     ensures wire { EndsExchange (between (R.remaining reader.old) (R.remaining reader.new) (W.contents writer.old) (W.contents writer.new))
         moment seed (λ arrivals responses. ⊤) result }
     ensures served { D.is_honest desk.new → (old : State) → D.stands desk.old old → (new : State) × D.stands desk.new new
@@ -183,5 +188,5 @@ pub fn exchange<D: Desk, R: Read, W: Write>(
         → EndsExchange (between (R.remaining reader.old) (R.remaining reader.new) (W.contents writer.old) (W.contents writer.new))
         moment seed (λ arrivals responses. Survives D.Files (D.may_leave desk.new) D.shows (D.settings desk.old) L arrivals responses) result }
 {
-    carry_out(desk, alloc, routes, moment, seed, reader, writer)
+    carry_out(alloc, desk, routes, moment, seed, reader, writer)
 }

@@ -9,5 +9,6 @@ mod runs;
 mod serving;
 
 pub use arrivals::Arrival;
+pub use exchanges::{Cause, Cut, Done, exchange, status_is_shown, status_shown};
 pub use lives::{life_is_kept, one_reading};
 pub use runs::run;

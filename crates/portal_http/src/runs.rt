@@ -4,6 +4,7 @@ ghost use Rattle.std.specs.Prelude.{Vec as Items};
 ghost use Rattle.std.specs.declared.alloc.Global.{Global as Heap};
 ghost use Rattle.portal_ledger.specs.Ledger.{Ledger};
 ghost use Rattle.portal_ledger.specs.States.{State, running};
+ghost use Rattle.portal_desk.specs.Calls.{StaysStopped};
 ghost use Rattle.portal_http.specs.Runs.{Served, bytes_of};
 ghost use Rattle.portal_http.specs.Headline.{Survives};
 
@@ -24,10 +25,12 @@ use std::alloc::Global;
 /// A stop at the end of the run, wherever it ends, then leaves the commands of before with those that were answered
 /// 200, and at most one more: the command that was first answered `stopped`.
 ///
+/// A desk that has stopped stays so, whatever the disk did.
+///
 /// Refusal: `NoMemory` alone, where no response could be made: that request changed nothing, and the run ends there.
 pub fn run<D: Desk>(
-    desk: &mut D,
     alloc: Global,
+    desk: &mut D,
     routes: &Routes,
     arrivals: &[Arrival],
     out: &mut Vec<Vec<u8>>,
@@ -35,6 +38,7 @@ pub fn run<D: Desk>(
     ensures told { D.settings desk.new ≡ D.settings desk.old }
     ensures err { IfErr result (λ r. r ≡ Refusal.NoMemory) }
     ensures honest { D.is_honest desk.new → D.is_honest desk.old }
+    ensures stays { StaysStopped (D.has_stopped desk.old) (D.has_stopped desk.new) }
     ensures served { D.is_honest desk.new → (old : State) → D.stands desk.old old
         → (new : State) × (responses : List (Items ℕ Heap)) × D.stands desk.new new
         × (out.new.items ≡ out.old.items ++ responses)
@@ -44,13 +48,13 @@ pub fn run<D: Desk>(
         → (responses : List (Items ℕ Heap)) × (out.new.items ≡ out.old.items ++ responses)
         × Survives D.Files (D.may_leave desk.new) D.shows (D.settings desk.old) L arrivals.now (bytes_of responses) }
 {
-    serve_all(desk, alloc, routes, arrivals, out)
+    serve_all(alloc, desk, routes, arrivals, out)
 }
 
 /// The requests one after another, as `run` says.
 fn serve_all<D: Desk>(
-    desk: &mut D,
     alloc: Global,
+    desk: &mut D,
     routes: &Routes,
     arrivals: &[Arrival],
     out: &mut Vec<Vec<u8>>,
@@ -58,6 +62,7 @@ fn serve_all<D: Desk>(
     ensures told { D.settings desk.new ≡ D.settings desk.old }
     ensures err { IfErr result (λ r. r ≡ Refusal.NoMemory) }
     ensures honest { D.is_honest desk.new → D.is_honest desk.old }
+    ensures stays { StaysStopped (D.has_stopped desk.old) (D.has_stopped desk.new) }
     ensures served { D.is_honest desk.new → (old : State) → D.stands desk.old old
         → (new : State) × (responses : List (Items ℕ Heap)) × D.stands desk.new new
         × (out.new.items ≡ out.old.items ++ responses)
@@ -68,7 +73,7 @@ fn serve_all<D: Desk>(
         if out.reserve(1).is_err() {
             return Err(Refusal::NoMemory);
         }
-        match serve(desk, alloc, routes, arrival) {
+        match serve(alloc, desk, routes, arrival) {
             Err(r) => return Err(r),
             Ok(response) => match out.push(response) {
                 Ok(()) => {}

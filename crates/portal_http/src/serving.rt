@@ -7,6 +7,7 @@ ghost use Rattle.portal_ledger.specs.States.{State, running};
 ghost use Rattle.portal_ledger.specs.Calls.{Fits};
 ghost use Rattle.portal_checks.specs.declared.wanted.Wanted.TheVariants as wanted;
 ghost use Rattle.portal_checks.specs.Checks.{IsInOrder};
+ghost use Rattle.portal_desk.specs.Calls.{StaysStopped};
 ghost use Rattle.portal_http.specs.Replies.{IsRefusal, IsDenial};
 ghost use Rattle.portal_http.specs.Runs.{Step};
 ghost use Rattle.portal_http.specs.Serving.{Finishes, Serves, ServesWanted};
@@ -75,8 +76,8 @@ fn unkept(refusal: Refusal, spare: Spare) -> Vec<u8>
 
 /// The captive state of a device.
 fn serve_state<D: Desk>(
-    desk: &mut D,
     alloc: Global,
+    desk: &mut D,
     moment: Moment,
     device: Device,
     spare: Spare,
@@ -85,6 +86,7 @@ fn serve_state<D: Desk>(
     requires stopped { IsRefusal Refusal.Stopped moment spare.stopped.items }
     ensures told { D.settings desk.new ≡ D.settings desk.old }
     ensures honest { D.is_honest desk.new → D.is_honest desk.old }
+    ensures stays { StaysStopped (D.has_stopped desk.old) (D.has_stopped desk.new) }
     ensures step { D.is_honest desk.new → (old : State) → D.stands desk.old old → (new : State) × D.stands desk.new new
         × ServesWanted (D.settings desk.old) (wanted.State device) old moment result.items new }
 {
@@ -99,8 +101,8 @@ fn serve_state<D: Desk>(
 
 /// The print file of a batch.
 fn serve_sheet<D: Desk>(
-    desk: &mut D,
     alloc: Global,
+    desk: &mut D,
     moment: Moment,
     id: Id,
     spare: Spare,
@@ -109,6 +111,7 @@ fn serve_sheet<D: Desk>(
     requires stopped { IsRefusal Refusal.Stopped moment spare.stopped.items }
     ensures told { D.settings desk.new ≡ D.settings desk.old }
     ensures honest { D.is_honest desk.new → D.is_honest desk.old }
+    ensures stays { StaysStopped (D.has_stopped desk.old) (D.has_stopped desk.new) }
     ensures step { D.is_honest desk.new → (old : State) → D.stands desk.old old → (new : State) × D.stands desk.new new
         × ServesWanted (D.settings desk.old) (wanted.Sheet id) old moment result.items new }
 {
@@ -123,8 +126,8 @@ fn serve_sheet<D: Desk>(
 
 /// The state of a voucher.
 fn serve_voucher<D: Desk>(
-    desk: &mut D,
     alloc: Global,
+    desk: &mut D,
     moment: Moment,
     code: Code,
     spare: Spare,
@@ -133,6 +136,7 @@ fn serve_voucher<D: Desk>(
     requires stopped { IsRefusal Refusal.Stopped moment spare.stopped.items }
     ensures told { D.settings desk.new ≡ D.settings desk.old }
     ensures honest { D.is_honest desk.new → D.is_honest desk.old }
+    ensures stays { StaysStopped (D.has_stopped desk.old) (D.has_stopped desk.new) }
     ensures step { D.is_honest desk.new → (old : State) → D.stands desk.old old → (new : State) × D.stands desk.new new
         × ServesWanted (D.settings desk.old) (wanted.Voucher code) old moment result.items new }
 {
@@ -147,8 +151,8 @@ fn serve_voucher<D: Desk>(
 
 /// The takings of a range of days.
 fn serve_takings<D: Desk>(
-    desk: &mut D,
     alloc: Global,
+    desk: &mut D,
     moment: Moment,
     range: DayRange,
     spare: Spare,
@@ -157,6 +161,7 @@ fn serve_takings<D: Desk>(
     requires stopped { IsRefusal Refusal.Stopped moment spare.stopped.items }
     ensures told { D.settings desk.new ≡ D.settings desk.old }
     ensures honest { D.is_honest desk.new → D.is_honest desk.old }
+    ensures stays { StaysStopped (D.has_stopped desk.old) (D.has_stopped desk.new) }
     ensures step { D.is_honest desk.new → (old : State) → D.stands desk.old old → (new : State) × D.stands desk.new new
         × ServesWanted (D.settings desk.old) (wanted.Takings range) old moment result.items new }
 {
@@ -170,11 +175,12 @@ fn serve_takings<D: Desk>(
 }
 
 /// The open sessions.
-fn serve_sessions<D: Desk>(desk: &mut D, alloc: Global, moment: Moment, spare: Spare) -> Vec<u8>
+fn serve_sessions<D: Desk>(alloc: Global, desk: &mut D, moment: Moment, spare: Spare) -> Vec<u8>
     requires no_memory { IsRefusal Refusal.NoMemory moment spare.no_memory.items }
     requires stopped { IsRefusal Refusal.Stopped moment spare.stopped.items }
     ensures told { D.settings desk.new ≡ D.settings desk.old }
     ensures honest { D.is_honest desk.new → D.is_honest desk.old }
+    ensures stays { StaysStopped (D.has_stopped desk.old) (D.has_stopped desk.new) }
     ensures step { D.is_honest desk.new → (old : State) → D.stands desk.old old → (new : State) × D.stands desk.new new
         × ServesWanted (D.settings desk.old) wanted.OpenSessions old moment result.items new }
 {
@@ -189,8 +195,8 @@ fn serve_sessions<D: Desk>(desk: &mut D, alloc: Global, moment: Moment, spare: S
 
 /// A command that was prepared. Its 200 response is made before the desk is asked to keep it.
 fn serve_prepared<D: Desk>(
-    desk: &mut D,
     alloc: Global,
+    desk: &mut D,
     moment: Moment,
     prepared: Prepared,
     spare: Spare,
@@ -199,6 +205,7 @@ fn serve_prepared<D: Desk>(
     requires stopped { IsRefusal Refusal.Stopped moment spare.stopped.items }
     ensures told { D.settings desk.new ≡ D.settings desk.old }
     ensures honest { D.is_honest desk.new → D.is_honest desk.old }
+    ensures stays { StaysStopped (D.has_stopped desk.old) (D.has_stopped desk.new) }
     ensures finished { D.is_honest desk.new → (L : Ledger) → D.stands desk.old (running L) → (a : Accepted) → Fits (running L) prepared a
         → (new : State) × D.stands desk.new new × Finishes L a (answer_of prepared.changes) moment result.items new }
 {
@@ -213,8 +220,8 @@ fn serve_prepared<D: Desk>(
 
 /// A command of a request without a number.
 fn serve_unmarked<D: Desk>(
-    desk: &mut D,
     alloc: Global,
+    desk: &mut D,
     moment: Moment,
     command: Command,
     spare: Spare,
@@ -224,19 +231,20 @@ fn serve_unmarked<D: Desk>(
     requires stopped { IsRefusal Refusal.Stopped moment spare.stopped.items }
     ensures told { D.settings desk.new ≡ D.settings desk.old }
     ensures honest { D.is_honest desk.new → D.is_honest desk.old }
+    ensures stays { StaysStopped (D.has_stopped desk.old) (D.has_stopped desk.new) }
     ensures step { D.is_honest desk.new → (old : State) → D.stands desk.old old → (new : State) × D.stands desk.new new
         × Serves (D.settings desk.old) command None old moment result.items new }
 {
     match desk.prepare(alloc, moment, command) {
         Err(refusal) => told(alloc, moment, refusal, spare),
-        Ok(prepared) => serve_prepared(desk, alloc, moment, prepared, spare),
+        Ok(prepared) => serve_prepared(alloc, desk, moment, prepared, spare),
     }
 }
 
 /// A command of a request that acts once.
 fn serve_marked<D: Desk>(
-    desk: &mut D,
     alloc: Global,
+    desk: &mut D,
     moment: Moment,
     command: Command,
     mark: &RequestMark,
@@ -247,6 +255,7 @@ fn serve_marked<D: Desk>(
     requires stopped { IsRefusal Refusal.Stopped moment spare.stopped.items }
     ensures told { D.settings desk.new ≡ D.settings desk.old }
     ensures honest { D.is_honest desk.new → D.is_honest desk.old }
+    ensures stays { StaysStopped (D.has_stopped desk.old) (D.has_stopped desk.new) }
     ensures step { D.is_honest desk.new → (old : State) → D.stands desk.old old → (new : State) × D.stands desk.new new
         × Serves (D.settings desk.old) command (Some mark.now) old moment result.items new }
 {
@@ -256,7 +265,7 @@ fn serve_marked<D: Desk>(
             Ok(response) => response,
             Err(_) => spare.no_memory,
         },
-        Ok(Marked::Fresh(prepared)) => serve_prepared(desk, alloc, moment, prepared, spare),
+        Ok(Marked::Fresh(prepared)) => serve_prepared(alloc, desk, moment, prepared, spare),
     }
 }
 
@@ -279,8 +288,8 @@ fn spare_responses(alloc: Global, moment: Moment) -> Result<Result<Spare, Vec<u8
 
 /// What a request wants of the desk.
 fn serve_wanted<D: Desk>(
-    desk: &mut D,
     alloc: Global,
+    desk: &mut D,
     moment: Moment,
     wanted: Wanted,
     spare: Spare,
@@ -290,26 +299,27 @@ fn serve_wanted<D: Desk>(
     requires stopped { IsRefusal Refusal.Stopped moment spare.stopped.items }
     ensures told { D.settings desk.new ≡ D.settings desk.old }
     ensures honest { D.is_honest desk.new → D.is_honest desk.old }
+    ensures stays { StaysStopped (D.has_stopped desk.old) (D.has_stopped desk.new) }
     ensures step { D.is_honest desk.new → (old : State) → D.stands desk.old old → (new : State) × D.stands desk.new new
         × ServesWanted (D.settings desk.old) wanted old moment result.items new }
 {
     match wanted {
-        Wanted::State(device) => serve_state(desk, alloc, moment, device, spare),
-        Wanted::Sheet(id) => serve_sheet(desk, alloc, moment, id, spare),
-        Wanted::Voucher(code) => serve_voucher(desk, alloc, moment, code, spare),
-        Wanted::Takings(range) => serve_takings(desk, alloc, moment, range, spare),
-        Wanted::OpenSessions => serve_sessions(desk, alloc, moment, spare),
+        Wanted::State(device) => serve_state(alloc, desk, moment, device, spare),
+        Wanted::Sheet(id) => serve_sheet(alloc, desk, moment, id, spare),
+        Wanted::Voucher(code) => serve_voucher(alloc, desk, moment, code, spare),
+        Wanted::Takings(range) => serve_takings(alloc, desk, moment, range, spare),
+        Wanted::OpenSessions => serve_sessions(alloc, desk, moment, spare),
         Wanted::Act(command, mark) => match mark {
-            None => serve_unmarked(desk, alloc, moment, command, spare),
-            Some(mark) => serve_marked(desk, alloc, moment, command, &mark, spare),
+            None => serve_unmarked(alloc, desk, moment, command, spare),
+            Some(mark) => serve_marked(alloc, desk, moment, command, &mark, spare),
         },
     }
 }
 
 /// One request, with the two responses that are made before it.
 fn serve_checked<D: Desk>(
-    desk: &mut D,
     alloc: Global,
+    desk: &mut D,
     routes: &Routes,
     arrival: &Arrival,
     spare: Spare,
@@ -318,6 +328,7 @@ fn serve_checked<D: Desk>(
     requires stopped { IsRefusal Refusal.Stopped arrival.now.moment spare.stopped.items }
     ensures told { D.settings desk.new ≡ D.settings desk.old }
     ensures honest { D.is_honest desk.new → D.is_honest desk.old }
+    ensures stays { StaysStopped (D.has_stopped desk.old) (D.has_stopped desk.new) }
     ensures step { D.is_honest desk.new → (old : State) → D.stands desk.old old → (new : State) × D.stands desk.new new
         × Step (D.settings desk.old) old arrival.now result.items new }
 {
@@ -330,26 +341,27 @@ fn serve_checked<D: Desk>(
         arrival.bytes(),
     ) {
         Err(refused) => denied(alloc, moment, refused, spare),
-        Ok(wanted) => serve_wanted(desk, alloc, moment, wanted, spare),
+        Ok(wanted) => serve_wanted(alloc, desk, moment, wanted, spare),
     }
 }
 
 /// One request. An `Err` is `NoMemory`: no response could be made, and nothing has changed.
 pub fn serve<D: Desk>(
-    desk: &mut D,
     alloc: Global,
+    desk: &mut D,
     routes: &Routes,
     arrival: &Arrival,
 ) -> Result<Vec<u8>, Refusal>
     ensures told { D.settings desk.new ≡ D.settings desk.old }
     ensures err { IfErr result (λ r. r ≡ Refusal.NoMemory) }
     ensures honest { D.is_honest desk.new → D.is_honest desk.old }
+    ensures stays { StaysStopped (D.has_stopped desk.old) (D.has_stopped desk.new) }
     ensures step { D.is_honest desk.new → (old : State) → D.stands desk.old old → (new : State) × D.stands desk.new new
         × MatchResult result (λ response. Step (D.settings desk.old) old arrival.now response.items new) (λ _. new ≡ old) }
 {
     match spare_responses(alloc, arrival.moment()) {
         Err(r) => Err(r),
         Ok(Err(response)) => Ok(response),
-        Ok(Ok(spare)) => Ok(serve_checked(desk, alloc, routes, arrival, spare)),
+        Ok(Ok(spare)) => Ok(serve_checked(alloc, desk, routes, arrival, spare)),
     }
 }

@@ -23,22 +23,22 @@ fn captive_value(
     let portal_url = text(alloc, Some(portal_url))?;
     let venue_url = text(alloc, venue_url)?;
     let mut members = Map::new(alloc);
-    put_some(&mut members, alloc, "bytes-remaining", number(state.bytes))?;
+    put_some(alloc, &mut members, "bytes-remaining", number(state.bytes))?;
     put_some(
-        &mut members,
         alloc,
+        &mut members,
         "can-extend-session",
         flag(state.extend),
     )?;
-    put_some(&mut members, alloc, "captive", flag(Some(state.captive)))?;
+    put_some(alloc, &mut members, "captive", flag(Some(state.captive)))?;
     put_some(
-        &mut members,
         alloc,
+        &mut members,
         "seconds-remaining",
         number(state.seconds),
     )?;
-    put_some(&mut members, alloc, "user-portal-url", portal_url)?;
-    put_some(&mut members, alloc, "venue-info-url", venue_url)?;
+    put_some(alloc, &mut members, "user-portal-url", portal_url)?;
+    put_some(alloc, &mut members, "venue-info-url", venue_url)?;
     Ok(Value::Object(members))
 }
 

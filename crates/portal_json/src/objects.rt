@@ -12,8 +12,8 @@ use std::str;
 
 /// Puts a value under a key, where there is one.
 pub fn put_some(
-    members: &mut Map<String, Value>,
     alloc: Global,
+    members: &mut Map<String, Value>,
     key: &str,
     value: Option<Value>,
 ) -> Result<(), AllocError>

@@ -18,19 +18,19 @@ fn session_object(alloc: Global, session: &OpenSession) -> Result<Value, AllocEr
     let device = text(alloc, Some(as_text(&signs)))?;
     let mut members = Map::new(alloc);
     put_some(
-        &mut members,
         alloc,
+        &mut members,
         "bytes-remaining",
         number(session.bytes),
     )?;
-    put_some(&mut members, alloc, "device", device)?;
+    put_some(alloc, &mut members, "device", device)?;
     put_some(
-        &mut members,
         alloc,
+        &mut members,
         "seconds-remaining",
         number(session.seconds),
     )?;
-    put_some(&mut members, alloc, "session", number(Some(session.number)))?;
+    put_some(alloc, &mut members, "session", number(Some(session.number)))?;
     Ok(Value::Object(members))
 }
 
@@ -57,7 +57,7 @@ fn sessions_value(alloc: Global, sessions: &[OpenSession]) -> Result<Value, Allo
 {
     let values = session_values(alloc, sessions)?;
     let mut members = Map::new(alloc);
-    put_some(&mut members, alloc, "sessions", Some(Value::Array(values)))?;
+    put_some(alloc, &mut members, "sessions", Some(Value::Array(values)))?;
     Ok(Value::Object(members))
 }
 

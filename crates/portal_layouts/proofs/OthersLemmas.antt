@@ -1,5 +1,5 @@
 -- A table and an index that are made keep the tables of others.
-use Rattle.std.proofs.Common.{◌≡◌, inl, inr, List, ◌∷◌, [], ◌++◌, sym, subst}
+use Rattle.std.proofs.Common.{inl, inr, List, ◌∷◌, [], ◌++◌, sym, subst}
 use Rattle.sqlite.specs.Schema.{Schema}
 use Rattle.sqlite.specs.Table.{Table}
 use Rattle.sqlite.specs.Effect.{Database}

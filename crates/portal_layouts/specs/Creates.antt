@@ -3,7 +3,7 @@ use Rattle.std.specs.Prelude.{◌≡◌, [], ◌∷◌, true, false, Bool, IsTru
 use Rattle.sqlite.specs.Schema.{Schema}
 use Rattle.sqlite.specs.Tree.{Trees}
 use Rattle.sqlite.specs.Effect.{Database}
-use Rattle.sqlite.specs.State.{State}
+use Rattle.sqlite.specs.State.{State, Shows}
 use Rattle.sqlite.specs.Rows.{sequence}
 use Rattle.portal_sql.specs.Stands.{IsUnactedBy}
 use Rattle.portal_sql.specs.Made.{Counts, HasMade}
@@ -32,6 +32,10 @@ pub record IsFree (schema : Schema) : Type 0 where
 abbrev pub is_free : Schema → Bool
 is_free schema =
     (not (any_counts schema) || is_some (sequence schema)) && spares_our_tables schema
+
+-- a step of a transaction that makes tables, where a schema whose tables count has the table that keeps the numbers
+abbrev pub Makes : (Database → Database → Type 0) → State → State → Type 0
+Makes Made old new = Counts old.now.schema → Made old.now new.now × Counts new.now.schema × Shows old new new.now old.committed true
 
 pub record HasMadeFirst (db after : Database) : Type 0 where
   pub one : Database

@@ -8,7 +8,9 @@ ghost use Rattle.sqlite.specs.declared.error.Error.TheVariants.{SqlInputError};
 ghost use Rattle.sqlite_resolve.specs.declared.error.CompileError.{CompileError};
 ghost use Rattle.portal_sql.specs.States.{IsUndone};
 ghost use Rattle.portal_rows.specs.Holds.{Places, Stand};
-ghost use Rattle.portal_layouts.specs.Layouts.{is_named, is_any_named, has_our_tables, spares_our_tables, is_whole, is_indexed, is_session_index, IsRefused, Answers, IsOneRow};
+ghost use Rattle.portal_layouts.specs.Layouts.{is_named, is_any_named, has_our_tables, spares_our_tables};
+ghost use Rattle.portal_layouts.specs.Layouts.{is_whole, is_indexed, is_session_index, IsRefused, Answers};
+ghost use Rattle.portal_layouts.specs.Layouts.{IsOneRow};
 
 use portal_sql::room::{has_table, spares_name};
 use sqlite::types::ValueRef;
@@ -116,7 +118,8 @@ fn has_session_index(schema: &Schema) -> bool
 /// Whether the index by which the last session of a device is found has been made.
 pub fn is_indexed(schema: &Schema) -> bool
     ensures test { result ≡ is_indexed schema.now }
-    ensures index { IsTrue result → (layout : ℕ) (places : Places) → Stand layout false schema.now places → Stand layout true schema.now places }
+    ensures index { IsTrue result → (layout : ℕ) (places : Places) → Stand layout false schema.now places
+        → Stand layout true schema.now places }
 {
     let is_made = has_session_index(schema);
     is_made
@@ -124,10 +127,18 @@ pub fn is_indexed(schema: &Schema) -> bool
 
 /// The rows of the head, whatever stands there under its name. An SQL fault is told only where nothing changed.
 pub fn layout_rows<S: Alter>(conn: &mut Connection<S>) -> Result<Vec<Row>, Error>
-    ensures answers { HasCleanDisk (state S.Store conn.new) → IfOk result (λ rows. Answers (state S.Store conn.old).now rows.items × IsUnchanged (state S.Store conn.old) (state S.Store conn.new)) }
-    ensures refused { HasCleanDisk (state S.Store conn.new) → IfErr result (λ e. (fault : CompileError) → e ≡ SqlInputError fault → IsRefused (state S.Store conn.old).now.schema × IsUnchanged (state S.Store conn.old) (state S.Store conn.new)) }
-    ensures mode { (state S.Store conn.old).in_transaction ≡ false → (state S.Store conn.new).in_transaction ≡ false }
-    ensures undone { HasCleanDisk (state S.Store conn.new) → (state S.Store conn.old).in_transaction ≡ false → (state S.Store conn.old).now ≡ (state S.Store conn.old).committed → OnErr result (IsUndone (state S.Store conn.old) (state S.Store conn.new)) }
+    ensures answers { HasCleanDisk (state S.Store conn.new)
+        → IfOk result (λ rows. Answers (state S.Store conn.old).now rows.items
+        × IsUnchanged (state S.Store conn.old) (state S.Store conn.new)) }
+    ensures refused { HasCleanDisk (state S.Store conn.new)
+        → IfErr result (λ e. (fault : CompileError) → e ≡ SqlInputError fault
+        → IsRefused (state S.Store conn.old).now.schema
+        × IsUnchanged (state S.Store conn.old) (state S.Store conn.new)) }
+    ensures mode { (state S.Store conn.old).in_transaction ≡ false
+        → (state S.Store conn.new).in_transaction ≡ false }
+    ensures undone { HasCleanDisk (state S.Store conn.new) → (state S.Store conn.old).in_transaction ≡ false
+        → (state S.Store conn.old).now ≡ (state S.Store conn.old).committed
+        → OnErr result (IsUndone (state S.Store conn.old) (state S.Store conn.new)) }
     ensures crash { Survives (state S.Store conn.old) (state S.Store conn.new) (λ _. ⊥) }
 {
     conn.query_all("SELECT layout FROM portal_head", &[])

@@ -2,11 +2,14 @@
 
 ghost use Rattle.std.specs.Prelude.{◌≡◌, ◌<◌, ◌^◌, Bool, true, false, OnOk, OnErr, IsTrue, All};
 ghost use Rattle.sqlite.specs.Held.{state};
-ghost use Rattle.sqlite.specs.State.{HasCleanDisk, KeepsCommit, Survives};
+ghost use Rattle.sqlite.specs.State.{HasCleanDisk, Survives};
+ghost use Rattle.portal_sql.specs.Inside.{Inside};
 ghost use Rattle.portal_sql.specs.States.{IsUndone};
 ghost use Rattle.portal_rows.specs.Holds.{this_layout};
-ghost use Rattle.portal_rows.specs.Steps.{Steps, with_counts};
-ghost use Rattle.portal_layouts.specs.Brings.{HasRoom, has_room, StepsFrom, LeadsFrom, MayLeadFrom, number_of, uncounted, unasked, widened, with_totals, filled, brought, counts_read, totals_read};
+ghost use Rattle.portal_rows.specs.Steps.{Writes, with_counts};
+ghost use Rattle.portal_layouts.specs.Brings.{HasRoom, has_room, StepsFrom, LeadsFrom, MayLeadFrom};
+ghost use Rattle.portal_layouts.specs.Brings.{number_of, uncounted, unasked, widened, with_totals, filled};
+ghost use Rattle.portal_layouts.specs.Brings.{brought, counts_read, totals_read};
 
 use crate::creates::{make_counts, make_index, make_requests, make_totals};
 use crate::layouts::OldLayout;
@@ -20,10 +23,9 @@ use sqlite_schema::schema::Schema;
 
 /// Makes the three tables that layout 1 lacks, with no row.
 fn make_later<S: Alter>(tx: &mut Transaction<'_, S>) -> Result<(), Error>
-    ensures same_reference { tx.new.conn.ghost_name ≡ tx.old.conn.ghost_name }
-    ensures steps { HasCleanDisk (state S.Store tx.new.conn.now) → IsTrue (state S.Store tx.old.conn.now).in_transaction → HasRoom (state S.Store tx.old.conn.now).now.schema → (had : Bool) → OnOk result (StepsFrom 1 had this_layout had (λ t. unasked (uncounted t)) (state S.Store tx.old.conn.now) (state S.Store tx.new.conn.now)) }
-    ensures kept { HasCleanDisk (state S.Store tx.new.conn.now) → KeepsCommit (state S.Store tx.old.conn.now) (state S.Store tx.new.conn.now) }
-    ensures survives { Survives (state S.Store tx.old.conn.now) (state S.Store tx.new.conn.now) (λ _. ⊥) }
+    ensures { Inside S.Store (λ old new. HasRoom old.now.schema → (had : Bool) →
+        StepsFrom 1 had this_layout had (λ t. unasked (uncounted t)) old new)
+        tx.old tx.new result }
 {
     make_counts(tx)?;
     make_totals(tx)?;
@@ -33,10 +35,9 @@ fn make_later<S: Alter>(tx: &mut Transaction<'_, S>) -> Result<(), Error>
 
 /// Makes the table of requests that layout 2 lacks, with no row.
 fn make_asked<S: Alter>(tx: &mut Transaction<'_, S>) -> Result<(), Error>
-    ensures same_reference { tx.new.conn.ghost_name ≡ tx.old.conn.ghost_name }
-    ensures steps { HasCleanDisk (state S.Store tx.new.conn.now) → IsTrue (state S.Store tx.old.conn.now).in_transaction → HasRoom (state S.Store tx.old.conn.now).now.schema → (had : Bool) → OnOk result (StepsFrom 2 had this_layout had unasked (state S.Store tx.old.conn.now) (state S.Store tx.new.conn.now)) }
-    ensures kept { HasCleanDisk (state S.Store tx.new.conn.now) → KeepsCommit (state S.Store tx.old.conn.now) (state S.Store tx.new.conn.now) }
-    ensures survives { Survives (state S.Store tx.old.conn.now) (state S.Store tx.new.conn.now) (λ _. ⊥) }
+    ensures { Inside S.Store (λ old new. HasRoom old.now.schema → (had : Bool) →
+        StepsFrom 2 had this_layout had unasked old new)
+        tx.old tx.new result }
 {
     make_requests(tx)?;
     Ok(())
@@ -44,10 +45,9 @@ fn make_asked<S: Alter>(tx: &mut Transaction<'_, S>) -> Result<(), Error>
 
 /// Makes the tables that the layout lacks, with no row.
 fn widen<S: Alter>(tx: &mut Transaction<'_, S>, from: OldLayout) -> Result<(), Error>
-    ensures same_reference { tx.new.conn.ghost_name ≡ tx.old.conn.ghost_name }
-    ensures steps { HasCleanDisk (state S.Store tx.new.conn.now) → IsTrue (state S.Store tx.old.conn.now).in_transaction → HasRoom (state S.Store tx.old.conn.now).now.schema → (had : Bool) → OnOk result (StepsFrom (number_of from) had this_layout had (widened from) (state S.Store tx.old.conn.now) (state S.Store tx.new.conn.now)) }
-    ensures kept { HasCleanDisk (state S.Store tx.new.conn.now) → KeepsCommit (state S.Store tx.old.conn.now) (state S.Store tx.new.conn.now) }
-    ensures survives { Survives (state S.Store tx.old.conn.now) (state S.Store tx.new.conn.now) (λ _. ⊥) }
+    ensures { Inside S.Store (λ old new. HasRoom old.now.schema → (had : Bool) →
+        StepsFrom (number_of from) had this_layout had (widened from) old new)
+        tx.old tx.new result }
 {
     match from {
         OldLayout::First => {
@@ -65,10 +65,8 @@ fn widen<S: Alter>(tx: &mut Transaction<'_, S>, from: OldLayout) -> Result<(), E
 
 /// Makes the index of the sessions where it is missing.
 fn complete<S: Alter>(tx: &mut Transaction<'_, S>, has_index: bool) -> Result<(), Error>
-    ensures same_reference { tx.new.conn.ghost_name ≡ tx.old.conn.ghost_name }
-    ensures steps { HasCleanDisk (state S.Store tx.new.conn.now) → IsTrue (state S.Store tx.old.conn.now).in_transaction → OnOk result (StepsFrom this_layout has_index this_layout true (λ t. t) (state S.Store tx.old.conn.now) (state S.Store tx.new.conn.now)) }
-    ensures kept { HasCleanDisk (state S.Store tx.new.conn.now) → KeepsCommit (state S.Store tx.old.conn.now) (state S.Store tx.new.conn.now) }
-    ensures survives { Survives (state S.Store tx.old.conn.now) (state S.Store tx.new.conn.now) (λ _. ⊥) }
+    ensures { Inside S.Store (λ old new. StepsFrom this_layout has_index this_layout true (λ t. t) old new)
+        tx.old tx.new result }
 {
     if has_index {
         return Ok(());
@@ -83,10 +81,9 @@ fn build<S: Alter>(
     from: OldLayout,
     has_index: bool,
 ) -> Result<(), Error>
-    ensures same_reference { tx.new.conn.ghost_name ≡ tx.old.conn.ghost_name }
-    ensures steps { HasCleanDisk (state S.Store tx.new.conn.now) → IsTrue (state S.Store tx.old.conn.now).in_transaction → HasRoom (state S.Store tx.old.conn.now).now.schema → OnOk result (StepsFrom (number_of from) has_index this_layout true (widened from) (state S.Store tx.old.conn.now) (state S.Store tx.new.conn.now)) }
-    ensures kept { HasCleanDisk (state S.Store tx.new.conn.now) → KeepsCommit (state S.Store tx.old.conn.now) (state S.Store tx.new.conn.now) }
-    ensures survives { Survives (state S.Store tx.old.conn.now) (state S.Store tx.new.conn.now) (λ _. ⊥) }
+    ensures { Inside S.Store (λ old new. HasRoom old.now.schema →
+        StepsFrom (number_of from) has_index this_layout true (widened from) old new)
+        tx.old tx.new result }
 {
     widen(tx, from)?;
     complete(tx, has_index)?;
@@ -99,10 +96,7 @@ fn insert_kept_counts<S: Alter>(
     kept: &[KeptCount],
 ) -> Result<(), Error>
     requires { All (λ k. k.redeemed < 2 ^ 63) kept.now }
-    ensures same_reference { tx.new.conn.ghost_name ≡ tx.old.conn.ghost_name }
-    ensures steps { HasCleanDisk (state S.Store tx.new.conn.now) → IsTrue (state S.Store tx.old.conn.now).in_transaction → OnOk result (Steps (with_counts (counts_read kept.now)) (state S.Store tx.old.conn.now) (state S.Store tx.new.conn.now)) }
-    ensures kept { HasCleanDisk (state S.Store tx.new.conn.now) → KeepsCommit (state S.Store tx.old.conn.now) (state S.Store tx.new.conn.now) }
-    ensures survives { Survives (state S.Store tx.old.conn.now) (state S.Store tx.new.conn.now) (λ _. ⊥) }
+    ensures { Writes S.Store (with_counts (counts_read kept.now)) tx.old tx.new result }
 {
     for count in kept {
         insert_count(tx, &count.code, count.redeemed)?;
@@ -113,10 +107,7 @@ fn insert_kept_counts<S: Alter>(
 /// Adds the ends of sessions and what remains of their allowances, in order.
 fn insert_totals<S: Alter>(tx: &mut Transaction<'_, S>, totals: &[Total]) -> Result<(), Error>
     requires { All (λ m. m.number < 2 ^ 63) totals.now }
-    ensures same_reference { tx.new.conn.ghost_name ≡ tx.old.conn.ghost_name }
-    ensures steps { HasCleanDisk (state S.Store tx.new.conn.now) → IsTrue (state S.Store tx.old.conn.now).in_transaction → OnOk result (Steps (with_totals (totals_read totals.now)) (state S.Store tx.old.conn.now) (state S.Store tx.new.conn.now)) }
-    ensures kept { HasCleanDisk (state S.Store tx.new.conn.now) → KeepsCommit (state S.Store tx.old.conn.now) (state S.Store tx.new.conn.now) }
-    ensures survives { Survives (state S.Store tx.old.conn.now) (state S.Store tx.new.conn.now) (λ _. ⊥) }
+    ensures { Writes S.Store (with_totals (totals_read totals.now)) tx.old tx.new result }
 {
     for total in totals {
         insert_total(tx, total)?;
@@ -132,10 +123,7 @@ fn fill<S: Alter>(
 ) -> Result<(), Error>
     requires counts_fit { All (λ k. k.redeemed < 2 ^ 63) kept.now }
     requires totals_fit { All (λ m. m.number < 2 ^ 63) totals.now }
-    ensures same_reference { tx.new.conn.ghost_name ≡ tx.old.conn.ghost_name }
-    ensures steps { HasCleanDisk (state S.Store tx.new.conn.now) → IsTrue (state S.Store tx.old.conn.now).in_transaction → OnOk result (Steps (filled kept.now totals.now) (state S.Store tx.old.conn.now) (state S.Store tx.new.conn.now)) }
-    ensures kept { HasCleanDisk (state S.Store tx.new.conn.now) → KeepsCommit (state S.Store tx.old.conn.now) (state S.Store tx.new.conn.now) }
-    ensures survives { Survives (state S.Store tx.old.conn.now) (state S.Store tx.new.conn.now) (λ _. ⊥) }
+    ensures { Writes S.Store (filled kept.now totals.now) tx.old tx.new result }
 {
     insert_kept_counts(tx, kept)?;
     insert_totals(tx, totals)?;
@@ -151,10 +139,9 @@ fn bring_inside<S: Alter>(
 ) -> Result<(), Error>
     requires counts_fit { All (λ k. k.redeemed < 2 ^ 63) kept.now }
     requires totals_fit { All (λ m. m.number < 2 ^ 63) totals.now }
-    ensures same_reference { tx.new.conn.ghost_name ≡ tx.old.conn.ghost_name }
-    ensures steps { HasCleanDisk (state S.Store tx.new.conn.now) → IsTrue (state S.Store tx.old.conn.now).in_transaction → HasRoom (state S.Store tx.old.conn.now).now.schema → OnOk result (StepsFrom (number_of from) has_index this_layout true (brought from kept.now totals.now) (state S.Store tx.old.conn.now) (state S.Store tx.new.conn.now)) }
-    ensures kept { HasCleanDisk (state S.Store tx.new.conn.now) → KeepsCommit (state S.Store tx.old.conn.now) (state S.Store tx.new.conn.now) }
-    ensures survives { Survives (state S.Store tx.old.conn.now) (state S.Store tx.new.conn.now) (λ _. ⊥) }
+    ensures { Inside S.Store (λ old new. HasRoom old.now.schema →
+        StepsFrom (number_of from) has_index this_layout true (brought from kept.now totals.now) old new)
+        tx.old tx.new result }
 {
     build(tx, from, has_index)?;
     fill(tx, kept, totals)?;
@@ -174,9 +161,14 @@ pub fn bring<S: Alter>(
     requires outside { conn.old.in_transaction ≡ false }
     requires counts_fit { All (λ k. k.redeemed < 2 ^ 63) kept.now }
     requires totals_fit { All (λ m. m.number < 2 ^ 63) totals.now }
-    ensures done { HasCleanDisk (state S.Store conn.new) → OnOk result (LeadsFrom (number_of from) has_index HasRoom (brought from kept.now totals.now) (state S.Store conn.old) (state S.Store conn.new)) }
-    ensures undone { HasCleanDisk (state S.Store conn.new) → HasRoom (state S.Store conn.old).now.schema → OnErr result (IsUndone (state S.Store conn.old) (state S.Store conn.new)) }
-    ensures crash { Survives (state S.Store conn.old) (state S.Store conn.new) (MayLeadFrom (number_of from) has_index HasRoom (brought from kept.now totals.now) (state S.Store conn.old)) }
+    ensures done { HasCleanDisk (state S.Store conn.new)
+        → OnOk result (LeadsFrom (number_of from) has_index HasRoom (brought from kept.now totals.now)
+        (state S.Store conn.old) (state S.Store conn.new)) }
+    ensures undone { HasCleanDisk (state S.Store conn.new) → HasRoom (state S.Store conn.old).now.schema
+        → OnErr result (IsUndone (state S.Store conn.old) (state S.Store conn.new)) }
+    ensures crash { Survives (state S.Store conn.old) (state S.Store conn.new)
+        (MayLeadFrom (number_of from) has_index HasRoom (brought from kept.now totals.now)
+        (state S.Store conn.old)) }
 {
     let mut tx = conn.transaction();
     bring_inside(&mut tx, from, kept, totals, has_index)?;

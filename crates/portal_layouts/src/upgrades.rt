@@ -12,7 +12,9 @@ ghost use Rattle.portal_rows.specs.Foreign.{AreOwn, AreOwnRows, IsOwnVoucher, No
 ghost use Rattle.portal_rows.specs.Holds.{HoldsIn};
 ghost use Rattle.portal_lists.specs.Audit.{OfFirst};
 ghost use Rattle.portal_layouts.specs.declared.layouts.OldLayout.TheVariants.{First};
-ghost use Rattle.portal_layouts.specs.Brings.{CanBring, LeadsFrom, MayLeadFrom, HasUpgraded, MayUpgrade, brought, counts_read, totals_read, counts_summed, totals_summed, has_room, number_of};
+ghost use Rattle.portal_layouts.specs.Brings.{CanBring, LeadsFrom, MayLeadFrom, HasUpgraded, MayUpgrade};
+ghost use Rattle.portal_layouts.specs.Brings.{brought, counts_read, totals_read, counts_summed};
+ghost use Rattle.portal_layouts.specs.Brings.{totals_summed, has_room, number_of};
 ghost use Rattle.portal_lists.specs.Sums.{SumsFit, grant_read};
 
 use crate::layouts::{OldLayout, is_indexed};
@@ -32,9 +34,12 @@ fn count_vouchers<S: Alter>(
     conn: &mut Connection<S>,
     grants: &[KeptGrant],
 ) -> Result<Vec<KeptCount>, Fault>
-    ensures summed { HasCleanDisk (state S.Store conn.new) → (t : Contents) → HoldsFirst (state S.Store conn.old).now t → map grant_read grants.now ≡ t.grants → IfOk result (λ counts. counts_read counts.items ≡ counts_summed t) }
+    ensures summed { HasCleanDisk (state S.Store conn.new) → (t : Contents)
+        → HoldsFirst (state S.Store conn.old).now t → map grant_read grants.now ≡ t.grants
+        → IfOk result (λ counts. counts_read counts.items ≡ counts_summed t) }
     ensures looks { Looks Anything result (state S.Store conn.old) (state S.Store conn.new) }
-    ensures foreign { TellsForeign HoldsFirst (λ t. AreOwn IsOwnVoucher t.vouchers) (state S.Store conn.old) (state S.Store conn.new) result }
+    ensures foreign { TellsForeign HoldsFirst
+        (λ t. AreOwn IsOwnVoucher t.vouchers) (state S.Store conn.old) (state S.Store conn.new) result }
 {
     let vouchers = all_vouchers(conn)?;
     Ok(sum_counts(*vouchers.allocator(), vouchers.as_slice(), grants)?)
@@ -45,9 +50,13 @@ fn total_sessions<S: Alter>(
     conn: &mut Connection<S>,
     grants: &[KeptGrant],
 ) -> Result<Vec<Total>, Fault>
-    ensures summed { HasCleanDisk (state S.Store conn.new) → IsTrue (state S.Store conn.old).is_open → (t : Contents) → HoldsFirst (state S.Store conn.old).now t → map grant_read grants.now ≡ t.grants → IfOk result (λ totals. totals_read totals.items ≡ totals_summed t) }
+    ensures summed { HasCleanDisk (state S.Store conn.new) → IsTrue (state S.Store conn.old).is_open
+        → (t : Contents) → HoldsFirst (state S.Store conn.old).now t → map grant_read grants.now ≡ t.grants
+        → IfOk result (λ totals. totals_read totals.items ≡ totals_summed t) }
     ensures looks { Looks Anything result (state S.Store conn.old) (state S.Store conn.new) }
-    ensures foreign { OfFirst (state S.Store conn.old) (state S.Store conn.new) (λ t. map grant_read grants.now ≡ t.grants → AreOwnRows t → SumsFit t.plans t.sessions t.grants → NotForeign result) }
+    ensures foreign { OfFirst (state S.Store conn.old) (state S.Store conn.new)
+        (λ t. map grant_read grants.now ≡ t.grants → AreOwnRows t → SumsFit t.plans t.sessions t.grants
+        → NotForeign result) }
 {
     let plans = all_plans(conn)?;
     let sessions = all_sessions(conn)?;
@@ -81,10 +90,17 @@ fn gain<S: Alter>(
     counts: &[KeptCount],
     totals: &[Total],
 ) -> Result<(), Fault>
-    ensures done { HasCleanDisk (state S.Store conn.new) → OnOk result (LeadsFrom (number_of from) false Anything (brought from counts.now totals.now) (state S.Store conn.old) (state S.Store conn.new)) }
-    ensures undone { HasCleanDisk (state S.Store conn.new) → conn.old.in_transaction ≡ false → OnErr result (IsUndone (state S.Store conn.old) (state S.Store conn.new)) }
-    ensures crash { Survives (state S.Store conn.old) (state S.Store conn.new) (MayLeadFrom (number_of from) false Anything (brought from counts.now totals.now) (state S.Store conn.old)) }
-    ensures foreign { has_room (state S.Store conn.old).now.schema ≡ true → All (λ k. k.redeemed < 2 ^ 63) counts.now → All (λ m. m.number < 2 ^ 63) totals.now → NotForeign result }
+    ensures done { HasCleanDisk (state S.Store conn.new)
+        → OnOk result (LeadsFrom (number_of from) false Anything (brought from counts.now totals.now)
+        (state S.Store conn.old) (state S.Store conn.new)) }
+    ensures undone { HasCleanDisk (state S.Store conn.new) → conn.old.in_transaction ≡ false
+        → OnErr result (IsUndone (state S.Store conn.old) (state S.Store conn.new)) }
+    ensures crash { Survives (state S.Store conn.old) (state S.Store conn.new)
+        (MayLeadFrom (number_of from) false Anything (brought from counts.now totals.now)
+        (state S.Store conn.old)) }
+    ensures foreign { has_room (state S.Store conn.old).now.schema ≡ true
+        → All (λ k. k.redeemed < 2 ^ 63) counts.now → All (λ m. m.number < 2 ^ 63) totals.now
+        → NotForeign result }
 {
     if !conn.is_autocommit() {
         return Err(Fault::Sql(Error::SqliteFailure(ErrorCode::TransactionState)));
@@ -99,10 +115,16 @@ fn gain<S: Alter>(
 
 /// Brings a store of layout 1 to this version's, in one transaction, with the counters that its rows come to.
 fn upgrade_first<S: Alter>(conn: &mut Connection<S>) -> Result<(), Fault>
-    ensures done { HasCleanDisk (state S.Store conn.new) → IsTrue (state S.Store conn.old).is_open → OnOk result (HasUpgraded First (state S.Store conn.old) (state S.Store conn.new)) }
-    ensures undone { HasCleanDisk (state S.Store conn.new) → IsTrue (state S.Store conn.old).is_open → (state S.Store conn.old).in_transaction ≡ false → (state S.Store conn.old).now ≡ (state S.Store conn.old).committed → OnErr result (IsUndone (state S.Store conn.old) (state S.Store conn.new)) }
-    ensures crash { Survives (state S.Store conn.old) (state S.Store conn.new) (MayUpgrade First (state S.Store conn.old)) }
-    ensures foreign { OfFirst (state S.Store conn.old) (state S.Store conn.new) (λ t. has_room (state S.Store conn.old).now.schema ≡ true → CanBring First t → NotForeign result) }
+    ensures done { HasCleanDisk (state S.Store conn.new) → IsTrue (state S.Store conn.old).is_open
+        → OnOk result (HasUpgraded First (state S.Store conn.old) (state S.Store conn.new)) }
+    ensures undone { HasCleanDisk (state S.Store conn.new) → IsTrue (state S.Store conn.old).is_open
+        → (state S.Store conn.old).in_transaction ≡ false
+        → (state S.Store conn.old).now ≡ (state S.Store conn.old).committed
+        → OnErr result (IsUndone (state S.Store conn.old) (state S.Store conn.new)) }
+    ensures crash { Survives (state S.Store conn.old) (state S.Store conn.new)
+        (MayUpgrade First (state S.Store conn.old)) }
+    ensures foreign { OfFirst (state S.Store conn.old) (state S.Store conn.new)
+        (λ t. has_room (state S.Store conn.old).now.schema ≡ true → CanBring First t → NotForeign result) }
 {
     let grants = all_grants(conn)?;
     let counts = count_vouchers(conn, grants.as_slice())?;
@@ -113,10 +135,18 @@ fn upgrade_first<S: Alter>(conn: &mut Connection<S>) -> Result<(), Fault>
 
 /// Brings a store of an older layout to this version's, with the index of the sessions, in one transaction: all of it, or nothing.
 pub fn upgrade<S: Alter>(conn: &mut Connection<S>, from: OldLayout) -> Result<(), Fault>
-    ensures done { HasCleanDisk (state S.Store conn.new) → IsTrue (state S.Store conn.old).is_open → OnOk result (HasUpgraded from (state S.Store conn.old) (state S.Store conn.new)) }
-    ensures undone { HasCleanDisk (state S.Store conn.new) → IsTrue (state S.Store conn.old).is_open → (state S.Store conn.old).in_transaction ≡ false → (state S.Store conn.old).now ≡ (state S.Store conn.old).committed → OnErr result (IsUndone (state S.Store conn.old) (state S.Store conn.new)) }
-    ensures crash { Survives (state S.Store conn.old) (state S.Store conn.new) (MayUpgrade from (state S.Store conn.old)) }
-    ensures foreign { HasCleanDisk (state S.Store conn.new) → IsTrue (state S.Store conn.old).is_open → has_room (state S.Store conn.old).now.schema ≡ true → (t : Contents) → HoldsIn (number_of from) false (state S.Store conn.old).now t → CanBring from t → NotForeign result }
+    ensures done { HasCleanDisk (state S.Store conn.new) → IsTrue (state S.Store conn.old).is_open
+        → OnOk result (HasUpgraded from (state S.Store conn.old) (state S.Store conn.new)) }
+    ensures undone { HasCleanDisk (state S.Store conn.new) → IsTrue (state S.Store conn.old).is_open
+        → (state S.Store conn.old).in_transaction ≡ false
+        → (state S.Store conn.old).now ≡ (state S.Store conn.old).committed
+        → OnErr result (IsUndone (state S.Store conn.old) (state S.Store conn.new)) }
+    ensures crash { Survives (state S.Store conn.old) (state S.Store conn.new)
+        (MayUpgrade from (state S.Store conn.old)) }
+    ensures foreign { HasCleanDisk (state S.Store conn.new) → IsTrue (state S.Store conn.old).is_open
+        → has_room (state S.Store conn.old).now.schema ≡ true → (t : Contents)
+        → HoldsIn (number_of from) false (state S.Store conn.old).now t → CanBring from t
+        → NotForeign result }
 {
     match from {
         OldLayout::First => upgrade_first(conn)?,

@@ -82,11 +82,16 @@ fn is_sign(b: u8) -> bool
 /// The mark of a request: its key (who sends it, under which number), and what it asks (method, path and body).
 #[derive(Drop)]
 pub struct RequestMark {
-    caller: Caller,
-    number: RequestNumber,
-    method: String,
-    path: String,
-    body: Vec<u8>,
+    /// Who sends it.
+    pub caller: Caller,
+    /// The number that the caller gave it.
+    pub number: RequestNumber,
+    /// Its method (RFC 9110 section 9).
+    pub method: String,
+    /// Its path: the target up to the query.
+    pub path: String,
+    /// The bytes of its body.
+    pub body: Vec<u8>,
 }
 
 impl Model for RequestMark {
@@ -117,41 +122,6 @@ impl RequestMark {
             path: String::from_str(alloc, path)?,
             body: Vec::from_slice(alloc, body)?,
         })
-    }
-
-    /// Who sends it.
-    pub fn caller(&self) -> Caller
-        ensures { result ≡ self.now.caller }
-    {
-        self.caller
-    }
-
-    /// The number that the caller gave it.
-    pub fn number(&self) -> &RequestNumber
-        ensures { result.now ≡ self.now.number }
-    {
-        &self.number
-    }
-
-    /// Its method (RFC 9110 section 9).
-    pub fn method(&self) -> &str
-        ensures { result.now ≡ self.now.method }
-    {
-        self.method.as_str()
-    }
-
-    /// Its path: the target up to the query.
-    pub fn path(&self) -> &str
-        ensures { result.now ≡ self.now.path }
-    {
-        self.path.as_str()
-    }
-
-    /// The bytes of its body.
-    pub fn body(&self) -> &[u8]
-        ensures { result.now ≡ self.now.body }
-    {
-        self.body.as_slice()
     }
 
     /// A second one. Only want of memory is an error.

@@ -1,4 +1,5 @@
 pub mod Asks
 pub mod Audit
 pub mod Lists
+pub mod Selects
 pub mod Sums

@@ -16,8 +16,11 @@ pub(crate) fn ask<S: Alter>(
     sql: &str,
     params: &[ValueRef<'_>],
 ) -> Result<Vec<Row>, Error>
-    ensures shown { HasCleanDisk (state S.Store conn.new) → IfOk result (λ rows. Shown sql.now (bound params.now) (state S.Store conn.old) (state S.Store conn.new) rows.items) }
-    ensures always { OnlyAsks sql.now → Looks Anything result (state S.Store conn.old) (state S.Store conn.new) }
+    ensures shown { HasCleanDisk (state S.Store conn.new)
+        → IfOk result (λ rows. Shown sql.now (bound params.now) (state S.Store conn.old)
+        (state S.Store conn.new) rows.items) }
+    ensures always { OnlyAsks sql.now
+        → Looks Anything result (state S.Store conn.old) (state S.Store conn.new) }
 {
     conn.query_all(sql, params)
 }

@@ -11,7 +11,8 @@ ghost use Rattle.portal_rows.specs.Holds.{HasTables};
 ghost use Rattle.portal_rows.specs.Steps.{ends_row};
 ghost use Rattle.portal_rows.specs.Read.{head_read, voucher_read, count_read};
 ghost use Rattle.portal_lists.specs.Sums.{AreUses, SumsFit, grant_read};
-ghost use Rattle.portal_lists.specs.Audit.{Agrees, AreCounted, AreRead, IsAudited, OfHeld, is_counted, has_count};
+ghost use Rattle.portal_lists.specs.Audit.{Agrees, AreCounted, AreRead, IsAudited, OfHeld, is_counted};
+ghost use Rattle.portal_lists.specs.Audit.{has_count};
 
 use crate::counted::{CountedRows, read_counted};
 use crate::grants::KeptGrant;
@@ -27,21 +28,24 @@ use std::collections::{HashMap, HashSet};
 
 /// Whether the count is what stands under its code.
 fn is_count_in(uses: &HashMap<Code, u64>, count: &KeptCount) -> bool
-    ensures { (grants : List GrantRow) → AreUses uses.now grants → result ≡ is_counted grants (count_read count.now) }
+    ensures { (grants : List GrantRow) → AreUses uses.now grants
+        → result ≡ is_counted grants (count_read count.now) }
 {
     count.redeemed == uses_of(uses, &count.code)
 }
 
 /// Whether each count is what stands under its code.
 fn are_counts_in(uses: &HashMap<Code, u64>, counts: &[KeptCount]) -> bool
-    ensures { (grants : List GrantRow) → AreUses uses.now grants → result ≡ list_all (is_counted grants) (map count_read counts.now) }
+    ensures { (grants : List GrantRow) → AreUses uses.now grants
+        → result ≡ list_all (is_counted grants) (map count_read counts.now) }
 {
     counts.iter().all(|count| is_count_in(uses, count))
 }
 
 /// Whether each count is the number of the redemptions with its code.
 fn counts_agree(alloc: Global, grants: &[KeptGrant], counts: &[KeptCount]) -> Result<bool, Fault>
-    ensures agree { IfOk result (λ agree. agree ≡ list_all (is_counted (map grant_read grants.now)) (map count_read counts.now)) }
+    ensures agree { IfOk result
+        (λ agree. agree ≡ list_all (is_counted (map grant_read grants.now)) (map count_read counts.now)) }
     ensures memory { NotForeign result }
 {
     let uses = uses_by_code(alloc, grants)?;
@@ -64,7 +68,8 @@ fn counted_codes(alloc: Global, counts: &[KeptCount]) -> Result<HashSet<Code>, F
 
 /// Whether the voucher's code is among these.
 fn is_among(codes: &HashSet<Code>, voucher: &KeptVoucher) -> bool
-    ensures { (counts : List CountRow) → AreCounted codes.now counts → result ≡ has_count counts (voucher_read voucher.now) }
+    ensures { (counts : List CountRow) → AreCounted codes.now counts
+        → result ≡ has_count counts (voucher_read voucher.now) }
 {
     // Its signs tell that it is a code.
     let _ = voucher.code.signs();
@@ -73,7 +78,8 @@ fn is_among(codes: &HashSet<Code>, voucher: &KeptVoucher) -> bool
 
 /// Whether the code of each voucher is among these.
 fn are_among(codes: &HashSet<Code>, vouchers: &[KeptVoucher]) -> bool
-    ensures { (counts : List CountRow) → AreCounted codes.now counts → result ≡ list_all (has_count counts) (map voucher_read vouchers.now) }
+    ensures { (counts : List CountRow) → AreCounted codes.now counts
+        → result ≡ list_all (has_count counts) (map voucher_read vouchers.now) }
 {
     vouchers.iter().all(|voucher| is_among(codes, voucher))
 }
@@ -84,7 +90,8 @@ fn vouchers_agree(
     vouchers: &[KeptVoucher],
     counts: &[KeptCount],
 ) -> Result<bool, Fault>
-    ensures agree { IfOk result (λ agree. agree ≡ list_all (has_count (map count_read counts.now)) (map voucher_read vouchers.now)) }
+    ensures agree { IfOk result
+        (λ agree. agree ≡ list_all (has_count (map count_read counts.now)) (map voucher_read vouchers.now)) }
     ensures memory { NotForeign result }
 {
     let codes = counted_codes(alloc, counts)?;
@@ -100,7 +107,9 @@ fn are_same(totals: &[Total], sums: &[Total]) -> bool
 
 /// Whether the head has the numbers of redemptions and sessions.
 fn numbers_agree(head: &KeptHead, rows: &CountedRows) -> bool
-    ensures { IsTrue result ↔ ((head.now.grants ≡ length rows.now.grants.items) × (head.now.sessions ≡ length rows.now.sessions.items)) }
+    ensures { IsTrue result ↔
+        ((head.now.grants ≡ length rows.now.grants.items)
+        × (head.now.sessions ≡ length rows.now.sessions.items)) }
 {
     head.grants == rows.grants.len() as u64 && head.sessions == rows.sessions.len() as u64
 }
@@ -112,8 +121,11 @@ fn agree(
     counts: &[KeptCount],
     totals: &[Total],
 ) -> Result<bool, Fault>
-    ensures agree { IfOk result (λ agree. (t : Contents) → AreRead rows.now t → map count_read counts.now ≡ t.counts → map ends_row totals.now ≡ t.totals → IsTrue agree ↔ Agrees (head_read head.now) t) }
-    ensures kept { (t : Contents) → AreRead rows.now t → SumsFit t.plans t.sessions t.grants → NotForeign result }
+    ensures agree { IfOk result
+        (λ agree. (t : Contents) → AreRead rows.now t → map count_read counts.now ≡ t.counts
+        → map ends_row totals.now ≡ t.totals → IsTrue agree ↔ Agrees (head_read head.now) t) }
+    ensures kept { (t : Contents) → AreRead rows.now t → SumsFit t.plans t.sessions t.grants
+        → NotForeign result }
 {
     let alloc = *rows.grants.allocator();
     if !numbers_agree(head, rows) {
@@ -132,9 +144,11 @@ fn agree(
 /// Whether the counters of the store agree with its other rows: each count is the number of the redemptions with its code, each end and remainder is what the sums over the redemptions give of its session, each voucher and each session has its counters, and the head has the numbers of redemptions and sessions.
 /// A row that this product does not write, and a sum that no row keeps, is a foreign row.
 pub fn audit<S: Alter>(conn: &mut Connection<S>) -> Result<bool, Fault>
-    ensures audited { OfHeld (state S.Store conn.old) (state S.Store conn.new) (λ t. IfOk result (λ audited. IsTrue audited ↔ IsAudited t)) }
+    ensures audited { OfHeld (state S.Store conn.old) (state S.Store conn.new)
+        (λ t. IfOk result (λ audited. IsTrue audited ↔ IsAudited t)) }
     ensures looks { Looks HasTables result (state S.Store conn.old) (state S.Store conn.new) }
-    ensures foreign { OfHeld (state S.Store conn.old) (state S.Store conn.new) (λ t. AreOwnRows t → SumsFit t.plans t.sessions t.grants → NotForeign result) }
+    ensures foreign { OfHeld (state S.Store conn.old) (state S.Store conn.new)
+        (λ t. AreOwnRows t → SumsFit t.plans t.sessions t.grants → NotForeign result) }
 {
     let Some(head) = find_head(conn)? else {
         return Ok(false);

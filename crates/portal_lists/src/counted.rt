@@ -24,9 +24,11 @@ pub struct CountedRows {
 
 /// Reads these rows.
 pub fn read_counted<S: Alter>(conn: &mut Connection<S>) -> Result<CountedRows, Fault>
-    ensures read { OfFirst (state S.Store conn.old) (state S.Store conn.new) (λ t. IfOk result (λ rows. AreRead rows t)) }
+    ensures read { OfFirst (state S.Store conn.old) (state S.Store conn.new)
+        (λ t. IfOk result (λ rows. AreRead rows t)) }
     ensures looks { Looks HasFirst result (state S.Store conn.old) (state S.Store conn.new) }
-    ensures foreign { OfFirst (state S.Store conn.old) (state S.Store conn.new) (λ t. AreOwnRows t → NotForeign result) }
+    ensures foreign { OfFirst (state S.Store conn.old) (state S.Store conn.new)
+        (λ t. AreOwnRows t → NotForeign result) }
 {
     Ok(CountedRows {
         plans: all_plans(conn)?,

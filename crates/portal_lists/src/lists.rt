@@ -1,16 +1,17 @@
 //! The rows of a table that pass a test, read as values in an order.
 
 ghost use Rattle.std.specs.Prelude.{◌≡◌, IfOk, IsSome, List, map, filter, true, bytes_eq, All};
-ghost use Rattle.sqlite.specs.Held.{state};
-ghost use Rattle.sqlite.specs.State.{HasCleanDisk};
 ghost use Rattle.portal_codes.specs.Code.{IsCode, text_of};
 ghost use Rattle.portal_model.specs.Rows.{VoucherRow, TotalRow};
 ghost use Rattle.portal_sql.specs.Finds.{columns};
-ghost use Rattle.portal_sql.specs.Looks.{Looks};
-ghost use Rattle.portal_rows.specs.Contents.{Contents, voucher_cells, total_cells};
-ghost use Rattle.portal_rows.specs.Foreign.{AreOwn, IsOwnRefund, IsOwnTotal, IsOwnVoucher, NotForeign, AreOfOwn, SparesOwn, TellsForeign};
-ghost use Rattle.portal_rows.specs.Holds.{Holds, HasTables};
-ghost use Rattle.portal_lists.specs.Lists.{Lists, ListsAs, IsReadAs, AreReadAs, is_within, may_be_open, numbers_open, by_place, by_refund, by_sale, by_number, sale_cells, sale_shown, sale_read, refund_shown, refund_read};
+ghost use Rattle.portal_rows.specs.Contents.{voucher_cells};
+ghost use Rattle.portal_rows.specs.Foreign.{AreOwn, IsOwnRefund, IsOwnTotal, IsOwnVoucher, NotForeign};
+ghost use Rattle.portal_rows.specs.Foreign.{AreOfOwn, SparesOwn};
+ghost use Rattle.portal_rows.specs.Selects.{ReadsRow};
+ghost use Rattle.portal_lists.specs.Lists.{Lists, ListsAs, IsReadAs, AreReadAs, is_within, may_be_open};
+ghost use Rattle.portal_lists.specs.Lists.{numbers_open};
+ghost use Rattle.portal_lists.specs.Lists.{by_place, by_refund, by_sale, by_number, sale_shown, sale_read};
+ghost use Rattle.portal_lists.specs.Lists.{refund_shown, refund_read};
 ghost use Rattle.portal_rows.specs.Read.{voucher_read};
 ghost use Rattle.portal_rows.specs.Steps.{ends_row};
 
@@ -45,7 +46,8 @@ fn code_of(row: &Row) -> Result<Code, Fault>
 
 /// The codes of these rows of vouchers, in their order.
 fn codes_in(alloc: Global, rows: &[Row]) -> Result<Vec<Code>, Fault>
-    ensures read { IfOk result (λ codes. AreReadAs voucher_cells 6 (λ v. v.code) rows.now (map text_of codes.items)) }
+    ensures read { IfOk result
+        (λ codes. AreReadAs voucher_cells 6 (λ v. v.code) rows.now (map text_of codes.items)) }
     ensures codes { IfOk result (λ codes. All IsCode codes.items) }
     ensures own { AreOfOwn voucher_cells 6 IsOwnVoucher rows.now → NotForeign result }
 {
@@ -93,7 +95,8 @@ fn sale_of(voucher: &KeptVoucher) -> Result<KeptSale, Fault>
 
 /// The sales of these vouchers, in their order.
 fn sales_in(alloc: Global, vouchers: &[KeptVoucher]) -> Result<Vec<KeptSale>, Fault>
-    ensures read { IfOk result (λ sales. map sale_read sales.items ≡ map (λ v. sale_shown (voucher_read v)) vouchers.now) }
+    ensures read { IfOk result
+        (λ sales. map sale_read sales.items ≡ map (λ v. sale_shown (voucher_read v)) vouchers.now) }
     ensures own { AreOwn (λ v. IsSome v.sold) (map voucher_read vouchers.now) → NotForeign result }
 {
     let mut sales = Vec::new(alloc);
@@ -116,7 +119,8 @@ fn refund_of(voucher: &KeptVoucher) -> Result<(Moment, u64), Fault>
 
 /// The refunds of these vouchers, in their order.
 fn refunds_in(alloc: Global, vouchers: &[KeptVoucher]) -> Result<Vec<(Moment, u64)>, Fault>
-    ensures read { IfOk result (λ refunds. map refund_read refunds.items ≡ map (λ v. refund_shown (voucher_read v)) vouchers.now) }
+    ensures read { IfOk result
+        (λ refunds. map refund_read refunds.items ≡ map (λ v. refund_shown (voucher_read v)) vouchers.now) }
     ensures own { AreOwn IsOwnRefund (map voucher_read vouchers.now) → NotForeign result }
 {
     let mut refunds = Vec::new(alloc);
@@ -133,9 +137,10 @@ pub fn list_codes<S: Alter>(
     batch: &Id,
 ) -> Result<Vec<Code>, Fault>
     ensures codes { IfOk result (λ codes. All IsCode codes.items) }
-    ensures found { HasCleanDisk (state S.Store conn.new) → (t : Contents) → Holds (state S.Store conn.old).now t → IfOk result (λ codes. ListsAs (λ v. v.code) (λ v. bytes_eq batch.now v.batch) by_place t.vouchers (map text_of codes.items)) }
-    ensures looks { Looks HasTables result (state S.Store conn.old) (state S.Store conn.new) }
-    ensures foreign { TellsForeign Holds (λ t. AreOwn IsOwnVoucher t.vouchers) (state S.Store conn.old) (state S.Store conn.new) result }
+    ensures reads { ReadsRow S.Store conn.old conn.new result
+        (λ t codes. ListsAs (λ v. v.code) (λ v. bytes_eq batch.now v.batch) by_place t.vouchers
+        (map text_of codes.items))
+        (λ t. AreOwn IsOwnVoucher t.vouchers) }
 {
     let rows = batch_vouchers_rows(conn, batch)?;
     Ok(codes_in(alloc, &rows)?)
@@ -147,9 +152,10 @@ pub fn list_numbers<S: Alter>(
     conn: &mut Connection<S>,
     at: Moment,
 ) -> Result<Vec<u64>, Fault>
-    ensures found { HasCleanDisk (state S.Store conn.new) → (t : Contents) → Holds (state S.Store conn.old).now t → IfOk result (λ numbers. (totals : List TotalRow) × Lists (λ _. true) by_number t.totals totals × (numbers.items ≡ numbers_open at totals)) }
-    ensures looks { Looks HasTables result (state S.Store conn.old) (state S.Store conn.new) }
-    ensures foreign { TellsForeign Holds (λ t. AreOwn IsOwnTotal t.totals) (state S.Store conn.old) (state S.Store conn.new) result }
+    ensures { ReadsRow S.Store conn.old conn.new result
+        (λ t numbers. (totals : List TotalRow) × Lists (λ _. true) by_number t.totals totals
+        × (numbers.items ≡ numbers_open at totals))
+        (λ t. AreOwn IsOwnTotal t.totals) }
 {
     let totals: Vec<Total> = read_values(
         alloc,
@@ -167,9 +173,10 @@ pub fn list_sales<S: Alter>(
     from: Moment,
     to: Moment,
 ) -> Result<Vec<KeptSale>, Fault>
-    ensures found { HasCleanDisk (state S.Store conn.new) → (t : Contents) → Holds (state S.Store conn.old).now t → IfOk result (λ sales. map sale_read sales.items ≡ map sale_shown (filter (λ v. is_within from to v.sold) t.vouchers)) }
-    ensures looks { Looks HasTables result (state S.Store conn.old) (state S.Store conn.new) }
-    ensures foreign { TellsForeign Holds (λ t. AreOwn IsOwnVoucher t.vouchers) (state S.Store conn.old) (state S.Store conn.new) result }
+    ensures { ReadsRow S.Store conn.old conn.new result
+        (λ t sales. map sale_read sales.items
+        ≡ map sale_shown (filter (λ v. is_within from to v.sold) t.vouchers))
+        (λ t. AreOwn IsOwnVoucher t.vouchers) }
 {
     read_values(
         alloc,
@@ -186,14 +193,16 @@ pub fn list_ordered_sales<S: Alter>(
     from: Moment,
     to: Moment,
 ) -> Result<Vec<KeptSale>, Fault>
-    ensures found { HasCleanDisk (state S.Store conn.new) → (t : Contents) → Holds (state S.Store conn.old).now t → IfOk result (λ sales. ListsAs sale_shown (λ v. is_within from to v.sold) by_sale t.vouchers (map sale_read sales.items)) }
-    ensures looks { Looks HasTables result (state S.Store conn.old) (state S.Store conn.new) }
-    ensures foreign { TellsForeign Holds (λ t. AreOwn IsOwnVoucher t.vouchers) (state S.Store conn.old) (state S.Store conn.new) result }
+    ensures { ReadsRow S.Store conn.old conn.new result
+        (λ t sales. ListsAs sale_shown (λ v. is_within from to v.sold) by_sale t.vouchers
+        (map sale_read sales.items))
+        (λ t. AreOwn IsOwnVoucher t.vouchers) }
 {
     let vouchers: Vec<KeptVoucher> = read_values(
         alloc,
         conn,
-        "SELECT code, batch_id, place, sold, refunded, amount FROM portal_vouchers WHERE sold >= ?1 AND sold <= ?2 ORDER BY sold, code",
+        "SELECT code, batch_id, place, sold, refunded, amount FROM portal_vouchers \
+         WHERE sold >= ?1 AND sold <= ?2 ORDER BY sold, code",
         params![from.get() as i64, to.get() as i64],
     )?;
     Ok(sales_in(alloc, &vouchers)?)
@@ -206,14 +215,16 @@ pub fn list_refunds<S: Alter>(
     from: Moment,
     to: Moment,
 ) -> Result<Vec<(Moment, u64)>, Fault>
-    ensures found { HasCleanDisk (state S.Store conn.new) → (t : Contents) → Holds (state S.Store conn.old).now t → IfOk result (λ refunds. ListsAs refund_shown (λ v. is_within from to v.refunded) by_refund t.vouchers (map refund_read refunds.items)) }
-    ensures looks { Looks HasTables result (state S.Store conn.old) (state S.Store conn.new) }
-    ensures foreign { TellsForeign Holds (λ t. AreOwn IsOwnVoucher t.vouchers) (state S.Store conn.old) (state S.Store conn.new) result }
+    ensures { ReadsRow S.Store conn.old conn.new result
+        (λ t refunds. ListsAs refund_shown (λ v. is_within from to v.refunded) by_refund t.vouchers
+        (map refund_read refunds.items))
+        (λ t. AreOwn IsOwnVoucher t.vouchers) }
 {
     let vouchers: Vec<KeptVoucher> = read_values(
         alloc,
         conn,
-        "SELECT code, batch_id, place, sold, refunded, amount FROM portal_vouchers WHERE refunded >= ?1 AND refunded <= ?2 ORDER BY refunded, code",
+        "SELECT code, batch_id, place, sold, refunded, amount FROM portal_vouchers \
+         WHERE refunded >= ?1 AND refunded <= ?2 ORDER BY refunded, code",
         params![from.get() as i64, to.get() as i64],
     )?;
     Ok(refunds_in(alloc, &vouchers)?)

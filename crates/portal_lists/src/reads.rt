@@ -8,8 +8,10 @@ ghost use Rattle.sqlite.specs.Listing.{understood};
 ghost use Rattle.sqlite.specs.Order.{Row as Cells};
 ghost use Rattle.portal_sql.specs.Looks.{Looks};
 ghost use Rattle.portal_sql.specs.Finds.{columns};
-ghost use Rattle.portal_rows.specs.Contents.{plan_cells, batch_cells, voucher_cells, session_cells, grant_cells, count_cells, total_cells};
-ghost use Rattle.portal_rows.specs.Foreign.{AreOwn, IsOwnBatch, IsOwnCount, IsOwnGrant, IsOwnPlan, IsOwnSession, IsOwnTotal, IsOwnVoucher, NotForeign, IsOfOwn};
+ghost use Rattle.portal_rows.specs.Contents.{plan_cells, batch_cells, voucher_cells, session_cells};
+ghost use Rattle.portal_rows.specs.Contents.{grant_cells, count_cells, total_cells};
+ghost use Rattle.portal_rows.specs.Foreign.{AreOwn, IsOwnBatch, IsOwnCount, IsOwnGrant, IsOwnPlan};
+ghost use Rattle.portal_rows.specs.Foreign.{IsOwnSession, IsOwnTotal, IsOwnVoucher, NotForeign, IsOfOwn};
 ghost use Rattle.portal_rows.specs.Steps.{ends_row};
 ghost use Rattle.portal_rows.specs.Read.{voucher_read, session_read, count_read};
 ghost use Rattle.portal_lists.specs.Asks.{AreShown, Asks, IsSimple};
@@ -150,10 +152,16 @@ pub(crate) fn read_values<S: Alter, T: FromRow + Drop>(
     sql: &str,
     params: &[ValueRef<'_>],
 ) -> Result<Vec<T>, Fault>
-    ensures shown { HasCleanDisk (state S.Store conn.new) → Asks sql.now (state S.Store conn.old).now.schema → IfOk result (λ values. AreShown (Shown sql.now (bound params.now) (state S.Store conn.old) (state S.Store conn.new)) T.cells T.width values.items) }
+    ensures shown { HasCleanDisk (state S.Store conn.new) → Asks sql.now (state S.Store conn.old).now.schema
+        → IfOk result (λ values. AreShown
+        (Shown sql.now (bound params.now) (state S.Store conn.old)
+        (state S.Store conn.new)) T.cells T.width values.items) }
     ensures looks { Looks (Asks sql.now) result (state S.Store conn.old) (state S.Store conn.new) }
-    ensures own { HasCleanDisk (state S.Store conn.new) → IsSimple (understood (state S.Store conn.old).now.schema sql.now)
-        → ((rows : List Cells) → Shown sql.now (bound params.now) (state S.Store conn.old) (state S.Store conn.new) rows → AreOwn (λ row. T.own (columns T.width row)) rows) → NotForeign result }
+    ensures own { HasCleanDisk (state S.Store conn.new)
+        → IsSimple (understood (state S.Store conn.old).now.schema sql.now)
+        → ((rows : List Cells)
+        → Shown sql.now (bound params.now) (state S.Store conn.old) (state S.Store conn.new) rows
+        → AreOwn (λ row. T.own (columns T.width row)) rows) → NotForeign result }
 {
     let mut values = Vec::new(alloc);
     let mut rows = conn.query(sql, params)?;

@@ -1,13 +1,11 @@
 //! The texts that read a whole table, one each: its rows, in the order of their rowids.
 
-ghost use Rattle.std.specs.Prelude.{◌≡◌, IfOk, map};
-ghost use Rattle.sqlite.specs.Held.{state};
-ghost use Rattle.sqlite.specs.State.{HasCleanDisk};
-ghost use Rattle.portal_sql.specs.Looks.{Looks};
-ghost use Rattle.portal_lists.specs.Asks.{Anything};
-ghost use Rattle.portal_rows.specs.Contents.{Contents, plan_cells, batch_cells, voucher_cells, session_cells, grant_cells, count_cells, total_cells};
-ghost use Rattle.portal_rows.specs.First.{HoldsFirst, HasFirst};
-ghost use Rattle.portal_rows.specs.Holds.{Holds, HasTables};
+ghost use Rattle.std.specs.Prelude.{◌≡◌, map};
+ghost use Rattle.portal_rows.specs.Contents.{plan_cells, batch_cells, voucher_cells, session_cells};
+ghost use Rattle.portal_rows.specs.Contents.{grant_cells};
+ghost use Rattle.portal_rows.specs.Contents.{count_cells, total_cells};
+ghost use Rattle.portal_rows.specs.Selects.{Selects};
+ghost use Rattle.portal_lists.specs.Selects.{SelectsFirst};
 
 use crate::asks::ask;
 use portal_sql::query::read_all;
@@ -15,9 +13,8 @@ use sqlite::{Alter, Connection, Error, Row};
 
 /// The rows of all plans.
 pub(crate) fn all_plan_rows<S: Alter>(conn: &mut Connection<S>) -> Result<Vec<Row>, Error>
-    ensures rows { HasCleanDisk (state S.Store conn.new) → (t : Contents) → HoldsFirst (state S.Store conn.old).now t → IfOk result (λ rows. rows.items ≡ map plan_cells t.plans) }
-    ensures looks { Looks HasFirst result (state S.Store conn.old) (state S.Store conn.new) }
-    ensures always { Looks Anything result (state S.Store conn.old) (state S.Store conn.new) }
+    ensures { SelectsFirst S.Store conn.old conn.new result
+        (λ t rows. rows.items ≡ map plan_cells t.plans) }
 {
     ask(
         conn,
@@ -28,8 +25,8 @@ pub(crate) fn all_plan_rows<S: Alter>(conn: &mut Connection<S>) -> Result<Vec<Ro
 
 /// The rows of all batches.
 pub(crate) fn all_batch_rows<S: Alter>(conn: &mut Connection<S>) -> Result<Vec<Row>, Error>
-    ensures rows { HasCleanDisk (state S.Store conn.new) → (t : Contents) → Holds (state S.Store conn.old).now t → IfOk result (λ rows. rows.items ≡ map batch_cells t.batches) }
-    ensures looks { Looks HasTables result (state S.Store conn.old) (state S.Store conn.new) }
+    ensures { Selects S.Store conn.old conn.new result
+        (λ t rows. rows.items ≡ map batch_cells t.batches) }
 {
     read_all(
         conn,
@@ -40,9 +37,8 @@ pub(crate) fn all_batch_rows<S: Alter>(conn: &mut Connection<S>) -> Result<Vec<R
 
 /// The rows of all vouchers.
 pub(crate) fn all_voucher_rows<S: Alter>(conn: &mut Connection<S>) -> Result<Vec<Row>, Error>
-    ensures rows { HasCleanDisk (state S.Store conn.new) → (t : Contents) → HoldsFirst (state S.Store conn.old).now t → IfOk result (λ rows. rows.items ≡ map voucher_cells t.vouchers) }
-    ensures looks { Looks HasFirst result (state S.Store conn.old) (state S.Store conn.new) }
-    ensures always { Looks Anything result (state S.Store conn.old) (state S.Store conn.new) }
+    ensures { SelectsFirst S.Store conn.old conn.new result
+        (λ t rows. rows.items ≡ map voucher_cells t.vouchers) }
 {
     ask(
         conn,
@@ -53,9 +49,8 @@ pub(crate) fn all_voucher_rows<S: Alter>(conn: &mut Connection<S>) -> Result<Vec
 
 /// The rows of all sessions.
 pub(crate) fn all_session_rows<S: Alter>(conn: &mut Connection<S>) -> Result<Vec<Row>, Error>
-    ensures rows { HasCleanDisk (state S.Store conn.new) → (t : Contents) → HoldsFirst (state S.Store conn.old).now t → IfOk result (λ rows. rows.items ≡ map session_cells t.sessions) }
-    ensures looks { Looks HasFirst result (state S.Store conn.old) (state S.Store conn.new) }
-    ensures always { Looks Anything result (state S.Store conn.old) (state S.Store conn.new) }
+    ensures { SelectsFirst S.Store conn.old conn.new result
+        (λ t rows. rows.items ≡ map session_cells t.sessions) }
 {
     ask(
         conn,
@@ -66,9 +61,8 @@ pub(crate) fn all_session_rows<S: Alter>(conn: &mut Connection<S>) -> Result<Vec
 
 /// The rows of all redemptions.
 pub(crate) fn all_grant_rows<S: Alter>(conn: &mut Connection<S>) -> Result<Vec<Row>, Error>
-    ensures rows { HasCleanDisk (state S.Store conn.new) → (t : Contents) → HoldsFirst (state S.Store conn.old).now t → IfOk result (λ rows. rows.items ≡ map grant_cells t.grants) }
-    ensures looks { Looks HasFirst result (state S.Store conn.old) (state S.Store conn.new) }
-    ensures always { Looks Anything result (state S.Store conn.old) (state S.Store conn.new) }
+    ensures { SelectsFirst S.Store conn.old conn.new result
+        (λ t rows. rows.items ≡ map grant_cells t.grants) }
 {
     ask(
         conn,
@@ -79,8 +73,8 @@ pub(crate) fn all_grant_rows<S: Alter>(conn: &mut Connection<S>) -> Result<Vec<R
 
 /// The rows of all counts.
 pub(crate) fn all_count_rows<S: Alter>(conn: &mut Connection<S>) -> Result<Vec<Row>, Error>
-    ensures rows { HasCleanDisk (state S.Store conn.new) → (t : Contents) → Holds (state S.Store conn.old).now t → IfOk result (λ rows. rows.items ≡ map count_cells t.counts) }
-    ensures looks { Looks HasTables result (state S.Store conn.old) (state S.Store conn.new) }
+    ensures { Selects S.Store conn.old conn.new result
+        (λ t rows. rows.items ≡ map count_cells t.counts) }
 {
     read_all(
         conn,
@@ -91,8 +85,8 @@ pub(crate) fn all_count_rows<S: Alter>(conn: &mut Connection<S>) -> Result<Vec<R
 
 /// The rows of all totals.
 pub(crate) fn all_total_rows<S: Alter>(conn: &mut Connection<S>) -> Result<Vec<Row>, Error>
-    ensures rows { HasCleanDisk (state S.Store conn.new) → (t : Contents) → Holds (state S.Store conn.old).now t → IfOk result (λ rows. rows.items ≡ map total_cells t.totals) }
-    ensures looks { Looks HasTables result (state S.Store conn.old) (state S.Store conn.new) }
+    ensures { Selects S.Store conn.old conn.new result
+        (λ t rows. rows.items ≡ map total_cells t.totals) }
 {
     read_all(
         conn,

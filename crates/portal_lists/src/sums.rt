@@ -1,6 +1,7 @@
 //! The counters that a store is to have, summed over its other rows.
 
-ghost use Rattle.std.specs.Prelude.{◌≡◌, ◌+◌, ◌<◌, ◌^◌, ℕ, List, nat_eq, bytes_eq, map, IfOk, option_map, unwrap_or};
+ghost use Rattle.std.specs.Prelude.{◌≡◌, ◌+◌, ◌<◌, ◌^◌, ℕ, List, nat_eq, bytes_eq, map, IfOk, option_map};
+ghost use Rattle.std.specs.Prelude.{unwrap_or};
 ghost use Rattle.std.specs.HashMap.{get};
 ghost use Rattle.portal_model.specs.Change.{plan_among};
 ghost use Rattle.portal_model.specs.History.{limited};
@@ -9,7 +10,8 @@ ghost use Rattle.portal_rows.specs.Foreign.{IsMomentIfSome, NotForeign};
 ghost use Rattle.portal_rows.specs.Read.{voucher_read, session_read, count_read};
 ghost use Rattle.portal_rows.specs.Steps.{ends_row};
 ghost use Rattle.portal_codes.specs.Code.{IsCode};
-ghost use Rattle.portal_lists.specs.Sums.{AreUses, IsKeptSum, SumsFit, grant_read, summed, given_to, nothing_given};
+ghost use Rattle.portal_lists.specs.Sums.{AreUses, IsKeptSum, SumsFit, grant_read, summed, given_to};
+ghost use Rattle.portal_lists.specs.Sums.{nothing_given};
 
 use crate::grants::KeptGrant;
 use portal_codes::Code;
@@ -58,7 +60,9 @@ pub fn sum_counts(
     vouchers: &[KeptVoucher],
     grants: &[KeptGrant],
 ) -> Result<Vec<KeptCount>, Fault>
-    ensures sums { IfOk result (λ counts. map count_read counts.items ≡ map (count_from (map grant_read grants.now)) (map voucher_read vouchers.now)) }
+    ensures sums { IfOk result
+        (λ counts. map count_read counts.items ≡ map (count_from (map grant_read grants.now))
+        (map voucher_read vouchers.now)) }
     ensures memory { NotForeign result }
 {
     let uses = uses_by_code(alloc, grants)?;
@@ -75,8 +79,11 @@ pub fn sum_counts(
 
 /// What a session was given, with one redemption more. A sum past 64 bits is a foreign row.
 fn given_with(given: Given, grant: &KeptGrant) -> Result<Given, Fault>
-    ensures sum { IfOk result (λ sum. sum ≡ record { seconds = given.seconds + grant.now.seconds; bytes = given.bytes + grant.now.bytes }) }
-    ensures kept { given.seconds + grant.now.seconds < 2 ^ 63 → given.bytes + grant.now.bytes < 2 ^ 63 → NotForeign result }
+    ensures sum { IfOk result
+        (λ sum. sum
+        ≡ record { seconds = given.seconds + grant.now.seconds; bytes = given.bytes + grant.now.bytes }) }
+    ensures kept { given.seconds + grant.now.seconds < 2 ^ 63 → given.bytes + grant.now.bytes < 2 ^ 63
+        → NotForeign result }
 {
     let Some(seconds) = given.seconds.checked_add(grant.seconds) else {
         return Err(Fault::ForeignRow);
@@ -89,8 +96,11 @@ fn given_with(given: Given, grant: &KeptGrant) -> Result<Given, Fault>
 
 /// What each session was given, by its number.
 fn given_by_session(alloc: Global, grants: &[KeptGrant]) -> Result<HashMap<u64, Given>, Fault>
-    ensures given { IfOk result (λ given. (number : ℕ) → unwrap_or (get nat_eq given number) nothing_given ≡ given_to (map grant_read grants.now) number) }
-    ensures kept { ((number : ℕ) → IsKeptSum (given_to (map grant_read grants.now) number)) → NotForeign result }
+    ensures given { IfOk result
+        (λ given. (number : ℕ)
+        → unwrap_or (get nat_eq given number) nothing_given ≡ given_to (map grant_read grants.now) number) }
+    ensures kept { ((number : ℕ) → IsKeptSum (given_to (map grant_read grants.now) number))
+        → NotForeign result }
 {
     let mut given = HashMap::new(alloc);
     for grant in grants {
@@ -157,8 +167,13 @@ fn remainder_of(plan: &Plan, used: u64, bytes: u64) -> Result<Option<i64>, Fault
 
 /// The end of the session and what remains of its allowance, by its first plan and what it was given.
 fn total_with(plans: &[Plan], session: &KeptSession, given: Given) -> Result<Total, Fault>
-    ensures total { IfOk result (λ total. (grants : List _) → given ≡ given_to grants session.now.number → ends_row total ≡ total_from (summed plans.now grants) (session_read session.now)) }
-    ensures kept { given.bytes < 2 ^ 63 → session.now.used < 2 ^ 63 → (grants : List _) → given ≡ given_to grants session.now.number → IsMomentIfSome (total_from (summed plans.now grants) (session_read session.now)).ends → NotForeign result }
+    ensures total { IfOk result
+        (λ total. (grants : List _) → given ≡ given_to grants session.now.number
+        → ends_row total ≡ total_from (summed plans.now grants) (session_read session.now)) }
+    ensures kept { given.bytes < 2 ^ 63 → session.now.used < 2 ^ 63 → (grants : List _)
+        → given ≡ given_to grants session.now.number
+        → IsMomentIfSome (total_from (summed plans.now grants) (session_read session.now)).ends
+        → NotForeign result }
 {
     let Some(plan) = plan_among(plans, &session.plan) else {
         return Ok(Total {
@@ -182,8 +197,11 @@ pub fn sum_totals(
     sessions: &[KeptSession],
     grants: &[KeptGrant],
 ) -> Result<Vec<Total>, Fault>
-    ensures sums { IfOk result (λ totals. map ends_row totals.items ≡ map (total_from (summed plans.now (map grant_read grants.now))) (map session_read sessions.now)) }
-    ensures kept { SumsFit plans.now (map session_read sessions.now) (map grant_read grants.now) → NotForeign result }
+    ensures sums { IfOk result
+        (λ totals. map ends_row totals.items ≡ map
+        (total_from (summed plans.now (map grant_read grants.now))) (map session_read sessions.now)) }
+    ensures kept { SumsFit plans.now (map session_read sessions.now) (map grant_read grants.now)
+        → NotForeign result }
 {
     let given = given_by_session(alloc, grants)?;
     let mut totals = Vec::new(alloc);

@@ -1,5 +1,5 @@
 -- How the answer to one request ends.
-use Rattle.std.specs.Prelude.{◌≡◌, ◌⊎◌, ◌≤◌, ℕ, List, [], length, Bool, ◌==◌, ◌&&◌, if◌then◌else◌, Option, None, Some, Result, Ok, Err, ⊤}
+use Rattle.std.specs.Prelude.{◌≡◌, ◌⊎◌, ◌≤◌, ℕ, List, [], length, Bool, false, ◌==◌, ◌&&◌, if◌then◌else◌, Option, None, Some, Result, Ok, Err, ⊤}
 use Rattle.std.specs.List.{AllPass}
 use Rattle.std.specs.Borrow.{Bor}
 use Rattle.std.specs.Io.KnownBytes.{Keeps}
@@ -14,12 +14,12 @@ use Rattle.portal_http.specs.Arrived.{Arrived}
 use Rattle.portal_http.specs.Runs.{Served}
 use Rattle.portal_http.specs.Exchanges.{Wire, EndsExchange}
 use Rattle.portal_ends.specs.declared.fault.Fault.{Fault}
-use Rattle.portal_ends.specs.declared.fault.Fault.TheVariants.{Usage, Cut}
+use Rattle.portal_ends.specs.declared.fault.Fault.TheVariants.{Usage, Cut, NoMemory}
 use Rattle.portal_ends.specs.Faults.{line_of, status_of}
 use Rattle.portal_ends.specs.Streams.{Prints}
 use Rattle.portal_program.specs.declared.answering.Request.{Request}
 use Rattle.portal_program.specs.declared.trouble.Trouble.{Trouble}
-use Rattle.portal_program.specs.Places.{IsOfFile, IsOfSettings, IsOfStore, PlaceValue, AreRead, ByDesk}
+use Rattle.portal_program.specs.Places.{IsOfFile, IsOfStore, IsForMemory, PlaceValue, AreRead, AreMissed, ByDesk}
 use Rattle.portal_program.specs.Troubles.{IsAt, Reports}
 
 -- 0 after 200, 3 after the 503 of a desk that has stopped, 1 after any other
@@ -55,41 +55,44 @@ IsKeptOff wire errors errors_after trouble status =
     AreLeftAlone wire × (status ≡ status_of trouble.fault) × Reports trouble errors errors_after
 
 -- Without a file that is named, a request is the one request of a run of a desk that nothing was told.
-abbrev pub AnswersFresh : Wire → Option (List ℕ) → Option (List ℕ) → ℕ → List ℕ → SettingsValue → ℕ → Type 0
-AnswersFresh wire errors errors_after moment seed settings status =
+abbrev pub AnswersFresh : (Fault → Type 0) → Wire → Option (List ℕ) → Option (List ℕ) → ℕ → List ℕ → SettingsValue → ℕ → Type 0
+AnswersFresh fails wire errors errors_after moment seed settings status =
     ((new : State) × (answered : Result ℕ Fault)
     × EndsAnswering wire moment seed (λ arrivals responses. Served settings (running []) arrivals responses new) (is_over new) answered
     × EndsStatus answered errors errors_after status)
-    ⊎ ((fault : Fault) × IsOfFile fault × AreLeftAlone wire × EndsStatus (Err fault) errors errors_after status)
+    ⊎ ((fault : Fault) × IsOfFile fault × ((fault ≡ NoMemory) ⊎ fails fault) × AreLeftAlone wire × EndsStatus (Err fault) errors errors_after status)
 
 -- Else it is that of the desk over the file, from the ledger that the file shows.
 abbrev pub AnswersStored : PlaceValue → List ℕ → Wire → Option (List ℕ) → Option (List ℕ) → ℕ → List ℕ → SettingsValue → ℕ → Type 0
 AnswersStored place path wire errors errors_after moment seed settings status =
-    ((is_new : Bool) × ByDesk place path is_new errors_after
+    ((is_new : Bool) × ByDesk place path false is_new errors_after
     (λ printed. (is_stopped : Bool) × (answered : Result ℕ Fault) × EndsAnswering wire moment seed (λ arrivals responses. ⊤) is_stopped answered
     × EndsStatus answered errors printed status)
     (λ printed old new. (answered : Result ℕ Fault)
     × EndsAnswering wire moment seed (λ arrivals responses. Served settings old arrivals responses new) (is_over new) answered
     × EndsStatus answered errors printed status))
-    ⊎ ((trouble : Trouble) × (IsOfStore trouble.fault × IsAt path trouble) × IsKeptOff wire errors errors_after trouble status)
+    ⊎ ((trouble : Trouble) × (IsOfStore trouble.fault × IsAt path trouble) × (IsForMemory trouble ⊎ place.refuses path trouble)
+    × IsKeptOff wire errors errors_after trouble status)
 
 -- with the settings of the file that is named, or else the sample settings
 abbrev pub IsAnswered : PlaceValue → Wire → Option (List ℕ) → Option (List ℕ) → ℕ → List ℕ → Option (Bor (List ℕ)) → SettingsValue → ℕ → Type 0
 IsAnswered place wire errors errors_after moment seed None settings status =
-    AnswersFresh wire errors errors_after moment seed settings status
+    AnswersFresh place.fails_to_make wire errors errors_after moment seed settings status
 IsAnswered place wire errors errors_after moment seed (Some path) settings status =
     AnswersStored place path.now wire errors errors_after moment seed settings status
 
 -- the file with the settings is of no use, or there is no memory for the sample settings
-abbrev pub IsOfNamed : Option (Bor (List ℕ)) → Trouble → Type 0
-IsOfNamed settings trouble = IsOfSettings trouble.fault × ((path : Bor (List ℕ)) → settings ≡ Some path → IsAt path.now trouble)
+abbrev pub IsOfNamed : (List ℕ → List ℕ → Type 0) → (List ℕ → Trouble → Type 0) → Option (Bor (List ℕ)) → Trouble → Type 0
+IsOfNamed reads fails settings trouble =
+    (settings ≡ None → IsForMemory trouble)
+    × ((path : Bor (List ℕ)) → settings ≡ Some path → IsAt path.now trouble × AreMissed (reads path.now) (fails path.now) trouble)
 
 -- a value is out of its range, or the settings keep the request from being answered, or it is answered
 abbrev pub EndsAnswer : PlaceValue → Wire → Option (List ℕ) → Option (List ℕ) → Request → ℕ → Type 0
 EndsAnswer place wire errors errors_after request status =
     ((¬ IsInRange request.now request.seed.now) × AreLeftAlone wire × EndsStatus (Err Usage) errors errors_after status)
     ⊎ (IsInRange request.now request.seed.now
-    × (((trouble : Trouble) × IsOfNamed request.settings trouble × IsKeptOff wire errors errors_after trouble status)
+    × (((trouble : Trouble) × IsOfNamed place.reads place.fails_to_read request.settings trouble × IsKeptOff wire errors errors_after trouble status)
     ⊎ ((bytes : List ℕ) × (settings : SettingsValue) × (decode_of request.seed.now ≡ Ok bytes)
     × (request.settings ≡ None → IsSample settings)
     × ((path : Bor (List ℕ)) → request.settings ≡ Some path → AreRead (place.reads path.now) settings)

@@ -38,10 +38,10 @@ IsOfDesk (Err _) = ⊥
 -- the ledger that the file shows, between a line that tells of a new database and what is told of the close.
 abbrev pub AsksOver : PlaceValue → Files → (SettingsValue → State → Result Told Fault → State → Type 0) → Outlets → ℕ → Type 0
 AsksOver place files Tells o status =
-    ((trouble : Trouble) × KeepsOff place.reads files trouble × EndsTrouble trouble o status)
+    ((trouble : Trouble) × KeepsOff place.reads place.fails_to_read place.refuses files trouble × EndsTrouble trouble o status)
     ⊎ ((settings : SettingsValue) × AreRead (place.reads files.settings.now) settings
     × (is_new : Bool) × (begun : Option (List ℕ)) × Announces files.db.now is_new o.errors begun
-    × ByDesk place files.db.now is_new o.errors_after
+    × ByDesk place files.db.now false is_new o.errors_after
     (λ printed. (told : Result Told Fault) × IsOfDesk told × EndsWith told (record o { errors = begun; errors_after = printed }) status)
     (λ printed old new. (told : Result Told Fault) × Tells settings old told new
     × EndsWith told (record o { errors = begun; errors_after = printed }) status))
@@ -114,9 +114,9 @@ IsRight Counters audits told = TellsRightly audits told
 -- it was opened, which stands at the ledger that the file shows, if it shows one. The desk is closed then.
 abbrev pub AsksRightly : PlaceValue → Files → Question → Outlets → ℕ → Type 0
 AsksRightly place files question o status =
-    ((trouble : Trouble) × KeepsOff place.reads files trouble × EndsTrouble trouble o status)
-    ⊎ ((before after : place.Desk) × (is_new : Bool) × (begun printed : Option (List ℕ))
-    × Announces files.db.now is_new o.errors begun × Closes place.closes after files.db.now printed o.errors_after
+    ((trouble : Trouble) × KeepsOff place.reads place.fails_to_read place.refuses files trouble × EndsTrouble trouble o status)
+    ⊎ ((before after : place.Desk) × (is_new : Bool) × (begun printed : Option (List ℕ)) × place.opens files.db.now false before
+    × Announces files.db.now is_new o.errors begun × Closes place.closes place.fails_to_close after files.db.now printed o.errors_after
     × ((told : Result Told Fault) × EndsWith told (record o { errors = begun; errors_after = printed }) status
     × (place.is_honest after → place.is_honest before × ((L : Ledger) → place.shows files.db.now L → place.stands before (running L))
     × IsRight question (place.audits before) told)))

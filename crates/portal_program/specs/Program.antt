@@ -27,6 +27,10 @@ abbrev pub fault_of_words : ErrorKind → Fault
 fault_of_words InvalidData = Usage
 fault_of_words _ = NoMemory
 
+-- a fault of the words
+abbrev pub IsOfWords : Fault → Type 0
+IsOfWords fault = (fault ≡ Usage) ⊎ (fault ≡ NoMemory)
+
 -- help and the version end the program with 0, a fault in the words with 2 and out of memory with 3
 abbrev pub EndsTelling : NoOrder → Outlets → ℕ → Type 0
 EndsTelling (told.Help text) o status = EndsPrinting (string_bytes text) 0 o status

@@ -1,5 +1,5 @@
 -- How the command `serve` ends.
-use Rattle.std.specs.Prelude.{◌≡◌, ◌⊎◌, ℕ, Bool, Result, Err}
+use Rattle.std.specs.Prelude.{◌≡◌, ◌⊎◌, ℕ, Bool, true, Result, Err}
 use Rattle.portal_ends.specs.declared.fault.Fault.{Fault}
 use Rattle.portal_ends.specs.declared.fault.Fault.TheVariants.{Network, NoMemory}
 use Rattle.portal_ends.specs.Ends.{EndsWith}
@@ -38,12 +38,12 @@ ServesAt network at settings o status old new =
     × network.listens at.port before × (status ≡ status_at ended) × TellsTurns network.host settings at.port at.count o before old ended after new)
 
 -- Served by the desk over the files of a place: they keep it from the desk; or it is served with the settings that were read, from the
--- ledger that the file shows.
+-- ledger that the file shows, by a desk that was opened after what the log held was copied into the file.
 abbrev pub ServesOver : PlaceValue → Files → NetworkValue → Listening → Outlets → ℕ → Type 0
 ServesOver place files network at o status =
-    ((trouble : Trouble) × KeepsOff place.reads files trouble × EndsTrouble trouble o status)
+    ((trouble : Trouble) × KeepsOff place.reads place.fails_to_read place.refuses files trouble × EndsTrouble trouble o status)
     ⊎ ((settings : SettingsValue) × AreRead (place.reads files.settings.now) settings × (is_new : Bool)
-    × ByDesk place files.db.now is_new o.errors_after (λ printed. IsServed at (record o { errors_after = printed }) status)
+    × ByDesk place files.db.now true is_new o.errors_after (λ printed. IsServed at (record o { errors_after = printed }) status)
     (λ printed old new. Serves at.count (λ arrivals responses. Run settings old arrivals responses new))
-    × ByDesk place files.db.now is_new o.errors_after (λ printed. IsServed at (record o { errors_after = printed }) status)
+    × ByDesk place files.db.now true is_new o.errors_after (λ printed. IsServed at (record o { errors_after = printed }) status)
     (λ printed old new. ServesAt network at settings (record o { errors_after = printed }) status old new))

@@ -54,8 +54,8 @@ fn status_for(status: u16, is_stopped: bool) -> u8
 /// Answers the request on `input` with a response on `output`, as `exchange` does, and gives the status with which the program
 /// ends: 0 after a response of status 200, 3 after a 503 where the desk has then stopped, 1 after any other. Fault: `Cut`.
 pub fn answer_at<D: Desk, R: Read, W: Write>(
-    desk: &mut D,
     alloc: Global,
+    desk: &mut D,
     routes: &Routes,
     moment: Moment,
     seed: [u8; 32],
@@ -73,7 +73,7 @@ pub fn answer_at<D: Desk, R: Read, W: Write>(
         × EndsAnswering (between (R.remaining input.old) (R.remaining input.new) (W.contents output.old) (W.contents output.new))
         moment seed (λ arrivals responses. Survives D.Files (D.may_leave desk.new) D.shows (D.settings desk.old) L arrivals responses) is_stopped result }
 {
-    match exchange(desk, alloc, routes, moment, seed, input, output) {
+    match exchange(alloc, desk, routes, moment, seed, input, output) {
         Ok(done) => Ok(status_for(done.status, desk.is_stopped())),
         Err(_) => Err(Fault::Cut),
     }
@@ -95,13 +95,13 @@ fn read_values(now: u64, seed: &str) -> Result<(Moment, [u8; 32]), Fault>
 }
 
 /// The settings in the file at a path, or the sample settings where none is named. Faults: those of `settings_at`.
-fn settings_of<P: Place>(place: &P, alloc: Global, path: Option<&str>) -> Result<Settings, Trouble>
+fn settings_of<P: Place>(alloc: Global, place: &P, path: Option<&str>) -> Result<Settings, Trouble>
     ensures sample { IfOk result (λ settings. path.entry ≡ None → IsSample settings) }
     ensures read { IfOk result (λ settings. (file : Bor (List ℕ)) → path.entry ≡ Some file → AreRead (P.reads place.now file.now) settings) }
-    ensures why { IfErr result (IsOfNamed path.entry) }
+    ensures why { IfErr result (IsOfNamed (P.reads place.now) (P.fails_to_read place.now) path.entry) }
 {
     match path {
-        Some(path) => settings_at(place, alloc, path),
+        Some(path) => settings_at(alloc, place, path),
         None => match sample_settings(alloc) {
             Ok(settings) => Ok(settings),
             Err(_) => Err(Trouble::plain(Fault::NoMemory)),
@@ -130,13 +130,13 @@ fn answer_fresh<P: Place, R: Read, W: Write, E: Write>(
     output: &mut W,
     errors: &mut E,
 ) -> u8
-    ensures { AnswersFresh (between (R.remaining input.old) (R.remaining input.new) (W.contents output.old) (W.contents output.new))
+    ensures { AnswersFresh P.fails_to_make (between (R.remaining input.old) (R.remaining input.new) (W.contents output.old) (W.contents output.new))
         (E.contents errors.old) (E.contents errors.new) moment seed settings result }
 {
     match P::open_fresh(alloc, settings) {
         Err(fault) => fault.report(errors),
         Ok(mut desk) => {
-            let answered = answer_at(&mut desk, alloc, routes, moment, seed, input, output);
+            let answered = answer_at(alloc, &mut desk, routes, moment, seed, input, output);
             P::close_fresh(desk);
             end_answer(answered, errors)
         }
@@ -146,8 +146,8 @@ fn answer_fresh<P: Place, R: Read, W: Write, E: Write>(
 /// The answer of a desk over a file, which is closed then. Faults: those of the file before anything is read, and `Cut`; a
 /// fault of closing is told after it, and the status stays.
 fn answer_stored<P: Place, R: Read, W: Write, E: Write>(
-    place: P,
     alloc: Global,
+    place: P,
     path: &str,
     settings: Settings,
     routes: &Routes,
@@ -157,7 +157,7 @@ fn answer_stored<P: Place, R: Read, W: Write, E: Write>(
     output: &mut W,
     errors: &mut E,
 ) -> u8
-    ensures { AnswersStored (place_of P.Stored.is_honest P.Stored.stands P.Stored.audits (P.reads place) (P.shows place) (P.finds place) P.closes) path.entry.now
+    ensures { AnswersStored (place_of P.Stored.is_honest P.Stored.stands P.Stored.audits P.Stored.may_leave P.Stored.shows (P.reads place) (P.shows place) (P.finds place) (P.opens place) P.closes (P.fails_to_read place) (P.refuses place) P.fails_to_close P.fails_to_make) path.entry.now
         (between (R.remaining input.old) (R.remaining input.new) (W.contents output.old) (W.contents output.new)) (E.contents errors.old) (E.contents errors.new) moment seed settings result }
 {
     match place.open(alloc, path, settings, false) {
@@ -167,7 +167,7 @@ fn answer_stored<P: Place, R: Read, W: Write, E: Write>(
                 mut desk,
                 is_new: _,
             } = opened;
-            let answered = answer_at(&mut desk, alloc, routes, moment, seed, input, output);
+            let answered = answer_at(alloc, &mut desk, routes, moment, seed, input, output);
             let status = end_answer(answered, errors);
             close_desk::<P, E>(alloc, path, desk, errors);
             status
@@ -177,8 +177,8 @@ fn answer_stored<P: Place, R: Read, W: Write, E: Write>(
 
 /// The answer, once the moment, the seed and the settings are read.
 fn answer_by<P: Place, R: Read, W: Write, E: Write>(
-    place: P,
     alloc: Global,
+    place: P,
     db: Option<&str>,
     settings: Settings,
     moment: Moment,
@@ -187,7 +187,7 @@ fn answer_by<P: Place, R: Read, W: Write, E: Write>(
     output: &mut W,
     errors: &mut E,
 ) -> u8
-    ensures { IsAnswered (place_of P.Stored.is_honest P.Stored.stands P.Stored.audits (P.reads place) (P.shows place) (P.finds place) P.closes)
+    ensures { IsAnswered (place_of P.Stored.is_honest P.Stored.stands P.Stored.audits P.Stored.may_leave P.Stored.shows (P.reads place) (P.shows place) (P.finds place) (P.opens place) P.closes (P.fails_to_read place) (P.refuses place) P.fails_to_close P.fails_to_make)
         (between (R.remaining input.old) (R.remaining input.new) (W.contents output.old) (W.contents output.new)) (E.contents errors.old) (E.contents errors.new) moment seed db.entry settings result }
 {
     let Ok(routes) = Routes::new(alloc) else {
@@ -198,7 +198,7 @@ fn answer_by<P: Place, R: Read, W: Write, E: Write>(
             alloc, settings, &routes, moment, seed, input, output, errors,
         ),
         Some(path) => answer_stored(
-            place, alloc, path, settings, &routes, moment, seed, input, output, errors,
+            alloc, place, path, settings, &routes, moment, seed, input, output, errors,
         ),
     }
 }
@@ -212,14 +212,14 @@ fn answer_by<P: Place, R: Read, W: Write, E: Write>(
 /// `cut`, where a read or a write fails or there is no memory for the request or for any response; each status 3. A database
 /// file is closed then: a fault of that is told last, and the status stays.
 pub fn answer<P: Place, R: Read, W: Write, E: Write>(
-    place: P,
     alloc: Global,
+    place: P,
     request: &Request<'_>,
     input: &mut R,
     output: &mut W,
     errors: &mut E,
 ) -> u8
-    ensures { EndsAnswer (place_of P.Stored.is_honest P.Stored.stands P.Stored.audits (P.reads place) (P.shows place) (P.finds place) P.closes)
+    ensures { EndsAnswer (place_of P.Stored.is_honest P.Stored.stands P.Stored.audits P.Stored.may_leave P.Stored.shows (P.reads place) (P.shows place) (P.finds place) (P.opens place) P.closes (P.fails_to_read place) (P.refuses place) P.fails_to_close P.fails_to_make)
         (between (R.remaining input.old) (R.remaining input.new) (W.contents output.old) (W.contents output.new))
         (E.contents errors.old) (E.contents errors.new) request.entry.now result }
 {
@@ -227,10 +227,10 @@ pub fn answer<P: Place, R: Read, W: Write, E: Write>(
         Ok(values) => values,
         Err(fault) => return fault.report(errors),
     };
-    match settings_of(&place, alloc, request.settings) {
+    match settings_of(alloc, &place, request.settings) {
         Err(trouble) => trouble.report(errors),
         Ok(settings) => answer_by(
-            place, alloc, request.db, settings, moment, seed, input, output, errors,
+            alloc, place, request.db, settings, moment, seed, input, output, errors,
         ),
     }
 }

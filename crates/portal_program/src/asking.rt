@@ -31,8 +31,8 @@ pub enum Question<'a> {
 /// Asks the desk, prints what it tells, and gives the status with which the program ends, as `print_at`, `takings_at` and
 /// `check_at` say.
 pub fn ask_at<D: Desk, W: Write, E: Write>(
-    desk: &mut D,
     alloc: Global,
+    desk: &mut D,
     question: &Question<'_>,
     output: &mut W,
     errors: &mut E,
@@ -47,9 +47,9 @@ pub fn ask_at<D: Desk, W: Write, E: Write>(
         × (D.is_honest desk.new → IsRight question.entry.now (D.audits desk.old) told) }
 {
     match *question {
-        Question::Batch(batch) => print_at(desk, alloc, batch, output, errors),
-        Question::Takings(range) => takings_at(desk, alloc, range, output, errors),
-        Question::Counters => check_at(desk, alloc, output, errors),
+        Question::Batch(batch) => print_at(alloc, desk, batch, output, errors),
+        Question::Takings(range) => takings_at(alloc, desk, range, output, errors),
+        Question::Counters => check_at(alloc, desk, output, errors),
     }
 }
 
@@ -59,24 +59,24 @@ pub fn ask_at<D: Desk, W: Write, E: Write>(
 /// (`file`, `no_memory`, `not_ours`, `newer`), each status 3, and then those of `ask_at`. A database that is made, since none stood
 /// there, is told on `errors` in one line first, and a fault of closing last; the status stays.
 pub fn ask<P: Place, W: Write, E: Write>(
-    place: P,
     alloc: Global,
+    place: P,
     files: Files<'_>,
     question: &Question<'_>,
     output: &mut W,
     errors: &mut E,
 ) -> u8
-    ensures over { AsksOver (place_of P.Stored.is_honest P.Stored.stands P.Stored.audits (P.reads place) (P.shows place) (P.finds place) P.closes) files.entry
+    ensures over { AsksOver (place_of P.Stored.is_honest P.Stored.stands P.Stored.audits P.Stored.may_leave P.Stored.shows (P.reads place) (P.shows place) (P.finds place) (P.opens place) P.closes (P.fails_to_read place) (P.refuses place) P.fails_to_close P.fails_to_make) files.entry
         (TellsOf question.entry.now) (record { output = W.contents output.old; output_after = W.contents output.new; errors = E.contents errors.old; errors_after = E.contents errors.new }) result }
-    ensures exact { AsksRightly (place_of P.Stored.is_honest P.Stored.stands P.Stored.audits (P.reads place) (P.shows place) (P.finds place) P.closes) files.entry question.entry.now
+    ensures exact { AsksRightly (place_of P.Stored.is_honest P.Stored.stands P.Stored.audits P.Stored.may_leave P.Stored.shows (P.reads place) (P.shows place) (P.finds place) (P.opens place) P.closes (P.fails_to_read place) (P.refuses place) P.fails_to_close P.fails_to_make) files.entry question.entry.now
         (record { output = W.contents output.old; output_after = W.contents output.new; errors = E.contents errors.old; errors_after = E.contents errors.new }) result }
 {
-    match open_desk(place, alloc, files, false) {
+    match open_desk(alloc, place, files, false) {
         Err(trouble) => trouble.report(errors),
         Ok(opened) => {
             let Opened { mut desk, is_new } = opened;
             announce(alloc, files.db, is_new, errors);
-            let status = ask_at(&mut desk, alloc, question, output, errors);
+            let status = ask_at(alloc, &mut desk, question, output, errors);
             close_desk::<P, E>(alloc, files.db, desk, errors);
             status
         }

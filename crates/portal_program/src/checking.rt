@@ -16,7 +16,7 @@ use std::alloc::Global;
 use std::io::Write;
 
 /// What `check` tells.
-fn check_told<D: Desk>(desk: &mut D, alloc: Global) -> Result<Told, Fault>
+fn check_told<D: Desk>(alloc: Global, desk: &mut D) -> Result<Told, Fault>
     ensures desk { IsOfDesk result }
     ensures told { D.settings desk.new ≡ D.settings desk.old }
     ensures honest { D.is_honest desk.new → D.is_honest desk.old }
@@ -35,8 +35,8 @@ fn check_told<D: Desk>(desk: &mut D, alloc: Global) -> Result<Told, Fault>
 /// the program ends: 0 at `ok`, 1 at `differs` and where there is no memory, 3 where the desk has stopped or the word goes out
 /// in part alone. A fault's line is printed on `errors`.
 pub fn check_at<D: Desk, W: Write, E: Write>(
-    desk: &mut D,
     alloc: Global,
+    desk: &mut D,
     output: &mut W,
     errors: &mut E,
 ) -> u8
@@ -49,7 +49,7 @@ pub fn check_at<D: Desk, W: Write, E: Write>(
     ensures exact { (told : Result Answered Said) × EndsWith told (record { output = W.contents output.old; output_after = W.contents output.new; errors = E.contents errors.old; errors_after = E.contents errors.new }) result
         × (D.is_honest desk.new → TellsRightly (D.audits desk.old) told) }
 {
-    let told = check_told(desk, alloc);
+    let told = check_told(alloc, desk);
     end(&told, output, errors)
 }
 
@@ -58,16 +58,16 @@ pub fn check_at<D: Desk, W: Write, E: Write>(
 ///
 /// The faults are found in the order of `ask`.
 pub fn check<P: Place, W: Write, E: Write>(
-    place: P,
     alloc: Global,
+    place: P,
     files: Files<'_>,
     output: &mut W,
     errors: &mut E,
 ) -> u8
-    ensures over { AsksOver (place_of P.Stored.is_honest P.Stored.stands P.Stored.audits (P.reads place) (P.shows place) (P.finds place) P.closes) files.entry
+    ensures over { AsksOver (place_of P.Stored.is_honest P.Stored.stands P.Stored.audits P.Stored.may_leave P.Stored.shows (P.reads place) (P.shows place) (P.finds place) (P.opens place) P.closes (P.fails_to_read place) (P.refuses place) P.fails_to_close P.fails_to_make) files.entry
         (λ settings. ChecksCounters) (record { output = W.contents output.old; output_after = W.contents output.new; errors = E.contents errors.old; errors_after = E.contents errors.new }) result }
-    ensures exact { AsksRightly (place_of P.Stored.is_honest P.Stored.stands P.Stored.audits (P.reads place) (P.shows place) (P.finds place) P.closes) files.entry Counters
+    ensures exact { AsksRightly (place_of P.Stored.is_honest P.Stored.stands P.Stored.audits P.Stored.may_leave P.Stored.shows (P.reads place) (P.shows place) (P.finds place) (P.opens place) P.closes (P.fails_to_read place) (P.refuses place) P.fails_to_close P.fails_to_make) files.entry Counters
         (record { output = W.contents output.old; output_after = W.contents output.new; errors = E.contents errors.old; errors_after = E.contents errors.new }) result }
 {
-    ask(place, alloc, files, &Question::Counters, output, errors)
+    ask(alloc, place, files, &Question::Counters, output, errors)
 }

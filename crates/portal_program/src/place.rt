@@ -2,7 +2,9 @@
 ghost use Rattle.std.specs.Prelude.{◌≡◌, ℕ, List, [], Bool, IfOk, IfErr, OnOk};
 ghost use Rattle.portal_ledger.specs.Ledger.{Ledger};
 ghost use Rattle.portal_ledger.specs.States.{running};
-ghost use Rattle.portal_program.specs.Places.{IsOfFile, IsOfSettings, IsOfStore, AreRead, AreNone, Closes, KeepsOff, place_of};
+ghost use Rattle.portal_ends.specs.declared.fault.Fault.{Fault as Said};
+ghost use Rattle.portal_program.specs.declared.trouble.Trouble.{Trouble as Why};
+ghost use Rattle.portal_program.specs.Places.{IsOfFile, IsOfSettings, IsOfStore, AreRead, AreMissed, AreNone, Closes, KeepsOff};
 ghost use Rattle.portal_program.specs.Troubles.{IsAt};
 
 use crate::trouble::Trouble;
@@ -37,12 +39,28 @@ pub trait Place: Drop {
     /// Whether the file at a path is supposed to hold no database.
     ghost finds: { Self → List ℕ → Bool → Type 0 };
 
+    /// The file at a path was opened to a desk; where it is true, what its log held was copied into the file before.
+    ghost opens: { Self → List ℕ → Bool → Self.Stored → Type 0 };
+
     /// What is left of a desk over a file once it is closed.
     ghost closes: { Self.Stored → Type 0 };
+
+    /// What is answered where the file at a path is not read.
+    ghost fails_to_read: { Self → List ℕ → Why → Type 0 };
+
+    /// What is answered where the file at a path is not opened.
+    ghost refuses: { Self → List ℕ → Why → Type 0 };
+
+    /// What is answered where a desk over the file at a path is not closed.
+    ghost fails_to_close: { Self.Stored → List ℕ → Why → Type 0 };
+
+    /// What is answered where no store is made in memory.
+    ghost fails_to_make: { Said → Type 0 };
 
     /// The bytes of a file. Faults: `File`, and `NoMemory`.
     fn read(&self, alloc: Global, path: &str) -> Result<Vec<u8>, Trouble>
         ensures why { IfErr result (λ trouble. IsOfFile trouble.fault × IsAt path.now trouble) }
+        ensures refused { IfErr result (λ trouble. fails_to_read self.now path.now trouble) }
         ensures bytes { IfOk result (λ bytes. reads self.now path.now bytes.items) };
 
     /// The desk over the file at a path, which is made where it is missing. Where it `copies`, what its log holds stands in the
@@ -56,7 +74,9 @@ pub trait Place: Drop {
         copies: bool,
     ) -> Result<Opened<Self::Stored>, Trouble>
         ensures why { IfErr result (λ trouble. IsOfStore trouble.fault × IsAt path.now trouble) }
+        ensures refused { IfErr result (λ trouble. refuses self path.now trouble) }
         ensures told { IfOk result (λ opened. Self.Stored.settings opened.desk ≡ settings) }
+        ensures opened { IfOk result (λ opened. opens self path.now copies opened.desk) }
         ensures stands { (L : Ledger) → shows self path.now L
             → IfOk result (λ opened. Self.Stored.is_honest opened.desk → Self.Stored.stands opened.desk (running L)) }
         ensures found { IfOk result (λ opened. Self.Stored.is_honest opened.desk → finds self path.now opened.is_new) };
@@ -65,11 +85,13 @@ pub trait Place: Drop {
     /// `File`, and `NoMemory`; the file and its log together hold everything then.
     fn close(alloc: Global, path: &str, desk: Self::Stored) -> Result<(), Trouble>
         ensures why { IfErr result (λ trouble. IsOfFile trouble.fault × IsAt path.now trouble) }
+        ensures refused { IfErr result (λ trouble. fails_to_close desk path.now trouble) }
         ensures closed { OnOk result (closes desk) };
 
     /// A desk over an empty store in memory. Faults: `NoMemory`, and `File` where the store failed.
     fn open_fresh(alloc: Global, settings: Settings) -> Result<Self::Fresh, Fault>
         ensures why { IfErr result IsOfFile }
+        ensures refused { IfErr result (λ fault. fails_to_make fault) }
         ensures told { IfOk result (λ desk. Self.Fresh.settings desk ≡ settings) }
         ensures fresh { IfOk result (λ desk. Self.Fresh.stands desk (running [])) };
 
@@ -89,10 +111,11 @@ pub struct Files<'a> {
 }
 
 /// The settings in a file. Faults: `File`, `NoMemory`, and `Settings` where it is no settings file.
-pub fn settings_at<P: Place>(place: &P, alloc: Global, path: &str) -> Result<Settings, Trouble>
+pub fn settings_at<P: Place>(alloc: Global, place: &P, path: &str) -> Result<Settings, Trouble>
     ensures why { IfErr result (λ trouble. IsOfSettings trouble.fault × IsAt path.now trouble) }
     ensures read { IfOk result (AreRead (P.reads place.now path.now)) }
     ensures none { IfErr result (λ trouble. trouble.fault ≡ Fault.Settings → AreNone (P.reads place.now path.now)) }
+    ensures missed { IfErr result (AreMissed (P.reads place.now path.now) (P.fails_to_read place.now path.now)) }
 {
     match place.read(alloc, path) {
         Err(trouble) => Err(trouble),
@@ -106,18 +129,19 @@ pub fn settings_at<P: Place>(place: &P, alloc: Global, path: &str) -> Result<Set
 
 /// The desk over the files that a command names. Faults: those of `settings_at`, and then those of `Place::open`.
 pub fn open_desk<P: Place>(
-    place: P,
     alloc: Global,
+    place: P,
     files: Files<'_>,
     copies: bool,
 ) -> Result<Opened<P::Stored>, Trouble>
-    ensures why { IfErr result (KeepsOff (P.reads place) files.entry) }
+    ensures why { IfErr result (KeepsOff (P.reads place) (P.fails_to_read place) (P.refuses place) files.entry) }
     ensures told { IfOk result (λ opened. AreRead (P.reads place files.entry.settings.now) (P.Stored.settings opened.desk)) }
+    ensures opened { IfOk result (λ opened. P.opens place files.entry.db.now copies opened.desk) }
     ensures stands { (L : Ledger) → P.shows place files.entry.db.now L
         → IfOk result (λ opened. P.Stored.is_honest opened.desk → P.Stored.stands opened.desk (running L)) }
     ensures found { IfOk result (λ opened. P.Stored.is_honest opened.desk → P.finds place files.entry.db.now opened.is_new) }
 {
-    match settings_at(&place, alloc, files.settings) {
+    match settings_at(alloc, &place, files.settings) {
         Err(trouble) => Err(trouble),
         Ok(settings) => match place.open(alloc, files.db, settings, copies) {
             Ok(opened) => Ok(opened),
@@ -128,7 +152,7 @@ pub fn open_desk<P: Place>(
 
 /// Closes a desk over the file at a path. Where that fails, its fault is told on `errors`.
 pub fn close_desk<P: Place, E: Write>(alloc: Global, path: &str, desk: P::Stored, errors: &mut E)
-    ensures { Closes P.closes desk path.now (E.contents errors.old) (E.contents errors.new) }
+    ensures { Closes P.closes P.fails_to_close desk path.now (E.contents errors.old) (E.contents errors.new) }
 {
     match P::close(alloc, path, desk) {
         Ok(()) => {}

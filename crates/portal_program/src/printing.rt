@@ -21,7 +21,7 @@ use std::alloc::Global;
 use std::io::Write;
 
 /// The print file of a batch. Refusals: `UnknownBatch`, `NoMemory`, `Stopped`.
-fn batch_file<D: Desk>(desk: &mut D, alloc: Global, id: &Id) -> Result<Vec<u8>, Refusal>
+fn batch_file<D: Desk>(alloc: Global, desk: &mut D, id: &Id) -> Result<Vec<u8>, Refusal>
     ensures told { D.settings desk.new ≡ D.settings desk.old }
     ensures honest { D.is_honest desk.new → D.is_honest desk.old }
     ensures file { D.is_honest desk.new → (old : State) → D.stands desk.old old → (new : State) × D.stands desk.new new
@@ -39,7 +39,7 @@ fn batch_file<D: Desk>(desk: &mut D, alloc: Global, id: &Id) -> Result<Vec<u8>, 
 }
 
 /// What `print` tells.
-fn print_told<D: Desk>(desk: &mut D, alloc: Global, batch: &str) -> Result<Told, Fault>
+fn print_told<D: Desk>(alloc: Global, desk: &mut D, batch: &str) -> Result<Told, Fault>
     ensures desk { IsOfDesk result }
     ensures told { D.settings desk.new ≡ D.settings desk.old }
     ensures honest { D.is_honest desk.new → D.is_honest desk.old }
@@ -49,7 +49,7 @@ fn print_told<D: Desk>(desk: &mut D, alloc: Global, batch: &str) -> Result<Told,
     let Some(id) = Id::read(batch) else {
         return Err(Fault::Refused(Refusal::UnknownBatch));
     };
-    match batch_file(desk, alloc, &id) {
+    match batch_file(alloc, desk, &id) {
         Ok(text) => Ok(Told::Text(text)),
         Err(r) => Err(Fault::Refused(r)),
     }
@@ -59,8 +59,8 @@ fn print_told<D: Desk>(desk: &mut D, alloc: Global, batch: &str) -> Result<Told,
 /// such batch, as where `batch` is no id, and where there is no memory; or 3 where the desk has stopped or the file goes out
 /// in part alone. A fault's line is printed on `errors`.
 pub fn print_at<D: Desk, W: Write, E: Write>(
-    desk: &mut D,
     alloc: Global,
+    desk: &mut D,
     batch: &str,
     output: &mut W,
     errors: &mut E,
@@ -72,7 +72,7 @@ pub fn print_at<D: Desk, W: Write, E: Write>(
         × ((told : Result Answered Said) × PrintsBatch (D.settings desk.old).zone batch.now old told new
         × EndsWith told (record { output = W.contents output.old; output_after = W.contents output.new; errors = E.contents errors.old; errors_after = E.contents errors.new }) result) }
 {
-    let told = print_told(desk, alloc, batch);
+    let told = print_told(alloc, desk, batch);
     end(&told, output, errors)
 }
 
@@ -81,15 +81,15 @@ pub fn print_at<D: Desk, W: Write, E: Write>(
 ///
 /// The faults are found in the order of `ask`.
 pub fn print<P: Place, W: Write, E: Write>(
-    place: P,
     alloc: Global,
+    place: P,
     files: Files<'_>,
     batch: &str,
     output: &mut W,
     errors: &mut E,
 ) -> u8
-    ensures { AsksOver (place_of P.Stored.is_honest P.Stored.stands P.Stored.audits (P.reads place) (P.shows place) (P.finds place) P.closes) files.entry
+    ensures { AsksOver (place_of P.Stored.is_honest P.Stored.stands P.Stored.audits P.Stored.may_leave P.Stored.shows (P.reads place) (P.shows place) (P.finds place) (P.opens place) P.closes (P.fails_to_read place) (P.refuses place) P.fails_to_close P.fails_to_make) files.entry
         (λ settings. PrintsBatch settings.zone batch.now) (record { output = W.contents output.old; output_after = W.contents output.new; errors = E.contents errors.old; errors_after = E.contents errors.new }) result }
 {
-    ask(place, alloc, files, &Question::Batch(batch), output, errors)
+    ask(alloc, place, files, &Question::Batch(batch), output, errors)
 }

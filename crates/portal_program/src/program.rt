@@ -47,16 +47,16 @@ fn tell_fault<E: Write>(text: &[u8], errors: &mut E) -> u8
 
 /// Serves at a port, and gives the status with which the program ends. Fault: `usage`, where the port is past 65,535.
 fn serve_order<P: Place, N: Network, W: Write, E: Write>(
+    alloc: Global,
     place: P,
     network: &N,
-    alloc: Global,
     files: Files<'_>,
     port: u64,
     count: u64,
     output: &mut W,
     errors: &mut E,
 ) -> u8
-    ensures { EndsServing (place_of P.Stored.is_honest P.Stored.stands P.Stored.audits (P.reads place) (P.shows place) (P.finds place) P.closes) files.entry
+    ensures { EndsServing (place_of P.Stored.is_honest P.Stored.stands P.Stored.audits P.Stored.may_leave P.Stored.shows (P.reads place) (P.shows place) (P.finds place) (P.opens place) P.closes (P.fails_to_read place) (P.refuses place) P.fails_to_close P.fails_to_make) files.entry
         (network_of (host_of N.Bound.accepts N.Bound.stamps N.Bound.closes N.Bound.pauses N.Bound.Reader.remaining N.Bound.Writer.contents) (N.listens network.now)) port count (record { output = W.contents output.old; output_after = W.contents output.new; errors = E.contents errors.old; errors_after = E.contents errors.new }) result }
 {
     if port > 65_535 {
@@ -66,20 +66,20 @@ fn serve_order<P: Place, N: Network, W: Write, E: Write>(
         port: port as u16,
         count,
     };
-    serve(place, network, alloc, files, at, output, errors)
+    serve(alloc, place, network, files, at, output, errors)
 }
 
 /// Carries out an order, and gives the status with which the program ends.
 fn run_order<P: Place, N: Network, R: Read, W: Write, E: Write>(
+    alloc: Global,
     place: P,
     network: &N,
-    alloc: Global,
     order: Order<'_>,
     input: &mut R,
     output: &mut W,
     errors: &mut E,
 ) -> u8
-    ensures { EndsOrder (place_of P.Stored.is_honest P.Stored.stands P.Stored.audits (P.reads place) (P.shows place) (P.finds place) P.closes)
+    ensures { EndsOrder (place_of P.Stored.is_honest P.Stored.stands P.Stored.audits P.Stored.may_leave P.Stored.shows (P.reads place) (P.shows place) (P.finds place) (P.opens place) P.closes (P.fails_to_read place) (P.refuses place) P.fails_to_close P.fails_to_make)
         (network_of (host_of N.Bound.accepts N.Bound.stamps N.Bound.closes N.Bound.pauses N.Bound.Reader.remaining N.Bound.Writer.contents) (N.listens network.now))
         (between (R.remaining input.old) (R.remaining input.new) (W.contents output.old) (W.contents output.new)) (E.contents errors.old) (E.contents errors.new) order.entry result }
 {
@@ -90,9 +90,9 @@ fn run_order<P: Place, N: Network, R: Read, W: Write, E: Write>(
             port,
             count,
         } => serve_order(
+            alloc,
             place,
             network,
-            alloc,
             Files { db, settings },
             port,
             count,
@@ -105,8 +105,8 @@ fn run_order<P: Place, N: Network, R: Read, W: Write, E: Write>(
             now,
             seed,
         } => answer(
-            place,
             alloc,
+            place,
             &Request {
                 db,
                 settings,
@@ -121,15 +121,15 @@ fn run_order<P: Place, N: Network, R: Read, W: Write, E: Write>(
             db,
             settings,
             batch,
-        } => print(place, alloc, Files { db, settings }, batch, output, errors),
+        } => print(alloc, place, Files { db, settings }, batch, output, errors),
         Order::Takings {
             db,
             settings,
             from,
             to,
         } => takings(
-            place,
             alloc,
+            place,
             Files { db, settings },
             from,
             to,
@@ -137,8 +137,8 @@ fn run_order<P: Place, N: Network, R: Read, W: Write, E: Write>(
             errors,
         ),
         Order::Check { db, settings } => check(
-            place,
             alloc,
+            place,
             Files { db, settings },
             output,
             errors,
@@ -149,20 +149,20 @@ fn run_order<P: Place, N: Network, R: Read, W: Write, E: Write>(
 /// Does what the words of the command line ask for, of which the first is the program's own name, and
 /// gives the status with which the program ends.
 pub fn run_program<P: Place, N: Network, S: AsStr, R: Read, W: Write, E: Write>(
+    alloc: Global,
     place: P,
     network: &N,
-    alloc: Global,
     words: &[S],
     input: &mut R,
     output: &mut W,
     errors: &mut E,
 ) -> u8
-    ensures { EndsProgram (place_of P.Stored.is_honest P.Stored.stands P.Stored.audits (P.reads place) (P.shows place) (P.finds place) P.closes)
+    ensures { EndsProgram (place_of P.Stored.is_honest P.Stored.stands P.Stored.audits P.Stored.may_leave P.Stored.shows (P.reads place) (P.shows place) (P.finds place) (P.opens place) P.closes (P.fails_to_read place) (P.refuses place) P.fails_to_close P.fails_to_make)
         (network_of (host_of N.Bound.accepts N.Bound.stamps N.Bound.closes N.Bound.pauses N.Bound.Reader.remaining N.Bound.Writer.contents) (N.listens network.now))
         (between (R.remaining input.old) (R.remaining input.new) (W.contents output.old) (W.contents output.new)) (E.contents errors.old) (E.contents errors.new) (map S.text words.now) result }
 {
     match read_words(alloc, words) {
-        Ok(order) => run_order(place, network, alloc, order, input, output, errors),
+        Ok(order) => run_order(alloc, place, network, order, input, output, errors),
         Err(told) => tell(&told, output, errors),
     }
 }

@@ -44,9 +44,9 @@ pub struct Listening {
 ///
 /// A fault before anything is served is printed on `errors`, status 3: `no_memory`, and `network` where the port cannot be had.
 pub fn serve_at<D: Desk, N: Network, W: Write, E: Write>(
+    alloc: Global,
     desk: &mut D,
     network: &N,
-    alloc: Global,
     at: Listening,
     output: &mut W,
     errors: &mut E,
@@ -66,7 +66,7 @@ pub fn serve_at<D: Desk, N: Network, W: Write, E: Write>(
     match network.listen(at.port) {
         Err(fault) => fault.report(errors),
         Ok(mut host) => serve_bound(
-            desk, alloc, &routes, &mut host, at.port, at.count, output, errors,
+            alloc, desk, &routes, &mut host, at.port, at.count, output, errors,
         ),
     }
 }
@@ -77,26 +77,26 @@ pub fn serve_at<D: Desk, N: Network, W: Write, E: Write>(
 /// The faults are found in this order: those of the settings file (`file`, `no_memory`, `settings`), those of the database file
 /// (`file`, `no_memory`, `not_ours`, `newer`), each status 3, and then those of `serve_at`.
 pub fn serve<P: Place, N: Network, W: Write, E: Write>(
+    alloc: Global,
     place: P,
     network: &N,
-    alloc: Global,
     files: Files<'_>,
     at: Listening,
     output: &mut W,
     errors: &mut E,
 ) -> u8
-    ensures { ServesOver (place_of P.Stored.is_honest P.Stored.stands P.Stored.audits (P.reads place) (P.shows place) (P.finds place) P.closes) files.entry
+    ensures { ServesOver (place_of P.Stored.is_honest P.Stored.stands P.Stored.audits P.Stored.may_leave P.Stored.shows (P.reads place) (P.shows place) (P.finds place) (P.opens place) P.closes (P.fails_to_read place) (P.refuses place) P.fails_to_close P.fails_to_make) files.entry
         (network_of (host_of N.Bound.accepts N.Bound.stamps N.Bound.closes N.Bound.pauses N.Bound.Reader.remaining N.Bound.Writer.contents) (N.listens network.now)) at
         (record { output = W.contents output.old; output_after = W.contents output.new; errors = E.contents errors.old; errors_after = E.contents errors.new }) result }
 {
-    match open_desk(place, alloc, files, true) {
+    match open_desk(alloc, place, files, true) {
         Err(trouble) => trouble.report(errors),
         Ok(opened) => {
             let Opened {
                 mut desk,
                 is_new: _,
             } = opened;
-            let status = serve_at(&mut desk, network, alloc, at, output, errors);
+            let status = serve_at(alloc, &mut desk, network, at, output, errors);
             close_desk::<P, E>(alloc, files.db, desk, errors);
             status
         }

@@ -40,7 +40,7 @@ pub fn read_range(from: &str, to: &str) -> Option<DayRange>
 }
 
 /// The takings report over the days. Refusals: `NoMemory`, `Stopped`.
-fn report_over<D: Desk>(desk: &mut D, alloc: Global, range: DayRange) -> Result<Vec<u8>, Refusal>
+fn report_over<D: Desk>(alloc: Global, desk: &mut D, range: DayRange) -> Result<Vec<u8>, Refusal>
     ensures told { D.settings desk.new ≡ D.settings desk.old }
     ensures honest { D.is_honest desk.new → D.is_honest desk.old }
     ensures report { D.is_honest desk.new → (old : State) → D.stands desk.old old → (new : State) × D.stands desk.new new
@@ -58,14 +58,14 @@ fn report_over<D: Desk>(desk: &mut D, alloc: Global, range: DayRange) -> Result<
 }
 
 /// What `takings` tells.
-fn takings_told<D: Desk>(desk: &mut D, alloc: Global, range: DayRange) -> Result<Told, Fault>
+fn takings_told<D: Desk>(alloc: Global, desk: &mut D, range: DayRange) -> Result<Told, Fault>
     ensures desk { IsOfDesk result }
     ensures told { D.settings desk.new ≡ D.settings desk.old }
     ensures honest { D.is_honest desk.new → D.is_honest desk.old }
     ensures takings { D.is_honest desk.new → (old : State) → D.stands desk.old old → (new : State) × D.stands desk.new new
         × TakesOver (D.settings desk.old).zone range old result new }
 {
-    match report_over(desk, alloc, range) {
+    match report_over(alloc, desk, range) {
         Ok(text) => Ok(Told::Text(text)),
         Err(r) => Err(Fault::Refused(r)),
     }
@@ -74,8 +74,8 @@ fn takings_told<D: Desk>(desk: &mut D, alloc: Global, range: DayRange) -> Result
 /// Prints the takings report over the days on `output`, and gives the status with which the program ends: 0; or 1 where there
 /// is no memory; or 3 where the desk has stopped or the report goes out in part alone. A fault's line is printed on `errors`.
 pub fn takings_at<D: Desk, W: Write, E: Write>(
-    desk: &mut D,
     alloc: Global,
+    desk: &mut D,
     range: DayRange,
     output: &mut W,
     errors: &mut E,
@@ -87,7 +87,7 @@ pub fn takings_at<D: Desk, W: Write, E: Write>(
         × ((told : Result Answered Said) × TakesOver (D.settings desk.old).zone range old told new
         × EndsWith told (record { output = W.contents output.old; output_after = W.contents output.new; errors = E.contents errors.old; errors_after = E.contents errors.new }) result) }
 {
-    let told = takings_told(desk, alloc, range);
+    let told = takings_told(alloc, desk, range);
     end(&told, output, errors)
 }
 
@@ -96,22 +96,22 @@ pub fn takings_at<D: Desk, W: Write, E: Write>(
 ///
 /// The faults are found in this order: `usage`, status 2, where `read_range` gives None; and then in that of `ask`.
 pub fn takings<P: Place, W: Write, E: Write>(
-    place: P,
     alloc: Global,
+    place: P,
     files: Files<'_>,
     from: &str,
     to: &str,
     output: &mut W,
     errors: &mut E,
 ) -> u8
-    ensures { TakesFrom (place_of P.Stored.is_honest P.Stored.stands P.Stored.audits (P.reads place) (P.shows place) (P.finds place) P.closes) files.entry
+    ensures { TakesFrom (place_of P.Stored.is_honest P.Stored.stands P.Stored.audits P.Stored.may_leave P.Stored.shows (P.reads place) (P.shows place) (P.finds place) (P.opens place) P.closes (P.fails_to_read place) (P.refuses place) P.fails_to_close P.fails_to_make) files.entry
         from.now to.now (record { output = W.contents output.old; output_after = W.contents output.new; errors = E.contents errors.old; errors_after = E.contents errors.new }) result }
 {
     match read_range(from, to) {
         None => Fault::Usage.report(errors),
         Some(range) => ask(
-            place,
             alloc,
+            place,
             files,
             &Question::Takings(range),
             output,

@@ -1,15 +1,20 @@
 -- What a round leaves of two files.
-use Rattle.std.specs.Prelude.{◌≡◌, ◌<◌, ℕ, List, [], length, Result, Ok, Err, MatchResult}
+use Rattle.std.specs.Prelude.{◌≡◌, ◌<◌, ℕ, List, [], length, Result, Ok, Err, MatchResult, ⊤}
 use Rattle.sqlite_disk.specs.declared.Disk.{Ghosts}
 use Rattle.sqlite_disk.specs.declared.Files.{Files}
 use Rattle.sqlite_wal.specs.Recovery.{Image}
 use Rattle.sqlite_wal.specs.Files.{outcomes}
 use Rattle.sqlite_wal.specs.Reads.{AreClean}
-use Rattle.sqlite.specs.Files.{IsCleanLeft, image_of}
+use Rattle.sqlite_store.specs.declared.store.FileStore.{FileStore}
+use Rattle.sqlite.specs.Files.{Finds, IsCleanLeft, image_of, over_files}
+use Rattle.sqlite.specs.Held.{Held}
 use Rattle.portal_model.specs.declared.refusal.Refusal.{Refusal}
 use Rattle.portal_ledger.specs.Ledger.{Ledger}
 use Rattle.portal_files.specs.SettingsFile.{SettingsValue}
-use Rattle.portal_tables.specs.Images.{AreAt, ImageShows, LeftoverShows}
+use Rattle.portal_tables.specs.Adopting.{OthersTaken}
+use Rattle.portal_tables.specs.Images.{AreAt, ImageHolds, ImageShows, LeftoverShows}
+use Rattle.portal_tables.specs.TablesAt.{ConnAt, ConnMayLeave, Files as Tables, OthersLeft}
+use Rattle.portal_store.specs.declared.desks.StoreDesk.{StoreDesk}
 use Rattle.portal_http.specs.Arrived.{Arrived}
 use Rattle.portal_http.specs.Lives.{ran}
 use Rattle.portal_rounds.specs.Life.{Allows}
@@ -32,6 +37,21 @@ module _ {D : Type 0} {g : Ghosts D} where
   StillShows before (Unopened error left) = (L : Ledger) → AreAt g before L → LeftoverShows (image_of g before) left L
   StillShows before (Refused fault files) =
       (image : Image) → outcomes g files.log files.db image → (L : Ledger) → ImageShows (image_of g before) L → ∥ ImageShows image L ∥₁
+
+  -- A desk that came up over two files keeps the tables of others: it took over a connection that found all tables that the files held.
+  abbrev pub KeepsOthersOf : Files D → StoreDesk (FileStore D g) → Type 0
+  KeepsOthersOf before desk =
+      (conn : Held (FileStore D g)) × Finds before conn
+      × ((L : Ledger) → ImageShows (image_of g before) L → ConnAt over_files conn L × OthersTaken over_files conn desk.tables)
+
+  -- So do files that were opened, and whose store was not taken over: what a stop leaves of them it might leave of the connection that was
+  -- refused, which keeps them.
+  abbrev pub LeavesOthersOf : Files D → Missed D g → Type 0
+  LeavesOthersOf before (Unopened error left) = ⊤
+  LeavesOthersOf before (Refused fault files) =
+      (conn refused : Held (FileStore D g)) × Finds before conn
+      × ((L : Ledger) → ImageShows (image_of g before) L → ConnAt over_files conn L × OthersLeft over_files conn refused)
+      × ((image : Image) → outcomes g files.log files.db image → ∥ ((tables : Tables) × ConnMayLeave over_files refused tables × ImageHolds image tables) ∥₁)
 
   -- the same of a round, however it ended
   abbrev pub IsHonest : {R : Type 0} → Result (R × Files D) (Missed D g) → Type 0

@@ -48,15 +48,15 @@ pub fn round<D: Disk + Drop>(
         × Ends settings files arrivals.now (bytes_of responses) result }
 {
     match open_desk(alloc, files, options, settings) {
-        Ok(desk) => Ok(serve_round(desk, alloc, routes, arrivals, out)),
+        Ok(desk) => Ok(serve_round(alloc, desk, routes, arrivals, out)),
         Err(missed) => Err(missed),
     }
 }
 
 /// Serves the requests and lets the desk go.
 fn serve_round<D: Disk + Drop>(
-    desk: StoreDesk<FileStore<D>>,
     alloc: Global,
+    desk: StoreDesk<FileStore<D>>,
     routes: &Routes,
     arrivals: &[Arrival],
     out: &mut Vec<Vec<u8>>,
@@ -71,6 +71,6 @@ fn serve_round<D: Disk + Drop>(
         → ∥ ((found : Ledger) × MayStand new found × ImageShows image found) ∥₁) }
 {
     let mut desk = desk;
-    let served = run(&mut desk, alloc, routes, arrivals, out);
+    let served = run(alloc, &mut desk, routes, arrivals, out);
     (served, let_go(desk))
 }

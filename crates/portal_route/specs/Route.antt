@@ -2,8 +2,8 @@
 use Rattle.std.specs.Prelude.{ℕ, List, codes}
 use Rattle.portal_route.specs.declared.Route.{Route}
 use Rattle.portal_route.specs.declared.Route.TheVariants.{Captive, Redeem, Plans, Batches, Print, Sales, Refunds, Closes, Voucher, Takings, Reports, Sessions}
-use Rattle.portal_route.specs.declared.Caller.{Caller}
-use Rattle.portal_route.specs.declared.Caller.TheVariants.{Guest, Desk, Gateway}
+use Rattle.portal_route.specs.declared.Role.{Role}
+use Rattle.portal_route.specs.declared.Role.TheVariants.{Guest, Desk, Gateway}
 
 -- the one method of a route: GET where it only reads
 abbrev pub method_of : Route → List ℕ
@@ -20,17 +20,17 @@ method_of Takings = codes "GET"
 method_of Reports = codes "POST"
 method_of Sessions = codes "GET"
 
--- who may ask
-abbrev pub caller_of : Route → Caller
-caller_of Captive = Guest
-caller_of Redeem = Guest
-caller_of Plans = Desk
-caller_of Batches = Desk
-caller_of Print = Desk
-caller_of Sales = Desk
-caller_of Refunds = Desk
-caller_of Closes = Desk
-caller_of Voucher = Desk
-caller_of Takings = Desk
-caller_of Reports = Gateway
-caller_of Sessions = Gateway
+-- the role of those who may ask
+abbrev pub role_of : Route → Role
+role_of Captive = Guest
+role_of Redeem = Guest
+role_of Plans = Desk
+role_of Batches = Desk
+role_of Print = Desk
+role_of Sales = Desk
+role_of Refunds = Desk
+role_of Closes = Desk
+role_of Voucher = Desk
+role_of Takings = Desk
+role_of Reports = Gateway
+role_of Sessions = Gateway

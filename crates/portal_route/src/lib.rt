@@ -3,7 +3,7 @@
 #![tactic(auto)]
 
 ghost use Rattle.std.specs.Prelude.{◌≡◌};
-ghost use Rattle.portal_route.specs.Route.{method_of, caller_of};
+ghost use Rattle.portal_route.specs.Route.{method_of, role_of};
 
 use http::Method;
 
@@ -45,9 +45,9 @@ pub enum Route {
     Sessions,
 }
 
-/// Who may ask.
+/// The role of a caller.
 #[derive(Clone, Copy, Debug, PartialEq, Eq)]
-pub enum Caller {
+pub enum Role {
     /// A guest, known by the device that the front end names.
     Guest,
     /// The desk, known by its token.
@@ -94,12 +94,12 @@ impl Route {
         }
     }
 
-    /// Who may ask for it.
-    pub fn caller(self) -> Caller
-        ensures { result ≡ caller_of self }
+    /// The role of those who may ask for it.
+    pub fn role(self) -> Role
+        ensures { result ≡ role_of self }
     {
         match self {
-            Route::Captive | Route::Redeem => Caller::Guest,
+            Route::Captive | Route::Redeem => Role::Guest,
             Route::Plans
             | Route::Batches
             | Route::Print
@@ -107,8 +107,8 @@ impl Route {
             | Route::Refunds
             | Route::Closes
             | Route::Voucher
-            | Route::Takings => Caller::Desk,
-            Route::Reports | Route::Sessions => Caller::Gateway,
+            | Route::Takings => Role::Desk,
+            Route::Reports | Route::Sessions => Role::Gateway,
         }
     }
 }

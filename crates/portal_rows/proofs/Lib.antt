@@ -16,3 +16,4 @@ pub mod SamePlan
 pub mod SelectTexts
 pub mod UpdateSteps
 pub mod UpdateTexts
+pub mod WritesLemmas

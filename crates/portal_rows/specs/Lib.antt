@@ -8,5 +8,6 @@ pub mod Layout
 pub mod Others
 pub mod Read
 pub mod Requests
+pub mod Selects
 pub mod Steps
 pub mod Words

@@ -1,7 +1,11 @@
 -- What each statement makes of the rows.
-use Rattle.std.specs.Prelude.{◌≡◌, ℕ, cond, nat_eq, true, false, IsTrue, List, [], ◌∷◌, ◌++◌, map, None}
+use Rattle.std.specs.Prelude.{◌≡◌, ℕ, cond, nat_eq, true, false, IsTrue, List, [], ◌∷◌, ◌++◌, map, None, Result}
+use Rattle.sqlite.specs.Store.{Ghosts}
 use Rattle.sqlite.specs.Tree.{Trees}
 use Rattle.sqlite.specs.State.{State}
+use Rattle.sqlite.specs.declared.error.Error.{Error}
+use Rattle.sqlite.specs.declared.transaction.Transaction.{Transaction}
+use Rattle.portal_sql.specs.Inside.{Inside}
 use Rattle.portal_sql.specs.Stored.{put_by}
 use Rattle.portal_model.specs.declared.plan.Plan.{Plan}
 use Rattle.portal_model.specs.declared.record.Batch.{Batch}
@@ -135,6 +139,10 @@ pub record Steps (f : Contents → Contents) (old new : State) : Type 0 where
   pub others : (t : Contents) → Holds old.now t → KeepsOthers old.now new.now
   pub committed : new.committed ≡ old.committed
   pub mode : new.in_transaction ≡ true
+
+-- a call on a transaction that leads to the rows that f gives
+abbrev pub Writes : {S : Type 0} → Ghosts S → (Contents → Contents) → Transaction S → Transaction S → Result (Unit {0}) Error → Type 0
+Writes g f = Inside g (Steps f)
 
 -- outside a transaction, a command led to the rows that f gives, with the tables of others as they were, and they are committed
 pub record Leads (f : Contents → Contents) (old new : State) : Type 0 where

@@ -1,11 +1,15 @@
-ghost use Rattle.std.specs.Prelude.{◌≡◌, ◌<◌, ◌^◌, OnOk, OnErr, IsTrue, length, map, false};
+ghost use Rattle.std.specs.Prelude.{◌≡◌, ◌<◌, ◌^◌, OnOk, OnErr, length, map, false};
 ghost use Rattle.sqlite.specs.Held.{state};
-ghost use Rattle.sqlite.specs.State.{HasCleanDisk, KeepsCommit, Survives};
+ghost use Rattle.sqlite.specs.State.{HasCleanDisk, Survives};
 ghost use Rattle.portal_codes.specs.Code.{text_of};
 ghost use Rattle.portal_model.specs.Rows.{new_vouchers, new_counts, total_row};
 ghost use Rattle.portal_sql.specs.States.{IsUndone};
-ghost use Rattle.portal_rows.specs.Steps.{Steps, Leads, MayLead, with_plans, with_vouchers, with_counts, ends_row};
-ghost use Rattle.portal_rows.specs.Commands.{loaded, issued, sold, placed_in, granted, redeemed, left_of, used, repaid, closed, kept, FitsSession, FitsIssuance, FitsRedemption, FitsUsage, Fits, FitsMark, FitsMarked, with_mark, kept_marked};
+ghost use Rattle.portal_rows.specs.Steps.{Writes, Leads, MayLead, with_plans, with_vouchers, with_counts};
+ghost use Rattle.portal_rows.specs.Steps.{ends_row};
+ghost use Rattle.portal_rows.specs.Commands.{loaded, issued, sold, placed_in, granted, redeemed, left_of};
+ghost use Rattle.portal_rows.specs.Commands.{used, repaid, closed, kept, FitsSession, FitsIssuance};
+ghost use Rattle.portal_rows.specs.Commands.{FitsRedemption, FitsUsage, Fits, FitsMark, FitsMarked};
+ghost use Rattle.portal_rows.specs.Commands.{with_mark, kept_marked};
 
 use crate::inserts::{
     insert_batch, insert_count, insert_grant, insert_plan, insert_session, insert_total,
@@ -44,10 +48,7 @@ fn total_of(session: &Session) -> Total
 
 /// Adds the plans, in order.
 fn insert_plans<S: Alter>(tx: &mut Transaction<'_, S>, plans: &[Plan]) -> Result<(), Error>
-    ensures same_reference { tx.new.conn.ghost_name ≡ tx.old.conn.ghost_name }
-    ensures steps { HasCleanDisk (state S.Store tx.new.conn.now) → IsTrue (state S.Store tx.old.conn.now).in_transaction → OnOk result (Steps (with_plans plans.now) (state S.Store tx.old.conn.now) (state S.Store tx.new.conn.now)) }
-    ensures kept { HasCleanDisk (state S.Store tx.new.conn.now) → KeepsCommit (state S.Store tx.old.conn.now) (state S.Store tx.new.conn.now) }
-    ensures survives { Survives (state S.Store tx.old.conn.now) (state S.Store tx.new.conn.now) (λ _. ⊥) }
+    ensures { Writes S.Store (with_plans plans.now) tx.old tx.new result }
 {
     for plan in plans {
         insert_plan(tx, plan)?;
@@ -62,10 +63,8 @@ fn insert_vouchers<S: Alter>(
     codes: &[Code],
 ) -> Result<(), Error>
     requires { length codes.now < 2 ^ 63 }
-    ensures same_reference { tx.new.conn.ghost_name ≡ tx.old.conn.ghost_name }
-    ensures steps { HasCleanDisk (state S.Store tx.new.conn.now) → IsTrue (state S.Store tx.old.conn.now).in_transaction → OnOk result (Steps (with_vouchers (new_vouchers batch.now 0 (map text_of codes.now))) (state S.Store tx.old.conn.now) (state S.Store tx.new.conn.now)) }
-    ensures kept { HasCleanDisk (state S.Store tx.new.conn.now) → KeepsCommit (state S.Store tx.old.conn.now) (state S.Store tx.new.conn.now) }
-    ensures survives { Survives (state S.Store tx.old.conn.now) (state S.Store tx.new.conn.now) (λ _. ⊥) }
+    ensures { Writes S.Store (with_vouchers (new_vouchers batch.now 0 (map text_of codes.now)))
+        tx.old tx.new result }
 {
     for (place, code) in codes.iter().enumerate() {
         insert_voucher(tx, code, batch, place)?;
@@ -75,10 +74,7 @@ fn insert_vouchers<S: Alter>(
 
 /// Adds a count of 0 for each code.
 fn insert_counts<S: Alter>(tx: &mut Transaction<'_, S>, codes: &[Code]) -> Result<(), Error>
-    ensures same_reference { tx.new.conn.ghost_name ≡ tx.old.conn.ghost_name }
-    ensures steps { HasCleanDisk (state S.Store tx.new.conn.now) → IsTrue (state S.Store tx.old.conn.now).in_transaction → OnOk result (Steps (with_counts (new_counts (map text_of codes.now))) (state S.Store tx.old.conn.now) (state S.Store tx.new.conn.now)) }
-    ensures kept { HasCleanDisk (state S.Store tx.new.conn.now) → KeepsCommit (state S.Store tx.old.conn.now) (state S.Store tx.new.conn.now) }
-    ensures survives { Survives (state S.Store tx.old.conn.now) (state S.Store tx.new.conn.now) (λ _. ⊥) }
+    ensures { Writes S.Store (with_counts (new_counts (map text_of codes.now))) tx.old tx.new result }
 {
     for code in codes {
         insert_count(tx, code, 0)?;
@@ -88,61 +84,42 @@ fn insert_counts<S: Alter>(tx: &mut Transaction<'_, S>, codes: &[Code]) -> Resul
 
 /// Keeps new plans.
 fn load<S: Alter>(tx: &mut Transaction<'_, S>, c: &Loading) -> Result<(), Error>
-    ensures same_reference { tx.new.conn.ghost_name ≡ tx.old.conn.ghost_name }
-    ensures steps { HasCleanDisk (state S.Store tx.new.conn.now) → IsTrue (state S.Store tx.old.conn.now).in_transaction → OnOk result (Steps (loaded c.now) (state S.Store tx.old.conn.now) (state S.Store tx.new.conn.now)) }
-    ensures kept { HasCleanDisk (state S.Store tx.new.conn.now) → KeepsCommit (state S.Store tx.old.conn.now) (state S.Store tx.new.conn.now) }
-    ensures survives { Survives (state S.Store tx.old.conn.now) (state S.Store tx.new.conn.now) (λ _. ⊥) }
+    ensures { Writes S.Store (loaded c.now) tx.old tx.new result }
 {
     insert_plans(tx, c.added.as_slice())?;
-    set_moment(tx, c.at)?;
-    Ok(())
+    set_moment(tx, c.at)
 }
 
 /// Keeps a batch, its vouchers and their counts.
 fn issue<S: Alter>(tx: &mut Transaction<'_, S>, c: &Issuance) -> Result<(), Error>
     requires { FitsIssuance c.now }
-    ensures same_reference { tx.new.conn.ghost_name ≡ tx.old.conn.ghost_name }
-    ensures steps { HasCleanDisk (state S.Store tx.new.conn.now) → IsTrue (state S.Store tx.old.conn.now).in_transaction → OnOk result (Steps (issued c.now) (state S.Store tx.old.conn.now) (state S.Store tx.new.conn.now)) }
-    ensures kept { HasCleanDisk (state S.Store tx.new.conn.now) → KeepsCommit (state S.Store tx.old.conn.now) (state S.Store tx.new.conn.now) }
-    ensures survives { Survives (state S.Store tx.old.conn.now) (state S.Store tx.new.conn.now) (λ _. ⊥) }
+    ensures { Writes S.Store (issued c.now) tx.old tx.new result }
 {
     insert_batch(tx, &c.batch)?;
     insert_vouchers(tx, &c.batch.id, c.codes.as_slice())?;
     insert_counts(tx, c.codes.as_slice())?;
-    set_moment(tx, c.at)?;
-    Ok(())
+    set_moment(tx, c.at)
 }
 
 /// Keeps a sale.
 fn sell<S: Alter>(tx: &mut Transaction<'_, S>, c: &Sale) -> Result<(), Error>
-    ensures same_reference { tx.new.conn.ghost_name ≡ tx.old.conn.ghost_name }
-    ensures steps { HasCleanDisk (state S.Store tx.new.conn.now) → IsTrue (state S.Store tx.old.conn.now).in_transaction → OnOk result (Steps (sold c.now) (state S.Store tx.old.conn.now) (state S.Store tx.new.conn.now)) }
-    ensures kept { HasCleanDisk (state S.Store tx.new.conn.now) → KeepsCommit (state S.Store tx.old.conn.now) (state S.Store tx.new.conn.now) }
-    ensures survives { Survives (state S.Store tx.old.conn.now) (state S.Store tx.new.conn.now) (λ _. ⊥) }
+    ensures { Writes S.Store (sold c.now) tx.old tx.new result }
 {
     mark_sold(tx, &c.voucher.code, c.at)?;
-    set_moment(tx, c.at)?;
-    Ok(())
+    set_moment(tx, c.at)
 }
 
 /// Keeps the session of a redemption: the one that it extends, or a new one.
 fn place<S: Alter>(tx: &mut Transaction<'_, S>, c: &Redemption) -> Result<(), Error>
     requires { FitsSession c.now.session }
-    ensures same_reference { tx.new.conn.ghost_name ≡ tx.old.conn.ghost_name }
-    ensures steps { HasCleanDisk (state S.Store tx.new.conn.now) → IsTrue (state S.Store tx.old.conn.now).in_transaction → OnOk result (Steps (placed_in c.now.running c.now.session c.now.voucher.plan) (state S.Store tx.old.conn.now) (state S.Store tx.new.conn.now)) }
-    ensures kept { HasCleanDisk (state S.Store tx.new.conn.now) → KeepsCommit (state S.Store tx.old.conn.now) (state S.Store tx.new.conn.now) }
-    ensures survives { Survives (state S.Store tx.old.conn.now) (state S.Store tx.new.conn.now) (λ _. ⊥) }
+    ensures { Writes S.Store (placed_in c.now.running c.now.session c.now.voucher.plan) tx.old tx.new result }
 {
     let total = total_of(&c.session);
     match c.running {
-        Some(_) => {
-            set_ends(tx, &total)?;
-            Ok(())
-        }
+        Some(_) => set_ends(tx, &total),
         None => {
             insert_session(tx, &c.session, &c.voucher.plan.id)?;
-            insert_total(tx, &total)?;
-            Ok(())
+            insert_total(tx, &total)
         }
     }
 }
@@ -150,10 +127,7 @@ fn place<S: Alter>(tx: &mut Transaction<'_, S>, c: &Redemption) -> Result<(), Er
 /// Keeps a redemption and its session.
 fn grant<S: Alter>(tx: &mut Transaction<'_, S>, c: &Redemption) -> Result<(), Error>
     requires { FitsRedemption c.now }
-    ensures same_reference { tx.new.conn.ghost_name ≡ tx.old.conn.ghost_name }
-    ensures steps { HasCleanDisk (state S.Store tx.new.conn.now) → IsTrue (state S.Store tx.old.conn.now).in_transaction → OnOk result (Steps (granted c.now) (state S.Store tx.old.conn.now) (state S.Store tx.new.conn.now)) }
-    ensures kept { HasCleanDisk (state S.Store tx.new.conn.now) → KeepsCommit (state S.Store tx.old.conn.now) (state S.Store tx.new.conn.now) }
-    ensures survives { Survives (state S.Store tx.old.conn.now) (state S.Store tx.new.conn.now) (λ _. ⊥) }
+    ensures { Writes S.Store (granted c.now) tx.old tx.new result }
 {
     place(tx, c)?;
     insert_grant(
@@ -163,17 +137,13 @@ fn grant<S: Alter>(tx: &mut Transaction<'_, S>, c: &Redemption) -> Result<(), Er
         c.session.number,
         c.at,
         &c.voucher.plan,
-    )?;
-    Ok(())
+    )
 }
 
 /// Keeps a redemption: its session, its row, the count of its voucher and the numbers of rows.
 fn redeem<S: Alter>(tx: &mut Transaction<'_, S>, c: &Redemption) -> Result<(), Error>
     requires { FitsRedemption c.now }
-    ensures same_reference { tx.new.conn.ghost_name ≡ tx.old.conn.ghost_name }
-    ensures steps { HasCleanDisk (state S.Store tx.new.conn.now) → IsTrue (state S.Store tx.old.conn.now).in_transaction → OnOk result (Steps (redeemed c.now) (state S.Store tx.old.conn.now) (state S.Store tx.new.conn.now)) }
-    ensures kept { HasCleanDisk (state S.Store tx.new.conn.now) → KeepsCommit (state S.Store tx.old.conn.now) (state S.Store tx.new.conn.now) }
-    ensures survives { Survives (state S.Store tx.old.conn.now) (state S.Store tx.new.conn.now) (λ _. ⊥) }
+    ensures { Writes S.Store (redeemed c.now) tx.old tx.new result }
 {
     grant(tx, c)?;
     set_redeemed(tx, &c.voucher.code, c.voucher.redeemed + 1)?;
@@ -181,23 +151,16 @@ fn redeem<S: Alter>(tx: &mut Transaction<'_, S>, c: &Redemption) -> Result<(), E
         Some(_) => c.head.sessions,
         None => c.head.sessions + 1,
     };
-    set_numbers(tx, c.at, c.head.grants + 1, sessions)?;
-    Ok(())
+    set_numbers(tx, c.at, c.head.grants + 1, sessions)
 }
 
 /// Keeps what remains of the session's allowance. A session without one costs no statement.
 fn set_left<S: Alter>(tx: &mut Transaction<'_, S>, session: &Session) -> Result<(), Error>
     requires { FitsSession session.now }
-    ensures same_reference { tx.new.conn.ghost_name ≡ tx.old.conn.ghost_name }
-    ensures steps { HasCleanDisk (state S.Store tx.new.conn.now) → IsTrue (state S.Store tx.old.conn.now).in_transaction → OnOk result (Steps (left_of session.now.allowance (total_row session.now)) (state S.Store tx.old.conn.now) (state S.Store tx.new.conn.now)) }
-    ensures kept { HasCleanDisk (state S.Store tx.new.conn.now) → KeepsCommit (state S.Store tx.old.conn.now) (state S.Store tx.new.conn.now) }
-    ensures survives { Survives (state S.Store tx.old.conn.now) (state S.Store tx.new.conn.now) (λ _. ⊥) }
+    ensures { Writes S.Store (left_of session.now.allowance (total_row session.now)) tx.old tx.new result }
 {
     match session.allowance {
-        Some(_) => {
-            set_ends(tx, &total_of(session))?;
-            Ok(())
-        }
+        Some(_) => set_ends(tx, &total_of(session)),
         None => Ok(()),
     }
 }
@@ -205,62 +168,46 @@ fn set_left<S: Alter>(tx: &mut Transaction<'_, S>, session: &Session) -> Result<
 /// Keeps a report of usage.
 fn report<S: Alter>(tx: &mut Transaction<'_, S>, c: &Usage) -> Result<(), Error>
     requires { FitsUsage c.now }
-    ensures same_reference { tx.new.conn.ghost_name ≡ tx.old.conn.ghost_name }
-    ensures steps { HasCleanDisk (state S.Store tx.new.conn.now) → IsTrue (state S.Store tx.old.conn.now).in_transaction → OnOk result (Steps (used c.now) (state S.Store tx.old.conn.now) (state S.Store tx.new.conn.now)) }
-    ensures kept { HasCleanDisk (state S.Store tx.new.conn.now) → KeepsCommit (state S.Store tx.old.conn.now) (state S.Store tx.new.conn.now) }
-    ensures survives { Survives (state S.Store tx.old.conn.now) (state S.Store tx.new.conn.now) (λ _. ⊥) }
+    ensures { Writes S.Store (used c.now) tx.old tx.new result }
 {
     let after = c.after();
     set_used(tx, after.number, after.used)?;
     set_left(tx, &after)?;
-    set_moment(tx, c.at)?;
-    Ok(())
+    set_moment(tx, c.at)
 }
 
 /// Keeps a refund.
 fn repay<S: Alter>(tx: &mut Transaction<'_, S>, c: &Repayment) -> Result<(), Error>
     requires { c.now.amount < 2 ^ 63 }
-    ensures same_reference { tx.new.conn.ghost_name ≡ tx.old.conn.ghost_name }
-    ensures steps { HasCleanDisk (state S.Store tx.new.conn.now) → IsTrue (state S.Store tx.old.conn.now).in_transaction → OnOk result (Steps (repaid c.now) (state S.Store tx.old.conn.now) (state S.Store tx.new.conn.now)) }
-    ensures kept { HasCleanDisk (state S.Store tx.new.conn.now) → KeepsCommit (state S.Store tx.old.conn.now) (state S.Store tx.new.conn.now) }
-    ensures survives { Survives (state S.Store tx.old.conn.now) (state S.Store tx.new.conn.now) (λ _. ⊥) }
+    ensures { Writes S.Store (repaid c.now) tx.old tx.new result }
 {
     mark_refunded(tx, &c.voucher.code, c.at, c.amount)?;
-    set_moment(tx, c.at)?;
-    Ok(())
+    set_moment(tx, c.at)
 }
 
 /// Keeps a close.
 fn close<S: Alter>(tx: &mut Transaction<'_, S>, c: &Closing) -> Result<(), Error>
     requires { c.now.session.number < 2 ^ 63 }
-    ensures same_reference { tx.new.conn.ghost_name ≡ tx.old.conn.ghost_name }
-    ensures steps { HasCleanDisk (state S.Store tx.new.conn.now) → IsTrue (state S.Store tx.old.conn.now).in_transaction → OnOk result (Steps (closed c.now) (state S.Store tx.old.conn.now) (state S.Store tx.new.conn.now)) }
-    ensures kept { HasCleanDisk (state S.Store tx.new.conn.now) → KeepsCommit (state S.Store tx.old.conn.now) (state S.Store tx.new.conn.now) }
-    ensures survives { Survives (state S.Store tx.old.conn.now) (state S.Store tx.new.conn.now) (λ _. ⊥) }
+    ensures { Writes S.Store (closed c.now) tx.old tx.new result }
 {
     set_closed(tx, c.session.number, c.at)?;
-    set_moment(tx, c.at)?;
-    Ok(())
+    set_moment(tx, c.at)
 }
 
 /// Keeps what a command changes, inside a transaction.
 fn apply<S: Alter>(tx: &mut Transaction<'_, S>, changes: &Changes) -> Result<(), Error>
     requires { Fits changes.now }
-    ensures same_reference { tx.new.conn.ghost_name ≡ tx.old.conn.ghost_name }
-    ensures steps { HasCleanDisk (state S.Store tx.new.conn.now) → IsTrue (state S.Store tx.old.conn.now).in_transaction → OnOk result (Steps (kept changes.now) (state S.Store tx.old.conn.now) (state S.Store tx.new.conn.now)) }
-    ensures kept { HasCleanDisk (state S.Store tx.new.conn.now) → KeepsCommit (state S.Store tx.old.conn.now) (state S.Store tx.new.conn.now) }
-    ensures survives { Survives (state S.Store tx.old.conn.now) (state S.Store tx.new.conn.now) (λ _. ⊥) }
+    ensures { Writes S.Store (kept changes.now) tx.old tx.new result }
 {
     match changes {
-        Changes::Loading(c) => load(tx, c)?,
-        Changes::Issuance(c) => issue(tx, c)?,
-        Changes::Sale(c) => sell(tx, c)?,
-        Changes::Redemption(c) => redeem(tx, c)?,
-        Changes::Usage(c) => report(tx, c)?,
-        Changes::Repayment(c) => repay(tx, c)?,
-        Changes::Closing(c) => close(tx, c)?,
+        Changes::Loading(c) => load(tx, c),
+        Changes::Issuance(c) => issue(tx, c),
+        Changes::Sale(c) => sell(tx, c),
+        Changes::Redemption(c) => redeem(tx, c),
+        Changes::Usage(c) => report(tx, c),
+        Changes::Repayment(c) => repay(tx, c),
+        Changes::Closing(c) => close(tx, c),
     }
-    Ok(())
 }
 
 /// Keeps the request of a command that has a mark, with what its caller is told.
@@ -270,16 +217,10 @@ fn keep_request<S: Alter>(
     answer: &Answer,
 ) -> Result<(), Error>
     requires { FitsMark mark.now answer.now }
-    ensures same_reference { tx.new.conn.ghost_name ≡ tx.old.conn.ghost_name }
-    ensures steps { HasCleanDisk (state S.Store tx.new.conn.now) → IsTrue (state S.Store tx.old.conn.now).in_transaction → OnOk result (Steps (with_mark mark.now answer.now) (state S.Store tx.old.conn.now) (state S.Store tx.new.conn.now)) }
-    ensures kept { HasCleanDisk (state S.Store tx.new.conn.now) → KeepsCommit (state S.Store tx.old.conn.now) (state S.Store tx.new.conn.now) }
-    ensures survives { Survives (state S.Store tx.old.conn.now) (state S.Store tx.new.conn.now) (λ _. ⊥) }
+    ensures { Writes S.Store (with_mark mark.now answer.now) tx.old tx.new result }
 {
     match mark {
-        Some(mark) => {
-            insert_kept(tx, mark, answer)?;
-            Ok(())
-        }
+        Some(mark) => insert_kept(tx, mark, answer),
         None => Ok(()),
     }
 }
@@ -287,24 +228,23 @@ fn keep_request<S: Alter>(
 /// Keeps what a command changes, and its request where it has a mark, inside a transaction.
 fn apply_marked<S: Alter>(tx: &mut Transaction<'_, S>, marked: &MarkedChanges) -> Result<(), Error>
     requires { FitsMarked marked.now }
-    ensures same_reference { tx.new.conn.ghost_name ≡ tx.old.conn.ghost_name }
-    ensures steps { HasCleanDisk (state S.Store tx.new.conn.now) → IsTrue (state S.Store tx.old.conn.now).in_transaction → OnOk result (Steps (kept_marked marked.now) (state S.Store tx.old.conn.now) (state S.Store tx.new.conn.now)) }
-    ensures kept { HasCleanDisk (state S.Store tx.new.conn.now) → KeepsCommit (state S.Store tx.old.conn.now) (state S.Store tx.new.conn.now) }
-    ensures survives { Survives (state S.Store tx.old.conn.now) (state S.Store tx.new.conn.now) (λ _. ⊥) }
+    ensures { Writes S.Store (kept_marked marked.now) tx.old tx.new result }
 {
     apply(tx, &marked.changes)?;
     let answer = marked.answer();
-    keep_request(tx, &marked.mark, &answer)?;
-    Ok(())
+    keep_request(tx, &marked.mark, &answer)
 }
 
 /// One transaction: all that the command changes, and its request where it has a mark, or nothing.
 pub fn keep<S: Alter>(conn: &mut Connection<S>, marked: &MarkedChanges) -> Result<(), Error>
     requires outside { conn.old.in_transaction ≡ false }
     requires fits { FitsMarked marked.now }
-    ensures done { HasCleanDisk (state S.Store conn.new) → OnOk result (Leads (kept_marked marked.now) (state S.Store conn.old) (state S.Store conn.new)) }
-    ensures undone { HasCleanDisk (state S.Store conn.new) → OnErr result (IsUndone (state S.Store conn.old) (state S.Store conn.new)) }
-    ensures crash { Survives (state S.Store conn.old) (state S.Store conn.new) (MayLead (kept_marked marked.now) (state S.Store conn.old)) }
+    ensures done { HasCleanDisk (state S.Store conn.new) →
+        OnOk result (Leads (kept_marked marked.now) (state S.Store conn.old) (state S.Store conn.new)) }
+    ensures undone { HasCleanDisk (state S.Store conn.new) →
+        OnErr result (IsUndone (state S.Store conn.old) (state S.Store conn.new)) }
+    ensures crash { Survives (state S.Store conn.old) (state S.Store conn.new)
+        (MayLead (kept_marked marked.now) (state S.Store conn.old)) }
 {
     let mut tx = conn.transaction();
     apply_marked(&mut tx, marked)?;

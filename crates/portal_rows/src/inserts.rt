@@ -1,8 +1,8 @@
-ghost use Rattle.std.specs.Prelude.{◌≡◌, ◌<◌, ◌^◌, OnOk, IsTrue};
-ghost use Rattle.sqlite.specs.Held.{state};
-ghost use Rattle.sqlite.specs.State.{HasCleanDisk, KeepsCommit, Survives};
+ghost use Rattle.std.specs.Prelude.{◌<◌, ◌^◌};
 ghost use Rattle.portal_codes.specs.Code.{text_of};
-ghost use Rattle.portal_rows.specs.Steps.{Steps, count_row, ends_row, first_head, granted_row, new_voucher, opened_row, with_batch, with_count, with_grant, with_head, with_plan, with_session, with_total, with_voucher};
+ghost use Rattle.portal_rows.specs.Steps.{Writes, count_row, ends_row, first_head, granted_row, new_voucher};
+ghost use Rattle.portal_rows.specs.Steps.{opened_row, with_batch, with_count, with_grant, with_head};
+ghost use Rattle.portal_rows.specs.Steps.{with_plan, with_session, with_total, with_voucher};
 
 use crate::signs::{Signs, Total, seconds};
 use portal_codes::Code;
@@ -14,13 +14,11 @@ use sqlite::{Alter, Error, Transaction, params};
 
 /// Adds a plan.
 pub(crate) fn insert_plan<S: Alter>(tx: &mut Transaction<'_, S>, plan: &Plan) -> Result<(), Error>
-    ensures same_reference { tx.new.conn.ghost_name ≡ tx.old.conn.ghost_name }
-    ensures steps { HasCleanDisk (state S.Store tx.new.conn.now) → IsTrue (state S.Store tx.old.conn.now).in_transaction → OnOk result (Steps (with_plan plan.now) (state S.Store tx.old.conn.now) (state S.Store tx.new.conn.now)) }
-    ensures kept { HasCleanDisk (state S.Store tx.new.conn.now) → KeepsCommit (state S.Store tx.old.conn.now) (state S.Store tx.new.conn.now) }
-    ensures survives { Survives (state S.Store tx.old.conn.now) (state S.Store tx.new.conn.now) (λ _. ⊥) }
+    ensures { Writes S.Store (with_plan plan.now) tx.old tx.new result }
 {
     tx.execute(
-        "INSERT INTO portal_plans (id, price, uses, seconds, bytes, shelf_days, extend) VALUES (?1, ?2, ?3, ?4, ?5, ?6, ?7)",
+        "INSERT INTO portal_plans (id, price, uses, seconds, bytes, shelf_days, extend) \
+         VALUES (?1, ?2, ?3, ?4, ?5, ?6, ?7)",
         params![
             plan.id.text(),
             plan.price,
@@ -40,10 +38,7 @@ pub(crate) fn insert_batch<S: Alter>(
     batch: &Batch,
 ) -> Result<(), Error>
     requires { batch.now.size < 2 ^ 63 }
-    ensures same_reference { tx.new.conn.ghost_name ≡ tx.old.conn.ghost_name }
-    ensures steps { HasCleanDisk (state S.Store tx.new.conn.now) → IsTrue (state S.Store tx.old.conn.now).in_transaction → OnOk result (Steps (with_batch batch.now) (state S.Store tx.old.conn.now) (state S.Store tx.new.conn.now)) }
-    ensures kept { HasCleanDisk (state S.Store tx.new.conn.now) → KeepsCommit (state S.Store tx.old.conn.now) (state S.Store tx.new.conn.now) }
-    ensures survives { Survives (state S.Store tx.old.conn.now) (state S.Store tx.new.conn.now) (λ _. ⊥) }
+    ensures { Writes S.Store (with_batch batch.now) tx.old tx.new result }
 {
     tx.execute(
         "INSERT INTO portal_batches (id, plan_id, issued, expires, size) VALUES (?1, ?2, ?3, ?4, ?5)",
@@ -66,10 +61,8 @@ pub(crate) fn insert_voucher<S: Alter>(
     place: usize,
 ) -> Result<(), Error>
     requires { place < 2 ^ 63 }
-    ensures same_reference { tx.new.conn.ghost_name ≡ tx.old.conn.ghost_name }
-    ensures steps { HasCleanDisk (state S.Store tx.new.conn.now) → IsTrue (state S.Store tx.old.conn.now).in_transaction → OnOk result (Steps (with_voucher (new_voucher batch.now place (text_of code.now))) (state S.Store tx.old.conn.now) (state S.Store tx.new.conn.now)) }
-    ensures kept { HasCleanDisk (state S.Store tx.new.conn.now) → KeepsCommit (state S.Store tx.old.conn.now) (state S.Store tx.new.conn.now) }
-    ensures survives { Survives (state S.Store tx.old.conn.now) (state S.Store tx.new.conn.now) (λ _. ⊥) }
+    ensures { Writes S.Store (with_voucher (new_voucher batch.now place (text_of code.now)))
+        tx.old tx.new result }
 {
     let text = code.text();
     tx.execute(
@@ -92,10 +85,7 @@ pub(crate) fn insert_session<S: Alter>(
     plan: &Id,
 ) -> Result<(), Error>
     requires { session.now.number < 2 ^ 63 }
-    ensures same_reference { tx.new.conn.ghost_name ≡ tx.old.conn.ghost_name }
-    ensures steps { HasCleanDisk (state S.Store tx.new.conn.now) → IsTrue (state S.Store tx.old.conn.now).in_transaction → OnOk result (Steps (with_session (opened_row session.now plan.now)) (state S.Store tx.old.conn.now) (state S.Store tx.new.conn.now)) }
-    ensures kept { HasCleanDisk (state S.Store tx.new.conn.now) → KeepsCommit (state S.Store tx.old.conn.now) (state S.Store tx.new.conn.now) }
-    ensures survives { Survives (state S.Store tx.old.conn.now) (state S.Store tx.new.conn.now) (λ _. ⊥) }
+    ensures { Writes S.Store (with_session (opened_row session.now plan.now)) tx.old tx.new result }
 {
     let text = session.device.text();
     tx.execute(
@@ -121,14 +111,13 @@ pub(crate) fn insert_grant<S: Alter>(
 ) -> Result<(), Error>
     requires number_fits { number < 2 ^ 63 }
     requires session_fits { session < 2 ^ 63 }
-    ensures same_reference { tx.new.conn.ghost_name ≡ tx.old.conn.ghost_name }
-    ensures steps { HasCleanDisk (state S.Store tx.new.conn.now) → IsTrue (state S.Store tx.old.conn.now).in_transaction → OnOk result (Steps (with_grant (granted_row number (text_of code.now) session at plan.now)) (state S.Store tx.old.conn.now) (state S.Store tx.new.conn.now)) }
-    ensures kept { HasCleanDisk (state S.Store tx.new.conn.now) → KeepsCommit (state S.Store tx.old.conn.now) (state S.Store tx.new.conn.now) }
-    ensures survives { Survives (state S.Store tx.old.conn.now) (state S.Store tx.new.conn.now) (λ _. ⊥) }
+    ensures { Writes S.Store (with_grant (granted_row number (text_of code.now) session at plan.now))
+        tx.old tx.new result }
 {
     let text = code.text();
     tx.execute(
-        "INSERT INTO portal_grants (number, code, session, moment, seconds, bytes) VALUES (?1, ?2, ?3, ?4, ?5, ?6)",
+        "INSERT INTO portal_grants (number, code, session, moment, seconds, bytes) \
+         VALUES (?1, ?2, ?3, ?4, ?5, ?6)",
         params![
             number as i64,
             Signs {
@@ -150,10 +139,7 @@ pub fn insert_count<S: Alter>(
     redeemed: u64,
 ) -> Result<(), Error>
     requires { redeemed < 2 ^ 63 }
-    ensures same_reference { tx.new.conn.ghost_name ≡ tx.old.conn.ghost_name }
-    ensures steps { HasCleanDisk (state S.Store tx.new.conn.now) → IsTrue (state S.Store tx.old.conn.now).in_transaction → OnOk result (Steps (with_count (count_row (text_of code.now) redeemed)) (state S.Store tx.old.conn.now) (state S.Store tx.new.conn.now)) }
-    ensures kept { HasCleanDisk (state S.Store tx.new.conn.now) → KeepsCommit (state S.Store tx.old.conn.now) (state S.Store tx.new.conn.now) }
-    ensures survives { Survives (state S.Store tx.old.conn.now) (state S.Store tx.new.conn.now) (λ _. ⊥) }
+    ensures { Writes S.Store (with_count (count_row (text_of code.now) redeemed)) tx.old tx.new result }
 {
     let text = code.text();
     tx.execute(
@@ -171,10 +157,7 @@ pub fn insert_count<S: Alter>(
 /// Adds the end of a session, and what remains of its allowance.
 pub fn insert_total<S: Alter>(tx: &mut Transaction<'_, S>, total: &Total) -> Result<(), Error>
     requires { total.now.number < 2 ^ 63 }
-    ensures same_reference { tx.new.conn.ghost_name ≡ tx.old.conn.ghost_name }
-    ensures steps { HasCleanDisk (state S.Store tx.new.conn.now) → IsTrue (state S.Store tx.old.conn.now).in_transaction → OnOk result (Steps (with_total (ends_row total.now)) (state S.Store tx.old.conn.now) (state S.Store tx.new.conn.now)) }
-    ensures kept { HasCleanDisk (state S.Store tx.new.conn.now) → KeepsCommit (state S.Store tx.old.conn.now) (state S.Store tx.new.conn.now) }
-    ensures survives { Survives (state S.Store tx.old.conn.now) (state S.Store tx.new.conn.now) (λ _. ⊥) }
+    ensures { Writes S.Store (with_total (ends_row total.now)) tx.old tx.new result }
 {
     let ends = seconds(total.ends);
     tx.execute(
@@ -187,10 +170,7 @@ pub fn insert_total<S: Alter>(tx: &mut Transaction<'_, S>, total: &Total) -> Res
 /// Adds the row of the head: no row of the other tables, and nothing accepted.
 pub fn insert_head<S: Alter>(tx: &mut Transaction<'_, S>, layout: u64) -> Result<(), Error>
     requires { layout < 2 ^ 63 }
-    ensures same_reference { tx.new.conn.ghost_name ≡ tx.old.conn.ghost_name }
-    ensures steps { HasCleanDisk (state S.Store tx.new.conn.now) → IsTrue (state S.Store tx.old.conn.now).in_transaction → OnOk result (Steps (with_head (first_head layout)) (state S.Store tx.old.conn.now) (state S.Store tx.new.conn.now)) }
-    ensures kept { HasCleanDisk (state S.Store tx.new.conn.now) → KeepsCommit (state S.Store tx.old.conn.now) (state S.Store tx.new.conn.now) }
-    ensures survives { Survives (state S.Store tx.old.conn.now) (state S.Store tx.new.conn.now) (λ _. ⊥) }
+    ensures { Writes S.Store (with_head (first_head layout)) tx.old tx.new result }
 {
     tx.execute(
         "INSERT INTO portal_head (id, layout, last_moment, grants, sessions) VALUES (1, ?1, 0, 0, 0)",

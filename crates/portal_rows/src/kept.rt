@@ -3,11 +3,13 @@
 ghost use Rattle.std.specs.Prelude.{◌≡◌, Some, None, IfOk};
 ghost use Rattle.portal_codes.specs.Code.{IsCode, text_of};
 ghost use Rattle.portal_ledger.specs.Mark.{IsCaller};
-ghost use Rattle.portal_ledger.specs.RequestRow.{IsAnswerTyped, IsKeptTyped, cells, cells_of, row_of_request, text_of_caller, truth};
+ghost use Rattle.portal_ledger.specs.RequestRow.{IsAnswerTyped, IsKeptTyped, cells, cells_of, row_of_request};
+ghost use Rattle.portal_ledger.specs.RequestRow.{text_of_caller, truth};
 ghost use Rattle.portal_sql.specs.Finds.{columns};
 ghost use Rattle.portal_rows.specs.Contents.{request_cells};
 ghost use Rattle.portal_model.specs.IdText.{IsIdText};
-ghost use Rattle.portal_rows.specs.Foreign.{IsMoment, IsOwnAnswer, IsOwnRequest, IsPrintedCode, NotForeign, SparesOwn};
+ghost use Rattle.portal_rows.specs.Foreign.{IsMoment, IsOwnAnswer, IsOwnRequest, IsPrintedCode, NotForeign};
+ghost use Rattle.portal_rows.specs.Foreign.{SparesOwn};
 ghost use Rattle.portal_rows.specs.Requests.{request_read};
 
 use crate::rows::Fault;
@@ -107,7 +109,8 @@ fn truth_in(number: u64) -> Result<bool, Fault>
 
 /// The answer to an issue, of its columns.
 fn issued_in(word: &str, count: u64, expires: u64) -> Result<Answer, Fault>
-    ensures cells { IfOk result (λ answer. cells_of answer ≡ cells 2 (Some word.now) count (Some expires) None) }
+    ensures cells { IfOk result (λ answer.
+        cells_of answer ≡ cells 2 (Some word.now) count (Some expires) None) }
     ensures typed { IfOk result IsAnswerTyped }
     ensures own { IsIdText word.now → IsMoment expires → NotForeign result }
 {

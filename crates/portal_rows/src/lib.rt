@@ -1,4 +1,5 @@
-//! The rows of the product's tables in a store: what each statement reads and writes, and one transaction for each command.
+//! The rows of the product's tables in a store: what each statement reads and writes, and one transaction for
+//! each command.
 #![tactic(auto)]
 
 pub mod answers;

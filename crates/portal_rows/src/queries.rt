@@ -1,16 +1,14 @@
 //! The texts that read, one each: the rows of its answer.
 
-ghost use Rattle.std.specs.Prelude.{◌≡◌, ◌<◌, ◌^◌, IfOk, List, map, filter, take, IsPermutation};
+ghost use Rattle.std.specs.Prelude.{◌≡◌, ◌<◌, ◌^◌, List, map, take};
 ghost use Rattle.sqlite.specs.declared.types.Value.TheVariants.{Text};
-ghost use Rattle.sqlite.specs.Held.{state};
-ghost use Rattle.sqlite.specs.State.{HasCleanDisk};
 ghost use Rattle.portal_codes.specs.Code.{IsCode, text_of};
 ghost use Rattle.portal_model.specs.Device.{IsDevice, text_of_device};
 ghost use Rattle.portal_sql.specs.Stored.{number as number_cell};
 ghost use Rattle.portal_sql.specs.Finds.{has_key, by_column, IsSelection};
-ghost use Rattle.portal_sql.specs.Looks.{Looks};
-ghost use Rattle.portal_rows.specs.Contents.{Contents, head_cells, plan_cells, batch_cells, voucher_cells, session_cells, count_cells, total_cells};
-ghost use Rattle.portal_rows.specs.Holds.{Holds, HasTables};
+ghost use Rattle.portal_rows.specs.Contents.{head_cells, plan_cells, batch_cells, voucher_cells};
+ghost use Rattle.portal_rows.specs.Contents.{session_cells, count_cells, total_cells};
+ghost use Rattle.portal_rows.specs.Selects.{AreOfKey, Selects};
 
 use crate::signs::Signs;
 use portal_codes::Code;
@@ -20,8 +18,8 @@ use sqlite::{Alter, Connection, Error, Row, params};
 
 /// The row of the head.
 pub(crate) fn head_rows<S: Alter>(conn: &mut Connection<S>) -> Result<Vec<Row>, Error>
-    ensures rows { HasCleanDisk (state S.Store conn.new) → (t : Contents) → Holds (state S.Store conn.old).now t → IfOk result (λ rows. IsPermutation (filter (has_key 0 (number_cell 1)) (map head_cells t.heads)) rows.items) }
-    ensures looks { Looks HasTables result (state S.Store conn.old) (state S.Store conn.new) }
+    ensures { Selects S.Store conn.old conn.new result
+        (λ t rows. AreOfKey 0 (number_cell 1) (map head_cells t.heads) rows.items) }
 {
     read_all(
         conn,
@@ -32,8 +30,8 @@ pub(crate) fn head_rows<S: Alter>(conn: &mut Connection<S>) -> Result<Vec<Row>, 
 
 /// The rows of the plan.
 pub(crate) fn plan_rows<S: Alter>(conn: &mut Connection<S>, id: &Id) -> Result<Vec<Row>, Error>
-    ensures rows { HasCleanDisk (state S.Store conn.new) → (t : Contents) → Holds (state S.Store conn.old).now t → IfOk result (λ rows. IsPermutation (filter (has_key 0 (Text id.now)) (map plan_cells t.plans)) rows.items) }
-    ensures looks { Looks HasTables result (state S.Store conn.old) (state S.Store conn.new) }
+    ensures { Selects S.Store conn.old conn.new result
+        (λ t rows. AreOfKey 0 (Text id.now) (map plan_cells t.plans) rows.items) }
 {
     read_all(
         conn,
@@ -44,8 +42,8 @@ pub(crate) fn plan_rows<S: Alter>(conn: &mut Connection<S>, id: &Id) -> Result<V
 
 /// The rows of the batch.
 pub(crate) fn batch_rows<S: Alter>(conn: &mut Connection<S>, id: &Id) -> Result<Vec<Row>, Error>
-    ensures rows { HasCleanDisk (state S.Store conn.new) → (t : Contents) → Holds (state S.Store conn.old).now t → IfOk result (λ rows. IsPermutation (filter (has_key 0 (Text id.now)) (map batch_cells t.batches)) rows.items) }
-    ensures looks { Looks HasTables result (state S.Store conn.old) (state S.Store conn.new) }
+    ensures { Selects S.Store conn.old conn.new result
+        (λ t rows. AreOfKey 0 (Text id.now) (map batch_cells t.batches) rows.items) }
 {
     read_all(
         conn,
@@ -60,8 +58,8 @@ pub(crate) fn voucher_rows<S: Alter>(
     code: &Code,
 ) -> Result<Vec<Row>, Error>
     ensures code { IsCode code.now }
-    ensures rows { HasCleanDisk (state S.Store conn.new) → (t : Contents) → Holds (state S.Store conn.old).now t → IfOk result (λ rows. IsPermutation (filter (has_key 0 (Text (text_of code.now))) (map voucher_cells t.vouchers)) rows.items) }
-    ensures looks { Looks HasTables result (state S.Store conn.old) (state S.Store conn.new) }
+    ensures selects { Selects S.Store conn.old conn.new result
+        (λ t rows. AreOfKey 0 (Text (text_of code.now)) (map voucher_cells t.vouchers) rows.items) }
 {
     let text = code.text();
     read_all(
@@ -79,8 +77,8 @@ pub(crate) fn session_rows<S: Alter>(
     number: u64,
 ) -> Result<Vec<Row>, Error>
     requires { number < 2 ^ 63 }
-    ensures rows { HasCleanDisk (state S.Store conn.new) → (t : Contents) → Holds (state S.Store conn.old).now t → IfOk result (λ rows. IsPermutation (filter (has_key 0 (number_cell number)) (map session_cells t.sessions)) rows.items) }
-    ensures looks { Looks HasTables result (state S.Store conn.old) (state S.Store conn.new) }
+    ensures { Selects S.Store conn.old conn.new result
+        (λ t rows. AreOfKey 0 (number_cell number) (map session_cells t.sessions) rows.items) }
 {
     read_all(
         conn,
@@ -91,8 +89,8 @@ pub(crate) fn session_rows<S: Alter>(
 
 /// The rows of the count of the voucher.
 pub(crate) fn count_rows<S: Alter>(conn: &mut Connection<S>, code: &Code) -> Result<Vec<Row>, Error>
-    ensures rows { HasCleanDisk (state S.Store conn.new) → (t : Contents) → Holds (state S.Store conn.old).now t → IfOk result (λ rows. IsPermutation (filter (has_key 0 (Text (text_of code.now))) (map count_cells t.counts)) rows.items) }
-    ensures looks { Looks HasTables result (state S.Store conn.old) (state S.Store conn.new) }
+    ensures { Selects S.Store conn.old conn.new result
+        (λ t rows. AreOfKey 0 (Text (text_of code.now)) (map count_cells t.counts) rows.items) }
 {
     let text = code.text();
     read_all(
@@ -107,8 +105,8 @@ pub(crate) fn count_rows<S: Alter>(conn: &mut Connection<S>, code: &Code) -> Res
 /// The rows of the end of the session.
 pub(crate) fn total_rows<S: Alter>(conn: &mut Connection<S>, number: u64) -> Result<Vec<Row>, Error>
     requires { number < 2 ^ 63 }
-    ensures rows { HasCleanDisk (state S.Store conn.new) → (t : Contents) → Holds (state S.Store conn.old).now t → IfOk result (λ rows. IsPermutation (filter (has_key 0 (number_cell number)) (map total_cells t.totals)) rows.items) }
-    ensures looks { Looks HasTables result (state S.Store conn.old) (state S.Store conn.new) }
+    ensures { Selects S.Store conn.old conn.new result
+        (λ t rows. AreOfKey 0 (number_cell number) (map total_cells t.totals) rows.items) }
 {
     read_all(
         conn,
@@ -123,13 +121,17 @@ pub(crate) fn last_session_rows<S: Alter>(
     device: &Device,
 ) -> Result<Vec<Row>, Error>
     ensures device { IsDevice device.now }
-    ensures rows { HasCleanDisk (state S.Store conn.new) → (t : Contents) → Holds (state S.Store conn.old).now t → IfOk result (λ rows. (all : List _) × IsSelection (has_key 1 (Text (text_of_device device.now))) (λ a b. by_column 0 b a) (map session_cells t.sessions) all × (rows.items ≡ take 1 all)) }
-    ensures looks { Looks HasTables result (state S.Store conn.old) (state S.Store conn.new) }
+    ensures selects { Selects S.Store conn.old conn.new result
+        (λ t rows. (all : List _)
+        × IsSelection (has_key 1 (Text (text_of_device device.now))) (λ a b. by_column 0 b a)
+        (map session_cells t.sessions) all
+        × (rows.items ≡ take 1 all)) }
 {
     let text = device.text();
     read_all(
         conn,
-        "SELECT number, device, plan_id, opened, used, closed FROM portal_sessions WHERE device = ?1 ORDER BY number DESC LIMIT 1",
+        "SELECT number, device, plan_id, opened, used, closed \
+         FROM portal_sessions WHERE device = ?1 ORDER BY number DESC LIMIT 1",
         params![Signs { bytes: &text }],
     )
 }
@@ -139,12 +141,14 @@ pub fn batch_vouchers_rows<S: Alter>(
     conn: &mut Connection<S>,
     batch: &Id,
 ) -> Result<Vec<Row>, Error>
-    ensures rows { HasCleanDisk (state S.Store conn.new) → (t : Contents) → Holds (state S.Store conn.old).now t → IfOk result (λ rows. IsSelection (has_key 1 (Text batch.now)) (by_column 2) (map voucher_cells t.vouchers) rows.items) }
-    ensures looks { Looks HasTables result (state S.Store conn.old) (state S.Store conn.new) }
+    ensures { Selects S.Store conn.old conn.new result
+        (λ t rows. IsSelection (has_key 1 (Text batch.now)) (by_column 2)
+        (map voucher_cells t.vouchers) rows.items) }
 {
     read_all(
         conn,
-        "SELECT code, batch_id, place, sold, refunded, amount FROM portal_vouchers WHERE batch_id = ?1 ORDER BY place",
+        "SELECT code, batch_id, place, sold, refunded, amount \
+         FROM portal_vouchers WHERE batch_id = ?1 ORDER BY place",
         params![batch.text()],
     )
 }

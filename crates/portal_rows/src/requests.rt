@@ -1,21 +1,18 @@
 //! Kept requests: one row more, and the row of a key.
 
-ghost use Rattle.std.specs.Prelude.{◌≡◌, ◌<◌, ◌^◌, pos, IfOk, IfSome, IsTrue, OnOk, IsPermutation, filter, map, option_map};
+ghost use Rattle.std.specs.Prelude.{◌≡◌, ◌<◌, ◌^◌, pos, IfOk, IfSome, IsPermutation, filter, map, option_map};
 ghost use Rattle.sqlite.specs.declared.types.Value.TheVariants.{Text};
-ghost use Rattle.sqlite.specs.Held.{state};
-ghost use Rattle.sqlite.specs.State.{HasCleanDisk, KeepsCommit, Survives};
 ghost use Rattle.portal_ledger.specs.Ledger.{kept_with};
 ghost use Rattle.portal_ledger.specs.Mark.{IsCaller};
 ghost use Rattle.portal_ledger.specs.RequestRow.{IsKeptTyped, row_of_request, text_of_caller};
 ghost use Rattle.portal_sql.specs.Finds.{Finds};
 ghost use Rattle.portal_rows.specs.Keyed.{has_keys};
-ghost use Rattle.portal_sql.specs.Looks.{Looks};
 ghost use Rattle.portal_rows.specs.Commands.{FitsAnswer};
-ghost use Rattle.portal_rows.specs.Contents.{Contents, request_cells};
-ghost use Rattle.portal_rows.specs.Foreign.{AreOwn, IsOwnRequest, NotForeign, TellsForeign};
-ghost use Rattle.portal_rows.specs.Holds.{HasTables, Holds};
+ghost use Rattle.portal_rows.specs.Contents.{request_cells};
+ghost use Rattle.portal_rows.specs.Foreign.{AreOwn, IsOwnRequest, NotForeign};
 ghost use Rattle.portal_rows.specs.Requests.{key_of, request_read};
-ghost use Rattle.portal_rows.specs.Steps.{Steps, with_request};
+ghost use Rattle.portal_rows.specs.Steps.{Writes, with_request};
+ghost use Rattle.portal_rows.specs.Selects.{ReadsRow, Selects};
 
 use crate::answers::{CallerText, answer_row};
 use crate::kept::{StoredRequest, read_request, request_of};
@@ -46,25 +43,24 @@ pub fn insert_kept<S: Alter>(
     answer: &Answer,
 ) -> Result<(), Error>
     requires { FitsAnswer answer.now }
-    ensures same_reference { tx.new.conn.ghost_name ≡ tx.old.conn.ghost_name }
-    ensures steps { HasCleanDisk (state S.Store tx.new.conn.now) → IsTrue (state S.Store tx.old.conn.now).in_transaction → OnOk result (Steps (with_request (row_of_request (kept_with mark.now answer.now))) (state S.Store tx.old.conn.now) (state S.Store tx.new.conn.now)) }
-    ensures kept { HasCleanDisk (state S.Store tx.new.conn.now) → KeepsCommit (state S.Store tx.old.conn.now) (state S.Store tx.new.conn.now) }
-    ensures survives { Survives (state S.Store tx.old.conn.now) (state S.Store tx.new.conn.now) (λ _. ⊥) }
+    ensures { Writes S.Store (with_request (row_of_request (kept_with mark.now answer.now)))
+        tx.old tx.new result }
 {
-    let text = CallerText::of(&mark.caller());
+    let text = CallerText::of(&mark.caller);
     let row = answer_row(answer);
     let n2 = signed(row.n2);
     let n3 = signed(row.n3);
     tx.execute(
-        "INSERT INTO portal_requests (caller, number, method, path, body, kind, word, n1, n2, n3) VALUES (?1, ?2, ?3, ?4, ?5, ?6, ?7, ?8, ?9, ?10)",
+        "INSERT INTO portal_requests (caller, number, method, path, body, kind, word, n1, n2, n3) \
+         VALUES (?1, ?2, ?3, ?4, ?5, ?6, ?7, ?8, ?9, ?10)",
         params![
             Signs {
                 bytes: text.as_bytes()
             },
-            mark.number().text(),
-            mark.method(),
-            mark.path(),
-            mark.body(),
+            mark.number.text(),
+            mark.method.as_str(),
+            mark.path.as_str(),
+            mark.body.as_slice(),
             row.kind,
             &row.word,
             row.n1 as i64,
@@ -81,12 +77,15 @@ fn request_rows<S: Alter>(
     caller: &[u8],
     number: &str,
 ) -> Result<Vec<Row>, Error>
-    ensures rows { HasCleanDisk (state S.Store conn.new) → (t : Contents) → Holds (state S.Store conn.old).now t → IfOk result (λ rows. IsPermutation (filter (has_keys 0 (Text caller.now) 1 (Text number.now)) (map request_cells t.requests)) rows.items) }
-    ensures looks { Looks HasTables result (state S.Store conn.old) (state S.Store conn.new) }
+    ensures { Selects S.Store conn.old conn.new result
+        (λ t rows. IsPermutation
+        (filter (has_keys 0 (Text caller.now) 1 (Text number.now)) (map request_cells t.requests))
+        rows.items) }
 {
     read_all(
         conn,
-        "SELECT caller, number, method, path, body, kind, word, n1, n2, n3 FROM portal_requests WHERE caller = ?1 AND number = ?2",
+        "SELECT caller, number, method, path, body, kind, word, n1, n2, n3 \
+         FROM portal_requests WHERE caller = ?1 AND number = ?2",
         params![Signs { bytes: caller }, number],
     )
 }
@@ -97,8 +96,8 @@ fn find_request<S: Alter>(
     caller: &[u8],
     number: &str,
 ) -> Result<Option<StoredRequest>, Fault>
-    ensures found { HasCleanDisk (state S.Store conn.new) → (t : Contents) → Holds (state S.Store conn.old).now t → IfOk result (λ found. Finds key_of (caller.now, number.now) t.requests (option_map request_read found)) }
-    ensures looks { Looks HasTables result (state S.Store conn.old) (state S.Store conn.new) }
+    ensures selects { Selects S.Store conn.old conn.new result
+        (λ t found. Finds key_of (caller.now, number.now) t.requests (option_map request_read found)) }
     ensures foreign { NotForeign result }
 {
     let rows = request_rows(conn, caller, number)?;
@@ -117,9 +116,10 @@ pub fn find_kept<S: Alter>(
 ) -> Result<Option<KeptRequest>, Fault>
     ensures caller { IsCaller caller.now }
     ensures typed { IfOk result (λ found. IfSome found IsKeptTyped) }
-    ensures found { HasCleanDisk (state S.Store conn.new) → (t : Contents) → Holds (state S.Store conn.old).now t → IfOk result (λ found. Finds key_of (text_of_caller caller.now, number.now) t.requests (option_map row_of_request found)) }
-    ensures looks { Looks HasTables result (state S.Store conn.old) (state S.Store conn.new) }
-    ensures foreign { TellsForeign Holds (λ t. AreOwn IsOwnRequest t.requests) (state S.Store conn.old) (state S.Store conn.new) result }
+    ensures reads { ReadsRow S.Store conn.old conn.new result
+        (λ t found. Finds key_of (text_of_caller caller.now, number.now) t.requests
+        (option_map row_of_request found))
+        (λ t. AreOwn IsOwnRequest t.requests) }
 {
     let text = CallerText::of(caller);
     let found = find_request(conn, text.as_bytes(), number.text())?;

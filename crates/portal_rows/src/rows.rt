@@ -7,12 +7,15 @@ ghost use Rattle.portal_codes.specs.Code.{text_of};
 ghost use Rattle.portal_model.specs.Device.{IsDevice, text_of_device};
 ghost use Rattle.portal_sql.specs.Stored.{number, or_null};
 ghost use Rattle.portal_sql.specs.Finds.{columns};
-ghost use Rattle.portal_rows.specs.Contents.{flag, head_cells, plan_cells, batch_cells, voucher_cells, session_cells, count_cells, total_cells};
+ghost use Rattle.portal_rows.specs.Contents.{flag, head_cells, plan_cells, batch_cells, voucher_cells};
+ghost use Rattle.portal_rows.specs.Contents.{session_cells, count_cells, total_cells};
 ghost use Rattle.sqlite.specs.declared.error.Error.TheVariants.{SqliteFailure};
 ghost use Rattle.sqlite.specs.declared.error.ErrorCode.TheVariants.{OutOfMemory};
 ghost use Rattle.portal_model.specs.IdText.{IsIdText};
 ghost use Rattle.portal_rows.specs.declared.rows.Fault.TheVariants.{Sql};
-ghost use Rattle.portal_rows.specs.Foreign.{IsMoment, IsMomentIfSome, IsOwnBatch, IsOwnCount, IsOwnHead, IsOwnPlan, IsOwnSession, IsOwnTotal, IsOwnVoucher, IsPrintedCode, IsPrintedDevice, SparesOwn};
+ghost use Rattle.portal_rows.specs.Foreign.{IsMoment, IsMomentIfSome, IsOwnBatch, IsOwnCount, IsOwnHead};
+ghost use Rattle.portal_rows.specs.Foreign.{IsOwnPlan, IsOwnSession, IsOwnTotal, IsOwnVoucher, IsPrintedCode};
+ghost use Rattle.portal_rows.specs.Foreign.{IsPrintedDevice, SparesOwn};
 ghost use Rattle.portal_rows.specs.Steps.{ends_row};
 ghost use Rattle.portal_rows.specs.Read.{head_read, voucher_read, session_read, count_read};
 
@@ -102,10 +105,7 @@ pub fn id_in(row: &Row, at: usize) -> Result<Id, Fault>
     ensures own { SparesOwn Text IsIdText (column row.now at) result }
 {
     let text: String = row.get(at)?;
-    match Id::read(&text) {
-        Some(id) => Ok(id),
-        None => Err(Fault::ForeignRow),
-    }
+    Id::read(&text).ok_or(Fault::ForeignRow)
 }
 
 /// The code in a column, where it stands as it is printed.
@@ -149,10 +149,7 @@ pub fn moment_in(row: &Row, at: usize) -> Result<Moment, Fault>
     ensures own { SparesOwn number IsMoment (column row.now at) result }
 {
     let seconds: u64 = row.get(at)?;
-    match Moment::new(seconds) {
-        Some(moment) => Ok(moment),
-        None => Err(Fault::ForeignRow),
-    }
+    Moment::new(seconds).ok_or(Fault::ForeignRow)
 }
 
 /// The moment in a column, where there is one.
@@ -162,10 +159,7 @@ fn moment_or_null_in(row: &Row, at: usize) -> Result<Option<Moment>, Fault>
 {
     let seconds: Option<u64> = row.get(at)?;
     match seconds {
-        Some(seconds) => match Moment::new(seconds) {
-            Some(moment) => Ok(Some(moment)),
-            None => Err(Fault::ForeignRow),
-        },
+        Some(seconds) => Ok(Some(Moment::new(seconds).ok_or(Fault::ForeignRow)?)),
         None => Ok(None),
     }
 }
@@ -210,10 +204,7 @@ pub fn plan_of(row: &Row) -> Result<Plan, Fault>
     let bytes = row.get(4)?;
     let shelf_days = row.get(5)?;
     let extend = flag_in(row, 6)?;
-    match Plan::new(id, price, uses, seconds, bytes, shelf_days, extend) {
-        Ok(plan) => Ok(plan),
-        Err(_) => Err(Fault::ForeignRow),
-    }
+    Plan::new(id, price, uses, seconds, bytes, shelf_days, extend).map_err(|_| Fault::ForeignRow)
 }
 
 pub fn batch_of(row: &Row) -> Result<Batch, Fault>

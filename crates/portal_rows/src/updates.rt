@@ -1,8 +1,7 @@
-ghost use Rattle.std.specs.Prelude.{◌≡◌, ◌<◌, ◌^◌, OnOk, IsTrue};
-ghost use Rattle.sqlite.specs.Held.{state};
-ghost use Rattle.sqlite.specs.State.{HasCleanDisk, KeepsCommit, Survives};
+ghost use Rattle.std.specs.Prelude.{◌<◌, ◌^◌};
 ghost use Rattle.portal_codes.specs.Code.{text_of};
-ghost use Rattle.portal_rows.specs.Steps.{Steps, ends_row, with_close, with_ends, with_layout, with_moment, with_numbers, with_redeemed, with_refund, with_sale, with_use};
+ghost use Rattle.portal_rows.specs.Steps.{Writes, ends_row, with_close, with_ends, with_layout, with_moment};
+ghost use Rattle.portal_rows.specs.Steps.{with_numbers, with_redeemed, with_refund, with_sale, with_use};
 
 use crate::signs::{Signs, Total, seconds};
 use portal_codes::Code;
@@ -15,10 +14,7 @@ pub(crate) fn mark_sold<S: Alter>(
     code: &Code,
     at: Moment,
 ) -> Result<(), Error>
-    ensures same_reference { tx.new.conn.ghost_name ≡ tx.old.conn.ghost_name }
-    ensures steps { HasCleanDisk (state S.Store tx.new.conn.now) → IsTrue (state S.Store tx.old.conn.now).in_transaction → OnOk result (Steps (with_sale (text_of code.now) at) (state S.Store tx.old.conn.now) (state S.Store tx.new.conn.now)) }
-    ensures kept { HasCleanDisk (state S.Store tx.new.conn.now) → KeepsCommit (state S.Store tx.old.conn.now) (state S.Store tx.new.conn.now) }
-    ensures survives { Survives (state S.Store tx.old.conn.now) (state S.Store tx.new.conn.now) (λ _. ⊥) }
+    ensures { Writes S.Store (with_sale (text_of code.now) at) tx.old tx.new result }
 {
     let text = code.text();
     tx.execute(
@@ -41,10 +37,7 @@ pub(crate) fn mark_refunded<S: Alter>(
     amount: u64,
 ) -> Result<(), Error>
     requires { amount < 2 ^ 63 }
-    ensures same_reference { tx.new.conn.ghost_name ≡ tx.old.conn.ghost_name }
-    ensures steps { HasCleanDisk (state S.Store tx.new.conn.now) → IsTrue (state S.Store tx.old.conn.now).in_transaction → OnOk result (Steps (with_refund (text_of code.now) at amount) (state S.Store tx.old.conn.now) (state S.Store tx.new.conn.now)) }
-    ensures kept { HasCleanDisk (state S.Store tx.new.conn.now) → KeepsCommit (state S.Store tx.old.conn.now) (state S.Store tx.new.conn.now) }
-    ensures survives { Survives (state S.Store tx.old.conn.now) (state S.Store tx.new.conn.now) (λ _. ⊥) }
+    ensures { Writes S.Store (with_refund (text_of code.now) at amount) tx.old tx.new result }
 {
     let text = code.text();
     tx.execute(
@@ -62,10 +55,7 @@ pub(crate) fn mark_refunded<S: Alter>(
 
 /// Sets the last moment.
 pub(crate) fn set_moment<S: Alter>(tx: &mut Transaction<'_, S>, at: Moment) -> Result<(), Error>
-    ensures same_reference { tx.new.conn.ghost_name ≡ tx.old.conn.ghost_name }
-    ensures steps { HasCleanDisk (state S.Store tx.new.conn.now) → IsTrue (state S.Store tx.old.conn.now).in_transaction → OnOk result (Steps (with_moment at) (state S.Store tx.old.conn.now) (state S.Store tx.new.conn.now)) }
-    ensures kept { HasCleanDisk (state S.Store tx.new.conn.now) → KeepsCommit (state S.Store tx.old.conn.now) (state S.Store tx.new.conn.now) }
-    ensures survives { Survives (state S.Store tx.old.conn.now) (state S.Store tx.new.conn.now) (λ _. ⊥) }
+    ensures { Writes S.Store (with_moment at) tx.old tx.new result }
 {
     tx.execute(
         "UPDATE portal_head SET last_moment = ?1 WHERE id = 1",
@@ -83,10 +73,7 @@ pub(crate) fn set_numbers<S: Alter>(
 ) -> Result<(), Error>
     requires grants_fit { grants < 2 ^ 63 }
     requires sessions_fit { sessions < 2 ^ 63 }
-    ensures same_reference { tx.new.conn.ghost_name ≡ tx.old.conn.ghost_name }
-    ensures steps { HasCleanDisk (state S.Store tx.new.conn.now) → IsTrue (state S.Store tx.old.conn.now).in_transaction → OnOk result (Steps (with_numbers at grants sessions) (state S.Store tx.old.conn.now) (state S.Store tx.new.conn.now)) }
-    ensures kept { HasCleanDisk (state S.Store tx.new.conn.now) → KeepsCommit (state S.Store tx.old.conn.now) (state S.Store tx.new.conn.now) }
-    ensures survives { Survives (state S.Store tx.old.conn.now) (state S.Store tx.new.conn.now) (λ _. ⊥) }
+    ensures { Writes S.Store (with_numbers at grants sessions) tx.old tx.new result }
 {
     tx.execute(
         "UPDATE portal_head SET last_moment = ?1, grants = ?2, sessions = ?3 WHERE id = 1",
@@ -98,10 +85,7 @@ pub(crate) fn set_numbers<S: Alter>(
 /// Sets the layout.
 pub fn set_layout<S: Alter>(tx: &mut Transaction<'_, S>, layout: u64) -> Result<(), Error>
     requires { layout < 2 ^ 63 }
-    ensures same_reference { tx.new.conn.ghost_name ≡ tx.old.conn.ghost_name }
-    ensures steps { HasCleanDisk (state S.Store tx.new.conn.now) → IsTrue (state S.Store tx.old.conn.now).in_transaction → OnOk result (Steps (with_layout layout) (state S.Store tx.old.conn.now) (state S.Store tx.new.conn.now)) }
-    ensures kept { HasCleanDisk (state S.Store tx.new.conn.now) → KeepsCommit (state S.Store tx.old.conn.now) (state S.Store tx.new.conn.now) }
-    ensures survives { Survives (state S.Store tx.old.conn.now) (state S.Store tx.new.conn.now) (λ _. ⊥) }
+    ensures { Writes S.Store (with_layout layout) tx.old tx.new result }
 {
     tx.execute(
         "UPDATE portal_head SET layout = ?1 WHERE id = 1",
@@ -118,10 +102,7 @@ pub(crate) fn set_used<S: Alter>(
 ) -> Result<(), Error>
     requires number_fits { number < 2 ^ 63 }
     requires used_fits { used < 2 ^ 63 }
-    ensures same_reference { tx.new.conn.ghost_name ≡ tx.old.conn.ghost_name }
-    ensures steps { HasCleanDisk (state S.Store tx.new.conn.now) → IsTrue (state S.Store tx.old.conn.now).in_transaction → OnOk result (Steps (with_use number used) (state S.Store tx.old.conn.now) (state S.Store tx.new.conn.now)) }
-    ensures kept { HasCleanDisk (state S.Store tx.new.conn.now) → KeepsCommit (state S.Store tx.old.conn.now) (state S.Store tx.new.conn.now) }
-    ensures survives { Survives (state S.Store tx.old.conn.now) (state S.Store tx.new.conn.now) (λ _. ⊥) }
+    ensures { Writes S.Store (with_use number used) tx.old tx.new result }
 {
     tx.execute(
         "UPDATE portal_sessions SET used = ?2 WHERE number = ?1",
@@ -137,10 +118,7 @@ pub(crate) fn set_closed<S: Alter>(
     at: Moment,
 ) -> Result<(), Error>
     requires { number < 2 ^ 63 }
-    ensures same_reference { tx.new.conn.ghost_name ≡ tx.old.conn.ghost_name }
-    ensures steps { HasCleanDisk (state S.Store tx.new.conn.now) → IsTrue (state S.Store tx.old.conn.now).in_transaction → OnOk result (Steps (with_close number at) (state S.Store tx.old.conn.now) (state S.Store tx.new.conn.now)) }
-    ensures kept { HasCleanDisk (state S.Store tx.new.conn.now) → KeepsCommit (state S.Store tx.old.conn.now) (state S.Store tx.new.conn.now) }
-    ensures survives { Survives (state S.Store tx.old.conn.now) (state S.Store tx.new.conn.now) (λ _. ⊥) }
+    ensures { Writes S.Store (with_close number at) tx.old tx.new result }
 {
     tx.execute(
         "UPDATE portal_sessions SET closed = ?2 WHERE number = ?1",
@@ -156,10 +134,7 @@ pub(crate) fn set_redeemed<S: Alter>(
     redeemed: u64,
 ) -> Result<(), Error>
     requires { redeemed < 2 ^ 63 }
-    ensures same_reference { tx.new.conn.ghost_name ≡ tx.old.conn.ghost_name }
-    ensures steps { HasCleanDisk (state S.Store tx.new.conn.now) → IsTrue (state S.Store tx.old.conn.now).in_transaction → OnOk result (Steps (with_redeemed (text_of code.now) redeemed) (state S.Store tx.old.conn.now) (state S.Store tx.new.conn.now)) }
-    ensures kept { HasCleanDisk (state S.Store tx.new.conn.now) → KeepsCommit (state S.Store tx.old.conn.now) (state S.Store tx.new.conn.now) }
-    ensures survives { Survives (state S.Store tx.old.conn.now) (state S.Store tx.new.conn.now) (λ _. ⊥) }
+    ensures { Writes S.Store (with_redeemed (text_of code.now) redeemed) tx.old tx.new result }
 {
     let text = code.text();
     tx.execute(
@@ -177,10 +152,7 @@ pub(crate) fn set_redeemed<S: Alter>(
 /// Sets the end of the session, and what remains of its allowance.
 pub(crate) fn set_ends<S: Alter>(tx: &mut Transaction<'_, S>, total: &Total) -> Result<(), Error>
     requires { total.now.number < 2 ^ 63 }
-    ensures same_reference { tx.new.conn.ghost_name ≡ tx.old.conn.ghost_name }
-    ensures steps { HasCleanDisk (state S.Store tx.new.conn.now) → IsTrue (state S.Store tx.old.conn.now).in_transaction → OnOk result (Steps (with_ends (ends_row total.now)) (state S.Store tx.old.conn.now) (state S.Store tx.new.conn.now)) }
-    ensures kept { HasCleanDisk (state S.Store tx.new.conn.now) → KeepsCommit (state S.Store tx.old.conn.now) (state S.Store tx.new.conn.now) }
-    ensures survives { Survives (state S.Store tx.old.conn.now) (state S.Store tx.new.conn.now) (λ _. ⊥) }
+    ensures { Writes S.Store (with_ends (ends_row total.now)) tx.old tx.new result }
 {
     let ends = seconds(total.ends);
     tx.execute(

@@ -42,8 +42,8 @@ fn tell_port<W: Write>(alloc: Global, port: u16, output: &mut W) -> Result<(), F
 
 /// Prints where the program listens, and then serves.
 fn tell_and_serve<D: Desk, H: Host, W: Write, E: Write>(
-    desk: &mut D,
     alloc: Global,
+    desk: &mut D,
     routes: &Routes,
     host: &mut H,
     port: u16,
@@ -62,7 +62,7 @@ fn tell_and_serve<D: Desk, H: Host, W: Write, E: Write>(
 {
     match tell_port(alloc, port, output) {
         Err(fault) => Err(fault),
-        Ok(()) => serve_connections(desk, alloc, routes, host, count, errors),
+        Ok(()) => serve_connections(alloc, desk, routes, host, count, errors),
     }
 }
 
@@ -77,8 +77,8 @@ fn tell_and_serve<D: Desk, H: Host, W: Write, E: Write>(
 /// has stopped (`portal: stopped`), at once; the clock or the source of seeds failed (`portal: file`,
 /// `portal: no_memory`); or the first line did not go out (`portal: cut`, `portal: no_memory`).
 pub fn serve<D: Desk, H: Host, W: Write, E: Write>(
-    desk: &mut D,
     alloc: Global,
+    desk: &mut D,
     routes: &Routes,
     host: &mut H,
     port: u16,
@@ -98,7 +98,7 @@ pub fn serve<D: Desk, H: Host, W: Write, E: Write>(
         × ((ended : Result (Unit {0}) Said) × (result ≡ status_at ended) × TellsTurns (host_of H.accepts H.stamps H.closes H.pauses H.Reader.remaining H.Writer.contents) (D.settings desk.old) port count
         (record { output = W.contents output.old; output_after = W.contents output.new; errors = E.contents errors.old; errors_after = E.contents errors.new }) host.old old ended host.new new) }
 {
-    match tell_and_serve(desk, alloc, routes, host, port, count, output, errors) {
+    match tell_and_serve(alloc, desk, routes, host, port, count, output, errors) {
         Ok(()) => 0,
         Err(fault) => fault.report(errors),
     }

@@ -44,7 +44,10 @@ pub struct Loopback<'h, H> {
 }
 
 impl<'h, H> Loopback<'h, H> {
-    pub fn new(host: &'h H, listener: TcpListener) -> Self {
+    /// Serves what comes to the listener, by the clock and the source of seeds of the machine.
+    pub fn new(host: &'h H, listener: TcpListener) -> Self
+        ensures { result ≡ record { host = host.entry; listener = listener } }
+    {
         Loopback { host, listener }
     }
 }

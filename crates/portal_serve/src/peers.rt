@@ -18,8 +18,8 @@ use std::io::{Read, Write};
 
 /// One exchange with a peer, as far as the desk goes: it is asked at most one request.
 fn ask<D: Desk, R: Read, W: Write>(
-    desk: &mut D,
     alloc: Global,
+    desk: &mut D,
     routes: &Routes,
     moment: Moment,
     seed: [u8; 32],
@@ -33,14 +33,14 @@ fn ask<D: Desk, R: Read, W: Write>(
     ensures exchanged { D.is_honest desk.new → (old : State) → D.stands desk.old old → (new : State) × D.stands desk.new new
         × ((ended : Result Ended Broken) × EndsExchange (between (R.remaining reader.old) (R.remaining reader.new) (W.contents writer.old) (W.contents writer.new)) moment seed (λ arrivals responses. Served (D.settings desk.old) old arrivals responses new) ended) }
 {
-    exchange(desk, alloc, routes, moment, seed, reader, writer)
+    exchange(alloc, desk, routes, moment, seed, reader, writer)
 }
 
 /// Has one peer served: at most one request is carried out, as `exchange` says, at this moment and with this seed. Where
 /// the connection broke off, `portal: cut` is printed.
 pub fn serve_peer<D: Desk, R: Read, W: Write, E: Write>(
-    desk: &mut D,
     alloc: Global,
+    desk: &mut D,
     routes: &Routes,
     moment: Moment,
     seed: [u8; 32],
@@ -56,7 +56,7 @@ pub fn serve_peer<D: Desk, R: Read, W: Write, E: Write>(
     ensures exchanged { D.is_honest desk.new → (old : State) → D.stands desk.old old → (new : State) × D.stands desk.new new
         × ((ended : Result Ended Broken) × EndsExchange (between (R.remaining reader.old) (R.remaining reader.new) (W.contents writer.old) (W.contents writer.new)) moment seed (λ arrivals responses. Served (D.settings desk.old) old arrivals responses new) ended) }
 {
-    match ask(desk, alloc, routes, moment, seed, reader, writer) {
+    match ask(alloc, desk, routes, moment, seed, reader, writer) {
         Ok(_) => {}
         Err(_) => {
             Fault::Cut.report(errors);

@@ -20,8 +20,8 @@ use std::io::Write;
 /// Has one connection served, with the clock's moment and a fresh seed. Faults: those of the host, before anything is
 /// read.
 fn serve_connection<D: Desk, H: Host, E: Write>(
-    desk: &mut D,
     alloc: Global,
+    desk: &mut D,
     routes: &Routes,
     host: &mut H,
     mut reader: H::Reader,
@@ -43,8 +43,8 @@ fn serve_connection<D: Desk, H: Host, E: Write>(
         Ok(stamp) => {
             let (moment, seed) = stamp;
             serve_peer(
-                desk,
                 alloc,
+                desk,
                 routes,
                 moment,
                 seed,
@@ -70,8 +70,8 @@ fn pause_after<H: Host>(host: &mut H, has_failed: bool)
 /// Waits for one connection and has it served. True where it broke before it was accepted: `portal: network` is printed
 /// then, and where the one before broke too, as `has_failed` says, a second is waited. Faults: those of the host.
 fn serve_turn<D: Desk, H: Host, E: Write>(
-    desk: &mut D,
     alloc: Global,
+    desk: &mut D,
     routes: &Routes,
     host: &mut H,
     has_failed: bool,
@@ -90,7 +90,7 @@ fn serve_turn<D: Desk, H: Host, E: Write>(
     match host.accept() {
         Some(peer) => {
             let (reader, writer) = peer;
-            match serve_connection(desk, alloc, routes, host, reader, writer, errors) {
+            match serve_connection(alloc, desk, routes, host, reader, writer, errors) {
                 Ok(()) => Ok(false),
                 Err(fault) => Err(fault),
             }
@@ -112,8 +112,8 @@ fn serve_turn<D: Desk, H: Host, E: Write>(
 /// of a desk that has stopped, at once, before another connection is waited for; and `File` or `NoMemory`, where the
 /// clock or the source of seeds fails.
 pub fn serve_connections<D: Desk, H: Host, E: Write>(
-    desk: &mut D,
     alloc: Global,
+    desk: &mut D,
     routes: &Routes,
     host: &mut H,
     count: u64,
@@ -130,13 +130,13 @@ pub fn serve_connections<D: Desk, H: Host, E: Write>(
     ensures turns { D.is_honest desk.new → (old : State) → D.stands desk.old old → (new : State) × D.stands desk.new new
         × TakesTurns (host_of H.accepts H.stamps H.closes H.pauses H.Reader.remaining H.Writer.contents) (D.settings desk.old) count host.old old result host.new new }
 {
-    serve_turns(desk, alloc, routes, host, count, errors)
+    serve_turns(alloc, desk, routes, host, count, errors)
 }
 
 /// The connections one after another, as `serve_connections` says.
 fn serve_turns<D: Desk, H: Host, E: Write>(
-    desk: &mut D,
     alloc: Global,
+    desk: &mut D,
     routes: &Routes,
     host: &mut H,
     count: u64,
@@ -156,7 +156,7 @@ fn serve_turns<D: Desk, H: Host, E: Write>(
         if desk.is_stopped() {
             return Err(Fault::Refused(Refusal::Stopped));
         }
-        match serve_turn(desk, alloc, routes, host, has_failed, errors) {
+        match serve_turn(alloc, desk, routes, host, has_failed, errors) {
             Ok(fails) => has_failed = fails,
             Err(fault) => return Err(fault),
         }

@@ -3,6 +3,7 @@ pub mod FindLemmas
 pub mod Frame
 pub mod HarmlessLemmas
 pub mod IndexLemmas
+pub mod InsideLemmas
 pub mod Keys
 pub mod Lookup
 pub mod LooksLemmas

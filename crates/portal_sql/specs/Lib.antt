@@ -1,5 +1,6 @@
 pub mod Finds
 pub mod Harmless
+pub mod Inside
 pub mod Looks
 pub mod Made
 pub mod Stands

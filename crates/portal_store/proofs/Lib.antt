@@ -3,4 +3,5 @@ pub mod ActLemmas
 pub mod AdoptLemmas
 pub mod JudgeLemmas
 pub mod ReadLemmas
+pub mod StopLemmas
 pub mod TakingLemmas

@@ -1,5 +1,5 @@
 -- From what the tables answer to what a desk over them answers.
-use Rattle.std.proofs.Common.{◌≡◌, inl, inr, Bool, true, false, refl, subst}
+use Rattle.std.proofs.Common.{◌≡◌, inl, inr, Bool, true, false, refl, sym, subst}
 use Rattle.std.specs.Prelude.{◌↔◌, IsTrue}
 use Rattle.sqlite_trees.specs.declared.store.Store.{Ghosts}
 use Rattle.portal_model.specs.declared.refusal.Refusal.{Refusal}
@@ -40,6 +40,12 @@ pub cannot_keep : {S : Type 0} (g : Ghosts S) (after : Tables S) (a : Accepted) 
 cannot_keep g after a fault r (running L) got memory over =
     (got.0, got.1, elim got.2 [ inl is ↦ inl (memory is.0, is.1) | inr is ↦ inr (over is.0, is.1) ])
 cannot_keep g after a fault r (stopped L doubt) got memory over = (got.0, got.1, (over got.2.0, got.2.1))
+
+-- the flag of the tables
+pub flag : (result is_stopped : Bool) → IsTrue result ↔ (is_stopped ≡ true) → result ≡ is_stopped
+flag true is_stopped same = sym (same.0 refl)
+flag false true same = same.1 refl
+flag false false same = refl
 
 -- whether it has stopped
 pub over : {S : Type 0} (g : Ghosts S) (tables : Tables S) (result : Bool) (s : State) → TablesAt g tables s

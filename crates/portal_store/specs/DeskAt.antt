@@ -1,4 +1,5 @@
 -- How a desk over a store stands, and what a stop may leave of it. The layers above cite these words and none of SQL.
+use Rattle.std.specs.Prelude.{Bool}
 use Rattle.sqlite_trees.specs.declared.store.Store.{Ghosts}
 use Rattle.portal_files.specs.SettingsFile.{SettingsValue}
 use Rattle.portal_ledger.specs.States.{State}
@@ -22,3 +23,7 @@ module _ {S : Type 0} (g : Ghosts S) where
 -- the settings that it was made with
 abbrev pub settings_of : {S : Type 0} → StoreDesk S → SettingsValue
 settings_of desk = desk.settings
+
+-- whether its tables have stopped
+abbrev pub stop_flag : {S : Type 0} → StoreDesk S → Bool
+stop_flag desk = desk.tables.is_stopped

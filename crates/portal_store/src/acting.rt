@@ -2,8 +2,9 @@
 ghost use Rattle.std.specs.Prelude.{◌≡◌, Some, None, MatchResult};
 ghost use Rattle.portal_ledger.specs.States.{State};
 ghost use Rattle.portal_model.specs.Verdict.{IsWellFormed};
+ghost use Rattle.portal_desk.specs.Calls.{KeepsStop};
 ghost use Rattle.portal_store.specs.Acting.{Carries};
-ghost use Rattle.portal_store.specs.DeskAt.{DeskAt, DeskIsHonest, settings_of};
+ghost use Rattle.portal_store.specs.DeskAt.{DeskAt, DeskIsHonest, settings_of, stop_flag};
 
 use crate::desks::StoreDesk;
 use portal_desk::Desk;
@@ -31,6 +32,7 @@ impl<S: Alter> StoreDesk<S> {
         requires { IsWellFormed command }
         ensures told { settings_of self.new ≡ settings_of self.old }
         ensures honest { DeskIsHonest S.Store self.new → DeskIsHonest S.Store self.old }
+        ensures stops { KeepsStop (stop_flag self.old) (stop_flag self.new) result }
         ensures act { DeskIsHonest S.Store self.new → (old : State) → DeskAt S.Store self.old old
             → (new : State) × DeskAt S.Store self.new new × Carries result command moment None old new }
     {
@@ -59,6 +61,7 @@ impl<S: Alter> StoreDesk<S> {
         requires { IsWellFormed command }
         ensures told { settings_of self.new ≡ settings_of self.old }
         ensures honest { DeskIsHonest S.Store self.new → DeskIsHonest S.Store self.old }
+        ensures stops { KeepsStop (stop_flag self.old) (stop_flag self.new) result }
         ensures act { DeskIsHonest S.Store self.new → (old : State) → DeskAt S.Store self.old old
             → (new : State) × DeskAt S.Store self.new new × Carries result command moment (Some mark.now) old new }
     {

@@ -58,6 +58,7 @@ impl<S: Alter> StoreDesk<S> {
     /// Hands the connection back. Where the desk did not stop, it stands where the desk stood. A stop leaves of it what it
     /// might leave of the desk.
     pub fn release(self) -> Connection<S>
+        ensures same { result ≡ self.tables.conn }
         ensures stands { (L : Ledger) → DeskAt S.Store self (running L) → ConnAt S.Store result L }
         ensures honest { ConnIsHonest S.Store result → DeskIsHonest S.Store self }
         ensures left { (files : Files) → ConnMayLeave S.Store result files → DeskMayLeave S.Store self files }

@@ -39,6 +39,8 @@ pub struct StoreDesk<S: Alter> {
 impl<S: Alter> Desk for StoreDesk<S> {
     ghost Files = { Files };
 
+    ghost has_stopped = { λ d. d.tables.is_stopped };
+
     ghost is_honest = { λ d. IsHonest S.Store d.tables };
 
     ghost may_leave = { λ d files. MayLeave S.Store d.tables files };

@@ -8,8 +8,9 @@ ghost use Rattle.portal_model.specs.Verdict.{any_held, IsWellFormed};
 ghost use Rattle.portal_laws.specs.FromRows.{held_among};
 ghost use Rattle.portal_ledger.specs.Ledger.{Ledger, history_of};
 ghost use Rattle.portal_ledger.specs.States.{State, running};
-ghost use Rattle.portal_desk.specs.Calls.{CannotAnswer};
+ghost use Rattle.portal_desk.specs.Calls.{CannotAnswer, KeepsStop};
 ghost use Rattle.portal_tables.specs.TablesAt.{IsHonest, TablesAt};
+ghost use Rattle.portal_store.specs.DeskAt.{stop_flag};
 ghost use Rattle.portal_store.specs.Judging.{Decides, Judges};
 ghost use Rattle.portal_store.specs.Rest.{KeepsRest};
 ghost use Rattle.portal_store.specs.Steps.{Leads, LeadsFrom};
@@ -55,6 +56,7 @@ impl<S: Alter> StoreDesk<S> {
         requires { IsWellFormed command.now }
         ensures rest { KeepsRest self.old self.new }
         ensures honest { IsHonest S.Store self.new.tables → IsHonest S.Store self.old.tables }
+        ensures stops { KeepsStop (stop_flag self.old) (stop_flag self.new) result }
         ensures decide { Leads S.Store self.old.tables self.new.tables
             (λ old new. Decides result command.now moment old new) }
     {
@@ -76,6 +78,7 @@ impl<S: Alter> StoreDesk<S> {
     ) -> Result<Changes, Refusal>
         ensures rest { KeepsRest self.old self.new }
         ensures honest { IsHonest S.Store self.new.tables → IsHonest S.Store self.old.tables }
+        ensures stops { KeepsStop (stop_flag self.old) (stop_flag self.new) result }
         ensures judge { LeadsFrom S.Store self.old.tables self.new.tables
             (λ L new. head.now ≡ head_of (history_of L) → Judges result command.now t L new) }
     {
@@ -95,6 +98,7 @@ impl<S: Alter> StoreDesk<S> {
     fn judge_sell(&mut self, code: &Code, t: Moment) -> Result<Changes, Refusal>
         ensures rest { KeepsRest self.old self.new }
         ensures honest { IsHonest S.Store self.new.tables → IsHonest S.Store self.old.tables }
+        ensures stops { KeepsStop (stop_flag self.old) (stop_flag self.new) result }
         ensures judge { LeadsFrom S.Store self.old.tables self.new.tables
             (λ L new. Judges result (Sell code.now) t L new) }
     {
@@ -107,6 +111,7 @@ impl<S: Alter> StoreDesk<S> {
     fn judge_report(&mut self, session: u64, bytes: u64, t: Moment) -> Result<Changes, Refusal>
         ensures rest { KeepsRest self.old self.new }
         ensures honest { IsHonest S.Store self.new.tables → IsHonest S.Store self.old.tables }
+        ensures stops { KeepsStop (stop_flag self.old) (stop_flag self.new) result }
         ensures judge { LeadsFrom S.Store self.old.tables self.new.tables
             (λ L new. Judges result (Report session bytes) t L new) }
     {
@@ -119,6 +124,7 @@ impl<S: Alter> StoreDesk<S> {
     fn judge_refund(&mut self, code: &Code, t: Moment) -> Result<Changes, Refusal>
         ensures rest { KeepsRest self.old self.new }
         ensures honest { IsHonest S.Store self.new.tables → IsHonest S.Store self.old.tables }
+        ensures stops { KeepsStop (stop_flag self.old) (stop_flag self.new) result }
         ensures judge { LeadsFrom S.Store self.old.tables self.new.tables
             (λ L new. Judges result (Refund code.now) t L new) }
     {
@@ -131,6 +137,7 @@ impl<S: Alter> StoreDesk<S> {
     fn judge_close(&mut self, session: u64, t: Moment) -> Result<Changes, Refusal>
         ensures rest { KeepsRest self.old self.new }
         ensures honest { IsHonest S.Store self.new.tables → IsHonest S.Store self.old.tables }
+        ensures stops { KeepsStop (stop_flag self.old) (stop_flag self.new) result }
         ensures judge { LeadsFrom S.Store self.old.tables self.new.tables
             (λ L new. Judges result (Close session) t L new) }
     {
@@ -149,6 +156,7 @@ impl<S: Alter> StoreDesk<S> {
     ) -> Result<Changes, Refusal>
         ensures rest { KeepsRest self.old self.new }
         ensures honest { IsHonest S.Store self.new.tables → IsHonest S.Store self.old.tables }
+        ensures stops { KeepsStop (stop_flag self.old) (stop_flag self.new) result }
         ensures judge { LeadsFrom S.Store self.old.tables self.new.tables
             (λ L new. head.now ≡ head_of (history_of L) → Judges result (Redeem device.now code.now) t L new) }
     {
@@ -165,6 +173,7 @@ impl<S: Alter> StoreDesk<S> {
     fn judge_load(&mut self, alloc: Global, plans: &[Plan], t: Moment) -> Result<Changes, Refusal>
         ensures rest { KeepsRest self.old self.new }
         ensures honest { IsHonest S.Store self.new.tables → IsHonest S.Store self.old.tables }
+        ensures stops { KeepsStop (stop_flag self.old) (stop_flag self.new) result }
         ensures judge { LeadsFrom S.Store self.old.tables self.new.tables
             (λ L new. Judges result (Load plans.now) t L new) }
     {
@@ -185,6 +194,7 @@ impl<S: Alter> StoreDesk<S> {
     ) -> Result<Changes, Refusal>
         ensures rest { KeepsRest self.old self.new }
         ensures honest { IsHonest S.Store self.new.tables → IsHonest S.Store self.old.tables }
+        ensures stops { KeepsStop (stop_flag self.old) (stop_flag self.new) result }
         ensures judge { LeadsFrom S.Store self.old.tables self.new.tables
             (λ L new. Judges result (Issue batch.now plan.now codes.now) t L new) }
     {
@@ -206,6 +216,7 @@ impl<S: Alter> StoreDesk<S> {
     fn hold(&mut self, listed: &[Plan], held: &mut Vec<Plan>) -> Result<(), Refusal>
         ensures rest { KeepsRest self.old self.new }
         ensures honest { IsHonest S.Store self.new.tables → IsHonest S.Store self.old.tables }
+        ensures stops { KeepsStop (stop_flag self.old) (stop_flag self.new) result }
         ensures held { LeadsFrom S.Store self.old.tables self.new.tables (λ L new. MatchResult result
             (λ _. (held.new.items ≡ held.old.items ++ held_among (plans_of (history_of L)) listed.now) × (new ≡ running L))
             (λ r. CannotAnswer (running L) r new)) }
@@ -221,6 +232,7 @@ impl<S: Alter> StoreDesk<S> {
     fn is_any_held(&mut self, codes: &[Code]) -> Result<bool, Refusal>
         ensures rest { KeepsRest self.old self.new }
         ensures honest { IsHonest S.Store self.new.tables → IsHonest S.Store self.old.tables }
+        ensures stops { KeepsStop (stop_flag self.old) (stop_flag self.new) result }
         ensures held { LeadsFrom S.Store self.old.tables self.new.tables (λ L new. MatchResult result
             (λ taken. (taken ≡ any_held (history_of L) codes.now) × (new ≡ running L))
             (λ r. CannotAnswer (running L) r new)) }

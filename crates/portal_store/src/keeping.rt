@@ -6,8 +6,9 @@ ghost use Rattle.portal_model.specs.History.{entry, History};
 ghost use Rattle.portal_model.specs.Verdict.{Follows, IsLegal};
 ghost use Rattle.portal_open.specs.Open.{open_at_last};
 ghost use Rattle.portal_ledger.specs.States.{State};
+ghost use Rattle.portal_desk.specs.Calls.{KeepsStop};
 ghost use Rattle.portal_tables.specs.TablesAt.{IsHonest};
-ghost use Rattle.portal_store.specs.DeskAt.{DeskAt, DeskIsHonest, settings_of};
+ghost use Rattle.portal_store.specs.DeskAt.{DeskAt, DeskIsHonest, settings_of, stop_flag};
 ghost use Rattle.portal_store.specs.Rest.{KeepsRest};
 ghost use Rattle.portal_store.specs.Steps.{Leads, Tells};
 
@@ -24,6 +25,7 @@ impl<S: Alter> StoreDesk<S> {
     fn find_open_at_last(&mut self, alloc: Global) -> Result<OpenSessions, Refusal>
         ensures rest { KeepsRest self.old self.new }
         ensures honest { IsHonest S.Store self.new.tables → IsHonest S.Store self.old.tables }
+        ensures stops { KeepsStop (stop_flag self.old) (stop_flag self.new) result }
         ensures read { Leads S.Store self.old.tables self.new.tables
             (λ old new. Tells result (λ list H. list ≡ open_at_last H) old new) }
     {
@@ -42,6 +44,7 @@ impl<S: Alter> StoreDesk<S> {
     pub(crate) fn take_open(&mut self, alloc: Global) -> Result<OpenSessions, Refusal>
         ensures settings { settings_of self.new ≡ settings_of self.old }
         ensures honest { DeskIsHonest S.Store self.new → DeskIsHonest S.Store self.old }
+        ensures stops { KeepsStop (stop_flag self.old) (stop_flag self.new) result }
         ensures read { DeskIsHonest S.Store self.new → (old : State) → DeskAt S.Store self.old old
             → (new : State) × DeskAt S.Store self.new new × Tells result (λ list H. list ≡ open_at_last H) old new }
     {

@@ -11,3 +11,4 @@ mod reading;
 mod takings;
 
 pub use desks::StoreDesk;
+pub use portal_tables::{OpenFault, Refused};

@@ -2,9 +2,11 @@
 ghost use Rattle.std.specs.Prelude.{◌≡◌, ◌++◌, ◌≤◌, true, IfOk, filter, map};
 ghost use Rattle.portal_model.specs.Captive.{all_sessions};
 ghost use Rattle.portal_model.specs.History.{codes_of, is_open_at};
+ghost use Rattle.portal_desk.specs.Calls.{KeepsStop};
 ghost use Rattle.portal_tables.specs.Lists.{AreSales, AreRefunds};
 ghost use Rattle.portal_tables.specs.TablesAt.{IsHonest};
 ghost use Rattle.portal_store.specs.Counters.{CountersAre};
+ghost use Rattle.portal_store.specs.DeskAt.{stop_flag};
 ghost use Rattle.portal_store.specs.Paid.{paid_days};
 ghost use Rattle.portal_store.specs.Rest.{KeepsRest};
 ghost use Rattle.portal_store.specs.Steps.{Leads, Tells};
@@ -30,6 +32,7 @@ impl<S: Alter> StoreDesk<S> {
     pub(crate) fn find_codes(&mut self, alloc: Global, id: &Id) -> Result<Vec<Code>, Refusal>
         ensures rest { KeepsRest self.old self.new }
         ensures honest { IsHonest S.Store self.new.tables → IsHonest S.Store self.old.tables }
+        ensures stops { KeepsStop (stop_flag self.old) (stop_flag self.new) result }
         ensures read { Leads S.Store self.old.tables self.new.tables
             (λ old new. Tells result (λ found H. found.items ≡ codes_of H id.now) old new) }
     {
@@ -43,6 +46,7 @@ impl<S: Alter> StoreDesk<S> {
     pub(crate) fn find_open(&mut self, alloc: Global, t: Moment) -> Result<Vec<Session>, Refusal>
         ensures rest { KeepsRest self.old self.new }
         ensures honest { IsHonest S.Store self.new.tables → IsHonest S.Store self.old.tables }
+        ensures stops { KeepsStop (stop_flag self.old) (stop_flag self.new) result }
         ensures read { Leads S.Store self.old.tables self.new.tables
             (λ old new. Tells result (λ found H. found.items ≡ filter (is_open_at t) (all_sessions H)) old new) }
     {
@@ -61,6 +65,7 @@ impl<S: Alter> StoreDesk<S> {
     ) -> Result<Vec<(Moment, u64)>, Refusal>
         ensures rest { KeepsRest self.old self.new }
         ensures honest { IsHonest S.Store self.new.tables → IsHonest S.Store self.old.tables }
+        ensures stops { KeepsStop (stop_flag self.old) (stop_flag self.new) result }
         ensures read { Leads S.Store self.old.tables self.new.tables
             (λ old new. Tells result (λ found H. AreSales H from to found.items) old new) }
     {
@@ -79,6 +84,7 @@ impl<S: Alter> StoreDesk<S> {
     ) -> Result<Vec<(Moment, u64)>, Refusal>
         ensures rest { KeepsRest self.old self.new }
         ensures honest { IsHonest S.Store self.new.tables → IsHonest S.Store self.old.tables }
+        ensures stops { KeepsStop (stop_flag self.old) (stop_flag self.new) result }
         ensures read { Leads S.Store self.old.tables self.new.tables
             (λ old new. Tells result (λ found H. AreRefunds H from to found.items) old new) }
     {
@@ -92,6 +98,7 @@ impl<S: Alter> StoreDesk<S> {
     pub(crate) fn check_counters(&mut self) -> Result<bool, Refusal>
         ensures rest { KeepsRest self.old self.new }
         ensures honest { IsHonest S.Store self.new.tables → IsHonest S.Store self.old.tables }
+        ensures stops { KeepsStop (stop_flag self.old) (stop_flag self.new) result }
         ensures read { Leads S.Store self.old.tables self.new.tables
             (λ old new. Tells result (λ agrees H. agrees ≡ true) old new) }
         ensures exact { IsHonest S.Store self.new.tables → IfOk result (CountersAre S.Store self.old.tables) }

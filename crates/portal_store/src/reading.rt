@@ -3,9 +3,10 @@ ghost use Rattle.std.specs.Prelude.{◌≡◌, ◌⊎◌, Ok, Err, Some, is_some
 ghost use Rattle.portal_model.specs.History.{head_of, plan_of, batch_of, issued_of, voucher_of, session_of, last_session_of};
 ghost use Rattle.portal_ledger.specs.Ledger.{repeat_in};
 ghost use Rattle.portal_ledger.specs.Calls.{ReadsOf};
-ghost use Rattle.portal_desk.specs.Calls.{CannotAnswer};
+ghost use Rattle.portal_desk.specs.Calls.{CannotAnswer, KeepsStop};
 ghost use Rattle.portal_tables.specs.declared.fault.StoreFault.TheVariants.{Memory, Stopped};
 ghost use Rattle.portal_tables.specs.TablesAt.{IsHonest};
+ghost use Rattle.portal_store.specs.DeskAt.{stop_flag};
 ghost use Rattle.portal_store.specs.Rest.{KeepsRest};
 ghost use Rattle.portal_store.specs.Steps.{Leads, Tells};
 
@@ -38,6 +39,7 @@ impl<S: Alter> StoreDesk<S> {
     pub(crate) fn find_head(&mut self) -> Result<Head, Refusal>
         ensures rest { KeepsRest self.old self.new }
         ensures honest { IsHonest S.Store self.new.tables → IsHonest S.Store self.old.tables }
+        ensures stops { KeepsStop (stop_flag self.old) (stop_flag self.new) result }
         ensures read { Leads S.Store self.old.tables self.new.tables
             (λ old new. Tells result (λ found H. found ≡ head_of H) old new) }
     {
@@ -51,6 +53,7 @@ impl<S: Alter> StoreDesk<S> {
     pub(crate) fn find_plan(&mut self, id: &Id) -> Result<Option<Plan>, Refusal>
         ensures rest { KeepsRest self.old self.new }
         ensures honest { IsHonest S.Store self.new.tables → IsHonest S.Store self.old.tables }
+        ensures stops { KeepsStop (stop_flag self.old) (stop_flag self.new) result }
         ensures read { Leads S.Store self.old.tables self.new.tables
             (λ old new. Tells result (λ found H. found ≡ plan_of H id.now) old new) }
     {
@@ -64,6 +67,7 @@ impl<S: Alter> StoreDesk<S> {
     pub(crate) fn find_batch(&mut self, id: &Id) -> Result<Option<Batch>, Refusal>
         ensures rest { KeepsRest self.old self.new }
         ensures honest { IsHonest S.Store self.new.tables → IsHonest S.Store self.old.tables }
+        ensures stops { KeepsStop (stop_flag self.old) (stop_flag self.new) result }
         ensures read { Leads S.Store self.old.tables self.new.tables
             (λ old new. Tells result (λ found H. found ≡ batch_of H id.now) old new) }
     {
@@ -77,6 +81,7 @@ impl<S: Alter> StoreDesk<S> {
     pub(crate) fn find_voucher(&mut self, code: &Code) -> Result<Option<Voucher>, Refusal>
         ensures rest { KeepsRest self.old self.new }
         ensures honest { IsHonest S.Store self.new.tables → IsHonest S.Store self.old.tables }
+        ensures stops { KeepsStop (stop_flag self.old) (stop_flag self.new) result }
         ensures read { Leads S.Store self.old.tables self.new.tables
             (λ old new. Tells result (λ found H. found ≡ voucher_of H code.now) old new) }
     {
@@ -90,6 +95,7 @@ impl<S: Alter> StoreDesk<S> {
     pub(crate) fn is_held(&mut self, code: &Code) -> Result<bool, Refusal>
         ensures rest { KeepsRest self.old self.new }
         ensures honest { IsHonest S.Store self.new.tables → IsHonest S.Store self.old.tables }
+        ensures stops { KeepsStop (stop_flag self.old) (stop_flag self.new) result }
         ensures read { Leads S.Store self.old.tables self.new.tables
             (λ old new. Tells result (λ held H. held ≡ is_some (issued_of H code.now)) old new) }
     {
@@ -103,6 +109,7 @@ impl<S: Alter> StoreDesk<S> {
     pub(crate) fn find_session(&mut self, number: u64) -> Result<Option<Session>, Refusal>
         ensures rest { KeepsRest self.old self.new }
         ensures honest { IsHonest S.Store self.new.tables → IsHonest S.Store self.old.tables }
+        ensures stops { KeepsStop (stop_flag self.old) (stop_flag self.new) result }
         ensures read { Leads S.Store self.old.tables self.new.tables
             (λ old new. Tells result (λ found H. found ≡ session_of H number) old new) }
     {
@@ -116,6 +123,7 @@ impl<S: Alter> StoreDesk<S> {
     pub(crate) fn find_last(&mut self, device: &Device) -> Result<Option<Session>, Refusal>
         ensures rest { KeepsRest self.old self.new }
         ensures honest { IsHonest S.Store self.new.tables → IsHonest S.Store self.old.tables }
+        ensures stops { KeepsStop (stop_flag self.old) (stop_flag self.new) result }
         ensures read { Leads S.Store self.old.tables self.new.tables
             (λ old new. Tells result (λ found H. found ≡ last_session_of H device.now) old new) }
     {
@@ -135,11 +143,12 @@ impl<S: Alter> StoreDesk<S> {
     ) -> Result<Option<Answer>, Refusal>
         ensures rest { KeepsRest self.old self.new }
         ensures honest { IsHonest S.Store self.new.tables → IsHonest S.Store self.old.tables }
+        ensures stops { KeepsStop (stop_flag self.old) (stop_flag self.new) result }
         ensures read { Leads S.Store self.old.tables self.new.tables (λ old new. MatchResult result
             (λ found. ReadsOf old (λ L. repeat_in L (Some mark.now) ≡ Ok found) new)
             (λ r. ReadsOf old (λ L. repeat_in L (Some mark.now) ≡ Err r) new ⊎ CannotAnswer old r new)) }
     {
-        match self.tables.request(alloc, &mark.caller(), mark.number()) {
+        match self.tables.request(alloc, &mark.caller, &mark.number) {
             Ok(kept) => decide_repeat(kept.as_ref(), mark),
             Err(fault) => Err(refused(fault)),
         }

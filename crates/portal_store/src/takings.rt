@@ -6,7 +6,9 @@ ghost use Rattle.portal_days.specs.Takings.{TotalsFit};
 ghost use Rattle.portal_desk.specs.Sheets.{takings_over};
 ghost use Rattle.portal_files.specs.LocalDay.{local_day_of};
 ghost use Rattle.portal_model.specs.Verdict.{greatest_moment};
+ghost use Rattle.portal_desk.specs.Calls.{KeepsStop};
 ghost use Rattle.portal_tables.specs.TablesAt.{IsHonest};
+ghost use Rattle.portal_store.specs.DeskAt.{stop_flag};
 ghost use Rattle.portal_store.specs.Rest.{KeepsRest};
 ghost use Rattle.portal_store.specs.Steps.{Leads, Tells};
 
@@ -71,6 +73,7 @@ impl<S: Alter> StoreDesk<S> {
     ) -> Result<Vec<DayTakings>, Refusal>
         ensures rest { KeepsRest self.old self.new }
         ensures honest { IsHonest S.Store self.new.tables → IsHonest S.Store self.old.tables }
+        ensures stops { KeepsStop (stop_flag self.old) (stop_flag self.new) result }
         ensures totals { IfOk result (λ days. TotalsFit days.items) }
         ensures takings { Leads S.Store self.old.tables self.new.tables
             (λ old new. Tells result (λ days H. days.items ≡ takings_over self.old.settings.zone H range) old new) }

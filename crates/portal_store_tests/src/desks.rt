@@ -42,7 +42,17 @@ impl Place for InMemory {
 
     ghost finds = { λ _ _ _. ⊤ };
 
+    ghost opens = { λ _ _ _ _. ⊤ };
+
     ghost closes = { λ _. ⊤ };
+
+    ghost fails_to_read = { λ _ _ _. ⊤ };
+
+    ghost refuses = { λ _ _ _. ⊤ };
+
+    ghost fails_to_close = { λ _ _ _. ⊤ };
+
+    ghost fails_to_make = { λ _. ⊤ };
 
     ghost is_fresh_honest = { λ desk. desk_is_honest desk };
 
@@ -94,7 +104,7 @@ fn arrivals(alloc: Global, requests: &[(u64, &[u8])]) -> Option<Vec<Arrival>> {
 fn answers_of<D: Desk>(alloc: Global, desk: &mut D, arrivals: &[Arrival]) -> Option<Vec<Vec<u8>>> {
     let routes = Routes::new(alloc).ok()?;
     let mut out = Vec::new(alloc);
-    run(desk, alloc, &routes, arrivals, &mut out).ok()?;
+    run(alloc, desk, &routes, arrivals, &mut out).ok()?;
     Some(out)
 }
 

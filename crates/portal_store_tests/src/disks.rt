@@ -1,19 +1,21 @@
 //! A store in files in memory, which are closed after each job, or which stop answering.
 //!
 //! Only the functions of this file name a connection over files.
-use crate::files::{Image, Limit, remains};
+use crate::files::{Image, Limit, answer, remains};
 use crate::jobs::{Job, Told, run};
 use sqlite::{Connection, Files, Options};
 use sqlite_disk::Disk;
 use std::alloc::Global;
 use std::test::Fail;
 
-/// What is left of files that stopped: what the job tells, whether they were closed, and their bytes where
-/// the process ends and where the power fails. Then writes that were not synced are lost.
+/// What is left of files that stopped: what the job tells, whether they were closed, whether they answer
+/// still, and their bytes where the process ends and where the power fails. Then writes that were not synced
+/// are lost.
 #[derive(Drop)]
 pub struct Remains {
     pub told: Told,
     pub is_closed: bool,
+    pub answers: bool,
     pub ended: Image,
     pub failed: Image,
 }
@@ -36,13 +38,10 @@ fn open<D: Disk + Drop>(
         return Err("the files may not be used".into());
     }
     match Connection::open_files(alloc, files, Options::new(1)) {
-        Ok(conn) => {
-            let (conn, told) = run(alloc, conn, job)?;
-            match conn.close_files() {
-                Ok(files) => Ok((told, true, files)),
-                Err((_, store)) => Ok((told, false, store.close())),
-            }
-        }
+        Ok(conn) => match run(alloc, conn, job)? {
+            (told, Ok(files)) => Ok((told, true, files)),
+            (told, Err((_, store))) => Ok((told, false, store.close())),
+        },
         Err((_, left)) => Ok((Told::Unopened, false, left.into_files())),
     }
 }
@@ -83,11 +82,13 @@ impl InFiles {
     /// Does the job in files that stop so. What stands in these files stays.
     pub fn stop(&self, job: Job<'_>, limit: Limit) -> Result<Remains, Fail> {
         let files = self.image.stopping_files(self.alloc, limit)?;
-        let (told, is_closed, files) = open(self.alloc, files, job)?;
+        let (told, is_closed, mut files) = open(self.alloc, files, job)?;
+        let answers = answer(&mut files);
         let (ended, failed) = remains(self.alloc, files)?;
         Ok(Remains {
             told,
             is_closed,
+            answers,
             ended,
             failed,
         })

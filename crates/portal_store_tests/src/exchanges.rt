@@ -124,8 +124,8 @@ pub fn meet<D: Desk>(alloc: Global, desk: &mut D, routes: &Routes, peer: &Peer<'
     writer.room = peer.room;
     writer.fails = peer.fails;
     let ended = exchange(
-        desk,
         alloc,
+        desk,
         routes,
         moment,
         [0; 32],

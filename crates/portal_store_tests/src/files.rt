@@ -69,6 +69,14 @@ impl Image {
         })
     }
 
+    /// That of the same database file with a new log.
+    pub fn without_log(&self, alloc: Global) -> Result<Image, Fail> {
+        Ok(Image {
+            log: Vec::new(alloc),
+            db: self.db.clone()?,
+        })
+    }
+
     /// Files with these bytes, which never stop.
     pub fn files(&self, alloc: Global) -> Result<Files<FileDisk>, Fail> {
         self.files_up_to(alloc, u64::MAX, u64::MAX)
@@ -88,6 +96,11 @@ impl Image {
             db: file(alloc, &self.db, db)?,
         })
     }
+}
+
+/// Whether the files answer a further call. Once a call was refused they do not.
+pub fn answer(files: &mut Files<FileDisk>) -> bool {
+    files.may_be_used() && files.log.len().is_ok() && files.db.len().is_ok()
 }
 
 /// What is left of files where the process ends, and where the power fails: then writes that were not synced

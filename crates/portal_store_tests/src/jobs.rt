@@ -1,17 +1,19 @@
-//! What is done with a store, whatever kind of store it is.
+//! What is done with a store over files, which is closed then. A desk is closed as the program closes it.
 use crate::day::Sent;
 use crate::desks::is_refused_by_stopped;
 use crate::exchanges::{meet, whole_peer};
 use crate::sql::{execute_all, whole};
 use portal_desk::Desk;
 use portal_files::{Settings, sample_settings};
+use portal_host::close_desk;
 use portal_http::exchanges::status_shown;
 use portal_model::refusal::Refusal;
 use portal_route::Routes;
 use portal_store::StoreDesk;
 use portal_tables::adopt::Refused;
 use portal_tables::fault::OpenFault;
-use sqlite::{Alter, Connection};
+use sqlite::{Connection, Error, FileStore, Files};
+use sqlite_disk::Disk;
 use std::alloc::Global;
 use std::test::Fail;
 
@@ -89,32 +91,34 @@ fn told_of(outcome: Option<Outcome>) -> Told {
     }
 }
 
-/// A desk over the store is sent the requests, and the connection is handed back.
-fn with_settings<S: Alter + Drop>(
+/// The files of a store that was closed, or the store that was not.
+pub type Closed<D> = Result<Files<D>, (Error, FileStore<D>)>;
+
+/// A desk over the store is sent the requests, and closed.
+fn with_settings<D: Disk + Drop>(
     alloc: Global,
-    conn: Connection<S>,
+    conn: Connection<FileStore<D>>,
     settings: Settings,
     requests: &[Sent],
-) -> Result<(Connection<S>, Told), Fail> {
+) -> (Told, Closed<D>) {
     match StoreDesk::adopt(conn, settings) {
         Ok(adopted) => {
             let mut desk = adopted;
             let outcome = send(alloc, &mut desk, requests);
-            let conn = desk.release();
-            Ok((conn, told_of(outcome)))
+            (told_of(outcome), close_desk(desk))
         }
-        Err(Refused { fault, connection }) => Ok((connection, Told::Unadopted(fault))),
+        Err(Refused { fault, connection }) => (Told::Unadopted(fault), connection.close_files()),
     }
 }
 
 /// The same by the sample settings.
-fn with_desk<S: Alter + Drop>(
+fn with_desk<D: Disk + Drop>(
     alloc: Global,
-    conn: Connection<S>,
+    conn: Connection<FileStore<D>>,
     requests: &[Sent],
-) -> Result<(Connection<S>, Told), Fail> {
+) -> Result<(Told, Closed<D>), Fail> {
     match sample_settings(alloc) {
-        Ok(settings) => with_settings(alloc, conn, settings, requests),
+        Ok(settings) => Ok(with_settings(alloc, conn, settings, requests)),
         Err(fault) => {
             drop(conn);
             Err(fault.into())
@@ -122,22 +126,22 @@ fn with_desk<S: Alter + Drop>(
     }
 }
 
-/// Does the job, and hands the connection back.
-pub fn run<S: Alter + Drop>(
+/// Does the job, and closes the store.
+pub fn run<D: Disk + Drop>(
     alloc: Global,
-    conn: Connection<S>,
+    conn: Connection<FileStore<D>>,
     job: Job<'_>,
-) -> Result<(Connection<S>, Told), Fail> {
+) -> Result<(Told, Closed<D>), Fail> {
     let mut conn = conn;
     match job {
         Job::Sql(texts) => {
             execute_all(&mut conn, texts)?;
-            Ok((conn, Told::Nothing))
+            Ok((Told::Nothing, conn.close_files()))
         }
         Job::Send(requests) => with_desk(alloc, conn, requests),
         Job::Whole => {
-            let whole = whole(alloc, &mut conn)?;
-            Ok((conn, Told::Whole(whole)))
+            let whole = whole(alloc, &mut conn).ok_or("the store is not read")?;
+            Ok((Told::Whole(whole), conn.close_files()))
         }
     }
 }

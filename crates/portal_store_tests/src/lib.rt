@@ -18,6 +18,8 @@ mod files;
 #[cfg(test)]
 mod jobs;
 #[cfg(test)]
+mod paths;
+#[cfg(test)]
 mod pieces;
 #[cfg(test)]
 mod places;

@@ -83,7 +83,17 @@ impl<P: Place> Place for GivenPlace<P> {
 
     ghost finds = { λ _ _ _. ⊤ };
 
+    ghost opens = { λ _ _ _ _. ⊤ };
+
     ghost closes = { λ _. ⊤ };
+
+    ghost fails_to_read = { λ _ _ _. ⊤ };
+
+    ghost refuses = { λ _ _ _. ⊤ };
+
+    ghost fails_to_close = { λ _ _ _. ⊤ };
+
+    ghost fails_to_make = { λ _. ⊤ };
 
     ghost is_fresh_honest = { λ desk. P.is_fresh_honest desk };
 

@@ -107,8 +107,8 @@ fn ends_at<P: Place, R: Read, W: Write>(
         seed,
     };
     let ended = answer(
-        good_shelf(alloc).place::<P>(),
         alloc,
+        good_shelf(alloc).place::<P>(),
         &request,
         input,
         output,
@@ -139,9 +139,9 @@ fn status_of<P: Place>(
 ) -> u8 {
     let mut input = REQUEST;
     run_program(
+        alloc,
         good_shelf(alloc).place::<P>(),
         &Line { is_free: true },
-        alloc,
         words,
         &mut input,
         output,

@@ -113,7 +113,7 @@ pub fn served<D: Desk, H: Host, W: Write>(
 ) -> Option<(u8, Vec<u8>)> {
     let routes = Routes::new(alloc).ok()?;
     let mut errors = Vec::new(alloc);
-    let status = serve(desk, alloc, &routes, host, 8080, count, output, &mut errors);
+    let status = serve(alloc, desk, &routes, host, 8080, count, output, &mut errors);
     Some((status, errors))
 }
 

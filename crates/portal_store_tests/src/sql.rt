@@ -10,32 +10,28 @@ pub fn execute_all<S: Alter>(conn: &mut Connection<S>, texts: &[&str]) -> Result
     }
     Ok(())
 }
+
 /// Adds each row that the query answers to the text.
-fn write_rows<S: Alter>(
-    conn: &mut Connection<S>,
-    sql: &str,
-    whole: &mut String,
-) -> Result<(), Fail> {
-    for row in conn.query_all(sql, &[])? {
-        writeln!(whole, "{row:?}")?;
+fn write_rows<S: Alter>(conn: &mut Connection<S>, sql: &str, whole: &mut String) -> Option<()> {
+    for row in conn.query_all(sql, &[]).ok()? {
+        writeln!(whole, "{row:?}").ok()?;
     }
-    Ok(())
+    Some(())
 }
 
 /// The names of the tables of a store, in order.
-fn tables<S: Alter>(alloc: Global, conn: &mut Connection<S>) -> Result<Vec<String>, Fail> {
+fn tables<S: Alter>(alloc: Global, conn: &mut Connection<S>) -> Option<Vec<String>> {
     let mut names = Vec::new(alloc);
-    for row in conn.query_all(
-        "SELECT name FROM sqlite_master WHERE type = 'table' ORDER BY name",
-        &[],
-    )? {
-        names.push(row.get(0)?)?;
+    let sql = "SELECT name FROM sqlite_master WHERE type = 'table' ORDER BY name";
+    for row in conn.query_all(sql, &[]).ok()? {
+        names.push(row.get(0).ok()?).ok()?;
     }
-    Ok(names)
+    Some(names)
 }
 
 /// All that stands in a store: what its tables, indexes and views were made of, and each row of each table.
-pub fn whole<S: Alter>(alloc: Global, conn: &mut Connection<S>) -> Result<String, Fail> {
+/// `None` where it is not read, or there is no memory.
+pub fn whole<S: Alter>(alloc: Global, conn: &mut Connection<S>) -> Option<String> {
     let mut whole = String::new(alloc);
     write_rows(
         conn,
@@ -43,9 +39,9 @@ pub fn whole<S: Alter>(alloc: Global, conn: &mut Connection<S>) -> Result<String
         &mut whole,
     )?;
     for table in tables(alloc, conn)? {
-        let sql = format!(in alloc; "SELECT * FROM {table} ORDER BY 1")?;
-        writeln!(whole, "{table}")?;
+        let sql = format!(in alloc; "SELECT * FROM {table} ORDER BY 1").ok()?;
+        writeln!(whole, "{table}").ok()?;
         write_rows(conn, sql.as_str(), &mut whole)?;
     }
-    Ok(whole)
+    Some(whole)
 }

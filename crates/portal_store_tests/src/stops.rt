@@ -1,6 +1,7 @@
-//! A day at the desk, and openings of stores of each schema version, that are stopped at each call of the
-//! files. They are opened again, also with a further stop, and gone on with: what stands there is the
-//! requests that were accepted, or one more, whole.
+//! A day at the desk, and openings of stores of each schema version, from the opening of the files to their
+//! closing, that are stopped at each call of the files. They are opened again, also with a further stop, and
+//! gone on with: what stands there is the requests that were accepted, or one more, whole. Where the files
+//! were closed, it stands in the database file alone.
 use crate::day::{COMMANDS, Sent, all_questions, all_sent};
 use crate::disks::{InFiles, Remains};
 use crate::files::{AT_END, Image, Limit, Part};
@@ -44,12 +45,14 @@ struct Trial<'a> {
     states: Vec<String>,
     /// Files that stops left, and the last of the states that stands in them.
     known: Vec<(Image, usize)>,
+    /// How many stops came in the closing of the files, when all requests were accepted.
+    unclosed: usize,
 }
 
 /// The trial, with what comes of it where nothing is stopped.
 fn prepared<'a>(
-    rt: &impl Abort,
     alloc: Global,
+    rt: &impl Abort,
     start: Image,
     day: &'a [Sent],
     from: usize,
@@ -73,6 +76,7 @@ fn prepared<'a>(
         start,
         states,
         known: Vec::new(alloc),
+        unclosed: 0,
     })
 }
 
@@ -93,6 +97,15 @@ impl Trial<'_> {
             }
         }
         Ok(found.ok_or("what is left is no part of the day")?)
+    }
+
+    /// Whether it changes what stands in the files. Else the log was copied as they were opened, and there is
+    /// nothing to copy as they are closed.
+    fn changes(&self) -> bool {
+        match self.states.as_slice() {
+            [before, .., after] => before.as_str() != after.as_str(),
+            _ => false,
+        }
     }
 
     /// The last state that is like the first.
@@ -185,12 +198,19 @@ impl Trial<'_> {
         Ok(state)
     }
 
+    /// The state of the files as they were closed is that of the database file alone.
+    fn is_whole_alone(&self, image: &Image, state: usize) -> Result<bool, Fail> {
+        let alone = image.without_log(self.alloc)?;
+        Ok(self.state_in(&alone)? == state)
+    }
+
     /// Stops the trial so. Answers whether it was not stopped.
     fn stopped(&mut self, rt: &impl Abort, limit: Limit) -> Result<bool, Fail> {
         let files = InFiles::of(self.alloc, &self.start)?;
         let Remains {
             told,
             is_closed,
+            answers,
             ended,
             failed,
         } = files.stop(Job::Send(self.requests()?), limit)?;
@@ -204,21 +224,30 @@ impl Trial<'_> {
             ),
             _ => return Err("neither stopped nor accepted".into()),
         };
+        if is_done && !is_closed {
+            self.unclosed = self.unclosed.saturating_add(1);
+        }
         for image in [ended, failed] {
+            if is_done && is_closed {
+                assert!(rt; self.is_whole_alone(&image, most)?, "{limit:?}");
+            }
             let state = self.found(rt, image)?;
             assert!(rt;
                 least <= state && state <= most,
                 "{limit:?} {least} {state}"
             );
         }
-        Ok(is_closed && is_done)
+        assert!(rt; (is_done && is_closed) || !answers, "{limit:?}");
+        Ok(answers)
     }
 
     /// Stops it at each call of the file, from none upward, until it is not stopped.
     fn stop_at_each(&mut self, rt: &impl Abort, part: Part) -> Result<(), Fail> {
         for calls in 0..MANY {
             if self.stopped(rt, Limit { part, calls })? {
-                assert!(rt; calls > 2, "{part:?} {calls}");
+                let unclosed = self.unclosed;
+                let is_stopped_enough = calls > 2 && (unclosed > 2 || !self.changes());
+                assert!(rt; is_stopped_enough, "{part:?} {calls} {unclosed}");
                 return Ok(());
             }
         }
@@ -237,8 +266,8 @@ fn commands_sent(alloc: Global, is_numbered: bool) -> Result<Vec<Sent>, Fail> {
 /// Stops a group of the day, after so many commands, at each call of the file. After the whole day the
 /// questions are answered as after one without a stop.
 fn stop_group(
-    rt: &impl Abort,
     alloc: Global,
+    rt: &impl Abort,
     from: usize,
     is_numbered: bool,
     part: Part,
@@ -248,7 +277,7 @@ fn stop_group(
     let group = day.get(..from.saturating_add(GROUP)).ok_or("past the day")?;
     let mut files = InFiles::new(alloc);
     accept_all(rt, &mut files, before)?;
-    let mut trial = prepared(rt, alloc, files.image()?, group, from, is_numbered)?;
+    let mut trial = prepared(alloc, rt, files.image()?, group, from, is_numbered)?;
     trial.stop_at_each(rt, part)?;
     accept_all(rt, &mut files, trial.requests()?)?;
     if group.len() == day.len() {
@@ -260,122 +289,122 @@ fn stop_group(
 
 #[test]
 fn morning_stopped_by_the_log(rt: HostRuntime) -> Result<(), Fail> {
-    stop_group(&rt, rt.alloc(), 0, false, Part::Log)
+    stop_group(rt.alloc(), &rt, 0, false, Part::Log)
 }
 
 #[test]
 fn evening_stopped_by_the_log(rt: HostRuntime) -> Result<(), Fail> {
-    stop_group(&rt, rt.alloc(), GROUP, false, Part::Log)
+    stop_group(rt.alloc(), &rt, GROUP, false, Part::Log)
 }
 
 #[test]
 fn morning_stopped_by_the_database(rt: HostRuntime) -> Result<(), Fail> {
-    stop_group(&rt, rt.alloc(), 0, false, Part::Database)
+    stop_group(rt.alloc(), &rt, 0, false, Part::Database)
 }
 
 #[test]
 fn evening_stopped_by_the_database(rt: HostRuntime) -> Result<(), Fail> {
-    stop_group(&rt, rt.alloc(), GROUP, false, Part::Database)
+    stop_group(rt.alloc(), &rt, GROUP, false, Part::Database)
 }
 
 #[test]
 fn numbered_morning_stopped_by_the_log(rt: HostRuntime) -> Result<(), Fail> {
-    stop_group(&rt, rt.alloc(), 0, true, Part::Log)
+    stop_group(rt.alloc(), &rt, 0, true, Part::Log)
 }
 
 #[test]
 fn numbered_evening_stopped_by_the_log(rt: HostRuntime) -> Result<(), Fail> {
-    stop_group(&rt, rt.alloc(), GROUP, true, Part::Log)
+    stop_group(rt.alloc(), &rt, GROUP, true, Part::Log)
 }
 
 #[test]
 fn numbered_morning_stopped_by_the_database(rt: HostRuntime) -> Result<(), Fail> {
-    stop_group(&rt, rt.alloc(), 0, true, Part::Database)
+    stop_group(rt.alloc(), &rt, 0, true, Part::Database)
 }
 
 #[test]
 fn numbered_evening_stopped_by_the_database(rt: HostRuntime) -> Result<(), Fail> {
-    stop_group(&rt, rt.alloc(), GROUP, true, Part::Database)
+    stop_group(rt.alloc(), &rt, GROUP, true, Part::Database)
 }
 
 /// Stops an opening of the files at each call of one of them.
 fn stop_opening_of(
-    rt: &impl Abort,
     alloc: Global,
+    rt: &impl Abort,
     files: &InFiles,
     part: Part,
 ) -> Result<(), Fail> {
-    let mut trial = prepared(rt, alloc, files.image()?, &[], 0, false)?;
+    let mut trial = prepared(alloc, rt, files.image()?, &[], 0, false)?;
     trial.stop_at_each(rt, part)
 }
 
 /// The same of a store that these texts make.
-fn stop_store(rt: &impl Abort, alloc: Global, texts: &[&str], part: Part) -> Result<(), Fail> {
+fn stop_store(alloc: Global, rt: &impl Abort, texts: &[&str], part: Part) -> Result<(), Fail> {
     let mut files = InFiles::new(alloc);
     drop(files.visit(Job::Sql(texts))?);
-    stop_opening_of(rt, alloc, &files, part)
+    stop_opening_of(alloc, rt, &files, part)
 }
 
 #[test]
 fn new_tables_stopped_by_the_log(rt: HostRuntime) -> Result<(), Fail> {
-    stop_store(&rt, rt.alloc(), &[], Part::Log)
+    stop_store(rt.alloc(), &rt, &[], Part::Log)
 }
 
 #[test]
 fn new_tables_stopped_by_the_database(rt: HostRuntime) -> Result<(), Fail> {
-    stop_store(&rt, rt.alloc(), &[], Part::Database)
+    stop_store(rt.alloc(), &rt, &[], Part::Database)
 }
 
 const FIRST_STORE: &[&str] = &["BEGIN", FIRST, "COMMIT"];
 
 #[test]
 fn first_version_stopped_by_the_log(rt: HostRuntime) -> Result<(), Fail> {
-    stop_store(&rt, rt.alloc(), FIRST_STORE, Part::Log)
+    stop_store(rt.alloc(), &rt, FIRST_STORE, Part::Log)
 }
 
 #[test]
 fn first_version_stopped_by_the_database(rt: HostRuntime) -> Result<(), Fail> {
-    stop_store(&rt, rt.alloc(), FIRST_STORE, Part::Database)
+    stop_store(rt.alloc(), &rt, FIRST_STORE, Part::Database)
 }
 
 const SECOND_STORE: &[&str] = &["BEGIN", FIRST, SECOND, "COMMIT"];
 
 #[test]
 fn second_version_stopped_by_the_log(rt: HostRuntime) -> Result<(), Fail> {
-    stop_store(&rt, rt.alloc(), SECOND_STORE, Part::Log)
+    stop_store(rt.alloc(), &rt, SECOND_STORE, Part::Log)
 }
 
 #[test]
 fn second_version_stopped_by_the_database(rt: HostRuntime) -> Result<(), Fail> {
-    stop_store(&rt, rt.alloc(), SECOND_STORE, Part::Database)
+    stop_store(rt.alloc(), &rt, SECOND_STORE, Part::Database)
 }
 
 const THIRD_STORE: &[&str] = &["BEGIN", FIRST, SECOND, THIRD, "COMMIT"];
 
 #[test]
 fn third_version_stopped_by_the_log(rt: HostRuntime) -> Result<(), Fail> {
-    stop_store(&rt, rt.alloc(), THIRD_STORE, Part::Log)
+    stop_store(rt.alloc(), &rt, THIRD_STORE, Part::Log)
 }
 
 #[test]
 fn third_version_stopped_by_the_database(rt: HostRuntime) -> Result<(), Fail> {
-    stop_store(&rt, rt.alloc(), THIRD_STORE, Part::Database)
+    stop_store(rt.alloc(), &rt, THIRD_STORE, Part::Database)
 }
 
 /// What was accepted stands in the log alone, since the process ended: the opening reads it there.
-fn stop_log(rt: &impl Abort, alloc: Global, part: Part) -> Result<(), Fail> {
+fn stop_log(alloc: Global, rt: &impl Abort, part: Part) -> Result<(), Fail> {
     let day = commands_sent(alloc, false)?;
     let files = InFiles::new(alloc);
     let Remains { ended, .. } = files.stop(Job::Send(day.as_slice()), AT_END)?;
-    stop_opening_of(rt, alloc, &InFiles::of(alloc, &ended)?, part)
+    stop_opening_of(alloc, rt, &InFiles::of(alloc, &ended)?, part)
 }
 
 #[test]
 fn reading_of_a_log_stopped_by_the_log(rt: HostRuntime) -> Result<(), Fail> {
-    stop_log(&rt, rt.alloc(), Part::Log)
+    stop_log(rt.alloc(), &rt, Part::Log)
 }
 
 #[test]
 fn reading_of_a_log_stopped_by_the_database(rt: HostRuntime) -> Result<(), Fail> {
-    stop_log(&rt, rt.alloc(), Part::Database)
+    stop_log(rt.alloc(), &rt, Part::Database)
 }

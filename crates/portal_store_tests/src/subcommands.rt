@@ -58,14 +58,14 @@ enum Asked<'w> {
 
 /// The status of `answer`, of the request of a guest.
 fn answered<P: Place>(
-    place: P,
     alloc: Global,
+    place: P,
     request: &Request<'_>,
     output: &mut Vec<u8>,
     errors: &mut Vec<u8>,
 ) -> u8 {
     let mut input = REQUEST.as_bytes();
-    answer(place, alloc, request, &mut input, output, errors)
+    answer(alloc, place, request, &mut input, output, errors)
 }
 
 /// What `answer` is asked for, over files or without.
@@ -84,8 +84,8 @@ fn wanted(now: u64, seed: &str, has_files: bool) -> Request<'_> {
 
 /// The status of the subcommand over the files of the place.
 fn status_of<P: Place>(
-    place: P,
     alloc: Global,
+    place: P,
     asked: &Asked<'_>,
     output: &mut Vec<u8>,
     errors: &mut Vec<u8>,
@@ -93,15 +93,15 @@ fn status_of<P: Place>(
     match asked {
         Asked::Answer(now, seed, has_files) => {
             let request = wanted(*now, seed, *has_files);
-            answered(place, alloc, &request, output, errors)
+            answered(alloc, place, &request, output, errors)
         }
-        Asked::Print(batch) => print(place, alloc, FILES, batch, output, errors),
-        Asked::Takings(from, to) => takings(place, alloc, FILES, from, to, output, errors),
-        Asked::Check => check(place, alloc, FILES, output, errors),
+        Asked::Print(batch) => print(alloc, place, FILES, batch, output, errors),
+        Asked::Takings(from, to) => takings(alloc, place, FILES, from, to, output, errors),
+        Asked::Check => check(alloc, place, FILES, output, errors),
         Asked::Serve(is_free) => {
             let at = Listening { port: 80, count: 1 };
             let network = Line { is_free: *is_free };
-            serve(place, &network, alloc, FILES, at, output, errors)
+            serve(alloc, place, &network, FILES, at, output, errors)
         }
     }
 }
@@ -111,8 +111,8 @@ fn outcome<P: Place>(shelf: &Shelf, asked: &Asked<'_>) -> Ended {
     let mut output = Vec::new(shelf.alloc);
     let mut errors = Vec::new(shelf.alloc);
     let status = status_of(
-        shelf.place::<P>(),
         shelf.alloc,
+        shelf.place::<P>(),
         asked,
         &mut output,
         &mut errors,
@@ -235,7 +235,7 @@ fn is_checked<P: Place>(alloc: Global, files: Files<'_>, said: &str) -> bool {
     let mut output = Vec::new(alloc);
     let mut errors = Vec::new(alloc);
     let place = good_shelf(alloc).place::<P>();
-    let status = check(place, alloc, files, &mut output, &mut errors);
+    let status = check(alloc, place, files, &mut output, &mut errors);
     let ended = Ended {
         status,
         output,
@@ -261,14 +261,14 @@ fn is_said(status: u8, output: &[u8], errors: &[u8]) -> bool {
 fn is_print_stopped<D: Desk>(alloc: Global, desk: &mut D) -> bool {
     let mut output = Vec::new(alloc);
     let mut errors = Vec::new(alloc);
-    let status = print_at(desk, alloc, "b1", &mut output, &mut errors);
+    let status = print_at(alloc, desk, "b1", &mut output, &mut errors);
     is_said(status, output.as_slice(), errors.as_slice())
 }
 
 fn is_check_stopped<D: Desk>(alloc: Global, desk: &mut D) -> bool {
     let mut output = Vec::new(alloc);
     let mut errors = Vec::new(alloc);
-    let status = check_at(desk, alloc, &mut output, &mut errors);
+    let status = check_at(alloc, desk, &mut output, &mut errors);
     is_said(status, output.as_slice(), errors.as_slice())
 }
 
@@ -276,7 +276,7 @@ fn are_takings_stopped<D: Desk>(alloc: Global, desk: &mut D) -> Option<bool> {
     let range = read_range("1970-01-02", "1970-01-02")?;
     let mut output = Vec::new(alloc);
     let mut errors = Vec::new(alloc);
-    let status = takings_at(desk, alloc, range, &mut output, &mut errors);
+    let status = takings_at(alloc, desk, range, &mut output, &mut errors);
     Some(is_said(status, output.as_slice(), errors.as_slice()))
 }
 
@@ -287,8 +287,8 @@ fn answer_status<D: Desk>(alloc: Global, desk: &mut D, request: &str) -> Option<
     let mut input = request.as_bytes();
     let mut output = Vec::new(alloc);
     answer_at(
-        desk,
         alloc,
+        desk,
         &routes,
         moment,
         [0; 32],

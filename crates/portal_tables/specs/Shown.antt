@@ -1,7 +1,9 @@
 -- When a database shows a history.
-use Rattle.std.specs.Prelude.{◌≡◌, ℕ, IsTrue, List, [], ◌∷◌, map, Option}
+use Rattle.std.specs.Prelude.{◌≡◌, ℕ, IsTrue, List, [], ◌∷◌, map, Option, Result, IfOk}
 use Rattle.sqlite.specs.Effect.{Database}
 use Rattle.sqlite_rules.specs.Lists.{Has}
+use Rattle.sqlite.specs.Store.{Ghosts}
+use Rattle.sqlite.specs.Held.{Held, state}
 use Rattle.sqlite.specs.State.{State, HasCleanDisk}
 use Rattle.portal_codes.specs.Code.{text_of}
 use Rattle.portal_model.specs.declared.record.Head.{Head}
@@ -15,8 +17,10 @@ use Rattle.portal_ledger.specs.Mark.{Mark}
 use Rattle.portal_ledger.specs.declared.caller.Caller.{Caller}
 use Rattle.portal_ledger.specs.declared.request.KeptRequest.{KeptRequest}
 use Rattle.portal_ledger.specs.RequestRow.{RequestRow, row_of_request}
-use Rattle.portal_rows.specs.Holds.{Holds, this_layout}
+use Rattle.portal_sql.specs.Looks.{Looks}
+use Rattle.portal_rows.specs.Holds.{Holds, HasTables, this_layout}
 use Rattle.portal_rows.specs.Read.{session_read}
+use Rattle.portal_rows.specs.declared.rows.Fault.{Fault}
 use Rattle.portal_rows.specs.declared.rows.KeptSession.{KeptSession}
 
 -- codes and devices as they are printed
@@ -66,6 +70,11 @@ ShowsHistory h db = IsLegal h × ((requests : List RequestRow) × Holds db (cont
 -- what is so of each history that the open connection showed
 abbrev pub OfShown : State → State → (History → Type 0) → Type 0
 OfShown old new Is = HasCleanDisk new → IsTrue old.is_open → (h : History) → ShowsHistory h old.now → Is h
+
+-- A call that reads such a history: what it answers is so of it. It writes nothing.
+pub record ReadsShown {S A : Type 0} (g : Ghosts S) (old new : Held S) (result : Result A Fault) (Is : History → A → Type 0) : Type 0 where
+  pub found : OfShown (state g old) (state g new) (λ h. IfOk result (Is h))
+  pub looks : Looks HasTables result (state g old) (state g new)
 
 -- a row that was read is one of the history's
 pub record IsRowOf (h : History) (row : KeptSession) : Type 0 where

@@ -1,5 +1,5 @@
 -- When tables stand so, and what a stop may leave of them. The layers above cite these words and none of SQL.
-use Rattle.std.specs.Prelude.{◌≡◌, ◌⊎◌, ◌∷◌, Some, None, Result, MatchResult, true, false}
+use Rattle.std.specs.Prelude.{◌≡◌, ◌⊎◌, ◌∷◌, Some, None, Result, MatchResult, IsErrOf, true, false}
 use Rattle.sqlite.specs.Tree.{Trees}
 use Rattle.sqlite.specs.State.{HasCleanDisk}
 use Rattle.sqlite.specs.Held.{Held, state}
@@ -7,6 +7,7 @@ use Rattle.sqlite_trees.specs.declared.store.Store.{Ghosts}
 use Rattle.portal_sql.specs.StandsAt.{LeftShows, StandsAt}
 use Rattle.portal_ledger.specs.Ledger.{Ledger}
 use Rattle.portal_ledger.specs.States.{State as Standing, running, stopped}
+use Rattle.portal_ledger.specs.Calls.{ReadsOf, FailsToRead}
 use Rattle.portal_rows.specs.Others.{KeepsOthers, LeftOthers}
 use Rattle.portal_tables.specs.declared.fault.StoreFault.{StoreFault}
 use Rattle.portal_tables.specs.declared.fault.StoreFault.TheVariants.{Memory, Stopped}
@@ -95,3 +96,12 @@ module _ {S : Type 0} (g : Ghosts S) where
   -- each set of files that a stop may leave after is one that it might leave before
   abbrev pub LeavesNoMore : Tables S → Tables S → Type 0
   LeavesNoMore old new = (files : Files) → MayLeave new files → MayLeave old files
+
+  -- A call that reads the tables: it answers what is so of the ledger at which they stand and changes nothing, or it fails. What has stopped
+  -- answers `Stopped` and stays as it is.
+  pub record ReadsTables {A : Type 0} (old new : Tables S) (result : Result A StoreFault) (Is : Ledger → A → Type 0) : Type 0 where
+    pub honest : IsHonest new → IsHonest old
+    pub stopped : IsStopped old → IsErrOf result Stopped × (new ≡ old)
+    pub stops : KeepsStop old new result
+    pub found : IsHonest new → (before : Standing) → TablesAt old before → (after : Standing) × TablesAt new after × LeavesNoMore old new
+        × MatchResult result (λ found. ReadsOf before (λ L. Is L found) after) (λ fault. FailsToRead Memory Stopped before fault after)

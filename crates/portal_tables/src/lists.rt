@@ -1,14 +1,11 @@
 //! Lists of a history, each entry of which is read from several tables.
 
-ghost use Rattle.std.specs.Prelude.{◌≡◌, IfOk, filter};
+ghost use Rattle.std.specs.Prelude.{◌≡◌, filter};
 ghost use Rattle.std.specs.List.{filter_map};
-ghost use Rattle.sqlite.specs.Held.{state};
 ghost use Rattle.portal_model.specs.Captive.{all_sessions};
 ghost use Rattle.portal_model.specs.History.{is_open_at};
-ghost use Rattle.portal_sql.specs.Looks.{Looks};
-ghost use Rattle.portal_rows.specs.Holds.{HasTables};
 ghost use Rattle.portal_tables.specs.Lists.{AreOrderedSales, AreSales, open_numbered};
-ghost use Rattle.portal_tables.specs.Shown.{OfShown};
+ghost use Rattle.portal_tables.specs.Shown.{ReadsShown};
 
 use crate::prices::{priced_sales, prices_by_batch};
 use crate::records::read_session;
@@ -26,8 +23,7 @@ fn read_open<S: Alter>(
     number: u64,
     t: Moment,
 ) -> Result<Option<Session>, Fault>
-    ensures found { OfShown (state S.Store conn.old) (state S.Store conn.new) (λ h. IfOk result (λ found. found ≡ open_numbered h t number)) }
-    ensures looks { Looks HasTables result (state S.Store conn.old) (state S.Store conn.new) }
+    ensures { ReadsShown S.Store conn.old conn.new result (λ h found. found ≡ open_numbered h t number) }
 {
     let Some(session) = read_session(conn, number)? else {
         return Ok(None);
@@ -46,8 +42,8 @@ fn read_numbered<S: Alter>(
     numbers: &[u64],
     t: Moment,
 ) -> Result<Vec<Session>, Fault>
-    ensures found { OfShown (state S.Store conn.old) (state S.Store conn.new) (λ h. IfOk result (λ sessions. sessions.items ≡ filter_map (open_numbered h t) numbers.now)) }
-    ensures looks { Looks HasTables result (state S.Store conn.old) (state S.Store conn.new) }
+    ensures { ReadsShown S.Store conn.old conn.new result
+        (λ h sessions. sessions.items ≡ filter_map (open_numbered h t) numbers.now) }
 {
     let mut sessions = Vec::new(alloc);
     for number in numbers {
@@ -64,8 +60,8 @@ pub(crate) fn read_open_sessions<S: Alter>(
     conn: &mut Connection<S>,
     t: Moment,
 ) -> Result<Vec<Session>, Fault>
-    ensures found { OfShown (state S.Store conn.old) (state S.Store conn.new) (λ h. IfOk result (λ sessions. sessions.items ≡ filter (is_open_at t) (all_sessions h))) }
-    ensures looks { Looks HasTables result (state S.Store conn.old) (state S.Store conn.new) }
+    ensures { ReadsShown S.Store conn.old conn.new result
+        (λ h sessions. sessions.items ≡ filter (is_open_at t) (all_sessions h)) }
 {
     let numbers = list_numbers(alloc, conn, t)?;
     let sessions = read_numbered(alloc, conn, &numbers, t)?;
@@ -79,8 +75,8 @@ pub(crate) fn read_sales<S: Alter>(
     from: Moment,
     to: Moment,
 ) -> Result<Vec<(Moment, u64)>, Fault>
-    ensures found { OfShown (state S.Store conn.old) (state S.Store conn.new) (λ h. IfOk result (λ payments. AreSales h from to payments.items)) }
-    ensures looks { Looks HasTables result (state S.Store conn.old) (state S.Store conn.new) }
+    ensures { ReadsShown S.Store conn.old conn.new result
+        (λ h payments. AreSales h from to payments.items) }
 {
     let plans = all_plans(conn)?;
     let batches = all_batches(conn)?;
@@ -96,8 +92,8 @@ pub(crate) fn read_ordered_sales<S: Alter>(
     from: Moment,
     to: Moment,
 ) -> Result<Vec<(Moment, u64)>, Fault>
-    ensures found { OfShown (state S.Store conn.old) (state S.Store conn.new) (λ h. IfOk result (λ payments. AreOrderedSales h from to payments.items)) }
-    ensures looks { Looks HasTables result (state S.Store conn.old) (state S.Store conn.new) }
+    ensures { ReadsShown S.Store conn.old conn.new result
+        (λ h payments. AreOrderedSales h from to payments.items) }
 {
     let plans = all_plans(conn)?;
     let batches = all_batches(conn)?;

@@ -2,7 +2,7 @@
 
 ghost use Rattle.std.specs.Prelude.{[], IfErr, IfOk, IfSome, IsTrue};
 ghost use Rattle.sqlite_wal.specs.Files.{image_at};
-ghost use Rattle.sqlite.specs.Files.{IsCleanLeft, image_of, file_state, over_files};
+ghost use Rattle.sqlite.specs.Files.{Finds, IsCleanLeft, image_of, file_state, over_files};
 ghost use Rattle.sqlite.specs.State.{HasCleanDisk};
 ghost use Rattle.sqlite.specs.Steps.{over_memory};
 ghost use Rattle.portal_ledger.specs.Ledger.{Ledger};
@@ -24,7 +24,8 @@ pub fn open_in_memory(alloc: Global) -> Result<Connection<MemStore>, AllocError>
 }
 
 /// Opens files. Where they show a ledger, as a stop leaves them, the connection stands at it; files with no database yet
-/// show that nothing was accepted. Where they are not opened, what a stop may leave of them shows the ledger still.
+/// show that nothing was accepted. Whatever they hold, the connection finds those tables, ours and those of others. Where
+/// they are not opened, what a stop may leave of them shows the ledger still.
 pub fn open_files<D: Disk + Drop>(
     alloc: Global,
     files: Files<D>,
@@ -34,6 +35,7 @@ pub fn open_files<D: Disk + Drop>(
     requires db { IsTrue (D.Disk.is_usable files.db) }
     ensures opened { (L : Ledger) → ImageShows (image_of D.Disk files) L
         → IfOk result (λ conn. HasCleanDisk (file_state conn) → ConnAt over_files conn L) }
+    ensures found { IfOk result (λ conn. HasCleanDisk (file_state conn) → Finds files conn) }
     ensures unopened { (L : Ledger) → AreAt D.Disk files L
         → IfErr result (λ e. IsCleanLeft e.1 → LeftoverShows (image_of D.Disk files) e.1 L) }
 {
@@ -56,7 +58,8 @@ pub fn open_path<S: Start>(
     ensures opened { (L : Ledger) → ImageShows (image_at S.Start) L
         → IfOk result (λ conn. HasCleanDisk (file_state conn) → ConnAt over_files conn L) }
     ensures unopened { (L : Ledger) → ImageShows (image_at S.Start) L
-        → IfErr result (λ e. IfSome e.1 (λ left. IsCleanLeft left → LeftoverShows (image_at S.Start) left L)) }
+        → IfErr result (λ e. IfSome e.1
+        (λ left. IsCleanLeft left → LeftoverShows (image_at S.Start) left L)) }
 {
     match Connection::open_from(host, path, false, start) {
         Ok(opened) => Ok(opened),

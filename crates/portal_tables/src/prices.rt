@@ -18,7 +18,8 @@ use std::collections::HashMap;
 
 /// The price of the batch's plan, in hundredths. A batch without its plan is a foreign row.
 fn price_of(plans: &[Plan], batch: &Batch) -> Result<u64, Fault>
-    ensures { IfOk result (λ price. (plan : Plan) × (plan_among plans.now batch.now.plan ≡ Some plan) × (price ≡ plan.price)) }
+    ensures { IfOk result
+        (λ price. (plan : Plan) × (plan_among plans.now batch.now.plan ≡ Some plan) × (price ≡ plan.price)) }
 {
     match plan_among(plans, &batch.plan) {
         Some(plan) => Ok(u64::from(plan.price)),
@@ -32,7 +33,8 @@ pub(crate) fn prices_by_batch<'a>(
     plans: &[Plan],
     batches: &'a [Batch],
 ) -> Result<HashMap<&'a str, u64>, Fault>
-    ensures { IfOk result (λ prices. ArePrices plans.now batches.now (λ id. get_by (λ k. bytes_eq id k.now) prices)) }
+    ensures { IfOk result
+        (λ prices. ArePrices plans.now batches.now (λ id. get_by (λ k. bytes_eq id k.now) prices)) }
 {
     let mut prices = HashMap::new(alloc);
     for batch in batches {
@@ -47,7 +49,9 @@ pub(crate) fn prices_by_batch<'a>(
 
 /// The moment and the price of a sale. A sale of no batch is a foreign row.
 fn priced(prices: &HashMap<&str, u64>, sale: &KeptSale) -> Result<(Moment, u64), Fault>
-    ensures { IfOk result (λ payment. is_priced (get_by (λ k. bytes_eq sale.now.batch k.now) prices.now) (sale_read sale.now) ≡ Some (paid payment)) }
+    ensures { IfOk result
+        (λ payment. is_priced (get_by (λ k. bytes_eq sale.now.batch k.now) prices.now)
+        (sale_read sale.now) ≡ Some (paid payment)) }
 {
     match prices.get(sale.batch.text()) {
         Some(price) => Ok((sale.at, *price)),
@@ -61,7 +65,9 @@ pub(crate) fn priced_sales(
     prices: &HashMap<&str, u64>,
     sales: &[KeptSale],
 ) -> Result<Vec<(Moment, u64)>, Fault>
-    ensures { IfOk result (λ payments. map (λ s. is_priced (get_by (λ k. bytes_eq s.batch k.now) prices.now) (sale_read s)) sales.now ≡ map (λ p. Some (paid p)) payments.items) }
+    ensures { IfOk result
+        (λ payments. map (λ s. is_priced (get_by (λ k. bytes_eq s.batch k.now) prices.now)
+        (sale_read s)) sales.now ≡ map (λ p. Some (paid p)) payments.items) }
 {
     let mut payments = Vec::new(alloc);
     for sale in sales {

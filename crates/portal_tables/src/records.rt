@@ -2,12 +2,13 @@
 
 ghost use Rattle.std.specs.Prelude.{◌≡◌, Some, IfOk, is_some};
 ghost use Rattle.sqlite.specs.Held.{state};
-ghost use Rattle.portal_model.specs.History.{plan_of, batch_of, issued_of, voucher_of, session_of, last_session_of, head_of};
+ghost use Rattle.portal_model.specs.History.{plan_of, batch_of, issued_of, voucher_of, session_of};
+ghost use Rattle.portal_model.specs.History.{last_session_of, head_of};
 ghost use Rattle.portal_model.specs.Device.{IsDevice};
 ghost use Rattle.portal_model.specs.Rows.{allowance_from};
 ghost use Rattle.portal_sql.specs.Looks.{Looks};
 ghost use Rattle.portal_rows.specs.Holds.{HasTables};
-ghost use Rattle.portal_tables.specs.Shown.{IsHeldUnder, IsRowOf, OfLedger, OfShown};
+ghost use Rattle.portal_tables.specs.Shown.{IsHeldUnder, IsRowOf, OfLedger, ReadsShown};
 
 use portal_codes::Code;
 use portal_ledger::caller::Caller;
@@ -26,8 +27,7 @@ use std::alloc::Global;
 
 /// The head.
 pub(crate) fn read_head<S: Alter>(conn: &mut Connection<S>) -> Result<Head, Fault>
-    ensures found { OfShown (state S.Store conn.old) (state S.Store conn.new) (λ h. IfOk result (λ head. head ≡ head_of h)) }
-    ensures looks { Looks HasTables result (state S.Store conn.old) (state S.Store conn.new) }
+    ensures { ReadsShown S.Store conn.old conn.new result (λ h head. head ≡ head_of h) }
 {
     match find_head(conn)? {
         Some(kept) => Ok(Head {
@@ -44,8 +44,8 @@ pub(crate) fn read_terms<S: Alter>(
     conn: &mut Connection<S>,
     id: &Id,
 ) -> Result<(Batch, Plan), Fault>
-    ensures found { OfShown (state S.Store conn.old) (state S.Store conn.new) (λ h. IfOk result (λ terms. (batch_of h id.now ≡ Some terms.0) × (plan_of h terms.0.plan ≡ Some terms.1))) }
-    ensures looks { Looks HasTables result (state S.Store conn.old) (state S.Store conn.new) }
+    ensures { ReadsShown S.Store conn.old conn.new result
+        (λ h terms. (batch_of h id.now ≡ Some terms.0) × (plan_of h terms.0.plan ≡ Some terms.1)) }
 {
     let Some(batch) = find_batch(conn, id)? else {
         return Err(Fault::ForeignRow);
@@ -61,8 +61,7 @@ pub(crate) fn read_voucher<S: Alter>(
     conn: &mut Connection<S>,
     code: &Code,
 ) -> Result<Option<Voucher>, Fault>
-    ensures found { OfShown (state S.Store conn.old) (state S.Store conn.new) (λ h. IfOk result (λ found. found ≡ voucher_of h code.now)) }
-    ensures looks { Looks HasTables result (state S.Store conn.old) (state S.Store conn.new) }
+    ensures { ReadsShown S.Store conn.old conn.new result (λ h found. found ≡ voucher_of h code.now) }
 {
     let Some(row) = find_voucher(conn, code)? else {
         return Ok(None);
@@ -84,8 +83,8 @@ pub(crate) fn read_voucher<S: Alter>(
 
 /// Whether a voucher of the code was issued.
 pub(crate) fn read_is_held<S: Alter>(conn: &mut Connection<S>, code: &Code) -> Result<bool, Fault>
-    ensures found { OfShown (state S.Store conn.old) (state S.Store conn.new) (λ h. IfOk result (λ held. held ≡ is_some (issued_of h code.now))) }
-    ensures looks { Looks HasTables result (state S.Store conn.old) (state S.Store conn.new) }
+    ensures { ReadsShown S.Store conn.old conn.new result
+        (λ h held. held ≡ is_some (issued_of h code.now)) }
 {
     let found = find_voucher(conn, code)?;
     Ok(found.is_some())
@@ -116,8 +115,8 @@ pub(crate) const LIMIT: u64 = 1 << 63;
 /// The session of a row that was read.
 fn complete<S: Alter>(conn: &mut Connection<S>, row: &KeptSession) -> Result<Session, Fault>
     requires { IsDevice row.now.device }
-    ensures found { OfShown (state S.Store conn.old) (state S.Store conn.new) (λ h. IsRowOf h row.now → IfOk result (λ session. Some session ≡ session_of h row.now.number)) }
-    ensures looks { Looks HasTables result (state S.Store conn.old) (state S.Store conn.new) }
+    ensures { ReadsShown S.Store conn.old conn.new result
+        (λ h session. IsRowOf h row.now → Some session ≡ session_of h row.now.number) }
 {
     if row.number >= LIMIT {
         return Err(Fault::ForeignRow);
@@ -146,8 +145,7 @@ pub(crate) fn read_session<S: Alter>(
     conn: &mut Connection<S>,
     number: u64,
 ) -> Result<Option<Session>, Fault>
-    ensures found { OfShown (state S.Store conn.old) (state S.Store conn.new) (λ h. IfOk result (λ found. found ≡ session_of h number)) }
-    ensures looks { Looks HasTables result (state S.Store conn.old) (state S.Store conn.new) }
+    ensures { ReadsShown S.Store conn.old conn.new result (λ h found. found ≡ session_of h number) }
 {
     if number >= LIMIT {
         return Ok(None);
@@ -163,8 +161,8 @@ pub(crate) fn read_last_session<S: Alter>(
     conn: &mut Connection<S>,
     device: &Device,
 ) -> Result<Option<Session>, Fault>
-    ensures found { OfShown (state S.Store conn.old) (state S.Store conn.new) (λ h. IfOk result (λ found. found ≡ last_session_of h device.now)) }
-    ensures looks { Looks HasTables result (state S.Store conn.old) (state S.Store conn.new) }
+    ensures { ReadsShown S.Store conn.old conn.new result
+        (λ h found. found ≡ last_session_of h device.now) }
 {
     match find_last_session(conn, device)? {
         Some(row) => Ok(Some(complete(conn, &row)?)),
@@ -179,7 +177,8 @@ pub(crate) fn read_kept<S: Alter>(
     caller: &Caller,
     number: &RequestNumber,
 ) -> Result<Option<KeptRequest>, Fault>
-    ensures found { OfLedger (state S.Store conn.old) (state S.Store conn.new) (λ L. IfOk result (IsHeldUnder L caller.now number.now)) }
+    ensures found { OfLedger (state S.Store conn.old) (state S.Store conn.new)
+        (λ L. IfOk result (IsHeldUnder L caller.now number.now)) }
     ensures looks { Looks HasTables result (state S.Store conn.old) (state S.Store conn.new) }
 {
     let found = find_kept(alloc, conn, caller, number)?;

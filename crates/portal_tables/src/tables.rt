@@ -1,13 +1,17 @@
 ghost use Rattle.std.specs.Prelude.{◌≡◌, ◌↔◌, ◌⊎◌, true, false, IsTrue, MatchResult, IsErrOf, is_some};
 ghost use Rattle.sqlite.specs.Held.{state};
 ghost use Rattle.sqlite.specs.State.{HasCleanDisk, IsUnchanged, Survives};
-ghost use Rattle.portal_ledger.specs.Ledger.{Accepted, Ledger};
-ghost use Rattle.portal_model.specs.History.{head_of, plan_of, batch_of, issued_of, voucher_of, session_of, last_session_of};
-ghost use Rattle.portal_rows.specs.Commands.{Fits as FitsColumns, FitsSession, FitsIssuance, FitsRedemption, FitsUsage, FitsAnswer, FitsMark, FitsMarked};
+ghost use Rattle.portal_ledger.specs.Ledger.{Accepted, Ledger, history_of};
+ghost use Rattle.portal_model.specs.History.{head_of, plan_of, batch_of, issued_of, voucher_of, session_of};
+ghost use Rattle.portal_model.specs.History.{last_session_of};
+ghost use Rattle.portal_rows.specs.Commands.{Fits as FitsColumns, FitsSession, FitsIssuance, FitsRedemption};
+ghost use Rattle.portal_rows.specs.Commands.{FitsUsage, FitsAnswer, FitsMark, FitsMarked};
 ghost use Rattle.portal_ledger.specs.States.{State as Standing, running};
-ghost use Rattle.portal_ledger.specs.Calls.{Fits, Keeps, FailsToKeep, ReadsOf, ReadsThat, FailsToRead};
+ghost use Rattle.portal_ledger.specs.Calls.{Fits, Keeps, FailsToKeep};
 ghost use Rattle.portal_tables.specs.Shown.{IsHeldUnder};
-ghost use Rattle.portal_tables.specs.TablesAt.{ConnAt, ConnIsHonest, ConnMayLeave, Files, IsHonest, MayLeave, OthersKept, TablesAt, LeavesNoMore, IsStopped, KeepsStop, TellsStop};
+ghost use Rattle.portal_tables.specs.TablesAt.{ConnAt, ConnIsHonest, ConnMayLeave, Files, IsHonest, MayLeave};
+ghost use Rattle.portal_tables.specs.TablesAt.{OthersKept, TablesAt, IsStopped, KeepsStop, TellsStop};
+ghost use Rattle.portal_tables.specs.TablesAt.{ReadsTables};
 ghost use Rattle.portal_tables.specs.declared.fault.StoreFault.TheVariants.{Memory, Stopped};
 
 mod audits;
@@ -52,6 +56,7 @@ impl<S: Alter> Tables<S> {
     /// Hands the connection back. Where the tables are not stopped, it stands where they stood. A stop leaves of it what it might
     /// leave of them.
     pub fn release(self) -> Connection<S>
+        ensures same { result ≡ self.conn }
         ensures stands { (L : Ledger) → TablesAt S.Store self (running L) → ConnAt S.Store result L }
         ensures honest { ConnIsHonest S.Store result → IsHonest S.Store self }
         ensures left { (files : Files) → ConnMayLeave S.Store result files → MayLeave S.Store self files }
@@ -73,7 +78,8 @@ impl<S: Alter> Tables<S> {
     /// What a fault comes to. Want of memory is told only where the connection still answers, and so nothing has changed.
     fn fault(&mut self, fault: Fault) -> StoreFault
         ensures told { TellsStop S.Store self.old self.new result }
-        ensures same { HasCleanDisk (state S.Store self.new.conn) → result ≡ Memory → IsUnchanged (state S.Store self.old.conn) (state S.Store self.new.conn) }
+        ensures same { HasCleanDisk (state S.Store self.new.conn) → result ≡ Memory
+            → IsUnchanged (state S.Store self.old.conn) (state S.Store self.new.conn) }
         ensures survives { Survives (state S.Store self.old.conn) (state S.Store self.new.conn) (λ _. ⊥) }
     {
         if matches!(
@@ -94,9 +100,13 @@ impl<S: Alter> Tables<S> {
         ensures honest { IsHonest S.Store self.new → IsHonest S.Store self.old }
         ensures stopped { IsStopped S.Store self.old → IsErrOf result Stopped × (self.new ≡ self.old) }
         ensures stops { KeepsStop S.Store self.old self.new result }
-        ensures commit { IsHonest S.Store self.new → (old : Standing) → TablesAt S.Store self.old old → (a : Accepted) → Fits old marked.now a
-            → (new : Standing) × TablesAt S.Store self.new new × MatchResult result (λ _. Keeps old a new) (λ fault. FailsToKeep Memory Stopped old a fault new) }
-        ensures others { IsHonest S.Store self.new → (L : Ledger) → TablesAt S.Store self.old (running L) → OthersKept S.Store self.old self.new }
+        ensures commit { IsHonest S.Store self.new → (old : Standing) → TablesAt S.Store self.old old
+            → (a : Accepted) → Fits old marked.now a
+            → (new : Standing) × TablesAt S.Store self.new new
+            × MatchResult result (λ _. Keeps old a new)
+            (λ fault. FailsToKeep Memory Stopped old a fault new) }
+        ensures others { IsHonest S.Store self.new → (L : Ledger) → TablesAt S.Store self.old (running L)
+            → OthersKept S.Store self.old self.new }
     {
         if self.is_stopped {
             return Err(StoreFault::Stopped);
@@ -113,11 +123,7 @@ impl<S: Alter> Tables<S> {
 
     /// The last moment, and the numbers of redemptions and sessions.
     pub fn head(&mut self) -> Result<Head, StoreFault>
-        ensures honest { IsHonest S.Store self.new → IsHonest S.Store self.old }
-        ensures stopped { IsStopped S.Store self.old → IsErrOf result Stopped × (self.new ≡ self.old) }
-        ensures stops { KeepsStop S.Store self.old self.new result }
-        ensures head { IsHonest S.Store self.new → (old : Standing) → TablesAt S.Store self.old old → (new : Standing) × TablesAt S.Store self.new new
-            × LeavesNoMore S.Store self.old self.new × MatchResult result (λ found. ReadsThat old (λ h. found ≡ head_of h) new) (λ fault. FailsToRead Memory Stopped old fault new) }
+        ensures { ReadsTables S.Store self.old self.new result (λ L found. found ≡ head_of (history_of L)) }
     {
         if self.is_stopped {
             return Err(StoreFault::Stopped);
@@ -130,11 +136,8 @@ impl<S: Alter> Tables<S> {
 
     /// The plan of the id, where it is held.
     pub fn plan(&mut self, id: &Id) -> Result<Option<Plan>, StoreFault>
-        ensures honest { IsHonest S.Store self.new → IsHonest S.Store self.old }
-        ensures stopped { IsStopped S.Store self.old → IsErrOf result Stopped × (self.new ≡ self.old) }
-        ensures stops { KeepsStop S.Store self.old self.new result }
-        ensures plan { IsHonest S.Store self.new → (old : Standing) → TablesAt S.Store self.old old → (new : Standing) × TablesAt S.Store self.new new
-            × LeavesNoMore S.Store self.old self.new × MatchResult result (λ found. ReadsThat old (λ h. found ≡ plan_of h id.now) new) (λ fault. FailsToRead Memory Stopped old fault new) }
+        ensures { ReadsTables S.Store self.old self.new result
+            (λ L found. found ≡ plan_of (history_of L) id.now) }
     {
         if self.is_stopped {
             return Err(StoreFault::Stopped);
@@ -147,11 +150,8 @@ impl<S: Alter> Tables<S> {
 
     /// The batch of the id, where there is one.
     pub fn batch(&mut self, id: &Id) -> Result<Option<Batch>, StoreFault>
-        ensures honest { IsHonest S.Store self.new → IsHonest S.Store self.old }
-        ensures stopped { IsStopped S.Store self.old → IsErrOf result Stopped × (self.new ≡ self.old) }
-        ensures stops { KeepsStop S.Store self.old self.new result }
-        ensures batch { IsHonest S.Store self.new → (old : Standing) → TablesAt S.Store self.old old → (new : Standing) × TablesAt S.Store self.new new
-            × LeavesNoMore S.Store self.old self.new × MatchResult result (λ found. ReadsThat old (λ h. found ≡ batch_of h id.now) new) (λ fault. FailsToRead Memory Stopped old fault new) }
+        ensures { ReadsTables S.Store self.old self.new result
+            (λ L found. found ≡ batch_of (history_of L) id.now) }
     {
         if self.is_stopped {
             return Err(StoreFault::Stopped);
@@ -164,11 +164,8 @@ impl<S: Alter> Tables<S> {
 
     /// The voucher of the code, where it was issued.
     pub fn voucher(&mut self, code: &Code) -> Result<Option<Voucher>, StoreFault>
-        ensures honest { IsHonest S.Store self.new → IsHonest S.Store self.old }
-        ensures stopped { IsStopped S.Store self.old → IsErrOf result Stopped × (self.new ≡ self.old) }
-        ensures stops { KeepsStop S.Store self.old self.new result }
-        ensures voucher { IsHonest S.Store self.new → (old : Standing) → TablesAt S.Store self.old old → (new : Standing) × TablesAt S.Store self.new new
-            × LeavesNoMore S.Store self.old self.new × MatchResult result (λ found. ReadsThat old (λ h. found ≡ voucher_of h code.now) new) (λ fault. FailsToRead Memory Stopped old fault new) }
+        ensures { ReadsTables S.Store self.old self.new result
+            (λ L found. found ≡ voucher_of (history_of L) code.now) }
     {
         if self.is_stopped {
             return Err(StoreFault::Stopped);
@@ -181,11 +178,8 @@ impl<S: Alter> Tables<S> {
 
     /// Whether a voucher of the code was issued: one look at the tables, where its voucher takes up to four.
     pub fn is_held(&mut self, code: &Code) -> Result<bool, StoreFault>
-        ensures honest { IsHonest S.Store self.new → IsHonest S.Store self.old }
-        ensures stopped { IsStopped S.Store self.old → IsErrOf result Stopped × (self.new ≡ self.old) }
-        ensures stops { KeepsStop S.Store self.old self.new result }
-        ensures is_held { IsHonest S.Store self.new → (old : Standing) → TablesAt S.Store self.old old → (new : Standing) × TablesAt S.Store self.new new
-            × LeavesNoMore S.Store self.old self.new × MatchResult result (λ held. ReadsThat old (λ h. held ≡ is_some (issued_of h code.now)) new) (λ fault. FailsToRead Memory Stopped old fault new) }
+        ensures { ReadsTables S.Store self.old self.new result
+            (λ L held. held ≡ is_some (issued_of (history_of L) code.now)) }
     {
         if self.is_stopped {
             return Err(StoreFault::Stopped);
@@ -198,11 +192,8 @@ impl<S: Alter> Tables<S> {
 
     /// The session of the number, where there is one.
     pub fn session(&mut self, number: u64) -> Result<Option<Session>, StoreFault>
-        ensures honest { IsHonest S.Store self.new → IsHonest S.Store self.old }
-        ensures stopped { IsStopped S.Store self.old → IsErrOf result Stopped × (self.new ≡ self.old) }
-        ensures stops { KeepsStop S.Store self.old self.new result }
-        ensures session { IsHonest S.Store self.new → (old : Standing) → TablesAt S.Store self.old old → (new : Standing) × TablesAt S.Store self.new new
-            × LeavesNoMore S.Store self.old self.new × MatchResult result (λ found. ReadsThat old (λ h. found ≡ session_of h number) new) (λ fault. FailsToRead Memory Stopped old fault new) }
+        ensures { ReadsTables S.Store self.old self.new result
+            (λ L found. found ≡ session_of (history_of L) number) }
     {
         if self.is_stopped {
             return Err(StoreFault::Stopped);
@@ -215,11 +206,8 @@ impl<S: Alter> Tables<S> {
 
     /// The session of the device with the greatest number, where there is one.
     pub fn last_session(&mut self, device: &Device) -> Result<Option<Session>, StoreFault>
-        ensures honest { IsHonest S.Store self.new → IsHonest S.Store self.old }
-        ensures stopped { IsStopped S.Store self.old → IsErrOf result Stopped × (self.new ≡ self.old) }
-        ensures stops { KeepsStop S.Store self.old self.new result }
-        ensures last_session { IsHonest S.Store self.new → (old : Standing) → TablesAt S.Store self.old old → (new : Standing) × TablesAt S.Store self.new new
-            × LeavesNoMore S.Store self.old self.new × MatchResult result (λ found. ReadsThat old (λ h. found ≡ last_session_of h device.now) new) (λ fault. FailsToRead Memory Stopped old fault new) }
+        ensures { ReadsTables S.Store self.old self.new result
+            (λ L found. found ≡ last_session_of (history_of L) device.now) }
     {
         if self.is_stopped {
             return Err(StoreFault::Stopped);
@@ -237,11 +225,8 @@ impl<S: Alter> Tables<S> {
         caller: &Caller,
         number: &RequestNumber,
     ) -> Result<Option<KeptRequest>, StoreFault>
-        ensures honest { IsHonest S.Store self.new → IsHonest S.Store self.old }
-        ensures stopped { IsStopped S.Store self.old → IsErrOf result Stopped × (self.new ≡ self.old) }
-        ensures stops { KeepsStop S.Store self.old self.new result }
-        ensures request { IsHonest S.Store self.new → (old : Standing) → TablesAt S.Store self.old old → (new : Standing) × TablesAt S.Store self.new new
-            × LeavesNoMore S.Store self.old self.new × MatchResult result (λ found. ReadsOf old (λ L. IsHeldUnder L caller.now number.now found) new) (λ fault. FailsToRead Memory Stopped old fault new) }
+        ensures { ReadsTables S.Store self.old self.new result
+            (λ L found. IsHeldUnder L caller.now number.now found) }
     {
         if self.is_stopped {
             return Err(StoreFault::Stopped);

@@ -22,7 +22,8 @@ use sqlite::{Alter, Connection, Error, ErrorCode};
 /// What a fault comes to. Want of memory is told only where the connection still answers, and so nothing has changed.
 fn told<S: Alter>(conn: &mut Connection<S>, fault: &Fault) -> OpenFault
     ensures told { (result ≡ Memory) ⊎ (result ≡ Store) }
-    ensures same { HasCleanDisk (state S.Store conn.new) → result ≡ Memory → IsUnchanged (state S.Store conn.old) (state S.Store conn.new) }
+    ensures same { HasCleanDisk (state S.Store conn.new) → result ≡ Memory
+        → IsUnchanged (state S.Store conn.old) (state S.Store conn.new) }
     ensures survives { Survives (state S.Store conn.old) (state S.Store conn.new) (λ _. ⊥) }
 {
     if matches!(
@@ -38,14 +39,26 @@ fn told<S: Alter>(conn: &mut Connection<S>, fault: &Fault) -> OpenFault
 /// Gives a store of an older layout this version's tables, index and layout, in one transaction. Memory leaves all as it was; after
 /// Store the files show the same ledger, in the one layout or in the other.
 pub(crate) fn upgrade<S: Alter>(conn: &mut Connection<S>, from: OldLayout) -> Result<(), OpenFault>
-    ensures done { HasCleanDisk (state S.Store conn.new) → IsTrue (state S.Store conn.old).is_open → OnOk result (HasUpgraded from (state S.Store conn.old) (state S.Store conn.new)) }
+    ensures done { HasCleanDisk (state S.Store conn.new) → IsTrue (state S.Store conn.old).is_open
+        → OnOk result (HasUpgraded from (state S.Store conn.old) (state S.Store conn.new)) }
     ensures faults { IfErr result (λ fault. (fault ≡ Memory) ⊎ (fault ≡ Store)) }
-    ensures memory { HasCleanDisk (state S.Store conn.new) → IsTrue (state S.Store conn.old).is_open → (state S.Store conn.old).in_transaction ≡ false → (state S.Store conn.old).now ≡ (state S.Store conn.old).committed
-        → IfErr result (λ fault. fault ≡ Memory → IsAsBefore (state S.Store conn.old) (state S.Store conn.new)) }
-    ensures crash { Survives (state S.Store conn.old) (state S.Store conn.new) (MayUpgrade from (state S.Store conn.old)) }
-    ensures stands { HasCleanDisk (state S.Store conn.new) → (L : Ledger) → StandsAt (ShowsIn (number_of from) L) (state S.Store conn.old) → OnOk result (StandsAt (ShowsLedger L) (state S.Store conn.new)) }
-    ensures stays { HasCleanDisk (state S.Store conn.new) → (L : Ledger) → StandsAt (ShowsIn (number_of from) L) (state S.Store conn.old) → IfErr result (λ fault. fault ≡ Memory → StandsAt (ShowsIn (number_of from) L) (state S.Store conn.new)) }
-    ensures left { HasCleanDisk (state S.Store conn.new) → (L : Ledger) → StandsAt (ShowsIn (number_of from) L) (state S.Store conn.old) → (trees : Trees) → (state S.Store conn.new).may_leave trees → LeftInEither from L trees }
+    ensures memory { HasCleanDisk (state S.Store conn.new) → IsTrue (state S.Store conn.old).is_open
+        → (state S.Store conn.old).in_transaction ≡ false
+        → (state S.Store conn.old).now ≡ (state S.Store conn.old).committed
+        → IfErr result (λ fault. fault ≡ Memory
+        → IsAsBefore (state S.Store conn.old) (state S.Store conn.new)) }
+    ensures crash { Survives (state S.Store conn.old) (state S.Store conn.new)
+        (MayUpgrade from (state S.Store conn.old)) }
+    ensures stands { HasCleanDisk (state S.Store conn.new) → (L : Ledger)
+        → StandsAt (ShowsIn (number_of from) L) (state S.Store conn.old)
+        → OnOk result (StandsAt (ShowsLedger L) (state S.Store conn.new)) }
+    ensures stays { HasCleanDisk (state S.Store conn.new) → (L : Ledger)
+        → StandsAt (ShowsIn (number_of from) L) (state S.Store conn.old)
+        → IfErr result (λ fault. fault ≡ Memory
+        → StandsAt (ShowsIn (number_of from) L) (state S.Store conn.new)) }
+    ensures left { HasCleanDisk (state S.Store conn.new) → (L : Ledger)
+        → StandsAt (ShowsIn (number_of from) L) (state S.Store conn.old) → (trees : Trees)
+        → (state S.Store conn.new).may_leave trees → LeftInEither from L trees }
 {
     match upgrades::upgrade(conn, from) {
         Ok(()) => Ok(()),

@@ -1,13 +1,11 @@
 //! The lists of the tables.
 
-ghost use Rattle.std.specs.Prelude.{◌≡◌, MatchResult, filter, IsErrOf};
+ghost use Rattle.std.specs.Prelude.{◌≡◌, filter};
 ghost use Rattle.portal_model.specs.Captive.{all_sessions};
 ghost use Rattle.portal_model.specs.History.{codes_of, is_open_at};
 ghost use Rattle.portal_tables.specs.Lists.{AreOrderedSales, AreRefunds, AreSales};
-ghost use Rattle.portal_ledger.specs.States.{State as Standing};
-ghost use Rattle.portal_ledger.specs.Calls.{ReadsThat, FailsToRead};
-ghost use Rattle.portal_tables.specs.declared.fault.StoreFault.TheVariants.{Memory, Stopped};
-ghost use Rattle.portal_tables.specs.TablesAt.{IsHonest, TablesAt, LeavesNoMore, IsStopped, KeepsStop};
+ghost use Rattle.portal_ledger.specs.Ledger.{history_of};
+ghost use Rattle.portal_tables.specs.TablesAt.{ReadsTables};
 
 use super::Tables;
 use crate::fault::StoreFault;
@@ -23,11 +21,8 @@ use std::alloc::Global;
 impl<S: Alter> Tables<S> {
     /// The codes of the batch, by place. There are none where there is no such batch.
     pub fn batch_rows(&mut self, alloc: Global, id: &Id) -> Result<Vec<Code>, StoreFault>
-        ensures honest { IsHonest S.Store self.new → IsHonest S.Store self.old }
-        ensures stopped { IsStopped S.Store self.old → IsErrOf result Stopped × (self.new ≡ self.old) }
-        ensures stops { KeepsStop S.Store self.old self.new result }
-        ensures batch_rows { IsHonest S.Store self.new → (old : Standing) → TablesAt S.Store self.old old → (new : Standing) × TablesAt S.Store self.new new
-            × LeavesNoMore S.Store self.old self.new × MatchResult result (λ found. ReadsThat old (λ h. found.items ≡ codes_of h id.now) new) (λ fault. FailsToRead Memory Stopped old fault new) }
+        ensures { ReadsTables S.Store self.old self.new result
+            (λ L found. found.items ≡ codes_of (history_of L) id.now) }
     {
         if self.is_stopped {
             return Err(StoreFault::Stopped);
@@ -40,11 +35,8 @@ impl<S: Alter> Tables<S> {
 
     /// The sessions that are open at `t`, by number.
     pub fn open_sessions(&mut self, alloc: Global, t: Moment) -> Result<Vec<Session>, StoreFault>
-        ensures honest { IsHonest S.Store self.new → IsHonest S.Store self.old }
-        ensures stopped { IsStopped S.Store self.old → IsErrOf result Stopped × (self.new ≡ self.old) }
-        ensures stops { KeepsStop S.Store self.old self.new result }
-        ensures open_sessions { IsHonest S.Store self.new → (old : Standing) → TablesAt S.Store self.old old → (new : Standing) × TablesAt S.Store self.new new
-            × LeavesNoMore S.Store self.old self.new × MatchResult result (λ found. ReadsThat old (λ h. found.items ≡ filter (is_open_at t) (all_sessions h)) new) (λ fault. FailsToRead Memory Stopped old fault new) }
+        ensures { ReadsTables S.Store self.old self.new result
+            (λ L found. found.items ≡ filter (is_open_at t) (all_sessions (history_of L))) }
     {
         if self.is_stopped {
             return Err(StoreFault::Stopped);
@@ -62,11 +54,8 @@ impl<S: Alter> Tables<S> {
         from: Moment,
         to: Moment,
     ) -> Result<Vec<(Moment, u64)>, StoreFault>
-        ensures honest { IsHonest S.Store self.new → IsHonest S.Store self.old }
-        ensures stopped { IsStopped S.Store self.old → IsErrOf result Stopped × (self.new ≡ self.old) }
-        ensures stops { KeepsStop S.Store self.old self.new result }
-        ensures sales_between { IsHonest S.Store self.new → (old : Standing) → TablesAt S.Store self.old old → (new : Standing) × TablesAt S.Store self.new new
-            × LeavesNoMore S.Store self.old self.new × MatchResult result (λ found. ReadsThat old (λ h. AreOrderedSales h from to found.items) new) (λ fault. FailsToRead Memory Stopped old fault new) }
+        ensures { ReadsTables S.Store self.old self.new result
+            (λ L found. AreOrderedSales (history_of L) from to found.items) }
     {
         if self.is_stopped {
             return Err(StoreFault::Stopped);
@@ -84,11 +73,8 @@ impl<S: Alter> Tables<S> {
         from: Moment,
         to: Moment,
     ) -> Result<Vec<(Moment, u64)>, StoreFault>
-        ensures honest { IsHonest S.Store self.new → IsHonest S.Store self.old }
-        ensures stopped { IsStopped S.Store self.old → IsErrOf result Stopped × (self.new ≡ self.old) }
-        ensures stops { KeepsStop S.Store self.old self.new result }
-        ensures sales_as_issued { IsHonest S.Store self.new → (old : Standing) → TablesAt S.Store self.old old → (new : Standing) × TablesAt S.Store self.new new
-            × LeavesNoMore S.Store self.old self.new × MatchResult result (λ found. ReadsThat old (λ h. AreSales h from to found.items) new) (λ fault. FailsToRead Memory Stopped old fault new) }
+        ensures { ReadsTables S.Store self.old self.new result
+            (λ L found. AreSales (history_of L) from to found.items) }
     {
         if self.is_stopped {
             return Err(StoreFault::Stopped);
@@ -106,11 +92,8 @@ impl<S: Alter> Tables<S> {
         from: Moment,
         to: Moment,
     ) -> Result<Vec<(Moment, u64)>, StoreFault>
-        ensures honest { IsHonest S.Store self.new → IsHonest S.Store self.old }
-        ensures stopped { IsStopped S.Store self.old → IsErrOf result Stopped × (self.new ≡ self.old) }
-        ensures stops { KeepsStop S.Store self.old self.new result }
-        ensures refunds_between { IsHonest S.Store self.new → (old : Standing) → TablesAt S.Store self.old old → (new : Standing) × TablesAt S.Store self.new new
-            × LeavesNoMore S.Store self.old self.new × MatchResult result (λ found. ReadsThat old (λ h. AreRefunds h from to found.items) new) (λ fault. FailsToRead Memory Stopped old fault new) }
+        ensures { ReadsTables S.Store self.old self.new result
+            (λ L found. AreRefunds (history_of L) from to found.items) }
     {
         if self.is_stopped {
             return Err(StoreFault::Stopped);

@@ -5,3 +5,6 @@ returns-in-Ok-clause-opened g c L shown = rw c.set_clock.ensures (c.in-Ok.ensure
 
 pub returns-in-Ok-clause-found : goal.returns-in-Ok-clause-found
 returns-in-Ok-clause-found g c = rw c.set_clock.ensures c.in-Ok.ensures.found
+
+pub returns-in-Ok-clause-from : goal.returns-in-Ok-clause-from
+returns-in-Ok-clause-from g c = rw c.set_clock.ensures c.in-Ok.ensures.from

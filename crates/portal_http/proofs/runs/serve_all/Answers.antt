@@ -11,6 +11,7 @@ pub loop-arrival-preserved : goal.loop-arrival-preserved
 loop-arrival-preserved g c = record {
   told = c.in-Ok.ensures.told ∙ c.loop-arrival.invariant.told;
   honest = λ honest. c.loop-arrival.invariant.honest (c.in-Ok.ensures.honest honest);
+  stays = λ over. c.in-Ok.ensures.stays (c.loop-arrival.invariant.stays over);
   served = λ honest old stands.
       let before = c.loop-arrival.invariant.served (c.in-Ok.ensures.honest honest) old stands in
       let response = c.in-Ok.response in

@@ -17,7 +17,7 @@ returns-clause-made g c clean free =
     let late : HasCleanDisk (state g.S.Store end) = search rules in
     subst (λ h. Holds (state g.S.Store h).now new_store) same
     (built_done g.S.Store c.args.conn.now c.transaction-tx.result.conn.now last end c.transaction-tx.ensures.begun
-    (λ still inside room. c.in_ok-create_inside.ensures.builds still inside room) (omega (arith, c.commit.ensures.survives.clean)) (c.in_ok-commit.ensures.ok late).1 free)
+    (λ still inside room. c.in_ok-create_inside.ensures.steps still inside room) (omega (arith, c.commit.ensures.survives.clean)) (c.in_ok-commit.ensures.ok late).1 free)
 
 pub returns-clause-others : goal.returns-clause-others
 returns-clause-others g c clean free =
@@ -27,7 +27,7 @@ returns-clause-others g c clean free =
     let late : HasCleanDisk (state g.S.Store end) = search rules in
     subst (λ h. KeepsOthers (state g.S.Store c.args.conn.now).now (state g.S.Store h).now) same
     (built_others g.S.Store c.args.conn.now c.transaction-tx.result.conn.now last end c.transaction-tx.ensures.begun
-    (λ still inside room. c.in_ok-create_inside.ensures.builds still inside room) (omega (arith, c.commit.ensures.survives.clean)) (c.in_ok-commit.ensures.ok late).1 free)
+    (λ still inside room. c.in_ok-create_inside.ensures.steps still inside room) (omega (arith, c.commit.ensures.survives.clean)) (c.in_ok-commit.ensures.ok late).1 free)
 
 pub returns-clause-crash : goal.returns-clause-crash
 returns-clause-crash g c =
@@ -36,7 +36,7 @@ returns-clause-crash g c =
     let same : end ≡ c.conn-2-1.given.0 = search rules in
     subst (λ h. Survives (state g.S.Store c.args.conn.now) (state g.S.Store h) (MayBuild (state g.S.Store c.args.conn.now))) same
     (built_crash g.S.Store c.args.conn.now c.transaction-tx.result.conn.now last end c.transaction-tx.ensures.begun
-    (λ still inside room. c.in_ok-create_inside.ensures.builds still inside room) c.create_inside.ensures.survives c.commit.ensures.survives)
+    (λ still inside room. c.in_ok-create_inside.ensures.steps still inside room) c.create_inside.ensures.survives c.commit.ensures.survives)
 
 pub returns-in_err-commit-clause-crash : goal.returns-in_err-commit-clause-crash
 returns-in_err-commit-clause-crash g c =
@@ -45,7 +45,7 @@ returns-in_err-commit-clause-crash g c =
     let same : end ≡ c.conn-2-1.given.0 = search rules in
     subst (λ h. Survives (state g.S.Store c.args.conn.now) (state g.S.Store h) (MayBuild (state g.S.Store c.args.conn.now))) same
     (built_crash g.S.Store c.args.conn.now c.transaction-tx.result.conn.now last end c.transaction-tx.ensures.begun
-    (λ still inside room. c.in_ok-create_inside.ensures.builds still inside room) c.create_inside.ensures.survives c.commit.ensures.survives)
+    (λ still inside room. c.in_ok-create_inside.ensures.steps still inside room) c.create_inside.ensures.survives c.commit.ensures.survives)
 
 pub returns-in_err-commit-clause-undone : goal.returns-in_err-commit-clause-undone
 returns-in_err-commit-clause-undone g c clean free =
@@ -55,7 +55,7 @@ returns-in_err-commit-clause-undone g c clean free =
     let late : HasCleanDisk (state g.S.Store end) = search rules in
     on_err _ (subst (λ h. IsUndone (state g.S.Store c.args.conn.now) (state g.S.Store h)) same
     (built_undone g.S.Store c.args.conn.now c.transaction-tx.result.conn.now last end c.transaction-tx.ensures.begun
-    (λ still inside room. c.in_ok-create_inside.ensures.builds still inside room) _ (omega (arith, c.commit.ensures.survives.clean)) free c.create_inside.ensures.kept (c.in_err-commit.ensures.err late) c.commit.ensures.ended))
+    (λ still inside room. c.in_ok-create_inside.ensures.steps still inside room) _ (omega (arith, c.commit.ensures.survives.clean)) free c.create_inside.ensures.kept (c.in_err-commit.ensures.err late) c.commit.ensures.ended))
 
 pub returns-clause-committed : goal.returns-clause-committed
 returns-clause-committed g c clean =

@@ -1,4 +1,4 @@
-use Rattle.std.proofs.Common.{arith, false, ◌∙◌}
+use Rattle.std.proofs.Common.{arith, false, ◌∙◌, rules}
 use Rattle.sqlite.specs.Held.{state}
 use Rattle.sqlite.specs.State.{HasCleanDisk}
 use Rattle.portal_rows.specs.Holds.{this_layout}
@@ -8,22 +8,27 @@ use Rattle.portal_rows.proofs.OthersLemmas.{others_then}
 use Rattle.portal_layouts.proofs.OthersLemmas.{others_all_made}
 use Rattle.portal_layouts.proofs.creates.create_inside.Goals as goal
 
-pub returns-clause-builds : goal.returns-clause-builds
-returns-clause-builds g c clean inside free =
-    let c3 : HasCleanDisk (state g.S.Store c.make_index.new.tx.conn.now) = omega (arith, c.insert_head.ensures.survives.clean) in
-    let c2 : HasCleanDisk (state g.S.Store c.make_last.new.tx.conn.now) = omega (arith, c.make_index.ensures.survives.clean) in
-    let c1 : HasCleanDisk (state g.S.Store c.make_first.new.tx.conn.now) = omega (arith, c.make_last.ensures.survives.clean) in
-    let one = c.in_ok-make_first.ensures.made c1 inside free.numbered in
-    let two = c.in_ok-make_last.ensures.made c2 one.2.mode one.1 in
-    let three = c.in_ok-make_index.ensures.steps c3 two.2.mode this_layout false in
-    let four = c.in_ok-insert_head.ensures.steps clean three.mode in
-    let bare = made_holds _ _ _ free one.0 two.0 in
-    let indexed = three.holds no_rows bare in
-    let a = (state g.S.Store c.args.tx.now.conn.now).now in
-    let b = (state g.S.Store c.make_first.new.tx.conn.now).now in
-    let d = (state g.S.Store c.make_last.new.tx.conn.now).now in
-    let e = (state g.S.Store c.make_index.new.tx.conn.now).now in
-    let last = (state g.S.Store c.insert_head.new.tx.conn.now).now in
-    let made = others_all_made a b d one.0 two.0 in
-    let kept = others_then a e last (others_then a d e made (three.others no_rows bare)) (four.others no_rows indexed) in
-    record { holds = four.holds _ indexed; others = kept; committed = four.committed ∙ three.committed ∙ two.2.committed_is ∙ one.2.committed_is; mode = four.mode }
+pub returns : goal.returns
+returns g c = record {
+  same_reference = search rules;
+  steps = λ clean inside free.
+      let c3 : HasCleanDisk (state g.S.Store c.make_index.new.tx.conn.now) = omega (arith, c.insert_head.ensures.survives.clean) in
+      let c2 : HasCleanDisk (state g.S.Store c.make_last.new.tx.conn.now) = omega (arith, c.make_index.ensures.survives.clean) in
+      let c1 : HasCleanDisk (state g.S.Store c.make_first.new.tx.conn.now) = omega (arith, c.make_last.ensures.survives.clean) in
+      let one = c.in_ok-make_first.ensures.steps c1 inside free.numbered in
+      let two = c.in_ok-make_last.ensures.steps c2 one.2.mode one.1 in
+      let three = c.in_ok-make_index.ensures.steps c3 two.2.mode this_layout false in
+      let four = c.in_ok-insert_head.ensures.steps clean three.mode in
+      let bare = made_holds _ _ _ free one.0 two.0 in
+      let indexed = three.holds no_rows bare in
+      let a = (state g.S.Store c.args.tx.now.conn.now).now in
+      let b = (state g.S.Store c.make_first.new.tx.conn.now).now in
+      let d = (state g.S.Store c.make_last.new.tx.conn.now).now in
+      let e = (state g.S.Store c.make_index.new.tx.conn.now).now in
+      let last = (state g.S.Store c.insert_head.new.tx.conn.now).now in
+      let made = others_all_made a b d one.0 two.0 in
+      let kept = others_then a e last (others_then a d e made (three.others no_rows bare)) (four.others no_rows indexed) in
+      record { holds = four.holds _ indexed; others = kept; committed = four.committed ∙ three.committed ∙ two.2.committed_is ∙ one.2.committed_is; mode = four.mode };
+  kept = search rules;
+  survives = search rules;
+}

@@ -1,14 +1,19 @@
-use Rattle.std.proofs.Common.{arith, refl, ◌∙◌}
+use Rattle.std.proofs.Common.{arith, refl, ◌∙◌, rules}
 use Rattle.sqlite.specs.Held.{state}
 use Rattle.sqlite.specs.State.{HasCleanDisk}
 use Rattle.portal_layouts.proofs.creates.make_counters.Goals as goal
 
-pub returns-clause-made : goal.returns-clause-made
-returns-clause-made g c clean inside numbered =
-    let c1 : HasCleanDisk (state g.S.Store c.make_counts.new.tx.conn.now) = omega (arith, c.make_totals.ensures.survives.clean) in
-    let m1 = c.in_ok-make_counts.ensures.made c1 inside numbered in
-    let m2 = c.in_ok-make_totals.ensures.made clean m1.2.mode m1.1 in (
-      record { one = (state g.S.Store c.make_counts.new.tx.conn.now).now; counts = m1.0; totals = m2.0 },
-      m2.1,
-      record { was_open = m1.2.was_open; is_open = m2.2.is_open; now_is = refl; committed_is = m2.2.committed_is ∙ m1.2.committed_is; mode = m2.2.mode },
-    )
+pub returns : goal.returns
+returns g c = record {
+  same_reference = search rules;
+  steps = λ clean inside numbered.
+      let c1 : HasCleanDisk (state g.S.Store c.make_counts.new.tx.conn.now) = omega (arith, c.make_totals.ensures.survives.clean) in
+      let m1 = c.in_ok-make_counts.ensures.steps c1 inside numbered in
+      let m2 = c.in_ok-make_totals.ensures.steps clean m1.2.mode m1.1 in (
+        record { one = (state g.S.Store c.make_counts.new.tx.conn.now).now; counts = m1.0; totals = m2.0 },
+        m2.1,
+        record { was_open = m1.2.was_open; is_open = m2.2.is_open; now_is = refl; committed_is = m2.2.committed_is ∙ m1.2.committed_is; mode = m2.2.mode },
+      );
+  kept = search rules;
+  survives = search rules;
+}

@@ -1,18 +1,23 @@
-use Rattle.std.proofs.Common.{arith, refl, ◌∙◌}
+use Rattle.std.proofs.Common.{arith, refl, ◌∙◌, rules}
 use Rattle.sqlite.specs.Held.{state}
 use Rattle.sqlite.specs.State.{HasCleanDisk}
 use Rattle.portal_layouts.proofs.creates.make_last.Goals as goal
 
-pub returns-clause-made : goal.returns-clause-made
-returns-clause-made g c clean inside numbered =
-    let c3 : HasCleanDisk (state g.S.Store c.make_counters.new.tx.conn.now) = omega (arith, c.make_requests.ensures.survives.clean) in
-    let c2 : HasCleanDisk (state g.S.Store c.make_grants.new.tx.conn.now) = omega (arith, c.make_counters.ensures.survives.clean) in
-    let c1 : HasCleanDisk (state g.S.Store c.make_sessions.new.tx.conn.now) = omega (arith, c.make_grants.ensures.survives.clean) in
-    let m1 = c.in_ok-make_sessions.ensures.made c1 inside numbered in
-    let m2 = c.in_ok-make_grants.ensures.made c2 m1.2.mode m1.1 in
-    let m3 = c.in_ok-make_counters.ensures.made c3 m2.2.mode m2.1 in
-    let m4 = c.in_ok-make_requests.ensures.made clean m3.2.mode m3.1 in (
-      record { one = (state g.S.Store c.make_sessions.new.tx.conn.now).now; two = (state g.S.Store c.make_grants.new.tx.conn.now).now; three = m3.0.one; four = (state g.S.Store c.make_counters.new.tx.conn.now).now; sessions = m1.0; grants = m2.0; counts = m3.0.counts; totals = m3.0.totals; requests = m4.0 },
-      m4.1,
-      record { was_open = m1.2.was_open; is_open = m4.2.is_open; now_is = refl; committed_is = m4.2.committed_is ∙ m3.2.committed_is ∙ m2.2.committed_is ∙ m1.2.committed_is; mode = m4.2.mode },
-    )
+pub returns : goal.returns
+returns g c = record {
+  same_reference = search rules;
+  steps = λ clean inside numbered.
+      let c3 : HasCleanDisk (state g.S.Store c.make_counters.new.tx.conn.now) = omega (arith, c.make_requests.ensures.survives.clean) in
+      let c2 : HasCleanDisk (state g.S.Store c.make_grants.new.tx.conn.now) = omega (arith, c.make_counters.ensures.survives.clean) in
+      let c1 : HasCleanDisk (state g.S.Store c.make_sessions.new.tx.conn.now) = omega (arith, c.make_grants.ensures.survives.clean) in
+      let m1 = c.in_ok-make_sessions.ensures.steps c1 inside numbered in
+      let m2 = c.in_ok-make_grants.ensures.steps c2 m1.2.mode m1.1 in
+      let m3 = c.in_ok-make_counters.ensures.steps c3 m2.2.mode m2.1 in
+      let m4 = c.in_ok-make_requests.ensures.steps clean m3.2.mode m3.1 in (
+        record { one = (state g.S.Store c.make_sessions.new.tx.conn.now).now; two = (state g.S.Store c.make_grants.new.tx.conn.now).now; three = m3.0.one; four = (state g.S.Store c.make_counters.new.tx.conn.now).now; sessions = m1.0; grants = m2.0; counts = m3.0.counts; totals = m3.0.totals; requests = m4.0 },
+        m4.1,
+        record { was_open = m1.2.was_open; is_open = m4.2.is_open; now_is = refl; committed_is = m4.2.committed_is ∙ m3.2.committed_is ∙ m2.2.committed_is ∙ m1.2.committed_is; mode = m4.2.mode },
+      );
+  kept = search rules;
+  survives = search rules;
+}

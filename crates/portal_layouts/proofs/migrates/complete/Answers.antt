@@ -1,11 +1,23 @@
-use Rattle.std.proofs.Common.{refl}
+use Rattle.std.proofs.Common.{refl, rules}
 use Rattle.sqlite.specs.Held.{state}
 use Rattle.portal_rows.specs.Holds.{this_layout}
 use Rattle.portal_rows.proofs.OthersLemmas.{others_none}
 use Rattle.portal_layouts.proofs.migrates.complete.Goals as goal
 
-pub returns-then-has_index-clause-steps : goal.returns-then-has_index-clause-steps
-returns-then-has_index-clause-steps g c clean inside = rw c.if-has_index.true (record { holds = λ t h. h; others = λ t h. others_none (state g.S.Store c.args.tx.now.conn.now).now; committed = refl; mode = inside })
+pub returns-then-has_index : goal.returns-then-has_index
+returns-then-has_index g c = record {
+  same_reference = search rules;
+  steps = λ clean inside.
+      rw c.if-has_index.true (record { holds = λ t h. h; others = λ t h. others_none (state g.S.Store c.args.tx.now.conn.now).now; committed = refl; mode = inside });
+  kept = search rules;
+  survives = search rules;
+}
 
-pub returns-clause-steps : goal.returns-clause-steps
-returns-clause-steps g c clean inside = c.in_ok-make_index.ensures.steps clean inside this_layout c.args.has_index
+pub returns : goal.returns
+returns g c = record {
+  same_reference = search rules;
+  steps = λ clean inside.
+      c.in_ok-make_index.ensures.steps clean inside this_layout c.args.has_index;
+  kept = search rules;
+  survives = search rules;
+}

@@ -1,10 +1,16 @@
+use Rattle.std.proofs.Common.{rules}
 use Rattle.sqlite.specs.Held.{state}
 use Rattle.portal_rows.specs.Layout.{requests}
 use Rattle.portal_layouts.proofs.BesideLemmas.{asked}
 use Rattle.portal_layouts.proofs.OthersLemmas.{others_made}
 use Rattle.portal_layouts.proofs.migrates.make_asked.Goals as goal
 
-pub returns-clause-steps : goal.returns-clause-steps
-returns-clause-steps g c clean inside room had =
-    let one = c.in_ok-make_requests.ensures.made clean inside room.numbered in
-    record { holds = asked _ _ room one.0 had; others = λ t h. others_made (state g.S.Store c.args.tx.now.conn.now).now (requests 0) (state g.S.Store c.make_requests.new.tx.conn.now).now one.0; committed = one.2.committed_is; mode = one.2.mode }
+pub returns : goal.returns
+returns g c = record {
+  same_reference = search rules;
+  steps = λ clean inside room had.
+      let one = c.in_ok-make_requests.ensures.steps clean inside room.numbered in
+      record { holds = asked _ _ room one.0 had; others = λ t h. others_made (state g.S.Store c.args.tx.now.conn.now).now (requests 0) (state g.S.Store c.make_requests.new.tx.conn.now).now one.0; committed = one.2.committed_is; mode = one.2.mode };
+  kept = search rules;
+  survives = search rules;
+}

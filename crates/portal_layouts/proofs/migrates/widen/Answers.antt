@@ -1,17 +1,41 @@
-use Rattle.std.proofs.Common.{refl}
+use Rattle.std.proofs.Common.{refl, rules}
 use Rattle.sqlite.specs.Held.{state}
 use Rattle.portal_layouts.proofs.BesideLemmas.{alike}
 use Rattle.portal_rows.proofs.OthersLemmas.{others_none}
 use Rattle.portal_layouts.proofs.migrates.widen.Goals as goal
 
-pub returns-in_ok-make_later-in-First-clause-steps : goal.returns-in_ok-make_later-in-First-clause-steps
-returns-in_ok-make_later-in-First-clause-steps g c clean inside room had = rw c.in-First.is (c.in_ok-make_later-in-First.ensures.steps clean inside room had)
+pub returns-in_ok-make_later-in-First : goal.returns-in_ok-make_later-in-First
+returns-in_ok-make_later-in-First g c = record {
+  same_reference = search rules;
+  steps = λ clean inside room had.
+      rw c.in-First.is (c.in_ok-make_later-in-First.ensures.steps clean inside room had);
+  kept = search rules;
+  survives = search rules;
+}
 
-pub returns-in_ok-make_asked-in-Second-clause-steps : goal.returns-in_ok-make_asked-in-Second-clause-steps
-returns-in_ok-make_asked-in-Second-clause-steps g c clean inside room had = rw c.in-Second.is (c.in_ok-make_asked-in-Second.ensures.steps clean inside room had)
+pub returns-in_ok-make_asked-in-Second : goal.returns-in_ok-make_asked-in-Second
+returns-in_ok-make_asked-in-Second g c = record {
+  same_reference = search rules;
+  steps = λ clean inside room had.
+      rw c.in-Second.is (c.in_ok-make_asked-in-Second.ensures.steps clean inside room had);
+  kept = search rules;
+  survives = search rules;
+}
 
-pub returns-in-Third-clause-steps : goal.returns-in-Third-clause-steps
-returns-in-Third-clause-steps g c clean inside room had = rw c.in-Third.is (record { holds = alike had _; others = λ t h. others_none (state g.S.Store c.args.tx.now.conn.now).now; committed = refl; mode = inside })
+pub returns-in-Third : goal.returns-in-Third
+returns-in-Third g c = record {
+  same_reference = search rules;
+  steps = λ clean inside room had.
+      rw c.in-Third.is (record { holds = alike had _; others = λ t h. others_none (state g.S.Store c.args.tx.now.conn.now).now; committed = refl; mode = inside });
+  kept = search rules;
+  survives = search rules;
+}
 
-pub returns-in-Fourth-clause-steps : goal.returns-in-Fourth-clause-steps
-returns-in-Fourth-clause-steps g c clean inside room had = rw c.in-Fourth.is (record { holds = λ t h. h; others = λ t h. others_none (state g.S.Store c.args.tx.now.conn.now).now; committed = refl; mode = inside })
+pub returns-in-Fourth : goal.returns-in-Fourth
+returns-in-Fourth g c = record {
+  same_reference = search rules;
+  steps = λ clean inside room had.
+      rw c.in-Fourth.is (record { holds = λ t h. h; others = λ t h. others_none (state g.S.Store c.args.tx.now.conn.now).now; committed = refl; mode = inside });
+  kept = search rules;
+  survives = search rules;
+}

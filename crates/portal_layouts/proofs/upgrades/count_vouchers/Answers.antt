@@ -6,7 +6,7 @@ use Rattle.portal_layouts.proofs.upgrades.count_vouchers.Goals as goal
 
 pub returns-clause-summed : goal.returns-clause-summed
 returns-clause-summed g c clean t first given =
-    counts_are t c.args.grants.now c.as_slice.result.now c.in_ok-vouchers.vouchers.items c.in_ok-sum_counts.field-0.items c.in_ok-sum_counts.ensures.sums c.as_slice.ensures.value (c.in_ok-vouchers.ensures.read clean t first) given
+    counts_are t c.args.grants.now c.as_slice.result.now c.in_ok-vouchers.vouchers.items c.in_ok-sum_counts.field-0.items c.in_ok-sum_counts.ensures.sums c.as_slice.ensures.value (c.in_ok-vouchers.ensures.found clean t first) given
 
 pub returns-clause-looks : goal.returns-clause-looks
 returns-clause-looks g c = c.in_ok-vouchers.ensures.always

@@ -15,7 +15,7 @@ returns-clause-summed g c clean live t first given =
     let clean1 : HasCleanDisk b = omega (arith, c.in_ok-sessions.ensures.always.crash.clean) in
     let first1 = first_after a b c.in_ok-plans.ensures.always clean1 live t first in
     totals_are t c.args.grants.now c.as_slice.result.now c.in_ok-plans.plans.items c.as_slice-2.result.now c.in_ok-sessions.sessions.items c.in_ok-sum_totals.field-0.items c.in_ok-sum_totals.ensures.sums c.as_slice.ensures.value
-    c.as_slice-2.ensures.value (c.in_ok-plans.ensures.read clean1 t first) (c.in_ok-sessions.ensures.read clean t first1) given
+    c.as_slice-2.ensures.value (c.in_ok-plans.ensures.found clean1 t first) (c.in_ok-sessions.ensures.found clean t first1) given
 
 pub returns-clause-looks : goal.returns-clause-looks
 returns-clause-looks g c = reads_then Anything _ _ _ c.in_ok-plans.ensures.always c.in_ok-sessions.ensures.always
@@ -49,4 +49,4 @@ returns-in_err-sum_totals-clause-foreign g c clean live t first given own fits =
     let b = state g.S.Store c.all_plans.new.conn in
     let clean1 : HasCleanDisk b = omega (arith, c.in_ok-sessions.ensures.always.crash.clean) in
     let first1 = first_after a b c.in_ok-plans.ensures.always clean1 live t first in
-    rw (told.1, told.2) (c.in_err-sum_totals.ensures.kept (rw (c.as_slice.ensures.value, c.as_slice-2.ensures.value, c.in_ok-plans.ensures.read clean1 t first, c.in_ok-sessions.ensures.read clean t first1, given) fits))
+    rw (told.1, told.2) (c.in_err-sum_totals.ensures.kept (rw (c.as_slice.ensures.value, c.as_slice-2.ensures.value, c.in_ok-plans.ensures.found clean1 t first, c.in_ok-sessions.ensures.found clean t first1, given) fits))

@@ -15,21 +15,21 @@ returns-clause-done g c clean live =
     upgrade_done (state g.S.Store c.args.conn.now) (state g.S.Store c.all_grants.new.conn) (state g.S.Store c.count_vouchers.new.conn) (state g.S.Store c.total_sessions.new.conn) (state g.S.Store c.gain.new.conn)
     c.in_ok-grants.ensures.always c.in_ok-counts.ensures.looks c.in_ok-totals.ensures.looks c.in_ok-grants.grants.items c.as_slice.result.now c.as_slice-2.result.now c.as_slice.ensures.value c.as_slice-2.ensures.value
     c.in_ok-counts.counts.items c.as_slice-3.result.now c.as_slice-3.ensures.value c.in_ok-totals.totals.items c.as_slice-4.result.now c.as_slice-4.ensures.value
-    c.in_ok-grants.ensures.read c.in_ok-counts.ensures.summed c.in_ok-totals.ensures.summed (omega (arith, c.gain.ensures.crash.clean)) live (c.in_ok-gain.ensures.done clean)
+    c.in_ok-grants.ensures.found c.in_ok-counts.ensures.summed c.in_ok-totals.ensures.summed (omega (arith, c.gain.ensures.crash.clean)) live (c.in_ok-gain.ensures.done clean)
 
 pub returns-clause-crash : goal.returns-clause-crash
 returns-clause-crash g c =
     upgrade_crash (state g.S.Store c.args.conn.now) (state g.S.Store c.all_grants.new.conn) (state g.S.Store c.count_vouchers.new.conn) (state g.S.Store c.total_sessions.new.conn) (state g.S.Store c.gain.new.conn)
     c.in_ok-grants.ensures.always c.in_ok-counts.ensures.looks c.in_ok-totals.ensures.looks c.in_ok-grants.grants.items c.as_slice.result.now c.as_slice-2.result.now c.as_slice.ensures.value c.as_slice-2.ensures.value
     c.in_ok-counts.counts.items c.as_slice-3.result.now c.as_slice-3.ensures.value c.in_ok-totals.totals.items c.as_slice-4.result.now c.as_slice-4.ensures.value
-    c.in_ok-grants.ensures.read c.in_ok-counts.ensures.summed c.in_ok-totals.ensures.summed c.gain.ensures.crash
+    c.in_ok-grants.ensures.found c.in_ok-counts.ensures.summed c.in_ok-totals.ensures.summed c.gain.ensures.crash
 
 pub returns-in_err-gain-clause-crash : goal.returns-in_err-gain-clause-crash
 returns-in_err-gain-clause-crash g c =
     upgrade_crash (state g.S.Store c.args.conn.now) (state g.S.Store c.all_grants.new.conn) (state g.S.Store c.count_vouchers.new.conn) (state g.S.Store c.total_sessions.new.conn) (state g.S.Store c.gain.new.conn)
     c.in_ok-grants.ensures.always c.in_ok-counts.ensures.looks c.in_ok-totals.ensures.looks c.in_ok-grants.grants.items c.as_slice.result.now c.as_slice-2.result.now c.as_slice.ensures.value c.as_slice-2.ensures.value
     c.in_ok-counts.counts.items c.as_slice-3.result.now c.as_slice-3.ensures.value c.in_ok-totals.totals.items c.as_slice-4.result.now c.as_slice-4.ensures.value
-    c.in_ok-grants.ensures.read c.in_ok-counts.ensures.summed c.in_ok-totals.ensures.summed c.gain.ensures.crash
+    c.in_ok-grants.ensures.found c.in_ok-counts.ensures.summed c.in_ok-totals.ensures.summed c.gain.ensures.crash
 
 pub returns-in_err-counts-clause-crash : goal.returns-in_err-counts-clause-crash
 returns-in_err-counts-clause-crash g c = fails_crash _ _ (fails_then Anything _ _ _ c.in_ok-grants.ensures.always c.in_err-counts.ensures.looks)
@@ -78,5 +78,5 @@ returns-in_err-gain-clause-foreign g c clean live t first room can =
     let fits =
     upgrade_fits a (state g.S.Store c.all_grants.new.conn) (state g.S.Store c.count_vouchers.new.conn) d (state g.S.Store c.gain.new.conn) c.in_ok-grants.ensures.always c.in_ok-counts.ensures.looks c.in_ok-totals.ensures.looks
     c.in_ok-grants.grants.items c.as_slice.result.now c.as_slice-2.result.now c.as_slice.ensures.value c.as_slice-2.ensures.value c.in_ok-counts.counts.items c.as_slice-3.result.now c.as_slice-3.ensures.value
-    c.in_ok-totals.totals.items c.as_slice-4.result.now c.as_slice-4.ensures.value c.in_ok-grants.ensures.read c.in_ok-counts.ensures.summed c.in_ok-totals.ensures.summed clean3 live t first can.1 in
+    c.in_ok-totals.totals.items c.as_slice-4.result.now c.as_slice-4.ensures.value c.in_ok-grants.ensures.found c.in_ok-counts.ensures.summed c.in_ok-totals.ensures.summed clean3 live t first can.1 in
     rw (told.1, told.2) (c.in_err-gain.ensures.foreign still fits.0 fits.1)

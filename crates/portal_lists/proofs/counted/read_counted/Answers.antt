@@ -23,10 +23,10 @@ returns-clause-read g c clean live t held =
     let live2 = first_open t s1 s2 c.in_ok-all_vouchers.ensures.looks clean2 live1 held1 in
     let held3 = first_after t s2 s3 c.in_ok-all_sessions.ensures.looks clean3 live2 held2 in
     record {
-      plans = c.in_ok-all_plans.ensures.read clean1 t held;
-      vouchers = c.in_ok-all_vouchers.ensures.read clean2 t held1;
-      sessions = c.in_ok-all_sessions.ensures.read clean3 t held2;
-      grants = c.in_ok-all_grants.ensures.read clean t held3;
+      plans = c.in_ok-all_plans.ensures.found clean1 t held;
+      vouchers = c.in_ok-all_vouchers.ensures.found clean2 t held1;
+      sessions = c.in_ok-all_sessions.ensures.found clean3 t held2;
+      grants = c.in_ok-all_grants.ensures.found clean t held3;
     }
 
 pub returns-clause-looks : goal.returns-clause-looks

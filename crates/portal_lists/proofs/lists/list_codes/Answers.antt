@@ -13,22 +13,25 @@ use Rattle.portal_lists.proofs.Listing.{read_shown}
 use Rattle.portal_lists.proofs.ListReading.{batch_listed}
 use Rattle.portal_lists.proofs.lists.list_codes.Goals as goal
 
-pub returns-clause-found : goal.returns-clause-found
-returns-clause-found g c clean t h =
-    let rows = c.in_ok-rows.rows.items in
-    let answer = map text_of c.in_ok-codes_in.field-0.items in
-    read_shown voucher_cells (λ (v : VoucherRow). bytes_eq c.args.batch.now v.batch) by_place t.vouchers (λ (v : VoucherRow). v.code) 6 (λ v. refl) exact_voucher rows (batch_listed t c.args.batch.now rows (c.in_ok-rows.ensures.rows clean t h)) answer
-    (subst (λ rows. AreReadAs voucher_cells 6 (λ (v : VoucherRow). v.code) rows answer) c.deref.ensures.value c.in_ok-codes_in.ensures.read)
+pub returns-clause-reads : goal.returns-clause-reads
+returns-clause-reads g c = record {
+  found = λ clean t h.
+      let rows = c.in_ok-rows.rows.items in
+      let answer = map text_of c.in_ok-codes_in.field-0.items in
+      read_shown voucher_cells (λ (v : VoucherRow). bytes_eq c.args.batch.now v.batch) by_place t.vouchers (λ (v : VoucherRow). v.code) 6 (λ v. refl) exact_voucher rows (batch_listed t c.args.batch.now rows (c.in_ok-rows.ensures.rows clean t h)) answer
+      (subst (λ rows. AreReadAs voucher_cells 6 (λ (v : VoucherRow). v.code) rows answer) c.deref.ensures.value c.in_ok-codes_in.ensures.read);
+  looks = c.in_ok-rows.ensures.looks;
+  foreign = λ clean t h own. tt;
+}
 
-pub returns-clause-looks : goal.returns-clause-looks
-returns-clause-looks g c = c.in_ok-rows.ensures.looks
-
-pub returns-in_err-codes_in-clause-looks : goal.returns-in_err-codes_in-clause-looks
-returns-in_err-codes_in-clause-looks g c = looks_read HasTables _ _ _ c.in_ok-rows.ensures.looks
-
-pub returns-in_err-codes_in-clause-foreign : goal.returns-in_err-codes_in-clause-foreign
-returns-in_err-codes_in-clause-foreign g c clean t h own =
+pub returns-in_err-codes_in-clause-reads : goal.returns-in_err-codes_in-clause-reads
+returns-in_err-codes_in-clause-reads g c =
     let told = err_from_is_err_and c.from_residual-in_err-codes_in.result c.from_residual-in_err-codes_in.ensures.1 in
-    let rows = c.in_ok-rows.rows.items in
-    let shows = own_listed voucher_cells 6 (λ x. refl) IsOwnVoucher (λ (v : VoucherRow). bytes_eq c.args.batch.now v.batch) by_place t.vouchers rows (batch_listed t c.args.batch.now rows (c.in_ok-rows.ensures.rows clean t h)) (λ v has on. own v has) in
-    rw (told.1, told.2) (c.in_err-codes_in.ensures.own (subst (AreOfOwn voucher_cells 6 IsOwnVoucher) (sym c.deref.ensures.value) shows))
+    record {
+      found = λ clean t h. rw told.1 tt;
+      looks = looks_read HasTables _ _ _ c.in_ok-rows.ensures.looks;
+      foreign = λ clean t h own.
+          let rows = c.in_ok-rows.rows.items in
+          let shows = own_listed voucher_cells 6 (λ x. refl) IsOwnVoucher (λ (v : VoucherRow). bytes_eq c.args.batch.now v.batch) by_place t.vouchers rows (batch_listed t c.args.batch.now rows (c.in_ok-rows.ensures.rows clean t h)) (λ v has on. own v has) in
+          rw (told.1, told.2) (c.in_err-codes_in.ensures.own (subst (AreOfOwn voucher_cells 6 IsOwnVoucher) (sym c.deref.ensures.value) shows));
+    }

@@ -18,31 +18,39 @@ use Rattle.portal_lists.proofs.ListReading.{asks_totals, totals_rows_are, totals
 use Rattle.portal_lists.proofs.ListTexts.{totals_text}
 use Rattle.portal_lists.proofs.lists.list_numbers.Goals as goal
 
-pub returns-clause-found : goal.returns-clause-found
-returns-clause-found g c clean t h =
-    let old = state g.S.Store c.args.conn.now in
-    let new = state g.S.Store c.read_values.new.conn in
-    let totals = c.in_ok-totals.totals.items in
-    let all = c.in_ok-totals.ensures.shown clean (asks_totals old.now.schema (h.places, h.stand)) in (
-      map ends_row totals,
-      read_listed total_cells (λ (_ : TotalRow). true) by_number t.totals 3 (λ m. refl) exact_total all.rows (totals_rows_are old new all.rows all.shown t h) (map ends_row totals) (map-map total_cells ends_row totals ∙ all.are),
-      c.in_ok-numbers_in.ensures.numbers ∙ ap (λ (ms : List Total). numbers_open c.args.at (map ends_row ms)) c.deref.ensures.value,
-    )
+pub returns : goal.returns
+returns g c = record {
+  found = λ clean t h.
+      let old = state g.S.Store c.args.conn.now in
+      let new = state g.S.Store c.read_values.new.conn in
+      let totals = c.in_ok-totals.totals.items in
+      let all = c.in_ok-totals.ensures.shown clean (asks_totals old.now.schema (h.places, h.stand)) in (
+        map ends_row totals,
+        read_listed total_cells (λ (_ : TotalRow). true) by_number t.totals 3 (λ m. refl) exact_total all.rows (totals_rows_are old new all.rows all.shown t h) (map ends_row totals) (map-map total_cells ends_row totals ∙ all.are),
+        c.in_ok-numbers_in.ensures.numbers ∙ ap (λ (ms : List Total). numbers_open c.args.at (map ends_row ms)) c.deref.ensures.value,
+      );
+  looks = reads_weaker (Asks totals_text) HasTables asks_totals _ _ c.in_ok-totals.ensures.looks;
+  foreign = λ clean t h own. tt;
+}
 
-pub returns-clause-looks : goal.returns-clause-looks
-returns-clause-looks g c = reads_weaker (Asks totals_text) HasTables asks_totals _ _ c.in_ok-totals.ensures.looks
-
-pub returns-in_err-totals-clause-looks : goal.returns-in_err-totals-clause-looks
-returns-in_err-totals-clause-looks g c =
+pub returns-in_err-totals : goal.returns-in_err-totals
+returns-in_err-totals g c =
     let told = err_from_is_err_and c.from_residual.result c.from_residual.ensures.1 in
-    rw told.1 (fails_weaker (Asks totals_text) HasTables asks_totals _ _ c.in_err-totals.ensures.looks)
+    record {
+      found = λ clean t h. rw told.1 tt;
+      looks =
+          rw told.1 (fails_weaker (Asks totals_text) HasTables asks_totals _ _ c.in_err-totals.ensures.looks);
+      foreign = λ clean t h own.
+          let old = state g.S.Store c.args.conn.now in
+          let new = state g.S.Store c.read_values.new.conn in
+          rw (told.1, told.2) (c.in_err-totals.ensures.own clean (totals_simple old.now.schema (h.places, h.stand)) (λ rows shown. own_listed total_cells 3 (λ x. refl) IsOwnTotal (λ (_ : TotalRow). true) by_number t.totals rows (totals_rows_are old new rows shown t h) (λ m has on. own m has)));
+    }
 
-pub returns-in_err-totals-clause-foreign : goal.returns-in_err-totals-clause-foreign
-returns-in_err-totals-clause-foreign g c clean t h own =
-    let old = state g.S.Store c.args.conn.now in
-    let new = state g.S.Store c.read_values.new.conn in
-    let told = err_from_is_err_and c.from_residual.result c.from_residual.ensures.1 in
-    rw (told.1, told.2) (c.in_err-totals.ensures.own clean (totals_simple old.now.schema (h.places, h.stand)) (λ rows shown. own_listed total_cells 3 (λ x. refl) IsOwnTotal (λ (_ : TotalRow). true) by_number t.totals rows (totals_rows_are old new rows shown t h) (λ m has on. own m has)))
-
-pub returns-in_err-numbers_in-clause-looks : goal.returns-in_err-numbers_in-clause-looks
-returns-in_err-numbers_in-clause-looks g c = looks_read HasTables _ _ _ (reads_weaker (Asks totals_text) HasTables asks_totals _ _ c.in_ok-totals.ensures.looks)
+pub returns-in_err-numbers_in : goal.returns-in_err-numbers_in
+returns-in_err-numbers_in g c =
+    let told = err_from_is_err_and c.from_residual-in_err-numbers_in.result c.from_residual-in_err-numbers_in.ensures.1 in
+    record {
+      found = λ clean t h. rw told.1 tt;
+      looks = looks_read HasTables _ _ _ (reads_weaker (Asks totals_text) HasTables asks_totals _ _ c.in_ok-totals.ensures.looks);
+      foreign = λ clean t h own. rw (told.1, told.2) c.in_err-numbers_in.ensures.memory;
+    }

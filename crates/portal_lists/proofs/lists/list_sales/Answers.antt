@@ -15,25 +15,23 @@ use Rattle.portal_lists.proofs.ListTexts.{sold_text}
 use Rattle.portal_lists.proofs.SumLemmas.{rows_exact}
 use Rattle.portal_lists.proofs.lists.list_sales.Goals as goal
 
-pub returns-clause-found : goal.returns-clause-found
-returns-clause-found g c clean t h =
-    let old = state g.S.Store c.args.conn.now in
-    let new = state g.S.Store c.read_values.new.conn in
-    let low : c.get.result < 2 ^ 63 = omega arith in
-    let high : c.get-2.result < 2 ^ 63 = omega arith in
-    let sold = map sale_shown (filter (λ (v : VoucherRow). is_within c.args.from c.args.to v.sold) t.vouchers) in
-    ok_then c.read_values.result (λ sales all. rows_exact sale_cells 2 (λ x. refl) exact_sale (map sale_read sales.items) sold all.rows (map-map sale_cells sale_read sales.items ∙ all.are) (sold_rows_are old new c.args.from c.args.to all.rows t h all.shown))
-    (rw (c.params-to_sql.ensures, c.params-to_sql-2.ensures, to_z_pos w64 c.get.result low, to_z_pos w64 c.get-2.result high, c.get.ensures.value, c.get-2.ensures.value) at (c.read_values.ensures.shown clean (asks_sold old.now.schema (h.places, h.stand))))
-
-pub returns-clause-looks : goal.returns-clause-looks
-returns-clause-looks g c = looks_weaker (Asks sold_text) HasTables asks_sold c.read_values.result _ _ c.read_values.ensures.looks
-
-pub returns-clause-foreign : goal.returns-clause-foreign
-returns-clause-foreign g c clean t h own =
-    let old = state g.S.Store c.args.conn.now in
-    let new = state g.S.Store c.read_values.new.conn in
-    let low : c.get.result < 2 ^ 63 = omega arith in
-    let high : c.get-2.result < 2 ^ 63 = omega arith in
-    let sold = map sale_shown (filter (λ (v : VoucherRow). is_within c.args.from c.args.to v.sold) t.vouchers) in
-    let kept = rw (c.params-to_sql.ensures, c.params-to_sql-2.ensures, to_z_pos w64 c.get.result low, to_z_pos w64 c.get-2.result high, c.get.ensures.value, c.get-2.ensures.value) at (c.read_values.ensures.own clean (sold_simple old.now.schema (h.places, h.stand))) in
-    kept (λ rows shown. own_rows sale_cells 2 (λ x. refl) IsOwnSale sold rows (sold_rows_are old new c.args.from c.args.to rows t h shown) (own_sales c.args.from c.args.to t.vouchers own))
+pub returns : goal.returns
+returns g c = record {
+  found = λ clean t h.
+      let old = state g.S.Store c.args.conn.now in
+      let new = state g.S.Store c.read_values.new.conn in
+      let low : c.get.result < 2 ^ 63 = omega arith in
+      let high : c.get-2.result < 2 ^ 63 = omega arith in
+      let sold = map sale_shown (filter (λ (v : VoucherRow). is_within c.args.from c.args.to v.sold) t.vouchers) in
+      ok_then c.read_values.result (λ sales all. rows_exact sale_cells 2 (λ x. refl) exact_sale (map sale_read sales.items) sold all.rows (map-map sale_cells sale_read sales.items ∙ all.are) (sold_rows_are old new c.args.from c.args.to all.rows t h all.shown))
+      (rw (c.params-to_sql.ensures, c.params-to_sql-2.ensures, to_z_pos w64 c.get.result low, to_z_pos w64 c.get-2.result high, c.get.ensures.value, c.get-2.ensures.value) at (c.read_values.ensures.shown clean (asks_sold old.now.schema (h.places, h.stand))));
+  looks = looks_weaker (Asks sold_text) HasTables asks_sold c.read_values.result _ _ c.read_values.ensures.looks;
+  foreign = λ clean t h own.
+      let old = state g.S.Store c.args.conn.now in
+      let new = state g.S.Store c.read_values.new.conn in
+      let low : c.get.result < 2 ^ 63 = omega arith in
+      let high : c.get-2.result < 2 ^ 63 = omega arith in
+      let sold = map sale_shown (filter (λ (v : VoucherRow). is_within c.args.from c.args.to v.sold) t.vouchers) in
+      let kept = rw (c.params-to_sql.ensures, c.params-to_sql-2.ensures, to_z_pos w64 c.get.result low, to_z_pos w64 c.get-2.result high, c.get.ensures.value, c.get-2.ensures.value) at (c.read_values.ensures.own clean (sold_simple old.now.schema (h.places, h.stand))) in
+      kept (λ rows shown. own_rows sale_cells 2 (λ x. refl) IsOwnSale sold rows (sold_rows_are old new c.args.from c.args.to rows t h shown) (own_sales c.args.from c.args.to t.vouchers own));
+}

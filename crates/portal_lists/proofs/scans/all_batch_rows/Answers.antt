@@ -5,9 +5,9 @@ use Rattle.portal_rows.specs.Holds.{HasTables}
 use Rattle.portal_lists.proofs.WholeReading.{all_batches_are, all_batches_plain}
 use Rattle.portal_lists.proofs.scans.all_batch_rows.Goals as goal
 
-pub returns-clause-rows : goal.returns-clause-rows
-returns-clause-rows g c clean t h =
-    ok_then c.read_all.result (λ rows shown. all_batches_are (state g.S.Store c.args.conn.now) (state g.S.Store c.read_all.new.conn) rows.items shown t h) (c.read_all.ensures.shown clean)
-
-pub returns-clause-looks : goal.returns-clause-looks
-returns-clause-looks g c = looks_weaker _ HasTables all_batches_plain c.read_all.result _ _ c.read_all.ensures.looks
+pub returns : goal.returns
+returns g c = record {
+  rows = λ clean t h.
+      ok_then c.read_all.result (λ rows shown. all_batches_are (state g.S.Store c.args.conn.now) (state g.S.Store c.read_all.new.conn) rows.items shown t h) (c.read_all.ensures.shown clean);
+  looks = looks_weaker _ HasTables all_batches_plain c.read_all.result _ _ c.read_all.ensures.looks;
+}

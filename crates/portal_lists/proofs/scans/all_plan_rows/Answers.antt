@@ -7,12 +7,10 @@ use Rattle.portal_lists.proofs.WholeReading.{all_plans_are}
 use Rattle.portal_lists.proofs.AskLemmas.{plans_asked}
 use Rattle.portal_lists.proofs.scans.all_plan_rows.Goals as goal
 
-pub returns-clause-rows : goal.returns-clause-rows
-returns-clause-rows g c clean t h =
-    ok_then c.ask.result (λ rows shown. all_plans_are (state g.S.Store c.args.conn.now) (state g.S.Store c.ask.new.conn) rows.items shown t h) (c.ask.ensures.shown clean)
-
-pub returns-clause-looks : goal.returns-clause-looks
-returns-clause-looks g c = looks_weaker Anything HasFirst (λ schema has. tt) c.ask.result _ _ (c.ask.ensures.always plans_asked)
-
-pub returns-clause-always : goal.returns-clause-always
-returns-clause-always g c = c.ask.ensures.always plans_asked
+pub returns : goal.returns
+returns g c = record {
+  rows = λ clean t h.
+      ok_then c.ask.result (λ rows shown. all_plans_are (state g.S.Store c.args.conn.now) (state g.S.Store c.ask.new.conn) rows.items shown t h) (c.ask.ensures.shown clean);
+  looks = looks_weaker Anything HasFirst (λ schema has. tt) c.ask.result _ _ (c.ask.ensures.always plans_asked);
+  always = c.ask.ensures.always plans_asked;
+}

@@ -13,18 +13,23 @@ use Rattle.portal_lists.proofs.OwnRows.{own_rows}
 use Rattle.portal_lists.proofs.SumLemmas.{rows_exact}
 use Rattle.portal_lists.proofs.whole.all_sessions.Goals as goal
 
-pub returns-clause-read : goal.returns-clause-read
-returns-clause-read g c clean t h =
-    rows_exact session_cells 6 (λ x. refl) exact_session (map session_read c.in_ok-read_each.field-0.items) t.sessions _ (map-map session_cells session_read c.in_ok-read_each.field-0.items ∙ c.in_ok-read_each.ensures.cells ∙ ap (map (columns 6)) c.deref.ensures.value) (c.in_ok-rows.ensures.rows clean t h)
+pub returns : goal.returns
+returns g c = record {
+  found = λ clean t h.
+      rows_exact session_cells 6 (λ x. refl) exact_session (map session_read c.in_ok-read_each.field-0.items) t.sessions _ (map-map session_cells session_read c.in_ok-read_each.field-0.items ∙ c.in_ok-read_each.ensures.cells ∙ ap (map (columns 6)) c.deref.ensures.value) (c.in_ok-rows.ensures.rows clean t h);
+  looks = c.in_ok-rows.ensures.looks;
+  always = c.in_ok-rows.ensures.always;
+  foreign = λ clean t h own. tt;
+}
 
-pub returns-in_err-read_each-clause-looks : goal.returns-in_err-read_each-clause-looks
-returns-in_err-read_each-clause-looks g c = looks_read HasFirst _ _ _ c.in_ok-rows.ensures.looks
-
-pub returns-in_err-read_each-clause-always : goal.returns-in_err-read_each-clause-always
-returns-in_err-read_each-clause-always g c = looks_read Anything _ _ _ c.in_ok-rows.ensures.always
-
-pub returns-in_err-read_each-clause-foreign : goal.returns-in_err-read_each-clause-foreign
-returns-in_err-read_each-clause-foreign g c clean t h own =
+pub returns-in_err-read_each : goal.returns-in_err-read_each
+returns-in_err-read_each g c =
     let told = err_from_is_err_and c.from_residual-in_err-read_each.result c.from_residual-in_err-read_each.ensures.1 in
-    let shows = own_rows session_cells 6 (λ x. refl) IsOwnSession t.sessions c.in_ok-rows.rows.items (c.in_ok-rows.ensures.rows clean t h) own in
-    rw (told.1, told.2) (c.in_err-read_each.ensures.own (subst (AreOfOwn session_cells 6 IsOwnSession) (sym c.deref.ensures.value) shows))
+    record {
+      found = λ clean t h. rw told.1 tt;
+      looks = looks_read HasFirst _ _ _ c.in_ok-rows.ensures.looks;
+      always = looks_read Anything _ _ _ c.in_ok-rows.ensures.always;
+      foreign = λ clean t h own.
+          let shows = own_rows session_cells 6 (λ x. refl) IsOwnSession t.sessions c.in_ok-rows.rows.items (c.in_ok-rows.ensures.rows clean t h) own in
+          rw (told.1, told.2) (c.in_err-read_each.ensures.own (subst (AreOfOwn session_cells 6 IsOwnSession) (sym c.deref.ensures.value) shows));
+    }

@@ -8,7 +8,7 @@ returns-in-Ok-clause-served g c = λ honest old stands.
     let it = c.in-Ok.ensures.served honest old stands in (
       it.0,
       it.1,
-      (Ok c.in-Ok.done, it.2, ap Ok (c.status_for.ensures ∙ ap (status_for c.in-Ok.done.status) (c.is_stopped.ensures it.0 it.1))),
+      (Ok c.in-Ok.done, it.2, ap Ok (c.status_for.ensures ∙ ap (status_for c.in-Ok.done.status) (c.is_stopped.ensures.over it.0 it.1))),
     )
 
 pub returns-in-Ok-clause-survives : goal.returns-in-Ok-clause-survives

@@ -15,22 +15,30 @@ returns-in-Ok g c =
     inl (
       c.in-Ok.opened.is_new,
       (
+        c.in-Ok.opened.desk,
         call.new.desk,
         g.E.Write.contents ends.new.errors,
+        c.in-Ok.ensures.opened,
         c.close_desk.ensures,
         (call.ensures.wire.0, call.result, call.ensures.wire.1, ends.ensures),
         λ honest.
             let was = call.ensures.honest honest in (
+              was,
               c.in-Ok.ensures.found was,
               λ L shows.
-                  let it = call.ensures.served honest (running L) (c.in-Ok.ensures.stands L shows was) in (
-                    it.0,
-                    it.1,
+                  let at = c.in-Ok.ensures.stands L shows was in
+                  let it = call.ensures.served honest (running L) at in (
+                    at,
                     (
-                      call.result,
-                      subst (λ (s : SettingsValue). EndsAnswering wire c.args.moment c.args.seed (λ arrivals responses. Served s (running L) arrivals responses it.0) (is_over it.0) call.result)
-                          c.in-Ok.ensures.told it.2,
-                      ends.ensures,
+                      it.0,
+                      it.1,
+                      λ files may. let left = g.met.P.Stored.Desk.leaves call.new.desk it.0 it.1 files may in (left.0, left.1, left.2, g.met.P.Stored.Desk.sound files left.0 left.2),
+                      (
+                        call.result,
+                        subst (λ (s : SettingsValue). EndsAnswering wire c.args.moment c.args.seed (λ arrivals responses. Served s (running L) arrivals responses it.0) (is_over it.0) call.result)
+                            c.in-Ok.ensures.told it.2,
+                        ends.ensures,
+                      ),
                     ),
                   ),
             ),

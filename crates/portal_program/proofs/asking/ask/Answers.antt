@@ -16,13 +16,21 @@ returns-in-Ok-clause-over g c =
       g.E.Write.contents c.announce.new.errors,
       c.announce.ensures,
       (
+        c.in-Ok.opened.desk,
         call.new.desk,
         g.E.Write.contents call.new.errors,
+        c.in-Ok.ensures.opened,
         c.close_desk.ensures,
         call.ensures.ends,
         λ honest.
-            let was = call.ensures.honest honest in
-            (c.in-Ok.ensures.found was, λ L shows. call.ensures.asked honest (running L) (c.in-Ok.ensures.stands L shows was)),
+            let was = call.ensures.honest honest in (
+              was,
+              c.in-Ok.ensures.found was,
+              λ L shows.
+                  let at = c.in-Ok.ensures.stands L shows was in
+                  let it = call.ensures.asked honest (running L) at in
+                  (at, (it.0, it.1, λ files may. let left = g.met.P.Stored.Desk.leaves call.new.desk it.0 it.1 files may in (left.0, left.1, left.2, g.met.P.Stored.Desk.sound files left.0 left.2), it.2)),
+            ),
       ),
     )
 
@@ -38,6 +46,7 @@ returns-in-Ok-clause-exact g c =
       c.in-Ok.opened.is_new,
       g.E.Write.contents c.announce.new.errors,
       g.E.Write.contents call.new.errors,
+      c.in-Ok.ensures.opened,
       c.announce.ensures,
       c.close_desk.ensures,
       (

@@ -1,4 +1,4 @@
-use Rattle.std.proofs.Common.{List, ℕ, subst}
+use Rattle.std.proofs.Common.{List, ℕ, inl, inr, subst}
 use Rattle.portal_files.specs.SettingsFile.{IsSettingsFile}
 use Rattle.portal_program.proofs.place.settings_at.Goals as goal
 
@@ -6,3 +6,9 @@ pub returns-in-Err-Bad-clause-none : goal.returns-in-Err-Bad-clause-none
 returns-in-Err-Bad-clause-none g c = λ same.
     let none = c.in-Err-Bad.ensures.bad c.in-Err-Bad.field-0-is in
     (c.in-Ok.bytes.items, c.in-Ok.ensures.bytes, subst (λ (bytes : List ℕ). (s : _) → ¬ IsSettingsFile bytes s) c.as_slice.ensures.value none)
+
+pub returns-in-Err-Bad-clause-missed : goal.returns-in-Err-Bad-clause-missed
+returns-in-Err-Bad-clause-missed g c =
+    let none = c.in-Err-Bad.ensures.bad c.in-Err-Bad.field-0-is in
+    inr
+    (inl (c.plain.ensures.fault, (c.in-Ok.bytes.items, c.in-Ok.ensures.bytes, subst (λ (bytes : List ℕ). (s : _) → ¬ IsSettingsFile bytes s) c.as_slice.ensures.value none)))

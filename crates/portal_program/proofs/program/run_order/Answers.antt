@@ -12,7 +12,7 @@ pub returns-in-Serve : goal.returns-in-Serve
 returns-in-Serve g c =
     let unread = g.R.Read.remaining c.args.input.now in
     let wire = between unread unread (g.W.Write.contents c.args.output.now) (g.W.Write.contents c.serve_order.new.output) in
-    let place = place_of g.P.Stored.Desk.is_honest g.P.Stored.Desk.stands g.P.Stored.Desk.audits (g.P.Place.reads c.args.place) (g.P.Place.shows c.args.place) (g.P.Place.finds c.args.place) g.P.Place.closes in
+    let place = place_of g.P.Stored.Desk.is_honest g.P.Stored.Desk.stands g.P.Stored.Desk.audits g.P.Stored.Desk.may_leave g.P.Stored.Desk.shows (g.P.Place.reads c.args.place) (g.P.Place.shows c.args.place) (g.P.Place.finds c.args.place) (g.P.Place.opens c.args.place) g.P.Place.closes (g.P.Place.fails_to_read c.args.place) (g.P.Place.refuses c.args.place) g.P.Place.fails_to_close g.P.Place.fails_to_make in
     let host = host_of g.N.Bound.Host.accepts g.N.Bound.Host.stamps g.N.Bound.Host.closes g.N.Bound.Host.pauses g.N.Bound.Reader.Read.remaining g.N.Bound.Writer.Write.contents in
     let network = network_of host (g.N.Network.listens c.args.network.now) in
     subst (λ (o : Order). EndsOrder place network wire (g.E.Write.contents c.args.errors.now) (g.E.Write.contents c.serve_order.new.errors) o c.serve_order.result)
@@ -22,7 +22,7 @@ pub returns-in-Print : goal.returns-in-Print
 returns-in-Print g c =
     let unread = g.R.Read.remaining c.args.input.now in
     let wire = between unread unread (g.W.Write.contents c.args.output.now) (g.W.Write.contents c.print.new.output) in
-    let place = place_of g.P.Stored.Desk.is_honest g.P.Stored.Desk.stands g.P.Stored.Desk.audits (g.P.Place.reads c.args.place) (g.P.Place.shows c.args.place) (g.P.Place.finds c.args.place) g.P.Place.closes in
+    let place = place_of g.P.Stored.Desk.is_honest g.P.Stored.Desk.stands g.P.Stored.Desk.audits g.P.Stored.Desk.may_leave g.P.Stored.Desk.shows (g.P.Place.reads c.args.place) (g.P.Place.shows c.args.place) (g.P.Place.finds c.args.place) (g.P.Place.opens c.args.place) g.P.Place.closes (g.P.Place.fails_to_read c.args.place) (g.P.Place.refuses c.args.place) g.P.Place.fails_to_close g.P.Place.fails_to_make in
     let host = host_of g.N.Bound.Host.accepts g.N.Bound.Host.stamps g.N.Bound.Host.closes g.N.Bound.Host.pauses g.N.Bound.Reader.Read.remaining g.N.Bound.Writer.Write.contents in
     let network = network_of host (g.N.Network.listens c.args.network.now) in
     subst (λ (o : Order). EndsOrder place network wire (g.E.Write.contents c.args.errors.now) (g.E.Write.contents c.print.new.errors) o c.print.result)
@@ -32,7 +32,7 @@ pub returns-in-Takings : goal.returns-in-Takings
 returns-in-Takings g c =
     let unread = g.R.Read.remaining c.args.input.now in
     let wire = between unread unread (g.W.Write.contents c.args.output.now) (g.W.Write.contents c.takings.new.output) in
-    let place = place_of g.P.Stored.Desk.is_honest g.P.Stored.Desk.stands g.P.Stored.Desk.audits (g.P.Place.reads c.args.place) (g.P.Place.shows c.args.place) (g.P.Place.finds c.args.place) g.P.Place.closes in
+    let place = place_of g.P.Stored.Desk.is_honest g.P.Stored.Desk.stands g.P.Stored.Desk.audits g.P.Stored.Desk.may_leave g.P.Stored.Desk.shows (g.P.Place.reads c.args.place) (g.P.Place.shows c.args.place) (g.P.Place.finds c.args.place) (g.P.Place.opens c.args.place) g.P.Place.closes (g.P.Place.fails_to_read c.args.place) (g.P.Place.refuses c.args.place) g.P.Place.fails_to_close g.P.Place.fails_to_make in
     let host = host_of g.N.Bound.Host.accepts g.N.Bound.Host.stamps g.N.Bound.Host.closes g.N.Bound.Host.pauses g.N.Bound.Reader.Read.remaining g.N.Bound.Writer.Write.contents in
     let network = network_of host (g.N.Network.listens c.args.network.now) in
     subst (λ (o : Order). EndsOrder place network wire (g.E.Write.contents c.args.errors.now) (g.E.Write.contents c.takings.new.errors) o c.takings.result)
@@ -42,7 +42,7 @@ pub returns-in-Check : goal.returns-in-Check
 returns-in-Check g c =
     let unread = g.R.Read.remaining c.args.input.now in
     let wire = between unread unread (g.W.Write.contents c.args.output.now) (g.W.Write.contents c.check.new.output) in
-    let place = place_of g.P.Stored.Desk.is_honest g.P.Stored.Desk.stands g.P.Stored.Desk.audits (g.P.Place.reads c.args.place) (g.P.Place.shows c.args.place) (g.P.Place.finds c.args.place) g.P.Place.closes in
+    let place = place_of g.P.Stored.Desk.is_honest g.P.Stored.Desk.stands g.P.Stored.Desk.audits g.P.Stored.Desk.may_leave g.P.Stored.Desk.shows (g.P.Place.reads c.args.place) (g.P.Place.shows c.args.place) (g.P.Place.finds c.args.place) (g.P.Place.opens c.args.place) g.P.Place.closes (g.P.Place.fails_to_read c.args.place) (g.P.Place.refuses c.args.place) g.P.Place.fails_to_close g.P.Place.fails_to_make in
     let host = host_of g.N.Bound.Host.accepts g.N.Bound.Host.stamps g.N.Bound.Host.closes g.N.Bound.Host.pauses g.N.Bound.Reader.Read.remaining g.N.Bound.Writer.Write.contents in
     let network = network_of host (g.N.Network.listens c.args.network.now) in
     subst (λ (o : Order). EndsOrder place network wire (g.E.Write.contents c.args.errors.now) (g.E.Write.contents c.check.new.errors) o c.check.result)
@@ -51,7 +51,7 @@ returns-in-Check g c =
 pub returns-in-Answer : goal.returns-in-Answer
 returns-in-Answer g c =
     let wire = between (g.R.Read.remaining c.args.input.now) (g.R.Read.remaining c.answer.new.input) (g.W.Write.contents c.args.output.now) (g.W.Write.contents c.answer.new.output) in
-    let place = place_of g.P.Stored.Desk.is_honest g.P.Stored.Desk.stands g.P.Stored.Desk.audits (g.P.Place.reads c.args.place) (g.P.Place.shows c.args.place) (g.P.Place.finds c.args.place) g.P.Place.closes in
+    let place = place_of g.P.Stored.Desk.is_honest g.P.Stored.Desk.stands g.P.Stored.Desk.audits g.P.Stored.Desk.may_leave g.P.Stored.Desk.shows (g.P.Place.reads c.args.place) (g.P.Place.shows c.args.place) (g.P.Place.finds c.args.place) (g.P.Place.opens c.args.place) g.P.Place.closes (g.P.Place.fails_to_read c.args.place) (g.P.Place.refuses c.args.place) g.P.Place.fails_to_close g.P.Place.fails_to_make in
     let host = host_of g.N.Bound.Host.accepts g.N.Bound.Host.stamps g.N.Bound.Host.closes g.N.Bound.Host.pauses g.N.Bound.Reader.Read.remaining g.N.Bound.Writer.Write.contents in
     let network = network_of host (g.N.Network.listens c.args.network.now) in
     subst (λ (o : Order). EndsOrder place network wire (g.E.Write.contents c.args.errors.now) (g.E.Write.contents c.answer.new.errors) o c.answer.result)

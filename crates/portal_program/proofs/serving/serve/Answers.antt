@@ -14,21 +14,37 @@ returns-in-Ok g c =
       c.in-Ok.ensures.told,
       c.in-Ok.opened.is_new,
       (
+        c.in-Ok.opened.desk,
         call.new.desk,
         g.E.Write.contents call.new.errors,
+        c.in-Ok.ensures.opened,
         c.close_desk.ensures,
         call.ensures.printed,
         λ honest.
-            let was = call.ensures.honest honest in
-            (c.in-Ok.ensures.found was, λ L shows. call.ensures.served honest (running L) (c.in-Ok.ensures.stands L shows was)),
+            let was = call.ensures.honest honest in (
+              was,
+              c.in-Ok.ensures.found was,
+              λ L shows.
+                  let at = c.in-Ok.ensures.stands L shows was in
+                  let it = call.ensures.served honest (running L) at in
+                  (at, (it.0, it.1, λ files may. let left = g.met.P.Stored.Desk.leaves call.new.desk it.0 it.1 files may in (left.0, left.1, left.2, g.met.P.Stored.Desk.sound files left.0 left.2), it.2)),
+            ),
       ),
       (
+        c.in-Ok.opened.desk,
         call.new.desk,
         g.E.Write.contents call.new.errors,
+        c.in-Ok.ensures.opened,
         c.close_desk.ensures,
         call.ensures.printed,
         λ honest.
-            let was = call.ensures.honest honest in
-            (c.in-Ok.ensures.found was, λ L shows. call.ensures.turns honest (running L) (c.in-Ok.ensures.stands L shows was)),
+            let was = call.ensures.honest honest in (
+              was,
+              c.in-Ok.ensures.found was,
+              λ L shows.
+                  let at = c.in-Ok.ensures.stands L shows was in
+                  let it = call.ensures.turns honest (running L) at in
+                  (at, (it.0, it.1, λ files may. let left = g.met.P.Stored.Desk.leaves call.new.desk it.0 it.1 files may in (left.0, left.1, left.2, g.met.P.Stored.Desk.sound files left.0 left.2), it.2)),
+            ),
       ),
     )

@@ -1,4 +1,7 @@
+use Rattle.std.proofs.Math.Logic.{∥∥₁_map}
 use Rattle.sqlite.specs.Files.{over_files}
+use Rattle.portal_store.specs.DeskAt.{DeskMayLeave}
+use Rattle.portal_tables.specs.Images.{ImageHolds}
 use Rattle.portal_tables.specs.TablesAt.{ConnMayLeave, Files as Tables}
 use Rattle.portal_rounds.proofs.RoundLemmas.{desk_leaves, state_left}
 use Rattle.portal_rounds.proofs.desks.let_go.Goals as goal
@@ -7,3 +10,8 @@ pub returns-clause-left : goal.returns-clause-left
 returns-clause-left g c honest s at image may =
     state_left s image (λ (tables : Tables). ConnMayLeave over_files c.release.result tables)
     (λ tables left. desk_leaves over_files c.args.desk s at tables (c.release.ensures.left tables left)) (c.give_back.ensures.left honest image may)
+
+pub returns-clause-kept : goal.returns-clause-kept
+returns-clause-kept g c honest image may =
+    ∥∥₁_map (c.give_back.ensures.left honest image may) (λ it.
+    let kept : (tables : Tables) × DeskMayLeave over_files c.args.desk tables × ImageHolds image tables = (it.0, c.release.ensures.left it.0 it.1, it.2) in kept)

@@ -1,15 +1,8 @@
-use Rattle.std.proofs.Common.{◌≡◌, map, take, IsTrue}
-use Rattle.sqlite.specs.Held.{state}
-use Rattle.sqlite.specs.State.{HasCleanDisk, KeepsCommit, Survives}
+use Rattle.std.proofs.Common.{map, take, Ok}
 use Rattle.portal_codes.specs.Code.{text_of}
 use Rattle.portal_model.specs.Rows.{new_counts}
-use Rattle.portal_rows.specs.Steps.{Steps, with_counts}
+use Rattle.portal_rows.specs.Steps.{Writes, with_counts}
 use Rattle.portal_rows.proofs.commands.insert_counts.Given as goal
 
 abbrev pub invariant-loop-code : goal.invariant-loop-code
-invariant-loop-code g l = record {
-  same_reference : l.tx.conn.ghost_name ≡ l.fn.tx.conn.ghost_name;
-  steps : HasCleanDisk (state g.S.Store l.tx.conn.now) → IsTrue l.fn.tx.conn.now.in_transaction → Steps (with_counts (new_counts (map text_of (take l.code-index l.codes)))) (state g.S.Store l.fn.tx.conn.now) (state g.S.Store l.tx.conn.now);
-  kept : HasCleanDisk (state g.S.Store l.tx.conn.now) → KeepsCommit (state g.S.Store l.fn.tx.conn.now) (state g.S.Store l.tx.conn.now);
-  survives : Survives (state g.S.Store l.fn.tx.conn.now) (state g.S.Store l.tx.conn.now) (λ _. ⊥);
-}
+invariant-loop-code g l = Writes g.S.Store (with_counts (new_counts (map text_of (take l.code-index l.codes)))) l.fn.tx l.tx (Ok tt)

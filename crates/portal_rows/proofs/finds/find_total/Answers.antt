@@ -12,22 +12,32 @@ use Rattle.portal_rows.proofs.Foreign.{of_first}
 use Rattle.portal_rows.proofs.Cells.{exact_total}
 use Rattle.portal_rows.proofs.finds.find_total.Goals as goal
 
-pub returns-in-Some-clause-found : goal.returns-in-Some-clause-found
-returns-in-Some-clause-found g c clean t h =
-    let got = ap (λ xs. slice_get xs 0) (sym c.deref.ensures.value) ∙ sym c.in-Some.ensures.value in
-    finds_some total_cells 0 (λ (x : TotalRow). x.number) c.args.number number (λ x. refl) same_number number_itself 3 (λ x. refl) exact_total t.totals _ (c.in_ok-rows.ensures.rows clean t h)
-    c.in-Some.row.now (ends_row c.in_ok-total_of-in-Some.field-0) got c.in_ok-total_of-in-Some.ensures.cells
+pub returns-in-Some : goal.returns-in-Some
+returns-in-Some g c = record {
+  found = λ clean t h.
+      let got = ap (λ xs. slice_get xs 0) (sym c.deref.ensures.value) ∙ sym c.in-Some.ensures.value in
+      finds_some total_cells 0 (λ (x : TotalRow). x.number) c.args.number number (λ x. refl) same_number number_itself 3 (λ x. refl) exact_total t.totals _ (c.in_ok-rows.ensures.rows clean t h)
+      c.in-Some.row.now (ends_row c.in_ok-total_of-in-Some.field-0) got c.in_ok-total_of-in-Some.ensures.cells;
+  looks = c.in_ok-rows.ensures.looks;
+  foreign = λ clean t h own. tt;
+}
 
-pub returns-in_err-total_of-in-Some-clause-looks : goal.returns-in_err-total_of-in-Some-clause-looks
-returns-in_err-total_of-in-Some-clause-looks g c = looks_read HasTables _ _ _ c.in_ok-rows.ensures.looks
-
-pub returns-clause-found : goal.returns-clause-found
-returns-clause-found g c clean t h =
-    let got = ap (λ xs. slice_get xs 0) (sym c.deref.ensures.value) ∙ sym c.in-None.ensures.value in
-    finds_none total_cells 0 (λ (x : TotalRow). x.number) c.args.number number (λ x. refl) same_number number_itself 3 (λ x. refl) exact_total t.totals _ (c.in_ok-rows.ensures.rows clean t h) got
-
-pub returns-in_err-total_of-in-Some-clause-foreign : goal.returns-in_err-total_of-in-Some-clause-foreign
-returns-in_err-total_of-in-Some-clause-foreign g c clean t h own =
-    let got = ap (λ xs. slice_get xs 0) (sym c.deref.ensures.value) ∙ sym c.in-Some.ensures.value in
+pub returns-in_err-total_of-in-Some : goal.returns-in_err-total_of-in-Some
+returns-in_err-total_of-in-Some g c =
     let told = err_from_is_err_and c.from_residual-in_err-total_of-in-Some.result c.from_residual-in_err-total_of-in-Some.ensures.1 in
-    rw (told.1, told.2) (of_first total_cells 3 (λ x. refl) IsOwnTotal t.totals own _ _ (c.in_ok-rows.ensures.rows clean t h) c.in-Some.row.now got c.in_err-total_of-in-Some.ensures.own)
+    record {
+      found = λ clean t h. rw told.1 tt;
+      looks = looks_read HasTables _ _ _ c.in_ok-rows.ensures.looks;
+      foreign = λ clean t h own.
+          let got = ap (λ xs. slice_get xs 0) (sym c.deref.ensures.value) ∙ sym c.in-Some.ensures.value in
+          rw (told.1, told.2) (of_first total_cells 3 (λ x. refl) IsOwnTotal t.totals own _ _ (c.in_ok-rows.ensures.rows clean t h) c.in-Some.row.now got c.in_err-total_of-in-Some.ensures.own);
+    }
+
+pub returns : goal.returns
+returns g c = record {
+  found = λ clean t h.
+      let got = ap (λ xs. slice_get xs 0) (sym c.deref.ensures.value) ∙ sym c.in-None.ensures.value in
+      finds_none total_cells 0 (λ (x : TotalRow). x.number) c.args.number number (λ x. refl) same_number number_itself 3 (λ x. refl) exact_total t.totals _ (c.in_ok-rows.ensures.rows clean t h) got;
+  looks = c.in_ok-rows.ensures.looks;
+  foreign = λ clean t h own. tt;
+}

@@ -5,9 +5,8 @@ use Rattle.portal_rows.specs.Holds.{HasTables}
 use Rattle.portal_rows.proofs.Reading.{batch_vouchers_rows_are, batch_vouchers_plain}
 use Rattle.portal_rows.proofs.queries.batch_vouchers_rows.Goals as goal
 
-pub returns-clause-rows : goal.returns-clause-rows
-returns-clause-rows g c clean t h =
-    ok_then c.read_all.result (λ rows shown. batch_vouchers_rows_are (state g.S.Store c.args.conn.now) (state g.S.Store c.read_all.new.conn) c.args.batch.now rows.items shown t h) (rw (c.params-to_sql.ensures, c.text.ensures.value) at (c.read_all.ensures.shown clean))
-
-pub returns-clause-looks : goal.returns-clause-looks
-returns-clause-looks g c = looks_weaker _ HasTables batch_vouchers_plain c.read_all.result _ _ c.read_all.ensures.looks
+pub returns : goal.returns
+returns g c = record {
+  rows = λ clean t h. ok_then c.read_all.result (λ rows shown. batch_vouchers_rows_are (state g.S.Store c.args.conn.now) (state g.S.Store c.read_all.new.conn) c.args.batch.now rows.items shown t h) (rw (c.params-to_sql.ensures, c.text.ensures.value) at (c.read_all.ensures.shown clean));
+  looks = looks_weaker _ HasTables batch_vouchers_plain c.read_all.result _ _ c.read_all.ensures.looks;
+}

@@ -1,4 +1,5 @@
 use Rattle.std.proofs.Common.{refl, sym, ap, ◌∙◌, slice_get}
+use Rattle.std.proofs.lemmas.Result.{err_from_is_err_and}
 use Rattle.sqlite.specs.declared.types.Value.TheVariants.{Text}
 use Rattle.portal_ledger.specs.RequestRow.{RequestRow}
 use Rattle.portal_sql.proofs.LooksLemmas.{looks_read}
@@ -10,22 +11,30 @@ use Rattle.portal_rows.proofs.RequestCells.{exact_request}
 use Rattle.portal_rows.proofs.Pairs.{tested_some, tested_none, pair_only, pair_meets}
 use Rattle.portal_rows.proofs.requests.find_request.Goals as goal
 
-pub returns-in-Some-clause-found : goal.returns-in-Some-clause-found
-returns-in-Some-clause-found g c clean t h =
-    let got = ap (λ xs. slice_get xs 0) (sym c.deref.ensures.value) ∙ sym c.in-Some.ensures.value in
-    let a = c.args.caller.now in
-    let b = c.args.number.now in
-    tested_some request_cells key_of (a, b) (has_keys 0 (Text a) 1 (Text b)) (pair_only request_cells 0 1 (λ (k : RequestRow). k.caller) (λ (k : RequestRow). k.number) (λ k. refl) (λ k. refl) a b)
-    (pair_meets request_cells 0 1 (λ (k : RequestRow). k.caller) (λ (k : RequestRow). k.number) (λ k. refl) (λ k. refl) a b) 10 (λ k. refl) exact_request t.requests _ (c.in_ok-rows.ensures.rows clean t h)
-    c.in-Some.row.now (request_read c.in_ok-request_of-in-Some.field-0) got c.in_ok-request_of-in-Some.ensures.cells
+pub returns-in-Some-clause-selects : goal.returns-in-Some-clause-selects
+returns-in-Some-clause-selects g c = record {
+  rows = λ clean t h.
+      let got = ap (λ xs. slice_get xs 0) (sym c.deref.ensures.value) ∙ sym c.in-Some.ensures.value in
+      let a = c.args.caller.now in
+      let b = c.args.number.now in
+      tested_some request_cells key_of (a, b) (has_keys 0 (Text a) 1 (Text b)) (pair_only request_cells 0 1 (λ (k : RequestRow). k.caller) (λ (k : RequestRow). k.number) (λ k. refl) (λ k. refl) a b)
+      (pair_meets request_cells 0 1 (λ (k : RequestRow). k.caller) (λ (k : RequestRow). k.number) (λ k. refl) (λ k. refl) a b) 10 (λ k. refl) exact_request t.requests _ (c.in_ok-rows.ensures.rows clean t h)
+      c.in-Some.row.now (request_read c.in_ok-request_of-in-Some.field-0) got c.in_ok-request_of-in-Some.ensures.cells;
+  looks = c.in_ok-rows.ensures.looks;
+}
 
-pub returns-in_err-request_of-in-Some-clause-looks : goal.returns-in_err-request_of-in-Some-clause-looks
-returns-in_err-request_of-in-Some-clause-looks g c = looks_read HasTables _ _ _ c.in_ok-rows.ensures.looks
+pub returns-in_err-request_of-in-Some-clause-selects : goal.returns-in_err-request_of-in-Some-clause-selects
+returns-in_err-request_of-in-Some-clause-selects g c =
+    let told = err_from_is_err_and c.from_residual-in_err-request_of-in-Some.result c.from_residual-in_err-request_of-in-Some.ensures.1 in
+    record { rows = λ clean t h. rw told.1 tt; looks = looks_read HasTables _ _ _ c.in_ok-rows.ensures.looks }
 
-pub returns-clause-found : goal.returns-clause-found
-returns-clause-found g c clean t h =
-    let got = ap (λ xs. slice_get xs 0) (sym c.deref.ensures.value) ∙ sym c.in-None.ensures.value in
-    let a = c.args.caller.now in
-    let b = c.args.number.now in
-    tested_none request_cells key_of (a, b) (has_keys 0 (Text a) 1 (Text b)) (pair_only request_cells 0 1 (λ (k : RequestRow). k.caller) (λ (k : RequestRow). k.number) (λ k. refl) (λ k. refl) a b)
-    (pair_meets request_cells 0 1 (λ (k : RequestRow). k.caller) (λ (k : RequestRow). k.number) (λ k. refl) (λ k. refl) a b) 10 (λ k. refl) exact_request t.requests _ (c.in_ok-rows.ensures.rows clean t h) got
+pub returns-clause-selects : goal.returns-clause-selects
+returns-clause-selects g c = record {
+  rows = λ clean t h.
+      let got = ap (λ xs. slice_get xs 0) (sym c.deref.ensures.value) ∙ sym c.in-None.ensures.value in
+      let a = c.args.caller.now in
+      let b = c.args.number.now in
+      tested_none request_cells key_of (a, b) (has_keys 0 (Text a) 1 (Text b)) (pair_only request_cells 0 1 (λ (k : RequestRow). k.caller) (λ (k : RequestRow). k.number) (λ k. refl) (λ k. refl) a b)
+      (pair_meets request_cells 0 1 (λ (k : RequestRow). k.caller) (λ (k : RequestRow). k.number) (λ k. refl) (λ k. refl) a b) 10 (λ k. refl) exact_request t.requests _ (c.in_ok-rows.ensures.rows clean t h) got;
+  looks = c.in_ok-rows.ensures.looks;
+}

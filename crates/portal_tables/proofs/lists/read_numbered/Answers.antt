@@ -43,14 +43,23 @@ loop-number-preserved g c =
       looks = reads_then HasTables _ _ _ before.looks one.looks;
     }
 
-pub returns-clause-found : goal.returns-clause-found
-returns-clause-found g c clean live h shown =
-    c.loop-number.invariant.found clean live h shown ∙ ap (filter_map (open_numbered h c.args.t)) (take_all c.loop-number.number-index c.args.numbers.now c.loop-number-test.false)
+pub returns : goal.returns
+returns g c = record {
+  found = λ clean live h shown.
+      c.loop-number.invariant.found clean live h shown ∙ ap (filter_map (open_numbered h c.args.t)) (take_all c.loop-number.number-index c.args.numbers.now c.loop-number-test.false);
+  looks = search rules;
+}
 
-pub returns-in_err-session-clause-looks : goal.returns-in_err-session-clause-looks
-returns-in_err-session-clause-looks g c =
-    let failed : Looks HasTables c.from_residual.result (state g.S.Store c.loop-number.conn) (state g.S.Store c.read_open.new.conn) = search rules in
-    looks_then HasTables _ _ _ _ c.loop-number.invariant.looks failed
+pub returns-in_err-session : goal.returns-in_err-session
+returns-in_err-session g c = record {
+  found = search rules;
+  looks =
+      let failed : Looks HasTables c.from_residual.result (state g.S.Store c.loop-number.conn) (state g.S.Store c.read_open.new.conn) = search rules in
+      looks_then HasTables _ _ _ _ c.loop-number.invariant.looks failed;
+}
 
-pub returns-in_err-push-clause-looks : goal.returns-in_err-push-clause-looks
-returns-in_err-push-clause-looks g c = looks_read HasTables _ _ _ (reads_then HasTables _ _ _ c.loop-number.invariant.looks c.in_ok-session.ensures.looks)
+pub returns-in_err-push : goal.returns-in_err-push
+returns-in_err-push g c = record {
+  found = search rules;
+  looks = looks_read HasTables _ _ _ (reads_then HasTables _ _ _ c.loop-number.invariant.looks c.in_ok-session.ensures.looks);
+}

@@ -3,19 +3,28 @@ use Rattle.portal_model.specs.declared.record.Session.{Session}
 use Rattle.portal_model.specs.History.{kept_if, is_open_at}
 use Rattle.portal_tables.proofs.lists.read_open.Goals as goal
 
-pub returns-then-is_open-clause-found : goal.returns-then-is_open-clause-found
-returns-then-is_open-clause-found g c clean live h shown =
-    let s : Session = c.in-Some.session in
-    let found = c.in_ok-session.ensures.found clean live h shown in
-    sym (ap (kept_if (is_open_at c.args.t)) (sym found ∙ c.in-Some.is) ∙ ap (λ b. cond b (Some s) None) (sym c.is_open.ensures ∙ c.if-is_open.true))
+pub returns-then-is_open : goal.returns-then-is_open
+returns-then-is_open g c = record {
+  found = λ clean live h shown.
+      let s : Session = c.in-Some.session in
+      let found = c.in_ok-session.ensures.found clean live h shown in
+      sym (ap (kept_if (is_open_at c.args.t)) (sym found ∙ c.in-Some.is) ∙ ap (λ b. cond b (Some s) None) (sym c.is_open.ensures ∙ c.if-is_open.true));
+  looks = search rules;
+}
 
-pub returns-else-is_open-clause-found : goal.returns-else-is_open-clause-found
-returns-else-is_open-clause-found g c clean live h shown =
-    let s : Session = c.in-Some.session in
-    let found = c.in_ok-session.ensures.found clean live h shown in
-    sym (ap (kept_if (is_open_at c.args.t)) (sym found ∙ c.in-Some.is) ∙ ap (λ b. cond b (Some s) None) (sym c.is_open.ensures ∙ c.if-is_open.false))
+pub returns-else-is_open : goal.returns-else-is_open
+returns-else-is_open g c = record {
+  found = λ clean live h shown.
+      let s : Session = c.in-Some.session in
+      let found = c.in_ok-session.ensures.found clean live h shown in
+      sym (ap (kept_if (is_open_at c.args.t)) (sym found ∙ c.in-Some.is) ∙ ap (λ b. cond b (Some s) None) (sym c.is_open.ensures ∙ c.if-is_open.false));
+  looks = search rules;
+}
 
-pub returns-in_default-clause-found : goal.returns-in_default-clause-found
-returns-in_default-clause-found g c clean live h shown =
-    let none : c.in_ok-session.field-0 ≡ None = search rules in
-    sym (ap (kept_if (is_open_at c.args.t)) (sym (c.in_ok-session.ensures.found clean live h shown) ∙ none))
+pub returns-in_default : goal.returns-in_default
+returns-in_default g c = record {
+  found = λ clean live h shown.
+      let none : c.in_ok-session.field-0 ≡ None = search rules in
+      sym (ap (kept_if (is_open_at c.args.t)) (sym (c.in_ok-session.ensures.found clean live h shown) ∙ none));
+  looks = search rules;
+}

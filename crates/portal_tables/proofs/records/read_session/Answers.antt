@@ -14,35 +14,41 @@ use Rattle.portal_tables.proofs.ShownLemmas.{shown_after, open_after}
 use Rattle.portal_tables.proofs.Joining.{session_missing, session_past, row_of_number}
 use Rattle.portal_tables.proofs.records.read_session.Goals as goal
 
-pub returns-then-number-ge-LIMIT-clause-found : goal.returns-then-number-ge-LIMIT-clause-found
-returns-then-number-ge-LIMIT-clause-found g c clean live h shown =
-    let past : 2 ^ 63 ≤ c.args.number = omega arith in sym (session_past h shown.0 c.args.number past)
+pub returns-then-number-ge-LIMIT : goal.returns-then-number-ge-LIMIT
+returns-then-number-ge-LIMIT g c = record {
+  found = λ clean live h shown.
+      let past : 2 ^ 63 ≤ c.args.number = omega arith in sym (session_past h shown.0 c.args.number past);
+  looks = reads_none HasTables _;
+}
 
-pub returns-then-number-ge-LIMIT-clause-looks : goal.returns-then-number-ge-LIMIT-clause-looks
-returns-then-number-ge-LIMIT-clause-looks g c = reads_none HasTables _
+pub returns-in_err-complete-in-Some : goal.returns-in_err-complete-in-Some
+returns-in_err-complete-in-Some g c = record {
+  found = search rules;
+  looks =
+      let failed : Looks HasTables c.from_residual-in_err-complete-in-Some.result (state g.S.Store c.find_session.new.conn) (state g.S.Store c.complete.new.conn) = search rules in
+      looks_then HasTables _ _ _ _ c.in_ok-row.ensures.reads.looks failed;
+}
 
-pub returns-in_err-complete-in-Some-clause-looks : goal.returns-in_err-complete-in-Some-clause-looks
-returns-in_err-complete-in-Some-clause-looks g c =
-    let failed : Looks HasTables c.from_residual-in_err-complete-in-Some.result (state g.S.Store c.find_session.new.conn) (state g.S.Store c.complete.new.conn) = search rules in
-    looks_then HasTables _ _ _ _ c.in_ok-row.ensures.looks failed
+pub returns-in_ok-complete-in-Some : goal.returns-in_ok-complete-in-Some
+returns-in_ok-complete-in-Some g c = record {
+  found = λ clean live h shown.
+      let a = state g.S.Store c.args.conn.now in
+      let b = state g.S.Store c.find_session.new.conn in
+      let clean1 : HasCleanDisk b = omega (arith, c.in_ok-complete-in-Some.ensures.looks.crash.clean) in
+      let shown1 = shown_after h a b c.in_ok-row.ensures.reads.looks clean1 live shown in
+      let live1 = open_after h a b c.in_ok-row.ensures.reads.looks clean1 live shown in
+      let row =
+      subst (λ (o : Option KeptSession). Finds (λ (x : SessionRow). x.number) c.args.number (map session_kept (sessions_of h)) (option_map session_read o)) c.in-Some.is (c.in_ok-row.ensures.reads.found clean1 _ shown.1.1) in
+      let it = row_of_number h shown.0 c.args.number c.in-Some.row row in
+      c.in_ok-complete-in-Some.ensures.found clean live1 h shown1 it.0 ∙ ap (session_of h) it.1;
+  looks = reads_then HasTables _ _ _ c.in_ok-row.ensures.reads.looks c.in_ok-complete-in-Some.ensures.looks;
+}
 
-pub returns-in_ok-complete-in-Some-clause-looks : goal.returns-in_ok-complete-in-Some-clause-looks
-returns-in_ok-complete-in-Some-clause-looks g c = reads_then HasTables _ _ _ c.in_ok-row.ensures.looks c.in_ok-complete-in-Some.ensures.looks
-
-pub returns-in_ok-complete-in-Some-clause-found : goal.returns-in_ok-complete-in-Some-clause-found
-returns-in_ok-complete-in-Some-clause-found g c clean live h shown =
-    let a = state g.S.Store c.args.conn.now in
-    let b = state g.S.Store c.find_session.new.conn in
-    let clean1 : HasCleanDisk b = omega (arith, c.in_ok-complete-in-Some.ensures.looks.crash.clean) in
-    let shown1 = shown_after h a b c.in_ok-row.ensures.looks clean1 live shown in
-    let live1 = open_after h a b c.in_ok-row.ensures.looks clean1 live shown in
-    let row =
-    subst (λ (o : Option KeptSession). Finds (λ (x : SessionRow). x.number) c.args.number (map session_kept (sessions_of h)) (option_map session_read o)) c.in-Some.is (c.in_ok-row.ensures.found clean1 _ shown.1.1) in
-    let it = row_of_number h shown.0 c.args.number c.in-Some.row row in
-    c.in_ok-complete-in-Some.ensures.found clean live1 h shown1 it.0 ∙ ap (session_of h) it.1
-
-pub returns-in-None-clause-found : goal.returns-in-None-clause-found
-returns-in-None-clause-found g c clean live h shown =
-    let gone =
-    subst (λ (o : Option KeptSession). Finds (λ (x : SessionRow). x.number) c.args.number (map session_kept (sessions_of h)) (option_map session_read o)) c.in-None.is (c.in_ok-row.ensures.found clean _ shown.1.1) in
-    sym (session_missing h shown.0 c.args.number gone)
+pub returns-in-None : goal.returns-in-None
+returns-in-None g c = record {
+  found = λ clean live h shown.
+      let gone =
+      subst (λ (o : Option KeptSession). Finds (λ (x : SessionRow). x.number) c.args.number (map session_kept (sessions_of h)) (option_map session_read o)) c.in-None.is (c.in_ok-row.ensures.reads.found clean _ shown.1.1) in
+      sym (session_missing h shown.0 c.args.number gone);
+  looks = search rules;
+}

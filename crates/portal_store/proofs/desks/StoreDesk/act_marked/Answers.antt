@@ -4,6 +4,7 @@ use Rattle.portal_desk.specs.Calls.{PreparesMarked}
 use Rattle.portal_desk.specs.declared.prepared.Marked.{Marked}
 use Rattle.portal_store.specs.DeskAt.{DeskAt}
 use Rattle.portal_store.proofs.ActLemmas.{acts, fails}
+use Rattle.portal_store.proofs.StopLemmas.{later_told}
 use Rattle.portal_store.proofs.desks.StoreDesk.act_marked.Goals as goal
 
 pub returns-in-Ok-clause-act : goal.returns-in-Ok-clause-act
@@ -23,3 +24,8 @@ returns-in-Err-finish-clause-act g c = λ honest old at.
     (c.in-Ok-Fresh.ensures.prepare (c.finish.ensures.honest honest) old at) in
     fails c.args.command c.args.moment (Some c.args.mark.now) Mid Done c.in-Ok-Fresh.fresh old fresh
     c.in-Err-finish.r (λ s stands a fits. c.in-Err-finish.ensures.finish honest s stands a fits)
+
+pub returns-in-Err-finish-clause-stops : goal.returns-in-Err-finish-clause-stops
+returns-in-Err-finish-clause-stops g c =
+    later_told c.args.self.now.tables.is_stopped c.prepare_marked.new.self.tables.is_stopped c.finish.new.self.tables.is_stopped
+    c.in-Ok-Fresh.ensures.stops c.in-Err-finish.r c.in-Err-finish.ensures.stops

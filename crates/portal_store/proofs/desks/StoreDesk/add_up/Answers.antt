@@ -1,4 +1,4 @@
-use Rattle.std.proofs.Common.{ap, ◌∙◌}
+use Rattle.std.proofs.Common.{◌≡◌, ap, ◌∙◌}
 use Rattle.portal_files.specs.SettingsFile.{SettingsValue}
 use Rattle.portal_ledger.specs.Ledger.{Ledger, history_of}
 use Rattle.portal_ledger.specs.States.{State}
@@ -7,6 +7,8 @@ use Rattle.portal_tables.specs.TablesAt.{TablesAt}
 use Rattle.portal_store.specs.Paid.{paid_days}
 use Rattle.portal_store.proofs.ReadLemmas.{and_then, legal_too}
 use Rattle.portal_store.proofs.TakingLemmas.{adds}
+use Rattle.portal_model.specs.declared.refusal.Refusal.TheVariants.{NoMemory}
+use Rattle.portal_store.proofs.StopLemmas.{decided, full}
 use Rattle.portal_store.proofs.desks.StoreDesk.add_up.Goals as goal
 
 pub returns-clause-takings : goal.returns-clause-takings
@@ -33,3 +35,8 @@ returns-clause-honest g c = λ honest. c.find_sales.ensures.honest (c.find_refun
 pub returns-clause-rest : goal.returns-clause-rest
 returns-clause-rest g c =
     (c.find_refunds.ensures.rest.0 ∙ c.find_sales.ensures.rest.0, c.find_refunds.ensures.rest.1 ∙ c.find_sales.ensures.rest.1)
+
+pub returns-clause-stops : goal.returns-clause-stops
+returns-clause-stops g c =
+    decided c.args.self.now.tables.is_stopped c.find_refunds.new.self.tables.is_stopped (λ r. r ≡ NoMemory) c.add_takings.result
+    c.add_takings.ensures.memory full (c.in-Ok-find_refunds.ensures.stops ∙ c.in-Ok.ensures.stops)

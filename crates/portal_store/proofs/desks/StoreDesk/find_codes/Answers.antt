@@ -2,13 +2,19 @@ use Rattle.portal_ledger.specs.Ledger.{history_of}
 use Rattle.std.proofs.Common.{◌≡◌}
 use Rattle.portal_model.specs.History.{codes_of}
 use Rattle.portal_store.proofs.ReadLemmas.{read, cannot}
+use Rattle.portal_store.proofs.StopLemmas.{faulted}
 use Rattle.portal_store.proofs.desks.StoreDesk.find_codes.Goals as goal
 
 pub returns-in-Ok-clause-read : goal.returns-in-Ok-clause-read
 returns-in-Ok-clause-read g c honest old at =
-    read g.S.Store c.args.self.now.tables c.batch_rows.new.self old (λ L. c.in-Ok.found.items ≡ codes_of (history_of L) c.args.id.now) (c.in-Ok.ensures.batch_rows honest old at)
+    read g.S.Store c.args.self.now.tables c.batch_rows.new.self old (λ L. c.in-Ok.found.items ≡ codes_of (history_of L) c.args.id.now) (c.in-Ok.ensures.found honest old at)
 
 pub returns-in-Err-clause-read : goal.returns-in-Err-clause-read
 returns-in-Err-clause-read g c honest old at =
     cannot g.S.Store c.args.self.now.tables c.batch_rows.new.self c.in-Err.fault c.refused.result old
-    (c.in-Err.ensures.batch_rows honest old at) c.refused.ensures.memory c.refused.ensures.stopped
+    (c.in-Err.ensures.found honest old at) c.refused.ensures.memory c.refused.ensures.stopped
+
+pub returns-in-Err-clause-stops : goal.returns-in-Err-clause-stops
+returns-in-Err-clause-stops g c =
+    faulted c.args.self.now.tables.is_stopped c.batch_rows.new.self.is_stopped c.in-Err.fault c.refused.result
+    c.in-Err.ensures.stops c.refused.ensures.memory c.refused.ensures.stopped

@@ -2,13 +2,19 @@ use Rattle.portal_ledger.specs.Ledger.{history_of}
 use Rattle.std.proofs.Common.{◌≡◌}
 use Rattle.portal_model.specs.History.{last_session_of}
 use Rattle.portal_store.proofs.ReadLemmas.{read, cannot}
+use Rattle.portal_store.proofs.StopLemmas.{faulted}
 use Rattle.portal_store.proofs.desks.StoreDesk.find_last.Goals as goal
 
 pub returns-in-Ok-clause-read : goal.returns-in-Ok-clause-read
 returns-in-Ok-clause-read g c honest old at =
-    read g.S.Store c.args.self.now.tables c.last_session.new.self old (λ L. c.in-Ok.found ≡ last_session_of (history_of L) c.args.device.now) (c.in-Ok.ensures.last_session honest old at)
+    read g.S.Store c.args.self.now.tables c.last_session.new.self old (λ L. c.in-Ok.found ≡ last_session_of (history_of L) c.args.device.now) (c.in-Ok.ensures.found honest old at)
 
 pub returns-in-Err-clause-read : goal.returns-in-Err-clause-read
 returns-in-Err-clause-read g c honest old at =
     cannot g.S.Store c.args.self.now.tables c.last_session.new.self c.in-Err.fault c.refused.result old
-    (c.in-Err.ensures.last_session honest old at) c.refused.ensures.memory c.refused.ensures.stopped
+    (c.in-Err.ensures.found honest old at) c.refused.ensures.memory c.refused.ensures.stopped
+
+pub returns-in-Err-clause-stops : goal.returns-in-Err-clause-stops
+returns-in-Err-clause-stops g c =
+    faulted c.args.self.now.tables.is_stopped c.last_session.new.self.is_stopped c.in-Err.fault c.refused.result
+    c.in-Err.ensures.stops c.refused.ensures.memory c.refused.ensures.stopped

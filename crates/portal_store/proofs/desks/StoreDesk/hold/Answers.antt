@@ -14,6 +14,7 @@ pub loop-plan-preserved : goal.loop-plan-preserved
 loop-plan-preserved g c = record {
   rest = (c.find_plan.ensures.rest.0 ∙ c.loop-plan.invariant.rest.0, c.find_plan.ensures.rest.1 ∙ c.loop-plan.invariant.rest.1);
   honest = λ honest. c.loop-plan.invariant.honest (c.find_plan.ensures.honest honest);
+  stops = c.in_ok-found.ensures.stops ∙ c.loop-plan.invariant.stops;
   some = λ honest L at.
       let Mid : State → Type 0 = λ s. TablesAt g.S.Store c.find_plan.new.self.tables s in
       let before = c.loop-plan.invariant.some (c.find_plan.ensures.honest honest) L at in

@@ -11,6 +11,7 @@ pub loop-code-preserved : goal.loop-code-preserved
 loop-code-preserved g c = record {
   rest = (c.is_held.ensures.rest.0 ∙ c.loop-code.invariant.rest.0, c.is_held.ensures.rest.1 ∙ c.loop-code.invariant.rest.1);
   honest = λ honest. c.loop-code.invariant.honest (c.is_held.ensures.honest honest);
+  stops = c.in-Ok-false.ensures.stops ∙ c.loop-code.invariant.stops;
   none = λ honest L at.
       let Mid : State → Type 0 = λ s. TablesAt g.S.Store c.is_held.new.self.tables s in
       let before = c.loop-code.invariant.none (c.is_held.ensures.honest honest) L at in

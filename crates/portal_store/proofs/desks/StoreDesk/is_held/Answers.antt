@@ -3,13 +3,19 @@ use Rattle.std.proofs.Common.{◌≡◌}
 use Rattle.std.specs.Prelude.{is_some}
 use Rattle.portal_model.specs.History.{issued_of}
 use Rattle.portal_store.proofs.ReadLemmas.{read, cannot}
+use Rattle.portal_store.proofs.StopLemmas.{faulted}
 use Rattle.portal_store.proofs.desks.StoreDesk.is_held.Goals as goal
 
 pub returns-in-Ok-clause-read : goal.returns-in-Ok-clause-read
 returns-in-Ok-clause-read g c honest old at =
-    read g.S.Store c.args.self.now.tables c.is_held.new.self old (λ L. c.in-Ok.held ≡ is_some (issued_of (history_of L) c.args.code.now)) (c.in-Ok.ensures.is_held honest old at)
+    read g.S.Store c.args.self.now.tables c.is_held.new.self old (λ L. c.in-Ok.held ≡ is_some (issued_of (history_of L) c.args.code.now)) (c.in-Ok.ensures.found honest old at)
 
 pub returns-in-Err-clause-read : goal.returns-in-Err-clause-read
 returns-in-Err-clause-read g c honest old at =
     cannot g.S.Store c.args.self.now.tables c.is_held.new.self c.in-Err.fault c.refused.result old
-    (c.in-Err.ensures.is_held honest old at) c.refused.ensures.memory c.refused.ensures.stopped
+    (c.in-Err.ensures.found honest old at) c.refused.ensures.memory c.refused.ensures.stopped
+
+pub returns-in-Err-clause-stops : goal.returns-in-Err-clause-stops
+returns-in-Err-clause-stops g c =
+    faulted c.args.self.now.tables.is_stopped c.is_held.new.self.is_stopped c.in-Err.fault c.refused.result
+    c.in-Err.ensures.stops c.refused.ensures.memory c.refused.ensures.stopped

@@ -7,6 +7,9 @@ use Rattle.portal_ledger.specs.Ledger.{history_of}
 use Rattle.portal_ledger.specs.States.{State, running}
 use Rattle.portal_tables.specs.TablesAt.{TablesAt}
 use Rattle.portal_store.proofs.JudgeLemmas.{judged, read_is, unread}
+use Rattle.std.proofs.Common.{◌≡◌, Some}
+use Rattle.portal_desk.proofs.Verdicts.{own_is_no_stop, issue_own}
+use Rattle.portal_store.proofs.StopLemmas.{decided_or_full, later_told}
 use Rattle.portal_store.proofs.desks.StoreDesk.judge_issue.Goals as goal
 
 pub returns-in-Err-clause-judge : goal.returns-in-Err-clause-judge
@@ -52,3 +55,24 @@ returns-in-Err-is_any_held-clause-judge g c = λ honest L at.
     let two = read_is L (λ h. batch_of h c.args.batch.now) c.in-Ok-find_batch.held Second (c.in-Ok-find_batch.ensures.read earlier (running L) one.0) in
     unread L (Issue c.args.batch.now c.args.plan.now c.args.codes.now) c.args.t (λ s. TablesAt g.S.Store c.is_any_held.new.self.tables s) c.in-Err-is_any_held.r
     (c.in-Err-is_any_held.ensures.held honest L two.0)
+
+pub returns-in-Err-find_batch-clause-stops : goal.returns-in-Err-find_batch-clause-stops
+returns-in-Err-find_batch-clause-stops g c =
+    later_told c.args.self.now.tables.is_stopped c.find_plan.new.self.tables.is_stopped c.find_batch.new.self.tables.is_stopped c.in-Ok.ensures.stops
+    c.in-Err-find_batch.r c.in-Err-find_batch.ensures.stops
+
+pub returns-in-Ok-is_any_held-clause-stops : goal.returns-in-Ok-is_any_held-clause-stops
+returns-in-Ok-is_any_held-clause-stops g c =
+    let found = c.in-Ok.found in
+    let held = c.in-Ok-find_batch.held in
+    let taken = c.in-Ok-is_any_held.taken in
+    let codes = c.args.codes.now in
+    let t = c.args.t in
+    decided_or_full c.args.self.now.tables.is_stopped c.is_any_held.new.self.tables.is_stopped (λ r. issue_verdict found held taken codes t ≡ Some r)
+    c.decide_issue.result c.decide_issue.ensures.refused (λ r is. own_is_no_stop r (issue_own found held taken codes t r is))
+    (c.in-Ok-is_any_held.ensures.stops ∙ c.in-Ok-find_batch.ensures.stops ∙ c.in-Ok.ensures.stops)
+
+pub returns-in-Err-is_any_held-clause-stops : goal.returns-in-Err-is_any_held-clause-stops
+returns-in-Err-is_any_held-clause-stops g c =
+    later_told c.args.self.now.tables.is_stopped c.find_batch.new.self.tables.is_stopped c.is_any_held.new.self.tables.is_stopped
+    (c.in-Ok-find_batch.ensures.stops ∙ c.in-Ok.ensures.stops) c.in-Err-is_any_held.r c.in-Err-is_any_held.ensures.stops

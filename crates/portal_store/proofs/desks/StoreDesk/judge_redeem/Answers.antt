@@ -4,6 +4,10 @@ use Rattle.portal_ledger.specs.Ledger.{history_of}
 use Rattle.portal_ledger.specs.States.{State, running}
 use Rattle.portal_tables.specs.TablesAt.{TablesAt}
 use Rattle.portal_store.proofs.JudgeLemmas.{redeemed, read_is, unread}
+use Rattle.std.proofs.Common.{◌≡◌, Some, ◌∙◌}
+use Rattle.portal_model.specs.Verdict.{redeem_verdict}
+use Rattle.portal_desk.proofs.Verdicts.{own_is_no_stop, redeem_own}
+use Rattle.portal_store.proofs.StopLemmas.{decided, later_told}
 use Rattle.portal_store.proofs.desks.StoreDesk.judge_redeem.Goals as goal
 
 pub returns-in-Err-clause-judge : goal.returns-in-Err-clause-judge
@@ -34,3 +38,15 @@ returns-in-Err-find_last-clause-judge g c = λ honest L at.
     let it = unread L (Redeem c.args.device.now c.args.code.now) c.args.t (λ s. TablesAt g.S.Store c.find_last.new.self.tables s) c.in-Err-find_last.r
     (c.in-Err-find_last.ensures.read honest (running L) one.0) in
     (it.0, it.1, λ head. it.2)
+
+pub returns-in-Ok-find_last-clause-stops : goal.returns-in-Ok-find_last-clause-stops
+returns-in-Ok-find_last-clause-stops g c =
+    decided c.args.self.now.tables.is_stopped c.find_last.new.self.tables.is_stopped
+    (λ r. redeem_verdict c.args.head.now c.in-Ok.voucher c.in-Ok-find_last.last c.args.t ≡ Some r) c.decide_redeem.result c.decide_redeem.ensures.refused
+    (λ r is. own_is_no_stop r (redeem_own c.args.head.now c.in-Ok.voucher c.in-Ok-find_last.last c.args.t r is))
+    (c.in-Ok-find_last.ensures.stops ∙ c.in-Ok.ensures.stops)
+
+pub returns-in-Err-find_last-clause-stops : goal.returns-in-Err-find_last-clause-stops
+returns-in-Err-find_last-clause-stops g c =
+    later_told c.args.self.now.tables.is_stopped c.find_voucher.new.self.tables.is_stopped c.find_last.new.self.tables.is_stopped c.in-Ok.ensures.stops
+    c.in-Err-find_last.r c.in-Err-find_last.ensures.stops

@@ -4,6 +4,7 @@ use Rattle.portal_ledger.specs.Calls.{Fits}
 use Rattle.portal_open.specs.Open.{OpenAt}
 use Rattle.portal_store.proofs.KeptLemmas.{FollowsOn, keeps_all, keeps_on}
 use Rattle.portal_store.proofs.ReadLemmas.{cannot_keep}
+use Rattle.portal_store.proofs.StopLemmas.{faulted}
 use Rattle.portal_store.proofs.desks.StoreDeskDesk.finish.Goals as goal
 
 pub returns-in-Ok-clause-finish : goal.returns-in-Ok-clause-finish
@@ -19,3 +20,8 @@ returns-clause-finish g c = λ honest old at a fits.
     let fits' = subst (λ (m : MarkedChanges). Fits old m a) (sym c.into_changes-marked.ensures) fits in
     keeps_all g.S.Store c.commit.new.self c.args.self.now.open a c.refused.result old at.1
     (cannot_keep g.S.Store c.commit.new.self a c.in-Err.fault c.refused.result old (c.in-Err.ensures.commit honest old at.0 a fits') c.refused.ensures.memory c.refused.ensures.stopped)
+
+pub returns-clause-stops : goal.returns-clause-stops
+returns-clause-stops g c =
+    faulted c.args.self.now.tables.is_stopped c.commit.new.self.is_stopped c.in-Err.fault c.refused.result
+    c.in-Err.ensures.stops c.refused.ensures.memory c.refused.ensures.stopped

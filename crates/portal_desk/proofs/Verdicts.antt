@@ -1,23 +1,33 @@
--- No verdict says that the desk has stopped.
+-- No verdict says that the desk has stopped, whatever the records are that it is given over, and no repetition does.
 use Rattle.std.proofs.Common.{◌≡◌, ℕ, List, [], ◌∷◌, Bool, true, false, cond, not, ◌||◌, nat_lt, nat_le, ◌+◌, Option, Some, None, refl, sym, ap, subst, ◌∙◌}
-use Rattle.std.specs.Prelude.{◌≢◌, is_some, is_none}
+use Rattle.std.specs.Prelude.{◌≢◌, Result, Ok, Err, is_some, is_none}
 use Rattle.std.specs.List.{list_any}
 use Rattle.portal_model.specs.declared.command.Command.{Command}
 use Rattle.portal_model.specs.declared.command.Command.TheVariants.{Load, Issue, Sell, Redeem, Report, Refund, Close}
+use Rattle.portal_model.specs.declared.change.Answer.{Answer}
 use Rattle.portal_model.specs.declared.plan.Plan.{Plan}
 use Rattle.portal_model.specs.declared.record.Batch.{Batch}
 use Rattle.portal_model.specs.declared.record.Head.{Head}
 use Rattle.portal_model.specs.declared.record.Session.{Session}
 use Rattle.portal_model.specs.declared.record.Voucher.{Voucher}
 use Rattle.portal_model.specs.declared.refusal.Refusal.{Refusal}
-use Rattle.portal_model.specs.declared.refusal.Refusal.TheVariants.{UnknownPlan, UnknownCode, UnknownSession, PlanDiffers, BatchExists, CodeTaken, NotSold, SoldAlready, Refunded, Expired, UsedUp, NoExtend, ShapeDiffers, AllowanceFull, ClosedAlready, NothingLeft, MomentRange, NumbersFull, Stopped}
+use Rattle.portal_model.specs.declared.refusal.Refusal.TheVariants.{UnknownPlan, UnknownCode, UnknownSession, PlanDiffers, BatchExists, CodeTaken, NotSold, SoldAlready, Refunded, Expired, UsedUp, NoExtend, ShapeDiffers, AllowanceFull, ClosedAlready, NothingLeft, MomentRange, NumbersFull, IdReused, Stopped}
 use Rattle.portal_model.specs.History.{History, expiry, plan_of, batch_of, voucher_of, session_of, last_session_of, head_of, kept_if, is_open_at}
-use Rattle.portal_model.specs.Verdict.{Check, first_refusal, differs, stands_twice, same_limits, is_past, greatest_moment, greatest_allowance, greatest_count, any_held, issue_verdict, sell_verdict, place_verdict, voucher_refusal, else_verdict, redeem_verdict, report_verdict, refund_verdict, close_verdict, verdict}
+use Rattle.portal_model.specs.Verdict.{Check, first_refusal, differs, stands_twice, same_limits, is_past, greatest_moment, greatest_allowance, greatest_count, any_held, load_verdict, issue_verdict, sell_verdict, place_verdict, voucher_refusal, else_verdict, redeem_verdict, report_verdict, refund_verdict, close_verdict, verdict}
+use Rattle.portal_ledger.specs.declared.request.KeptRequest.{KeptRequest}
+use Rattle.portal_ledger.specs.Mark.{Mark, same_request}
+use Rattle.portal_ledger.specs.Ledger.{repeat_of}
 
 -- a refusal that is not that of a desk that has stopped
-abbrev is_own : Refusal → Bool
+abbrev pub is_own : Refusal → Bool
 is_own Stopped = false
 is_own _ = true
+
+pub own_is_no_stop : (r : Refusal) → is_own r ≡ true → r ≢ Stopped
+own_is_no_stop r own same = apart (sym (ap is_own same) ∙ own)
+  where
+    apart : false ≡ true → ⊥
+    apart e = cc
 
 -- ---- verdicts
 
@@ -40,12 +50,15 @@ first_own (check ∷ rest) all r is = let parts = both (is_own check.1) (all_own
 one : (x r : Refusal) → is_own x ≡ true → Some x ≡ Some r → is_own r ≡ true
 one x r own is = let it : x ≡ r = cc in subst (λ (y : Refusal). is_own y ≡ true) it own
 
-issue_own : (plan : Option Plan) (batch : Option Batch) (taken : Bool) (codes : List (List ℕ)) (t : ℕ) (r : Refusal) → issue_verdict plan batch taken codes t ≡ Some r → is_own r ≡ true
+pub load_own : (kept : List ℕ → Option Plan) (plans : List Plan) (r : Refusal) → load_verdict kept plans ≡ Some r → is_own r ≡ true
+load_own kept plans r is = first_own ((list_any (λ p. differs (kept p.id) p) plans, PlanDiffers) ∷ []) refl r is
+
+pub issue_own : (plan : Option Plan) (batch : Option Batch) (taken : Bool) (codes : List (List ℕ)) (t : ℕ) (r : Refusal) → issue_verdict plan batch taken codes t ≡ Some r → is_own r ≡ true
 issue_own None batch taken codes t r is = one UnknownPlan r refl is
 issue_own (Some plan) batch taken codes t r is =
     first_own ((is_some batch, BatchExists) ∷ (nat_lt greatest_moment (expiry t plan), MomentRange) ∷ (taken || stands_twice codes, CodeTaken) ∷ []) refl r is
 
-sell_own : (voucher : Option Voucher) (t : ℕ) (r : Refusal) → sell_verdict voucher t ≡ Some r → is_own r ≡ true
+pub sell_own : (voucher : Option Voucher) (t : ℕ) (r : Refusal) → sell_verdict voucher t ≡ Some r → is_own r ≡ true
 sell_own None t r is = one UnknownCode r refl is
 sell_own (Some v) t r is = first_own ((is_some v.sold, SoldAlready) ∷ (nat_le v.expires t, Expired) ∷ []) refl r is
 
@@ -56,7 +69,7 @@ place_own head plan t (Some s) r is =
     first_own ((not s.extend, NoExtend) ∷ (not (same_limits s plan), ShapeDiffers) ∷ (is_past greatest_allowance s.allowance plan.bytes, AllowanceFull)
     ∷ (is_past greatest_moment s.ends plan.seconds, MomentRange) ∷ (nat_le greatest_count head.grants, NumbersFull) ∷ []) refl r is
 
-redeem_own : (head : Head) (voucher : Option Voucher) (last : Option Session) (t : ℕ) (r : Refusal) → redeem_verdict head voucher last t ≡ Some r → is_own r ≡ true
+pub redeem_own : (head : Head) (voucher : Option Voucher) (last : Option Session) (t : ℕ) (r : Refusal) → redeem_verdict head voucher last t ≡ Some r → is_own r ≡ true
 redeem_own head None last t r is = one UnknownCode r refl is
 redeem_own head (Some v) last t r is =
     go (voucher_refusal v t) (first_own ((is_none v.sold, NotSold) ∷ (is_some v.refund, Refunded) ∷ (nat_le v.expires t, Expired) ∷ (nat_le v.plan.uses v.redeemed, UsedUp) ∷ []) refl) is
@@ -66,20 +79,20 @@ redeem_own head (Some v) last t r is =
     go None own same = place_own head v.plan t (kept_if (is_open_at t) last) r same
     go (Some x) own same = one x r (own x refl) same
 
-report_own : (session : Option Session) (r : Refusal) → report_verdict session ≡ Some r → is_own r ≡ true
+pub report_own : (session : Option Session) (r : Refusal) → report_verdict session ≡ Some r → is_own r ≡ true
 report_own None r is = one UnknownSession r refl is
 report_own (Some s) r is = absurd (cc)
 
-refund_own : (voucher : Option Voucher) (r : Refusal) → refund_verdict voucher ≡ Some r → is_own r ≡ true
+pub refund_own : (voucher : Option Voucher) (r : Refusal) → refund_verdict voucher ≡ Some r → is_own r ≡ true
 refund_own None r is = one UnknownCode r refl is
 refund_own (Some v) r is = first_own ((is_none v.sold, NotSold) ∷ (is_some v.refund, Refunded) ∷ (nat_le v.plan.uses v.redeemed, NothingLeft) ∷ []) refl r is
 
-close_own : (session : Option Session) (r : Refusal) → close_verdict session ≡ Some r → is_own r ≡ true
+pub close_own : (session : Option Session) (r : Refusal) → close_verdict session ≡ Some r → is_own r ≡ true
 close_own None r is = one UnknownSession r refl is
 close_own (Some s) r is = first_own ((is_some s.closed, ClosedAlready) ∷ []) refl r is
 
 verdict_own : (H : History) (command : Command) (t : ℕ) (r : Refusal) → verdict H command t ≡ Some r → is_own r ≡ true
-verdict_own H (Load plans) t r is = first_own ((list_any (λ p. differs (plan_of H p.id) p) plans, PlanDiffers) ∷ []) refl r is
+verdict_own H (Load plans) t r is = load_own (plan_of H) plans r is
 verdict_own H (Issue b p codes) t r is = issue_own (plan_of H p) (batch_of H b) (any_held H codes) codes t r is
 verdict_own H (Sell c) t r is = sell_own (voucher_of H c) t r is
 verdict_own H (Redeem d c) t r is = redeem_own (head_of H) (voucher_of H c) (last_session_of H d) t r is
@@ -88,7 +101,16 @@ verdict_own H (Refund c) t r is = refund_own (voucher_of H c) r is
 verdict_own H (Close n) t r is = close_own (session_of H n) r is
 
 pub verdict_is_no_stop : (H : History) (command : Command) (t : ℕ) (r : Refusal) → verdict H command t ≡ Some r → r ≢ Stopped
-verdict_is_no_stop H command t r is same = apart (sym (ap is_own same) ∙ verdict_own H command t r is)
+verdict_is_no_stop H command t r is = own_is_no_stop r (verdict_own H command t r is)
+
+-- what is kept under a key refuses with one refusal alone
+pub repeat_is_no_stop : (kept : Option KeptRequest) (mark : Mark) (r : Refusal) → repeat_of kept mark ≡ Err r → r ≢ Stopped
+repeat_is_no_stop None mark r h = absurd (cc)
+repeat_is_no_stop (Some k) mark r h = by (same_request k.mark mark) h
   where
-    apart : false ≡ true → ⊥
-    apart e = cc
+    reused_is_no_stop : IdReused ≢ Stopped
+    reused_is_no_stop e = cc
+
+    by : (b : Bool) → ◌≡◌ {A = Result (Option Answer) Refusal} (cond b (Ok (Some k.answer)) (Err IdReused)) (Err r) → r ≢ Stopped
+    by true h = absurd (cc)
+    by false h = let same : IdReused ≡ r = cc in subst (λ (x : Refusal). x ≢ Stopped) same reused_is_no_stop

@@ -1,0 +1,24 @@
+-- What the calls tell that read one of the six first tables whole. They change nothing, whatever else stands in the store.
+use Rattle.std.specs.Prelude.{Result, IfOk}
+use Rattle.sqlite.specs.Store.{Ghosts}
+use Rattle.sqlite.specs.Held.{Held, state}
+use Rattle.sqlite.specs.State.{HasCleanDisk}
+use Rattle.portal_sql.specs.Looks.{Looks}
+use Rattle.portal_rows.specs.declared.rows.Fault.{Fault}
+use Rattle.portal_rows.specs.Contents.{Contents}
+use Rattle.portal_rows.specs.First.{HoldsFirst, HasFirst}
+use Rattle.portal_rows.specs.Foreign.{TellsForeign}
+use Rattle.portal_lists.specs.Asks.{Anything}
+
+-- A SELECT: where the disk is clean, what it answers is so of the rows that the six tables hold. It writes nothing.
+pub record SelectsFirst {S A E : Type 0} (g : Ghosts S) (old new : Held S) (result : Result A E) (Is : Contents → A → Type 0) : Type 0 where
+  pub rows : HasCleanDisk (state g new) → (t : Contents) → HoldsFirst (state g old).now t → IfOk result (Is t)
+  pub looks : Looks HasFirst result (state g old) (state g new)
+  pub always : Looks Anything result (state g old) (state g new)
+
+-- The same of rows that are read as values; where each row that Own speaks of is one that this product writes, no fault of a foreign row is told.
+pub record ReadsFirst {S A : Type 0} (g : Ghosts S) (old new : Held S) (result : Result A Fault) (Is : Contents → A → Type 0) (Own : Contents → Type 0) : Type 0 where
+  pub found : HasCleanDisk (state g new) → (t : Contents) → HoldsFirst (state g old).now t → IfOk result (Is t)
+  pub looks : Looks HasFirst result (state g old) (state g new)
+  pub always : Looks Anything result (state g old) (state g new)
+  pub foreign : TellsForeign HoldsFirst Own (state g old) (state g new) result

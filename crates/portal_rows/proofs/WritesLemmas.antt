@@ -1,0 +1,23 @@
+-- How calls compose that write on one transaction.
+use Rattle.std.proofs.Common.{IsTrue, Result, Ok}
+use Rattle.sqlite.specs.Store.{Ghosts}
+use Rattle.sqlite.specs.State.{State}
+use Rattle.sqlite.specs.declared.error.Error.{Error}
+use Rattle.sqlite.specs.declared.transaction.Transaction.{Transaction}
+use Rattle.portal_sql.proofs.InsideLemmas.{inside_none, inside_then}
+use Rattle.portal_rows.specs.Contents.{Contents}
+use Rattle.portal_rows.specs.Steps.{Steps, Writes}
+use Rattle.portal_rows.proofs.Compose.{steps_then}
+
+pub writes_none : {S : Type 0} (g : Ghosts S) {f : Contents → Contents} (at : Transaction S) → ((s : State) → IsTrue s.in_transaction → Steps f s s) → Writes g f at at (Ok tt)
+writes_none g {f = f} at still = inside_none g {Does = Steps f} at still
+
+-- the same of two that write
+pub writes_by : {S : Type 0} (g : Ghosts S) {f k : Contents → Contents} (h : Contents → Contents) {a b c : Transaction S} {result : Result (Unit {0}) Error}
+    → ((p q r : State) → Steps f p q → Steps k q r → Steps h p r) → Writes g f a b (Ok tt) → Writes g k b c result → Writes g h a c result
+writes_by g {f = f} {k = k} h join one two = inside_then g {First = Steps f} {Second = Steps k} (Steps h) (λ p q s. s.mode) join one two
+
+-- one call, and then another
+pub writes_then : {S : Type 0} (g : Ghosts S) {f k : Contents → Contents} {a b c : Transaction S} {result : Result (Unit {0}) Error}
+    → Writes g f a b (Ok tt) → Writes g k b c result → Writes g (λ t. k (f t)) a c result
+writes_then g {f = f} {k = k} one two = writes_by g (λ t. k (f t)) (steps_then f k) one two

@@ -1,0 +1,28 @@
+-- What the calls that read the rows of a key tell.
+use Rattle.std.specs.Prelude.{ℕ, List, filter, IsPermutation, Result, IfOk}
+use Rattle.sqlite.specs.declared.types.Value.{Value}
+use Rattle.sqlite.specs.Order.{Row}
+use Rattle.sqlite.specs.Store.{Ghosts}
+use Rattle.sqlite.specs.Held.{Held, state}
+use Rattle.sqlite.specs.State.{HasCleanDisk}
+use Rattle.portal_sql.specs.Finds.{has_key}
+use Rattle.portal_sql.specs.Looks.{Looks}
+use Rattle.portal_rows.specs.declared.rows.Fault.{Fault}
+use Rattle.portal_rows.specs.Contents.{Contents}
+use Rattle.portal_rows.specs.Foreign.{TellsForeign}
+use Rattle.portal_rows.specs.Holds.{Holds, HasTables}
+
+-- these are the shown rows that have the key in that column, in any order
+abbrev pub AreOfKey : ℕ → Value → List Row → List Row → Type 0
+AreOfKey at key shown rows = IsPermutation (filter (has_key at key) shown) rows
+
+-- A SELECT: where the disk is clean, what it answers is so of the rows that the tables hold. It writes nothing.
+pub record Selects {S A E : Type 0} (g : Ghosts S) (old new : Held S) (result : Result A E) (Is : Contents → A → Type 0) : Type 0 where
+  pub rows : HasCleanDisk (state g new) → (t : Contents) → Holds (state g old).now t → IfOk result (Is t)
+  pub looks : Looks HasTables result (state g old) (state g new)
+
+-- The same of a row that is read as a value, and where each row that Own speaks of is one that this product writes, no fault of a foreign row is told.
+pub record ReadsRow {S A : Type 0} (g : Ghosts S) (old new : Held S) (result : Result A Fault) (Is : Contents → A → Type 0) (Own : Contents → Type 0) : Type 0 where
+  pub found : HasCleanDisk (state g new) → (t : Contents) → Holds (state g old).now t → IfOk result (Is t)
+  pub looks : Looks HasTables result (state g old) (state g new)
+  pub foreign : TellsForeign Holds Own (state g old) (state g new) result
