@@ -1,19 +1,21 @@
-/* Loaded before the C library: of the requests for memory that a program makes, the one of number REFUSE_AT is refused (1 is the
-   first), and then the file REFUSE_SAID is made. */
+/* Loaded before the C library: of the requests for memory that a program makes, those of the one or two numbers in REFUSE_AT are refused
+   (1 is the first), and then the file REFUSE_SAID is made. */
 #include <errno.h>
 #include <fcntl.h>
 #include <stdlib.h>
 #include <unistd.h>
 
-static long at = -1, made;
+static long first = -1, second, made;
 
 static int is_refused(void) {
-    if (at < 0) {
+    if (first < 0) {
         const char *text = getenv("REFUSE_AT");
-        at = text ? atol(text) : 0;
+        char *rest = NULL;
+        first = text ? strtol(text, &rest, 10) : 0;
+        second = rest ? strtol(rest, NULL, 10) : 0;
     }
     made++;
-    if (at == 0 || made != at)
+    if (made != first && made != second)
         return 0;
     const char *said = getenv("REFUSE_SAID");
     int file = said ? open(said, O_CREAT | O_WRONLY, 0600) : -1;
