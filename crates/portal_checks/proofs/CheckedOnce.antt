@@ -1,45 +1,17 @@
 -- The settings, the seed and the bytes of a request settle what the checks make of it.
-use Rattle.std.proofs.Common.{◌≡◌, inl, inr, ℕ, List, [], ◌∷◌, Bool, true, false, Option, Some, None, refl, sym, ap, subst, ◌∙◌}
-use Rattle.std.specs.Prelude.{Result, Ok, Err, MatchOption, MatchResult, bytes_eq, take, codes}
-use Rattle.std.specs.Bool.{MatchBool}
+use Rattle.portal_checks.proofs.Common.{◌≡◌, inl, inr, ℕ, List, [], ◌∷◌, Bool, true, false, Option, Some, None, refl, sym, ap, subst, ◌∙◌, Result, Ok, Err, MatchOption, MatchResult, bytes_eq, codes, MatchBool, Data, Span, Command, Load, Sell, Report, Refund, Close, Refusal, BadRequest, BadCode, BadDevice, BadPlans, Forbidden, UnknownBatch, Caller, Desk, Gateway, Guest, IsPlansFile, SettingsValue, Reads, text_at, CodeText, CodeOrder, Exactly, IsBatchOrder, IsReportOrder, IsCloseOrder, issue_of, HeadFault, Message, message_in, Route, Captive, Plans, Batches, Print, Sales, Refunds, Closes, Voucher, Takings, Reports, Sessions, method_of, FindsRoute, path_of, query_of, parameter_of, Wanted, Denied, Method, Refused, IsGuest, holds_token, ReadsNumber, mark_of, Gives, Says, Orders, NamesBatch, NamesCode, AreDays, AtGuest, AtToken, wants, Acts, AtRoute, AtPath, AtMessage, IsChecked}
 use Rattle.std.specs.List.{join_with_byte}
 use Rattle.httparse.specs.Grammar.{RequestHead}
-use Rattle.serde_json.specs.Data.{Data}
 use Rattle.portal_codes.proofs.Spelling.{unique}
-use Rattle.portal_days.specs.Span.{Span}
 use Rattle.portal_model.specs.Device.{IsDevice, SpellsDevice, octet_text, text_of_device}
 use Rattle.portal_model.proofs.Devices.{Layout, layout, as-six, reads-back}
-use Rattle.portal_model.specs.declared.command.Command.{Command}
-use Rattle.portal_model.specs.declared.command.Command.TheVariants.{Load, Issue, Sell, Redeem as Redeems, Report, Refund, Close}
-use Rattle.portal_model.specs.declared.refusal.Refusal.{Refusal}
-use Rattle.portal_model.specs.declared.refusal.Refusal.TheVariants.{BadRequest, BadCode, BadDevice, BadPlans, Forbidden, UnknownBatch}
-use Rattle.portal_ledger.specs.declared.caller.Caller.{Caller}
-use Rattle.portal_ledger.specs.declared.caller.Caller.TheVariants.{Desk, Gateway, Guest}
-use Rattle.portal_files.specs.PlansFile.{IsPlansFile}
-use Rattle.portal_files.specs.SettingsFile.{SettingsValue}
+use Rattle.portal_model.specs.declared.command.Command.TheVariants.{Redeem as Redeems}
 use Rattle.portal_files.proofs.SamePlans.{same-file}
-use Rattle.portal_json.specs.declared.orders.BatchOrder.{BatchOrder}
-use Rattle.portal_json.specs.Orders.{Reads, text_at, CodeText, CodeOrder, Exactly, IsBatchOrder, IsReportOrder, IsCloseOrder}
-use Rattle.portal_batches.specs.Seeds.{codes_of}
-use Rattle.portal_batches.specs.Issues.{Orders as OrdersBatch, ReadsIssue}
-use Rattle.portal_head.specs.declared.limits.TheConstants.{HEAD_LIMIT}
-use Rattle.portal_head.specs.declared.faults.HeadFault.{HeadFault}
-use Rattle.portal_head.specs.Message.{HeadOf, Message, message_in}
-use Rattle.portal_head.proofs.DecidedLemmas.{one_head}
-use Rattle.portal_route.specs.declared.Route.{Route}
-use Rattle.portal_route.specs.declared.Route.TheVariants.{Captive, Redeem, Plans, Batches, Print, Sales, Refunds, Closes, Voucher, Takings, Reports, Sessions}
-use Rattle.portal_route.specs.Route.{method_of}
-use Rattle.portal_route.specs.Table.{FindsRoute}
-use Rattle.portal_route.specs.Targets.{path_of, query_of, parameter_of}
-use Rattle.portal_checks.specs.declared.wanted.Wanted.{Wanted}
+use Rattle.portal_checks.specs.Issues.{Orders as OrdersBatch}
+use Rattle.portal_head.proofs.DecidedLemmas.{heads_once}
+use Rattle.portal_route.specs.declared.Route.TheVariants.{Redeem}
 use Rattle.portal_checks.specs.declared.wanted.Wanted.TheVariants as wanted
-use Rattle.portal_checks.specs.declared.denials.Denied.{Denied}
-use Rattle.portal_checks.specs.declared.denials.Denied.TheVariants.{Method, Refused}
-use Rattle.portal_checks.specs.Callers.{IsGuest, holds_token, ReadsNumber, mark_of}
-use Rattle.portal_checks.specs.Bodies.{Gives, Says, Orders}
-use Rattle.portal_checks.specs.Queries.{NamesBatch, NamesCode, AreDays}
 use Rattle.portal_checks.proofs.QueryLemmas.{day_once}
-use Rattle.portal_checks.specs.Checks.{AtGuest, AtToken, wants, Acts, AtRoute, AtPath, AtMessage, IsChecked}
 
 -- ---- devices
 
@@ -180,13 +152,6 @@ ordered_once : (body : List ℕ) → Once (OrdersBatch body)
 ordered_once body x y (v, reads, is) (w, reads2, also) =
     batch_order_once v x y is (subst (λ (u : Data). IsBatchOrder u y) (sym (value_once body v w reads reads2)) also)
 
-issue_once : (seed body : List ℕ) → Once (ReadsIssue seed body)
-issue_once seed body (Ok c) (Ok d) (x, is, same) (y, also, same2) =
-    ap Ok (same ∙ ap (λ (o : BatchOrder). Issue o.batch o.plan (codes_of seed o.count)) (ordered_once body x y is also) ∙ sym same2)
-issue_once seed body (Ok c) (Err s) (x, is, same) also = absurd (also.1 x is)
-issue_once seed body (Err r) (Ok d) is (y, also, same) = absurd (is.1 y also)
-issue_once seed body (Err r) (Err s) is also = ap Err (is.0 ∙ sym also.0)
-
 -- ---- the routes
 
 -- one of two ways, by a test
@@ -230,7 +195,7 @@ route_once : (settings : SettingsValue) (seed : List ℕ) (m : Message) (route :
 route_once settings seed m Captive = at_guest_once m _ (λ device x y is also. both x y (Ok (wanted.State device)) is also)
 route_once settings seed m Redeem = at_guest_once m _ (λ device. acts_once m (Guest device) _ (orders_once CodeOrder (Redeems device) m.body code_order_once))
 route_once settings seed m Plans = at_token_once settings.desk_token m _ (acts_once m Desk _ (gives_once (IsPlansFile m.body) Load BadPlans (same-file m.body)))
-route_once settings seed m Batches = at_token_once settings.desk_token m _ (acts_once m Desk _ (issue_once seed m.body))
+route_once settings seed m Batches = at_token_once settings.desk_token m _ (acts_once m Desk _ (gives_once (OrdersBatch m.body) (issue_of seed) BadRequest (ordered_once m.body)))
 route_once settings seed m Print =
     at_token_once settings.desk_token m _ (gives_once (NamesBatch (parameter_of (path_of m.target))) wanted.Sheet (Refused UnknownBatch) (batch_once (parameter_of (path_of m.target))))
 route_once settings seed m Sales = at_token_once settings.desk_token m _ (acts_once m Desk _ (orders_once CodeOrder Sell m.body code_order_once))
@@ -262,12 +227,6 @@ message_once : (settings : SettingsValue) (seed : List ℕ) (m : Result Message 
 message_once settings seed (Err fault) one other is also = is ∙ sym also
 message_once settings seed (Ok m) one other (route, finds, is) (found, finds2, also) =
     path_once settings seed m route one other is (subst (λ (x : Option Route). AtPath settings seed m x other) (sym (found_once _ route found finds finds2)) also)
-
-heads_once : (bytes : List ℕ) (head other : Option RequestHead) → HeadOf bytes head → HeadOf bytes other → head ≡ other
-heads_once bytes None None x y = refl
-heads_once bytes None (Some other) x y = absurd (x other y)
-heads_once bytes (Some head) None x y = absurd (y head x)
-heads_once bytes (Some head) (Some other) x y = ap Some (one_head (take HEAD_LIMIT bytes) head other x y)
 
 pub checked_once : (settings : SettingsValue) (seed bytes : List ℕ) (one other : Result Wanted Denied) → IsChecked settings seed bytes one → IsChecked settings seed bytes other → one ≡ other
 checked_once settings seed bytes one other (head, begins, is) (found, begins2, also) =

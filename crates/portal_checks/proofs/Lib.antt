@@ -1,3 +1,4 @@
+pub mod Common
 pub mod QueryLemmas
 pub mod RouteLemmas
 pub mod CheckedOnce

@@ -1,33 +1,11 @@
 -- No check says that the desk has stopped.
-use Rattle.std.proofs.Common.{◌≡◌, ◌⊎◌, inl, inr, ℕ, List, Bool, true, false, Option, Some, None, sym, subst}
-use Rattle.std.specs.Prelude.{◌≢◌, Result, Ok, Err, IfErr, MatchOption, MatchResult, bytes_eq, codes}
-use Rattle.std.specs.Bool.{MatchBool}
-use Rattle.serde_json.specs.Data.{Data}
-use Rattle.portal_model.specs.declared.command.Command.{Command}
-use Rattle.portal_model.specs.declared.command.Command.TheVariants.{Load, Sell, Redeem as Redeems, Report, Refund, Close}
-use Rattle.portal_model.specs.declared.refusal.Refusal.{Refusal}
-use Rattle.portal_model.specs.declared.refusal.Refusal.TheVariants.{BadRequest, BadCode, BadDevice, BadPlans, BadMethod, Forbidden, NoRoute, UnknownBatch, NoMemory, Stopped}
-use Rattle.portal_ledger.specs.declared.caller.Caller.{Caller}
-use Rattle.portal_ledger.specs.declared.caller.Caller.TheVariants.{Desk, Gateway, Guest}
-use Rattle.portal_files.specs.PlansFile.{IsPlansFile}
-use Rattle.portal_files.specs.SettingsFile.{SettingsValue}
-use Rattle.portal_json.specs.Orders.{text_at, CodeText, CodeOrder, Exactly, IsCloseOrder, IsReportOrder}
-use Rattle.portal_batches.specs.Issues.{ReadsIssue}
-use Rattle.portal_head.specs.declared.faults.HeadFault.{HeadFault}
+use Rattle.portal_checks.proofs.Common.{◌≡◌, ◌⊎◌, inl, inr, ℕ, List, Bool, true, false, Option, Some, None, refl, ap, sym, subst, ◌∙◌, ◌≢◌, Result, Ok, Err, IfErr, MatchOption, MatchResult, bytes_eq, codes, MatchBool, Data, Command, Load, Sell, Report, Refund, Close, Refusal, BadRequest, BadCode, BadDevice, BadPlans, BadMethod, Forbidden, NoRoute, UnknownBatch, NoMemory, Stopped, Caller, Desk, Gateway, Guest, IsPlansFile, SettingsValue, text_at, CodeText, CodeOrder, Exactly, IsCloseOrder, IsReportOrder, issue_of, HeadFault, Message, Route, Captive, Plans, Batches, Print, Sales, Refunds, Closes, Voucher, Takings, Reports, Sessions, method_of, path_of, query_of, parameter_of, Wanted, Denied, Method, Refused, holds_token, ReadsNumber, mark_of, Gives, Says, Orders, NamesBatch, NamesCode, AreDays, AtGuest, AtToken, wants, Acts, AtRoute, AtPath, AtMessage, IsOfRequest, shape_refusal}
+use Rattle.std.proofs.lemmas.Bool.{false≢true}
+use Rattle.portal_model.specs.declared.command.Command.TheVariants.{Redeem as Redeems}
+use Rattle.portal_checks.specs.Issues.{Orders as OrdersBatch}
 use Rattle.portal_head.specs.declared.faults.HeadFault.TheVariants.{BadRequest as BadShape, TooLarge as TooLong, NotSupported as Coded}
-use Rattle.portal_head.specs.Message.{Message}
-use Rattle.portal_route.specs.declared.Route.{Route}
-use Rattle.portal_route.specs.declared.Route.TheVariants.{Captive, Redeem, Plans, Batches, Print, Sales, Refunds, Closes, Voucher, Takings, Reports, Sessions}
-use Rattle.portal_route.specs.Route.{method_of}
-use Rattle.portal_route.specs.Targets.{path_of, query_of, parameter_of}
-use Rattle.portal_checks.specs.declared.wanted.Wanted.{Wanted}
+use Rattle.portal_route.specs.declared.Route.TheVariants.{Redeem}
 use Rattle.portal_checks.specs.declared.wanted.Wanted.TheVariants as wanted
-use Rattle.portal_checks.specs.declared.denials.Denied.{Denied}
-use Rattle.portal_checks.specs.declared.denials.Denied.TheVariants.{Method, Refused}
-use Rattle.portal_checks.specs.Callers.{holds_token, ReadsNumber, mark_of}
-use Rattle.portal_checks.specs.Bodies.{Gives, Says, Orders}
-use Rattle.portal_checks.specs.Queries.{NamesBatch, NamesCode, AreDays}
-use Rattle.portal_checks.specs.Checks.{AtGuest, AtToken, wants, Acts, AtRoute, AtPath, AtMessage, IsOfRequest, shape_refusal}
 
 -- a refusal, if it is one, is not that of a desk that stopped
 abbrev pub IsNoStop : Result Wanted Denied → Type 0
@@ -36,32 +14,13 @@ IsNoStop result = IfErr result IsOfRequest
 abbrev IsOther : {A : Type 0} → Result A Refusal → Type 0
 IsOther result = IfErr result (λ r. r ≢ Stopped)
 
-pub memory_is_no_stop : NoMemory ≢ Stopped
-memory_is_no_stop e = cc
+-- the refusal is not that of a desk that stopped
+abbrev is_other : Refusal → Bool
+is_other Stopped = false
+is_other _ = true
 
-request_is_no_stop : BadRequest ≢ Stopped
-request_is_no_stop e = cc
-
-code_is_no_stop : BadCode ≢ Stopped
-code_is_no_stop e = cc
-
-device_is_no_stop : BadDevice ≢ Stopped
-device_is_no_stop e = cc
-
-plans_are_no_stop : BadPlans ≢ Stopped
-plans_are_no_stop e = cc
-
-method_is_no_stop : BadMethod ≢ Stopped
-method_is_no_stop e = cc
-
-forbidden_is_no_stop : Forbidden ≢ Stopped
-forbidden_is_no_stop e = cc
-
-route_is_no_stop : NoRoute ≢ Stopped
-route_is_no_stop e = cc
-
-batch_is_no_stop : UnknownBatch ≢ Stopped
-batch_is_no_stop e = cc
+other_than : (r : Refusal) → is_other r ≡ true → r ≢ Stopped
+other_than r other e = false≢true (sym (ap is_other e) ∙ other)
 
 shape_is_no_stop : (fault : HeadFault) → shape_refusal fault ≢ Stopped
 shape_is_no_stop BadShape = λ e. cc
@@ -94,17 +53,17 @@ gives_command Is made r other (Err s) is = same_by s r other is.0
 
 exactly_other : {A : Type 0} (Is : A → Type 0) (result : Result A Refusal) → Exactly Is result → IsOther result
 exactly_other Is (Ok x) is = tt
-exactly_other Is (Err r) is = same_by r BadRequest request_is_no_stop is.0
+exactly_other Is (Err r) is = same_by r BadRequest (other_than BadRequest refl) is.0
 
 spells_other : (text : List ℕ) (result : Result (List ℕ) Refusal) → CodeText text result → IsOther result
 spells_other text (Ok code) is = tt
-spells_other text (Err r) is = same_by r BadCode code_is_no_stop is.0
+spells_other text (Err r) is = same_by r BadCode (other_than BadCode refl) is.0
 
 code_order_other : (value : Data) (result : Result (List ℕ) Refusal) → CodeOrder value result → IsOther result
 code_order_other value result is = go (text_at (codes "code") value) is
   where
     go : (o : Option (List ℕ)) → MatchOption o (result ≡ Err BadRequest) (λ text. CodeText text result) → IsOther result
-    go None is = other_by BadRequest request_is_no_stop result is
+    go None is = other_by BadRequest (other_than BadRequest refl) result is
     go (Some text) is = spells_other text result is
 
 orders_other : {A : Type 0} (Of : Data → Result A Refusal → Type 0) (command : A → Command) (body : List ℕ)
@@ -113,22 +72,18 @@ orders_other {A} Of command body other result (said, says, is) = go said (heard 
   where
     heard : Says Of body said → IsOther said
     heard (inl (value, reads, of)) = other value said of
-    heard (inr none) = other_by BadRequest request_is_no_stop said none.1
+    heard (inr none) = other_by BadRequest (other_than BadRequest refl) said none.1
 
     go : (said : Result A Refusal) → IsOther said → MatchResult said (λ x. result ≡ Ok (command x)) (λ r. result ≡ Err r) → IsOther result
     go (Ok x) apart is = subst (λ (o : Result Command Refusal). IsOther o) (sym is) tt
     go (Err r) apart is = other_by r apart result is
 
-issue_other : (seed body : List ℕ) (result : Result Command Refusal) → ReadsIssue seed body result → IsOther result
-issue_other seed body (Ok command) is = tt
-issue_other seed body (Err r) is = same_by r BadRequest request_is_no_stop is.0
-
 -- ---- the routes
 
 number_other : (field : Result (Option (List ℕ)) HeadFault) (r : Refusal) → ReadsNumber field (Err r) → r ≢ Stopped
-number_other (Err fault) r is = let same : r ≡ BadRequest = cc in same_by r BadRequest request_is_no_stop same
+number_other (Err fault) r is = let same : r ≡ BadRequest = cc in same_by r BadRequest (other_than BadRequest refl) same
 number_other (Ok None) r is = absurd (cc)
-number_other (Ok (Some field)) r is = same_by r BadRequest request_is_no_stop is.0
+number_other (Ok (Some field)) r is = same_by r BadRequest (other_than BadRequest refl) is.0
 
 acts_no_stop : (m : Message) (caller : Caller) (Ordered : Result Command Refusal → Type 0) → ((o : Result Command Refusal) → Ordered o → IsOther o)
     → (result : Result Wanted Denied) → Acts m caller Ordered result → IsNoStop result
@@ -150,32 +105,32 @@ token_no_stop token m Then other result is = go (holds_token token m.token) is
   where
     go : (b : Bool) → MatchBool b (Then result) (result ≡ Err (Refused Forbidden)) → IsNoStop result
     go true is = other result is
-    go false is = denied_by (Refused Forbidden) forbidden_is_no_stop result is
+    go false is = denied_by (Refused Forbidden) (other_than Forbidden refl) result is
 
 guest_no_stop : (m : Message) (Then : List ℕ → Result Wanted Denied → Type 0) → ((device : List ℕ) (r : Result Wanted Denied) → Then device r → IsNoStop r)
     → (result : Result Wanted Denied) → AtGuest m Then result → IsNoStop result
 guest_no_stop m Then other result (d, guest, is) = go d is
   where
     go : (d : Option (List ℕ)) → MatchOption d (result ≡ Err (Refused BadDevice)) (λ device. Then device result) → IsNoStop result
-    go None is = denied_by (Refused BadDevice) device_is_no_stop result is
+    go None is = denied_by (Refused BadDevice) (other_than BadDevice refl) result is
     go (Some device) is = other device result is
 
 route_no_stop : (settings : SettingsValue) (seed : List ℕ) (m : Message) (route : Route) (result : Result Wanted Denied) → AtRoute settings seed m route result → IsNoStop result
 route_no_stop settings seed m Captive = guest_no_stop m _ (λ device r same. wanted_by (wanted.State device) r same)
 route_no_stop settings seed m Redeem = guest_no_stop m _ (λ device. acts_no_stop m (Guest device) _ (orders_other CodeOrder (Redeems device) m.body code_order_other))
-route_no_stop settings seed m Plans = token_no_stop settings.desk_token m _ (acts_no_stop m Desk _ (gives_command (IsPlansFile m.body) Load BadPlans plans_are_no_stop))
-route_no_stop settings seed m Batches = token_no_stop settings.desk_token m _ (acts_no_stop m Desk _ (issue_other seed m.body))
+route_no_stop settings seed m Plans = token_no_stop settings.desk_token m _ (acts_no_stop m Desk _ (gives_command (IsPlansFile m.body) Load BadPlans (other_than BadPlans refl)))
+route_no_stop settings seed m Batches = token_no_stop settings.desk_token m _ (acts_no_stop m Desk _ (gives_command (OrdersBatch m.body) (issue_of seed) BadRequest (other_than BadRequest refl)))
 route_no_stop settings seed m Print =
-    token_no_stop settings.desk_token m _ (gives_wanted (NamesBatch (parameter_of (path_of m.target))) wanted.Sheet UnknownBatch batch_is_no_stop)
+    token_no_stop settings.desk_token m _ (gives_wanted (NamesBatch (parameter_of (path_of m.target))) wanted.Sheet UnknownBatch (other_than UnknownBatch refl))
 route_no_stop settings seed m Sales = token_no_stop settings.desk_token m _ (acts_no_stop m Desk _ (orders_other CodeOrder Sell m.body code_order_other))
 route_no_stop settings seed m Refunds = token_no_stop settings.desk_token m _ (acts_no_stop m Desk _ (orders_other CodeOrder Refund m.body code_order_other))
 route_no_stop settings seed m Closes =
     token_no_stop settings.desk_token m _
     (acts_no_stop m Desk _ (orders_other (λ value. Exactly (IsCloseOrder value)) Close m.body (λ value. exactly_other (IsCloseOrder value))))
 route_no_stop settings seed m Voucher =
-    token_no_stop settings.desk_token m _ (gives_wanted (NamesCode (parameter_of (path_of m.target))) wanted.Voucher BadCode code_is_no_stop)
+    token_no_stop settings.desk_token m _ (gives_wanted (NamesCode (parameter_of (path_of m.target))) wanted.Voucher BadCode (other_than BadCode refl))
 route_no_stop settings seed m Takings =
-    token_no_stop settings.desk_token m _ (gives_wanted (AreDays (query_of m.target)) wanted.Takings BadRequest request_is_no_stop)
+    token_no_stop settings.desk_token m _ (gives_wanted (AreDays (query_of m.target)) wanted.Takings BadRequest (other_than BadRequest refl))
 route_no_stop settings seed m Reports =
     token_no_stop settings.gateway_token m _
     (acts_no_stop m Gateway _ (orders_other (λ value. Exactly (IsReportOrder value)) (λ order. Report order.session order.bytes) m.body (λ value. exactly_other (IsReportOrder value))))
@@ -189,14 +144,14 @@ message_no_stop settings seed (Ok m) result (route, finds, is) = go route is
   where
     by_method : (route : Route) (b : Bool) → MatchBool b (AtRoute settings seed m route result) (result ≡ Err (Method route)) → IsNoStop result
     by_method route true is = route_no_stop settings seed m route result is
-    by_method route false is = denied_by (Method route) method_is_no_stop result is
+    by_method route false is = denied_by (Method route) (other_than BadMethod refl) result is
 
     go : (route : Option Route) → AtPath settings seed m route result → IsNoStop result
-    go None is = denied_by (Refused NoRoute) route_is_no_stop result is
+    go None is = denied_by (Refused NoRoute) (other_than NoRoute refl) result is
     go (Some route) is = by_method route (bytes_eq m.method (method_of route)) is
 
 -- what the path of a request comes to, or want of memory in its place
 pub no_stop : (settings : SettingsValue) (seed : List ℕ) (m : Result Message HeadFault) (result : Result Wanted Denied)
     → (result ≡ Err (Refused NoMemory)) ⊎ AtMessage settings seed m result → IsNoStop result
-no_stop settings seed m result (inl memory) = denied_by (Refused NoMemory) memory_is_no_stop result memory
+no_stop settings seed m result (inl memory) = denied_by (Refused NoMemory) (other_than NoMemory refl) result memory
 no_stop settings seed m result (inr is) = message_no_stop settings seed m result is

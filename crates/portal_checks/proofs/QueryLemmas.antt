@@ -1,12 +1,9 @@
 -- The days of a query.
-use Rattle.std.proofs.Common.{◌≡◌, ℕ, ℤ, true, false, List, Option, Some, None, subst, sym, ◌∙◌}
-use Rattle.std.specs.Prelude.{codes, IsSome, option_map, option_and_then}
+use Rattle.portal_checks.proofs.Common.{◌≡◌, ℕ, ℤ, true, false, List, Option, Some, None, subst, sym, ◌∙◌, codes, IsSome, option_map, option_and_then, Span, IsSpan, IsDayAt, AreDays}
 use Rattle.std.specs.Borrow.{Bor}
-use Rattle.portal_days.specs.Span.{Span, IsSpan}
 use Rattle.portal_files.specs.DayText.{IsDayText}
 use Rattle.portal_files.proofs.DateTexts.{names-days}
 use Rattle.portal_route.specs.Queries.{only_of, values_of}
-use Rattle.portal_checks.specs.Queries.{IsDayAt, AreDays}
 
 pub day_once : (key : List ℕ) (query : Option (List ℕ)) (day other : ℤ) → IsDayAt key query day → IsDayAt key query other → day ≡ other
 day_once key query day other (text, at, utf8, is) (text2, at2, utf82, also) =

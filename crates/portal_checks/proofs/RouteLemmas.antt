@@ -1,33 +1,12 @@
 -- One route: from the token, the number and the body to what the route asks.
-use Rattle.std.proofs.Common.{◌≡◌, ◌⊎◌, inl, inr, ℕ, List, Bool, true, Option, Some, ap, sym, subst, ◌∙◌}
-use Rattle.std.specs.Prelude.{Result, Ok, Err, MatchResult, bytes_eq}
-use Rattle.std.specs.Bool.{MatchBool}
-use Rattle.portal_model.specs.declared.command.Command.{Command}
-use Rattle.portal_model.specs.declared.refusal.Refusal.{Refusal}
-use Rattle.portal_model.specs.declared.refusal.Refusal.TheVariants.{Forbidden, NoMemory}
-use Rattle.portal_ledger.specs.declared.caller.Caller.{Caller}
-use Rattle.portal_files.specs.SettingsFile.{SettingsValue}
-use Rattle.portal_head.specs.Message.{Message}
-use Rattle.portal_route.specs.declared.Route.{Route}
-use Rattle.portal_route.specs.Route.{method_of}
-use Rattle.portal_route.specs.Table.{FindsRoute}
-use Rattle.portal_route.specs.Targets.{path_of}
-use Rattle.portal_checks.specs.declared.wanted.Wanted.{Wanted}
-use Rattle.portal_checks.specs.declared.denials.Denied.{Denied}
-use Rattle.portal_checks.specs.declared.denials.Denied.TheVariants.{Method, Refused}
-use Rattle.portal_checks.specs.Callers.{IsGuest, holds_token, ReadsNumber, mark_of}
-use Rattle.portal_checks.specs.Checks.{AtGuest, AtToken, wants, Acts, AtRoute, AtMessage}
-
--- there was no memory, or it is so
-abbrev pub OrMemory : (Result Wanted Denied → Type 0) → Result Wanted Denied → Type 0
-OrMemory Is result = (result ≡ Err (Refused NoMemory)) ⊎ Is result
+use Rattle.portal_checks.proofs.Common.{◌≡◌, ◌⊎◌, inl, inr, ℕ, List, Bool, true, Option, Some, ap, sym, subst, ◌∙◌, Result, Ok, Err, MatchResult, bytes_eq, MatchBool, Command, Refusal, Forbidden, NoMemory, Caller, SettingsValue, Message, Route, method_of, FindsRoute, path_of, Wanted, Denied, Method, Refused, IsGuest, holds_token, ReadsNumber, mark_of, OrMemory, AtGuest, AtToken, wants, Acts, AtRoute, AtMessage}
 
 -- a caller who holds the token
-pub let_in : (token text : List ℕ) (field : Option (List ℕ)) (m : Message) (Then : Result Wanted Denied → Type 0) (result : Result Wanted Denied)
-    → text ≡ token → field ≡ m.token → true ≡ holds_token text field → OrMemory Then result → OrMemory (AtToken token m Then) result
-let_in token text field m Then result same is holds (inl memory) = inl memory
-let_in token text field m Then result same is holds (inr then) =
-    let opened : true ≡ holds_token token m.token = holds ∙ ap (λ (t : List ℕ). holds_token t field) same ∙ ap (holds_token token) is in
+pub let_in : (token text : List ℕ) (m : Message) (Then : Result Wanted Denied → Type 0) (result : Result Wanted Denied)
+    → text ≡ token → holds_token text m.token ≡ true → OrMemory Then result → OrMemory (AtToken token m Then) result
+let_in token text m Then result same holds (inl memory) = inl memory
+let_in token text m Then result same holds (inr then) =
+    let opened : true ≡ holds_token token m.token = sym holds ∙ ap (λ (t : List ℕ). holds_token t m.token) same in
     inr (subst (λ (b : Bool). MatchBool b (Then result) (result ≡ Err (Refused Forbidden))) opened then)
 
 -- a guest

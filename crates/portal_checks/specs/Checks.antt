@@ -1,11 +1,11 @@
 -- What the checks before the desk make of a request, in their order: shape, route, method, caller, number, body or parameter.
-use Rattle.std.specs.Prelude.{◌≡◌, ◌≢◌, ℕ, List, Option, Some, None, MatchOption, Result, Ok, Err, MatchResult, bytes_eq, ⊤}
+use Rattle.std.specs.Prelude.{◌≡◌, ◌≢◌, ◌⊎◌, ℕ, List, Option, Some, None, MatchOption, Result, Ok, Err, MatchResult, bytes_eq, ⊤}
 use Rattle.std.specs.Bool.{MatchBool}
 use Rattle.httparse.specs.Grammar.{RequestHead}
 use Rattle.portal_model.specs.declared.command.Command.{Command}
 use Rattle.portal_model.specs.declared.command.Command.TheVariants.{Load, Sell, Redeem as Redeems, Report, Refund, Close}
 use Rattle.portal_model.specs.declared.refusal.Refusal.{Refusal}
-use Rattle.portal_model.specs.declared.refusal.Refusal.TheVariants.{BadRequest, BadCode, BadDevice, BadPlans, Forbidden, NoRoute, UnknownBatch, TooLarge, NotSupported, Stopped}
+use Rattle.portal_model.specs.declared.refusal.Refusal.TheVariants.{BadRequest, BadCode, BadDevice, BadPlans, Forbidden, NoRoute, UnknownBatch, TooLarge, NotSupported, NoMemory, Stopped}
 use Rattle.portal_model.specs.Verdict.{IsWellFormed}
 use Rattle.portal_ledger.specs.declared.caller.Caller.{Caller}
 use Rattle.portal_ledger.specs.declared.caller.Caller.TheVariants.{Desk, Gateway, Guest}
@@ -13,7 +13,7 @@ use Rattle.portal_ledger.specs.Mark.{Mark}
 use Rattle.portal_files.specs.PlansFile.{IsPlansFile}
 use Rattle.portal_files.specs.SettingsFile.{SettingsValue}
 use Rattle.portal_json.specs.Orders.{CodeOrder, Exactly, IsCloseOrder, IsReportOrder}
-use Rattle.portal_batches.specs.Issues.{ReadsIssue}
+use Rattle.portal_checks.specs.Issues.{ReadsIssue}
 use Rattle.portal_head.specs.declared.faults.HeadFault.{HeadFault}
 use Rattle.portal_head.specs.declared.faults.HeadFault.TheVariants.{BadRequest as BadShape, TooLarge as TooLong, NotSupported as Coded}
 use Rattle.portal_head.specs.Message.{HeadOf, Message, message_in}
@@ -30,6 +30,10 @@ use Rattle.portal_checks.specs.Denials.{refusal_of}
 use Rattle.portal_checks.specs.Callers.{IsGuest, holds_token, ReadsNumber, mark_of}
 use Rattle.portal_checks.specs.Bodies.{Gives, Orders}
 use Rattle.portal_checks.specs.Queries.{NamesBatch, NamesCode, AreDays}
+
+-- there was no memory, or it is so
+abbrev pub OrMemory : (Result Wanted Denied → Type 0) → Result Wanted Denied → Type 0
+OrMemory Is result = (result ≡ Err (Refused NoMemory)) ⊎ Is result
 
 -- ---- the caller
 

@@ -1,4 +1,6 @@
 pub mod Denials
+pub mod Seeds
+pub mod Issues
 pub mod Callers
 pub mod Bodies
 pub mod Queries

@@ -28,7 +28,8 @@ impl<'b> Model for Asked<'b> {
 
     ghost view = { λ a. said_by a.request };
 
-    ghost invariant = { λ a. (a.method.now ≡ a.request.method.now) × (a.path.now ≡ path_of a.request.target.now) };
+    ghost invariant = { λ a. (a.method.now ≡ a.request.method.now)
+        × (a.path.now ≡ path_of a.request.target.now) };
 }
 
 impl<'b> Asked<'b> {

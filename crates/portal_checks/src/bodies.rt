@@ -17,29 +17,27 @@ use std::alloc::Global;
 ///
 /// Refusals: `BadPlans` where the body is no plans file; `NoMemory`.
 pub fn order_load(alloc: Global, body: &[u8]) -> Result<Command, Refusal>
-    ensures orders { (result ≡ Err Refusal.NoMemory) ⊎ Gives (IsPlansFile body.now) Load Refusal.BadPlans result }
+    ensures orders { (result ≡ Err Refusal.NoMemory)
+        ⊎ Gives (IsPlansFile body.now) Load Refusal.BadPlans result }
     ensures well_formed { IfOk result IsWellFormed }
 {
     match read_plans(alloc, body) {
         Ok(plans) => Ok(Command::Load { plans }),
-        Err(fault) => match fault {
-            FileFault::Bad => Err(Refusal::BadPlans),
-            FileFault::Memory => Err(Refusal::NoMemory),
-        },
+        Err(FileFault::Bad) => Err(Refusal::BadPlans),
+        Err(FileFault::Memory) => Err(Refusal::NoMemory),
     }
 }
 
 /// The code in a body, to be redeemed for a device.
 ///
-/// Refusals: `BadRequest` where the body has no text under `code`, `BadCode` where that is no code; `NoMemory`.
+/// Refusals: `BadRequest` where the body has no text under `code`, `BadCode` where that is no code;
+/// `NoMemory`.
 pub fn order_redeem(alloc: Global, device: Device, body: &[u8]) -> Result<Command, Refusal>
     ensures orders { (result ≡ Err Refusal.NoMemory) ⊎ Orders CodeOrder (Redeem device) body.now result }
     ensures well_formed { IfOk result IsWellFormed }
 {
-    match read_redeem(alloc, body) {
-        Ok(code) => Ok(Command::Redeem { device, code }),
-        Err(refusal) => Err(refusal),
-    }
+    let code = read_redeem(alloc, body)?;
+    Ok(Command::Redeem { device, code })
 }
 
 /// The code in a body, to be sold. Refused as `order_redeem` refuses.
@@ -47,10 +45,8 @@ pub fn order_sale(alloc: Global, body: &[u8]) -> Result<Command, Refusal>
     ensures orders { (result ≡ Err Refusal.NoMemory) ⊎ Orders CodeOrder Sell body.now result }
     ensures well_formed { IfOk result IsWellFormed }
 {
-    match read_sale(alloc, body) {
-        Ok(code) => Ok(Command::Sell { code }),
-        Err(refusal) => Err(refusal),
-    }
+    let code = read_sale(alloc, body)?;
+    Ok(Command::Sell { code })
 }
 
 /// The code in a body, to be refunded. Refused as `order_redeem` refuses.
@@ -58,34 +54,30 @@ pub fn order_refund(alloc: Global, body: &[u8]) -> Result<Command, Refusal>
     ensures orders { (result ≡ Err Refusal.NoMemory) ⊎ Orders CodeOrder Refund body.now result }
     ensures well_formed { IfOk result IsWellFormed }
 {
-    match read_refund(alloc, body) {
-        Ok(code) => Ok(Command::Refund { code }),
-        Err(refusal) => Err(refusal),
-    }
+    let code = read_refund(alloc, body)?;
+    Ok(Command::Refund { code })
 }
 
 /// The number of a session in a body, to be closed. Refusals: `BadRequest`; `NoMemory`.
 pub fn order_close(alloc: Global, body: &[u8]) -> Result<Command, Refusal>
-    ensures orders { (result ≡ Err Refusal.NoMemory) ⊎ Orders (λ value. Exactly (IsCloseOrder value)) Close body.now result }
+    ensures orders { (result ≡ Err Refusal.NoMemory)
+        ⊎ Orders (λ value. Exactly (IsCloseOrder value)) Close body.now result }
     ensures well_formed { IfOk result IsWellFormed }
 {
-    match read_close(alloc, body) {
-        Ok(session) => Ok(Command::Close { session }),
-        Err(refusal) => Err(refusal),
-    }
+    let session = read_close(alloc, body)?;
+    Ok(Command::Close { session })
 }
 
 /// The gateway's report in a body. Refusals: `BadRequest`; `NoMemory`.
 pub fn order_report(alloc: Global, body: &[u8]) -> Result<Command, Refusal>
     ensures orders { (result ≡ Err Refusal.NoMemory)
-        ⊎ Orders (λ value. Exactly (IsReportOrder value)) (λ order. Report order.session order.bytes) body.now result }
+        ⊎ Orders (λ value. Exactly (IsReportOrder value)) (λ order. Report order.session order.bytes)
+        body.now result }
     ensures well_formed { IfOk result IsWellFormed }
 {
-    match read_report(alloc, body) {
-        Ok(order) => Ok(Command::Report {
-            session: order.session,
-            bytes: order.bytes,
-        }),
-        Err(refusal) => Err(refusal),
-    }
+    let order = read_report(alloc, body)?;
+    Ok(Command::Report {
+        session: order.session,
+        bytes: order.bytes,
+    })
 }

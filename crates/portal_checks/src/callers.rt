@@ -12,15 +12,12 @@ use portal_model::refusal::Refusal;
 use std::alloc::Global;
 use std::str;
 
-/// A guest, by the one field that names the device. None where there is no such field, or more than one, or it does
-/// not read.
+/// A guest, by the one field that names the device. None where there is no such field, or more than one, or
+/// it does not read.
 pub fn guest(field: Option<&[u8]>) -> Option<Device>
     ensures { IsGuest (option_map (λ v. v.now) field.entry) result }
 {
-    match str::from_utf8(field?) {
-        Ok(text) => Device::read(text).ok(),
-        Err(_) => None,
-    }
+    Device::read(str::from_utf8(field?).ok()?).ok()
 }
 
 /// Whether the one field of a token holds it.
@@ -35,24 +32,19 @@ pub fn holds_token(token: &str, field: Option<&[u8]>) -> bool
 
 /// The number in the one field that may hold it.
 ///
-/// Refusal: `BadRequest` where there are more such fields, or its value is not 1 to 36 letters, digits and hyphens.
+/// Refusal: `BadRequest` where there are more such fields, or its value is not 1 to 36 letters, digits and
+/// hyphens.
 pub fn read_number(
     field: Result<Option<&[u8]>, HeadFault>,
 ) -> Result<Option<RequestNumber>, Refusal>
     ensures { ReadsNumber (value_in field.entry) result }
 {
-    let value = match field {
-        Err(_) => return Err(Refusal::BadRequest),
-        Ok(None) => return Ok(None),
-        Ok(Some(value)) => value,
+    let Some(value) = field.map_err(|_| Refusal::BadRequest)? else {
+        return Ok(None);
     };
-    let Ok(text) = str::from_utf8(value) else {
-        return Err(Refusal::BadRequest);
-    };
-    match RequestNumber::read(text) {
-        Some(number) => Ok(Some(number)),
-        None => Err(Refusal::BadRequest),
-    }
+    let text = str::from_utf8(value).map_err(|_| Refusal::BadRequest)?;
+    let number = RequestNumber::read(text).ok_or(Refusal::BadRequest)?;
+    Ok(Some(number))
 }
 
 /// The mark of a request of that caller, where it has a number. Refusal: `NoMemory`.
@@ -68,15 +60,13 @@ pub fn mark_of(
     let Some(number) = number else {
         return Ok(None);
     };
-    match RequestMark::new(
+    let mark = RequestMark::new(
         alloc,
         caller,
         number,
         asked.method(),
         asked.path(),
         asked.body(),
-    ) {
-        Ok(mark) => Ok(Some(mark)),
-        Err(_) => Err(Refusal::NoMemory),
-    }
+    )?;
+    Ok(Some(mark))
 }

@@ -1,15 +1,14 @@
 //! The checks before the desk, in their order: shape, route, method, and what the route asks.
-ghost use Rattle.std.specs.Prelude.{◌≡◌, ◌⊎◌, Err, IfOk, IfErr, Ok};
+ghost use Rattle.std.specs.Prelude.{◌≡◌, IfOk, IfErr, Ok};
 ghost use Rattle.portal_head.specs.Message.{said_by};
-ghost use Rattle.portal_checks.specs.declared.denials.Denied.TheVariants.{Refused};
-ghost use Rattle.portal_checks.specs.Checks.{AtMessage, shape_refusal, IsChecked, IsInOrder, IsOfRequest};
+ghost use Rattle.portal_checks.specs.Checks.{AtMessage, shape_refusal, IsChecked, IsInOrder, IsOfRequest, OrMemory};
 
 use crate::asked::Asked;
 use crate::denials::Denied;
 use crate::routes::check_route;
 use crate::wanted::Wanted;
 use portal_files::Settings;
-use portal_head::{HeadFault, Request, parse_request};
+use portal_head::{HeadFault, Received, Request};
 use portal_model::refusal::Refusal;
 use portal_route::{Routes, split_target};
 use std::alloc::Global;
@@ -24,14 +23,14 @@ fn check_path(
     seed: [u8; 32],
     request: Request<'_>,
 ) -> Result<Wanted, Denied>
-    ensures checks { (result ≡ Err (Refused Refusal.NoMemory)) ⊎ AtMessage settings.now seed (Ok (said_by request.entry)) result }
+    ensures checks { OrMemory (AtMessage settings.now seed (Ok (said_by request.entry))) result }
     ensures in_order { IfOk result IsInOrder }
 {
     let (path, _) = split_target(request.target);
     let Ok(path) = str::from_utf8(path) else {
         return Err(Denied::Refused(Refusal::NoRoute));
     };
-    let Some(route) = routes.find(path.as_bytes()) else {
+    let Some(route) = routes.find(path) else {
         return Err(Denied::Refused(Refusal::NoRoute));
     };
     if request.method != route.method_text().as_bytes() {
@@ -58,12 +57,12 @@ fn shape_refusal(fault: HeadFault) -> Refusal
 /// - `BadRequest` for its shape (RFC 9112 sections 2, 3.2 and 6), `TooLarge` for a body of over 65,536 bytes,
 ///   `NotSupported` for a body in a transfer coding;
 /// - `NoRoute` for its path, `Method` for its method;
-/// - `BadDevice` for a guest without one field `Portal-Device` that reads, `Forbidden` for the desk or the gateway
-///   without one field `Portal-Token` that holds their token;
-/// - `BadRequest` for a second field `Portal-Request`, or one that is not 1 to 36 letters, digits and hyphens, on the
-///   routes with a command;
-/// - `BadPlans`, `BadCode` or `BadRequest` for its body; `UnknownBatch` or `BadCode` for its parameter; `BadRequest`
-///   for a query that does not name days.
+/// - `BadDevice` for a guest without one field `Portal-Device` that reads, `Forbidden` for the desk or the
+///   gateway without one field `Portal-Token` that holds their token;
+/// - `BadRequest` for a second field `Portal-Request`, or one that is not 1 to 36 letters, digits and
+///   hyphens, on the routes with a command;
+/// - `BadPlans`, `BadCode` or `BadRequest` for its body; `UnknownBatch` or `BadCode` for its parameter;
+///   `BadRequest` for a query that does not name days.
 ///
 /// `NoMemory` before any. No check says `Stopped`.
 pub fn check_request(
@@ -71,13 +70,13 @@ pub fn check_request(
     settings: &Settings,
     routes: &Routes,
     seed: [u8; 32],
-    bytes: &[u8],
+    received: &Received,
 ) -> Result<Wanted, Denied>
-    ensures checked { (result ≡ Err (Refused Refusal.NoMemory)) ⊎ IsChecked settings.now seed bytes.now result }
+    ensures checked { OrMemory (IsChecked settings.now seed received.now.bytes) result }
     ensures in_order { IfOk result IsInOrder }
     ensures own { IfErr result IsOfRequest }
 {
-    match parse_request(bytes) {
+    match received.request() {
         Err(fault) => Err(Denied::Refused(shape_refusal(fault))),
         Ok(request) => check_path(alloc, settings, routes, seed, request),
     }

@@ -1,5 +1,6 @@
 //! What the checks deny.
 ghost use Rattle.std.specs.Prelude.{◌≡◌};
+ghost use Rattle.portal_checks.specs.declared.denials.Denied.TheVariants.{Refused};
 ghost use Rattle.portal_checks.specs.Denials.{refusal_of, allow_of};
 
 use http::Method;
@@ -15,6 +16,14 @@ pub enum Denied {
     Refused(Refusal),
 }
 
+impl From<Refusal> for Denied {
+    ghost from_gives = { λ r denied. denied ≡ Refused r };
+
+    fn from(refusal: Refusal) -> Denied {
+        Denied::Refused(refusal)
+    }
+}
+
 impl Denied {
     /// The refusal that the response names.
     pub fn refusal(self) -> Refusal
@@ -26,7 +35,8 @@ impl Denied {
         }
     }
 
-    /// The method that the response allows: that of the route, where another was asked. No other response names one.
+    /// The method that the response allows: that of the route, where another was asked. No other response
+    /// names one.
     pub fn allow(self) -> Option<Method>
         ensures { result ≡ allow_of self }
     {

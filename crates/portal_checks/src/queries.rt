@@ -15,10 +15,7 @@ pub fn batch_in(text: &[u8]) -> Option<Id>
     ensures some { IfSome result (NamesBatch text.now) }
     ensures none { result ≡ None → (id : List ℕ) → ¬ (NamesBatch text.now id) }
 {
-    match str::from_utf8(text) {
-        Ok(text) => Id::read(text),
-        Err(_) => None,
-    }
+    Id::read(str::from_utf8(text).ok()?)
 }
 
 /// The code that a text spells.
@@ -26,10 +23,7 @@ pub fn code_in(text: &[u8]) -> Option<Code>
     ensures some { IfSome result (NamesCode text.now) }
     ensures none { result ≡ None → (code : List ℕ) → ¬ (NamesCode text.now code) }
 {
-    match str::from_utf8(text) {
-        Ok(text) => Code::read(text).ok(),
-        Err(_) => None,
-    }
+    Code::read(str::from_utf8(text).ok()?).ok()
 }
 
 /// The day under a key of a query, where the key stands there just once.
@@ -43,7 +37,8 @@ fn day_at(query: Option<&[u8]>, key: &[u8]) -> Option<Day>
     }
 }
 
-/// The days of a query: `from` and `to`, each there just once, as `YYYY-MM-DD`, in order and at most 366 days.
+/// The days of a query: `from` and `to`, each there just once, as `YYYY-MM-DD`, in order and at most 366
+/// days.
 pub fn days_in(query: Option<&[u8]>) -> Option<DayRange>
     ensures some { IfSome result (AreDays (option_map (λ q. q.now) query.entry)) }
     ensures none { result ≡ None → (range : Span) → ¬ (AreDays (option_map (λ q. q.now) query.entry) range) }

@@ -1,10 +1,11 @@
 //! What each route asks of its request: the caller, the number, the body or the parameter.
-ghost use Rattle.std.specs.Prelude.{◌≡◌, ◌⊎◌, ℕ, List, Err, IfOk};
+ghost use Rattle.std.specs.Prelude.{◌≡◌, ℕ, List, IfOk, MatchResult, true, false};
 ghost use Rattle.portal_files.specs.SettingsFile.{SettingsValue};
 ghost use Rattle.portal_model.specs.Verdict.{IsWellFormed};
 ghost use Rattle.portal_route.specs.declared.Route.TheVariants as route;
 ghost use Rattle.portal_checks.specs.declared.denials.Denied.TheVariants.{Refused};
-ghost use Rattle.portal_checks.specs.Checks.{Acts, AtRoute, IsInOrder};
+ghost use Rattle.portal_checks.specs.Callers.{holds_token};
+ghost use Rattle.portal_checks.specs.Checks.{Acts, AtRoute, IsInOrder, OrMemory};
 
 use crate::asked::Asked;
 use crate::bodies::{
@@ -12,9 +13,9 @@ use crate::bodies::{
 };
 use crate::callers::{guest, holds_token, mark_of};
 use crate::denials::Denied;
+use crate::issue::read_issue;
 use crate::queries::{batch_in, code_in, days_in};
 use crate::wanted::Wanted;
-use portal_batches::read_issue;
 use portal_files::Settings;
 use portal_ledger::caller::Caller;
 use portal_model::command::Command;
@@ -22,7 +23,8 @@ use portal_model::refusal::Refusal;
 use portal_route::{Route, parameter};
 use std::alloc::Global;
 
-/// A command that was ordered, with the mark of its request. The number is looked at before what the body came to.
+/// A command that was ordered, with the mark of its request. The number is looked at before what the body
+/// came to.
 ///
 /// Denied: `BadRequest` for the number; then as the body was refused; `NoMemory`.
 fn act(
@@ -32,58 +34,54 @@ fn act(
     ordered: Result<Command, Refusal>,
 ) -> Result<Wanted, Denied>
     requires { IfOk ordered IsWellFormed }
-    ensures checks { (result ≡ Err (Refused Refusal.NoMemory)) ⊎ Acts asked.now caller (λ o. o ≡ ordered) result }
+    ensures checks { OrMemory (Acts asked.now caller (λ o. o ≡ ordered)) result }
     ensures in_order { IfOk result IsInOrder }
 {
-    let number = match asked.number() {
-        Ok(number) => number,
-        Err(refusal) => return Err(Denied::Refused(refusal)),
-    };
-    let command = match ordered {
-        Ok(command) => command,
-        Err(refusal) => return Err(Denied::Refused(refusal)),
-    };
-    match mark_of(alloc, asked, caller, number) {
-        Ok(mark) => Ok(Wanted::Act(command, mark)),
-        Err(refusal) => Err(Denied::Refused(refusal)),
+    let number = asked.number()?;
+    let command = ordered?;
+    let mark = mark_of(alloc, asked, caller, number)?;
+    Ok(Wanted::Act(command, mark))
+}
+
+/// Nothing, where the one field of a token holds it. Denied: `Forbidden`.
+fn require_token(token: &str, asked: &Asked<'_>) -> Result<(), Denied>
+    ensures { MatchResult result (λ _. holds_token token.now asked.now.token ≡ true)
+        (λ denied. (holds_token token.now asked.now.token ≡ false) × (denied ≡ Refused Refusal.Forbidden)) }
+{
+    if holds_token(token, asked.token()) {
+        Ok(())
+    } else {
+        Err(Denied::Refused(Refusal::Forbidden))
     }
 }
 
 /// `GET /captive`. Denied: `BadDevice`.
 fn check_captive(asked: &Asked<'_>) -> Result<Wanted, Denied>
-    ensures checks { (settings : SettingsValue) (seed : List ℕ) → AtRoute settings seed asked.now route.Captive result }
+    ensures checks { (settings : SettingsValue) (seed : List ℕ)
+        → AtRoute settings seed asked.now route.Captive result }
     ensures in_order { IfOk result IsInOrder }
 {
-    match guest(asked.device()) {
-        Some(device) => Ok(Wanted::State(device)),
-        None => Err(Denied::Refused(Refusal::BadDevice)),
-    }
+    let device = guest(asked.device()).ok_or(Refusal::BadDevice)?;
+    Ok(Wanted::State(device))
 }
 
 /// `POST /portal/redeem`. Denied: `BadDevice`; then as `act` and `order_redeem` say.
 fn check_redeem(alloc: Global, asked: &Asked<'_>) -> Result<Wanted, Denied>
-    ensures checks { (settings : SettingsValue) (seed : List ℕ) → (result ≡ Err (Refused Refusal.NoMemory)) ⊎ AtRoute settings seed asked.now route.Redeem result }
+    ensures checks { (settings : SettingsValue) (seed : List ℕ)
+        → OrMemory (AtRoute settings seed asked.now route.Redeem) result }
     ensures in_order { IfOk result IsInOrder }
 {
-    match guest(asked.device()) {
-        Some(device) => act(
-            alloc,
-            asked,
-            Caller::Guest(device),
-            order_redeem(alloc, device, asked.body()),
-        ),
-        None => Err(Denied::Refused(Refusal::BadDevice)),
-    }
+    let device = guest(asked.device()).ok_or(Refusal::BadDevice)?;
+    let ordered = order_redeem(alloc, device, asked.body());
+    act(alloc, asked, Caller::Guest(device), ordered)
 }
 
 /// `POST /desk/plans`. Denied: `Forbidden`; then as `act` and `order_load` say.
 fn check_plans(alloc: Global, settings: &Settings, asked: &Asked<'_>) -> Result<Wanted, Denied>
-    ensures checks { (seed : List ℕ) → (result ≡ Err (Refused Refusal.NoMemory)) ⊎ AtRoute settings.now seed asked.now route.Plans result }
+    ensures checks { (seed : List ℕ) → OrMemory (AtRoute settings.now seed asked.now route.Plans) result }
     ensures in_order { IfOk result IsInOrder }
 {
-    if !holds_token(settings.desk_token(), asked.token()) {
-        return Err(Denied::Refused(Refusal::Forbidden));
-    }
+    require_token(settings.desk_token(), asked)?;
     act(alloc, asked, Caller::Desk, order_load(alloc, asked.body()))
 }
 
@@ -94,12 +92,10 @@ fn check_batches(
     seed: [u8; 32],
     asked: &Asked<'_>,
 ) -> Result<Wanted, Denied>
-    ensures checks { (result ≡ Err (Refused Refusal.NoMemory)) ⊎ AtRoute settings.now seed asked.now route.Batches result }
+    ensures checks { OrMemory (AtRoute settings.now seed asked.now route.Batches) result }
     ensures in_order { IfOk result IsInOrder }
 {
-    if !holds_token(settings.desk_token(), asked.token()) {
-        return Err(Denied::Refused(Refusal::Forbidden));
-    }
+    require_token(settings.desk_token(), asked)?;
     act(
         alloc,
         asked,
@@ -113,34 +109,26 @@ fn check_print(settings: &Settings, asked: &Asked<'_>) -> Result<Wanted, Denied>
     ensures checks { (seed : List ℕ) → AtRoute settings.now seed asked.now route.Print result }
     ensures in_order { IfOk result IsInOrder }
 {
-    if !holds_token(settings.desk_token(), asked.token()) {
-        return Err(Denied::Refused(Refusal::Forbidden));
-    }
-    match batch_in(parameter(asked.path().as_bytes())) {
-        Some(found) => Ok(Wanted::Sheet(found)),
-        None => Err(Denied::Refused(Refusal::UnknownBatch)),
-    }
+    require_token(settings.desk_token(), asked)?;
+    let batch = batch_in(parameter(asked.path().as_bytes())).ok_or(Refusal::UnknownBatch)?;
+    Ok(Wanted::Sheet(batch))
 }
 
 /// `POST /desk/sales`. Denied: `Forbidden`; then as `act` and `order_sale` say.
 fn check_sales(alloc: Global, settings: &Settings, asked: &Asked<'_>) -> Result<Wanted, Denied>
-    ensures checks { (seed : List ℕ) → (result ≡ Err (Refused Refusal.NoMemory)) ⊎ AtRoute settings.now seed asked.now route.Sales result }
+    ensures checks { (seed : List ℕ) → OrMemory (AtRoute settings.now seed asked.now route.Sales) result }
     ensures in_order { IfOk result IsInOrder }
 {
-    if !holds_token(settings.desk_token(), asked.token()) {
-        return Err(Denied::Refused(Refusal::Forbidden));
-    }
+    require_token(settings.desk_token(), asked)?;
     act(alloc, asked, Caller::Desk, order_sale(alloc, asked.body()))
 }
 
 /// `POST /desk/refunds`. Denied: `Forbidden`; then as `act` and `order_refund` say.
 fn check_refunds(alloc: Global, settings: &Settings, asked: &Asked<'_>) -> Result<Wanted, Denied>
-    ensures checks { (seed : List ℕ) → (result ≡ Err (Refused Refusal.NoMemory)) ⊎ AtRoute settings.now seed asked.now route.Refunds result }
+    ensures checks { (seed : List ℕ) → OrMemory (AtRoute settings.now seed asked.now route.Refunds) result }
     ensures in_order { IfOk result IsInOrder }
 {
-    if !holds_token(settings.desk_token(), asked.token()) {
-        return Err(Denied::Refused(Refusal::Forbidden));
-    }
+    require_token(settings.desk_token(), asked)?;
     act(
         alloc,
         asked,
@@ -151,12 +139,10 @@ fn check_refunds(alloc: Global, settings: &Settings, asked: &Asked<'_>) -> Resul
 
 /// `POST /desk/closes`. Denied: `Forbidden`; then as `act` and `order_close` say.
 fn check_closes(alloc: Global, settings: &Settings, asked: &Asked<'_>) -> Result<Wanted, Denied>
-    ensures checks { (seed : List ℕ) → (result ≡ Err (Refused Refusal.NoMemory)) ⊎ AtRoute settings.now seed asked.now route.Closes result }
+    ensures checks { (seed : List ℕ) → OrMemory (AtRoute settings.now seed asked.now route.Closes) result }
     ensures in_order { IfOk result IsInOrder }
 {
-    if !holds_token(settings.desk_token(), asked.token()) {
-        return Err(Denied::Refused(Refusal::Forbidden));
-    }
+    require_token(settings.desk_token(), asked)?;
     act(alloc, asked, Caller::Desk, order_close(alloc, asked.body()))
 }
 
@@ -165,13 +151,9 @@ fn check_voucher(settings: &Settings, asked: &Asked<'_>) -> Result<Wanted, Denie
     ensures checks { (seed : List ℕ) → AtRoute settings.now seed asked.now route.Voucher result }
     ensures in_order { IfOk result IsInOrder }
 {
-    if !holds_token(settings.desk_token(), asked.token()) {
-        return Err(Denied::Refused(Refusal::Forbidden));
-    }
-    match code_in(parameter(asked.path().as_bytes())) {
-        Some(found) => Ok(Wanted::Voucher(found)),
-        None => Err(Denied::Refused(Refusal::BadCode)),
-    }
+    require_token(settings.desk_token(), asked)?;
+    let code = code_in(parameter(asked.path().as_bytes())).ok_or(Refusal::BadCode)?;
+    Ok(Wanted::Voucher(code))
 }
 
 /// `GET /desk/takings`. Denied: `Forbidden`, `BadRequest`.
@@ -179,23 +161,17 @@ fn check_takings(settings: &Settings, asked: &Asked<'_>) -> Result<Wanted, Denie
     ensures checks { (seed : List ℕ) → AtRoute settings.now seed asked.now route.Takings result }
     ensures in_order { IfOk result IsInOrder }
 {
-    if !holds_token(settings.desk_token(), asked.token()) {
-        return Err(Denied::Refused(Refusal::Forbidden));
-    }
-    match days_in(asked.query()) {
-        Some(found) => Ok(Wanted::Takings(found)),
-        None => Err(Denied::Refused(Refusal::BadRequest)),
-    }
+    require_token(settings.desk_token(), asked)?;
+    let days = days_in(asked.query()).ok_or(Refusal::BadRequest)?;
+    Ok(Wanted::Takings(days))
 }
 
 /// `POST /gateway/reports`. Denied: `Forbidden`; then as `act` and `order_report` say.
 fn check_reports(alloc: Global, settings: &Settings, asked: &Asked<'_>) -> Result<Wanted, Denied>
-    ensures checks { (seed : List ℕ) → (result ≡ Err (Refused Refusal.NoMemory)) ⊎ AtRoute settings.now seed asked.now route.Reports result }
+    ensures checks { (seed : List ℕ) → OrMemory (AtRoute settings.now seed asked.now route.Reports) result }
     ensures in_order { IfOk result IsInOrder }
 {
-    if !holds_token(settings.gateway_token(), asked.token()) {
-        return Err(Denied::Refused(Refusal::Forbidden));
-    }
+    require_token(settings.gateway_token(), asked)?;
     act(
         alloc,
         asked,
@@ -209,13 +185,12 @@ fn check_sessions(settings: &Settings, asked: &Asked<'_>) -> Result<Wanted, Deni
     ensures checks { (seed : List ℕ) → AtRoute settings.now seed asked.now route.Sessions result }
     ensures in_order { IfOk result IsInOrder }
 {
-    if !holds_token(settings.gateway_token(), asked.token()) {
-        return Err(Denied::Refused(Refusal::Forbidden));
-    }
+    require_token(settings.gateway_token(), asked)?;
     Ok(Wanted::OpenSessions)
 }
 
-/// What a route asks of its request: the caller, the number where it has a command, then the body or the parameter.
+/// What a route asks of its request: the caller, the number where it has a command, then the body or the
+/// parameter.
 pub fn check_route(
     alloc: Global,
     settings: &Settings,
@@ -223,7 +198,7 @@ pub fn check_route(
     route: Route,
     asked: &Asked<'_>,
 ) -> Result<Wanted, Denied>
-    ensures checks { (result ≡ Err (Refused Refusal.NoMemory)) ⊎ AtRoute settings.now seed asked.now route result }
+    ensures checks { OrMemory (AtRoute settings.now seed asked.now route) result }
     ensures in_order { IfOk result IsInOrder }
 {
     match route {

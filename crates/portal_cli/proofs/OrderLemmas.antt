@@ -1,8 +1,8 @@
 -- The order that was found for a subcommand.
 use Rattle.std.proofs.Common.{◌≡◌, ◌≢◌, ◌⊎◌, inl, inr, ◌<◌, ◌^◌, ℕ, List, Option, Some, None, option_map, get_or, codes, refl, sym, ◌∙◌, ap, subst, arith}
-use Rattle.std.specs.Prelude.{MatchOption}
 use Rattle.std.specs.Borrow.{Bor}
 use Rattle.std.specs.Str.Parse.{IsNumeral, digits_value, without_leading_plus}
+use Rattle.std.specs.Prelude.{MatchOption}
 use Rattle.clap.specs.Words.{IsAmong, Row, Text, fault_of, first_of, subcommand_name_of, subcommand_of, subcommand_rows_of}
 use Rattle.clap.specs.declared.parser.matches.ArgMatches.{ArgMatches}
 use Rattle.clap.specs.declared.parser.matches.ArgMatches.TheViews.{out-ArgMatches}
@@ -13,7 +13,7 @@ use Rattle.portal_cli.specs.declared.order.Order.TheVariants.{Serve, Answer, Pri
 use Rattle.portal_cli.specs.declared.order.NoOrder.{NoOrder}
 use Rattle.portal_cli.specs.declared.order.NoOrder.TheVariants.{Help, Version, Fault, NoMemory}
 use Rattle.portal_cli.specs.CommandLine.{command_line}
-use Rattle.portal_cli.specs.Orders.{GivesFiles, GivesNumber, GivesText, IsAnswer, IsCheck, IsNoHelp, IsNone, IsNoOrder, IsOrder, IsPrint, IsServe, IsTakings, Tells, TellsKind, WritesNumber}
+use Rattle.portal_cli.specs.Orders.{FindsNamed, FindsOrder, GivesFiles, GivesNumber, GivesText, IsAnswer, IsCheck, IsNoHelp, IsNone, IsNoOrder, IsOrder, IsPrint, IsServe, IsTakings, Tells, TellsKind, WritesNumber}
 
 twice : {A B C : Type 0} (f : B → C) (g : A → B) (o : Option A) → option_map f (option_map g o) ≡ option_map (λ x. f (g x)) o
 twice f g None = refl
@@ -39,12 +39,27 @@ found_so m name rows named here = both (subcommand_rows_of m) name rows (name_of
 pub no_text : (name : Text) (rows : List Row) → first_of name rows ≡ None → (text : Bor Text) → GivesText name rows text → ⊥
 no_text name rows none text is = cc (none, is)
 
--- the number that a text writes, where one is read
-pub number_read : (text : Option Text) (now : ℕ) → (text ≡ None → Some now ≡ None)
-    → ((t : Text) → text ≡ Some t → (IsNumeral 10 (without_leading_plus t) × (digits_value 10 (without_leading_plus t) < 2 ^ 64)) × (now ≡ digits_value 10 (without_leading_plus t)))
-    → (t : Text) × (text ≡ Some t) × WritesNumber t now
-number_read None now none value = let some : Some now ≡ None = none refl in absurd (cc (some))
-number_read (Some t) now none value = let read = value t refl in (t, refl, (read.0.0, read.0.1, read.1))
+-- the text writes the number, if it is there
+abbrev pub Writes : Option Text → ℕ → Type 0
+Writes text n = (t : Text) × (text ≡ Some t) × WritesNumber t n
+
+-- the text writes a number of 64 bits
+abbrev pub IsWritten : Text → Type 0
+IsWritten t = IsNumeral 10 (without_leading_plus t) × (digits_value 10 (without_leading_plus t) < 2 ^ 64)
+
+-- the number that is read of a text, where it writes one
+pub number_given : (text : Option Text) (result : Option ℕ) → (text ≡ None → result ≡ None)
+    → ((n : ℕ) → result ≡ Some n → (t : Text) → text ≡ Some t → IsWritten t × (n ≡ digits_value 10 (without_leading_plus t)))
+    → (result ≡ None → (t : Text) → text ≡ Some t → ¬ IsWritten t) → MatchOption result ((n : ℕ) → ¬ (Writes text n)) (Writes text)
+number_given None (Some n) none reads fails = let some : Some n ≡ None = none refl in absurd (cc (some))
+number_given None None none reads fails = λ n written. absurd (cc (written.1))
+number_given (Some t) (Some n) none reads fails = let read = reads n refl t refl in (t, refl, (read.0.0, read.0.1, read.1))
+number_given (Some t) None none reads fails = λ n written. fails refl written.0 written.1 (written.2.0, written.2.1)
+
+-- no order is found
+pub finds_none : (Is : List Row → Order → Type 0) (rows : List Row) (result : Option Order) → result ≡ None → IsNone Is rows → FindsOrder Is rows result
+finds_none Is rows None same none = none
+finds_none Is rows (Some order) same none = absurd (cc (same))
 
 -- ---- no order of a subcommand, for want of an option
 
@@ -89,30 +104,23 @@ module _ (rows : List Row) where
 abbrev head : Text → ℕ
 head text = get_or text 0 0
 
--- what comes of a subcommand of a name
-abbrev pub NamedSo : Text → List Row → Option Order → Type 0
-NamedSo name rows result = MatchOption result (IsNoOrder (Some (name, rows))) (IsOrder (Some (name, rows)))
-
-abbrev pub ComesSo : (List Row → Order → Type 0) → List Row → Option Order → Type 0
-ComesSo Is rows result = MatchOption result (IsNone Is rows) (Is rows)
-
-pub named_serve : (name : Text) (rows : List Row) (result : Option Order) → name ≡ codes "serve" → ComesSo IsServe rows result → NamedSo name rows result
+pub named_serve : (name : Text) (rows : List Row) (result : Option Order) → name ≡ codes "serve" → FindsOrder IsServe rows result → FindsNamed (Some (name, rows)) result
 named_serve name rows None same none = λ order is. elim is [ inl it ↦ none order it.1 | inr rest0 ↦ elim rest0 [ inl it ↦ (let bad : ◌≡◌ {A = ℕ} 115 97 = ap head (sym same ∙ it.0) in absurd (omega arith)) | inr rest1 ↦ elim rest1 [ inl it ↦ (let bad : ◌≡◌ {A = ℕ} 115 112 = ap head (sym same ∙ it.0) in absurd (omega arith)) | inr rest2 ↦ elim rest2 [ inl it ↦ (let bad : ◌≡◌ {A = ℕ} 115 116 = ap head (sym same ∙ it.0) in absurd (omega arith)) | inr rest3 ↦ (let it = rest3 in (let bad : ◌≡◌ {A = ℕ} 115 99 = ap head (sym same ∙ it.0) in absurd (omega arith))) ] ] ] ]
 named_serve name rows (Some order) same is = inl (same, is)
 
-pub named_answer : (name : Text) (rows : List Row) (result : Option Order) → name ≡ codes "answer" → ComesSo IsAnswer rows result → NamedSo name rows result
+pub named_answer : (name : Text) (rows : List Row) (result : Option Order) → name ≡ codes "answer" → FindsOrder IsAnswer rows result → FindsNamed (Some (name, rows)) result
 named_answer name rows None same none = λ order is. elim is [ inl it ↦ (let bad : ◌≡◌ {A = ℕ} 97 115 = ap head (sym same ∙ it.0) in absurd (omega arith)) | inr rest0 ↦ elim rest0 [ inl it ↦ none order it.1 | inr rest1 ↦ elim rest1 [ inl it ↦ (let bad : ◌≡◌ {A = ℕ} 97 112 = ap head (sym same ∙ it.0) in absurd (omega arith)) | inr rest2 ↦ elim rest2 [ inl it ↦ (let bad : ◌≡◌ {A = ℕ} 97 116 = ap head (sym same ∙ it.0) in absurd (omega arith)) | inr rest3 ↦ (let it = rest3 in (let bad : ◌≡◌ {A = ℕ} 97 99 = ap head (sym same ∙ it.0) in absurd (omega arith))) ] ] ] ]
 named_answer name rows (Some order) same is = inr (inl (same, is))
 
-pub named_print : (name : Text) (rows : List Row) (result : Option Order) → name ≡ codes "print" → ComesSo IsPrint rows result → NamedSo name rows result
+pub named_print : (name : Text) (rows : List Row) (result : Option Order) → name ≡ codes "print" → FindsOrder IsPrint rows result → FindsNamed (Some (name, rows)) result
 named_print name rows None same none = λ order is. elim is [ inl it ↦ (let bad : ◌≡◌ {A = ℕ} 112 115 = ap head (sym same ∙ it.0) in absurd (omega arith)) | inr rest0 ↦ elim rest0 [ inl it ↦ (let bad : ◌≡◌ {A = ℕ} 112 97 = ap head (sym same ∙ it.0) in absurd (omega arith)) | inr rest1 ↦ elim rest1 [ inl it ↦ none order it.1 | inr rest2 ↦ elim rest2 [ inl it ↦ (let bad : ◌≡◌ {A = ℕ} 112 116 = ap head (sym same ∙ it.0) in absurd (omega arith)) | inr rest3 ↦ (let it = rest3 in (let bad : ◌≡◌ {A = ℕ} 112 99 = ap head (sym same ∙ it.0) in absurd (omega arith))) ] ] ] ]
 named_print name rows (Some order) same is = inr (inr (inl (same, is)))
 
-pub named_takings : (name : Text) (rows : List Row) (result : Option Order) → name ≡ codes "takings" → ComesSo IsTakings rows result → NamedSo name rows result
+pub named_takings : (name : Text) (rows : List Row) (result : Option Order) → name ≡ codes "takings" → FindsOrder IsTakings rows result → FindsNamed (Some (name, rows)) result
 named_takings name rows None same none = λ order is. elim is [ inl it ↦ (let bad : ◌≡◌ {A = ℕ} 116 115 = ap head (sym same ∙ it.0) in absurd (omega arith)) | inr rest0 ↦ elim rest0 [ inl it ↦ (let bad : ◌≡◌ {A = ℕ} 116 97 = ap head (sym same ∙ it.0) in absurd (omega arith)) | inr rest1 ↦ elim rest1 [ inl it ↦ (let bad : ◌≡◌ {A = ℕ} 116 112 = ap head (sym same ∙ it.0) in absurd (omega arith)) | inr rest2 ↦ elim rest2 [ inl it ↦ none order it.1 | inr rest3 ↦ (let it = rest3 in (let bad : ◌≡◌ {A = ℕ} 116 99 = ap head (sym same ∙ it.0) in absurd (omega arith))) ] ] ] ]
 named_takings name rows (Some order) same is = inr (inr (inr (inl (same, is))))
 
-pub named_check : (name : Text) (rows : List Row) (result : Option Order) → name ≡ codes "check" → ComesSo IsCheck rows result → NamedSo name rows result
+pub named_check : (name : Text) (rows : List Row) (result : Option Order) → name ≡ codes "check" → FindsOrder IsCheck rows result → FindsNamed (Some (name, rows)) result
 named_check name rows None same none = λ order is. elim is [ inl it ↦ (let bad : ◌≡◌ {A = ℕ} 99 115 = ap head (sym same ∙ it.0) in absurd (omega arith)) | inr rest0 ↦ elim rest0 [ inl it ↦ (let bad : ◌≡◌ {A = ℕ} 99 97 = ap head (sym same ∙ it.0) in absurd (omega arith)) | inr rest1 ↦ elim rest1 [ inl it ↦ (let bad : ◌≡◌ {A = ℕ} 99 112 = ap head (sym same ∙ it.0) in absurd (omega arith)) | inr rest2 ↦ elim rest2 [ inl it ↦ (let bad : ◌≡◌ {A = ℕ} 99 116 = ap head (sym same ∙ it.0) in absurd (omega arith)) | inr rest3 ↦ (let it = rest3 in none order it.1) ] ] ] ]
 named_check name rows (Some order) same is = inr (inr (inr (inr (same, is))))
 
@@ -120,6 +128,8 @@ pub named_otherwise : (name : Text) (rows : List Row) → name ≢ codes "serve"
     → IsNoOrder (Some (name, rows))
 named_otherwise name rows a b c d e = λ order is.
     elim is [ inl it ↦ a it.0 | inr r1 ↦ elim r1 [ inl it ↦ b it.0 | inr r2 ↦ elim r2 [ inl it ↦ c it.0 | inr r3 ↦ elim r3 [ inl it ↦ d it.0 | inr it ↦ e it.0 ] ] ] ]
+
+pub ruleset named = (named_serve, named_answer, named_print, named_takings, named_check, named_otherwise)
 
 -- what is told of an error whose kind is among those that the words come to
 pub tells : (words : List Text) (kind : ErrorKind) (told : NoOrder) → TellsKind kind told

@@ -1,5 +1,5 @@
 -- What the words of a command line ask for, and what is told where they ask for nothing.
-use Rattle.std.specs.Prelude.{◌≡◌, ◌≢◌, ◌⊎◌, ◌^◌, ◌<◌, ℕ, List, [], Option, Some, None, option_map, codes, ⊤}
+use Rattle.std.specs.Prelude.{◌≡◌, ◌≢◌, ◌⊎◌, ◌^◌, ◌<◌, ℕ, List, [], Option, Some, None, MatchOption, option_map, codes, ⊤}
 use Rattle.std.specs.Borrow.{Bor}
 use Rattle.std.specs.Str.Parse.{IsNumeral, digits_value, without_leading_plus}
 use Rattle.clap.specs.Words.{IsAmong, Row, Text, fault_of, first_of, one_of, subcommand_of}
@@ -62,6 +62,10 @@ IsCheck rows _ = ⊥
 abbrev pub IsNone : (List Row → Order → Type 0) → List Row → Type 0
 IsNone Is rows = (order : Order) → ¬ (Is rows order)
 
+-- an order of that kind of what was found, or none where there is none
+abbrev pub FindsOrder : (List Row → Order → Type 0) → List Row → Option Order → Type 0
+FindsOrder Is rows result = MatchOption result (IsNone Is rows) (Is rows)
+
 -- the order of a subcommand, by its name and what was found for its options
 abbrev pub IsOrder : Option (Text × List Row) → Order → Type 0
 IsOrder None order = ⊥
@@ -76,12 +80,16 @@ IsOrder (Some found) order =
 abbrev pub IsNoOrder : Option (Text × List Row) → Type 0
 IsNoOrder found = (order : Order) → ¬ (IsOrder found order)
 
+-- the order of a subcommand, or none where it gives none
+abbrev pub FindsNamed : Option (Text × List Row) → Option Order → Type 0
+FindsNamed found result = MatchOption result (IsNoOrder found) (IsOrder found)
+
 -- the words are right, and name that order
 abbrev pub Orders : List Text → Order → Type 0
 Orders words order = (fault_of command_line words ≡ []) × IsOrder (subcommand_of command_line words) order
 
--- Help, or the version, where that is the first thing that the words ask for; a fault where another thing is or they name no
--- order. Out of memory may come at any words.
+-- Help, or the version, where that is the first thing that the words ask for; a fault where another thing is
+-- or they name no order. Out of memory may come at any words.
 abbrev pub Tells : List Text → NoOrder → Type 0
 Tells words NoMemory = ⊤
 Tells words (Help text) = IsAmong DisplayHelp (fault_of command_line words)

@@ -24,7 +24,8 @@ fn with_both<'a>(
     requires own { (fields_of command).has_globals ≡ false }
     requires own_first { first.global ≡ false }
     requires own_second { second.global ≡ false }
-    ensures subcommand { IfOk result (λ c. app_of c ≡ with_rule (with_rule (app_of command.entry) (rule_of first.entry)) (rule_of second.entry)) }
+    ensures subcommand { IfOk result (λ c. app_of c ≡
+        with_rule (with_rule (app_of command.entry) (rule_of first.entry)) (rule_of second.entry)) }
     ensures here { IfOk result (λ c. (fields_of c).has_globals ≡ false) }
 {
     command.arg(first)?.arg(second)

@@ -1,7 +1,7 @@
 //! From words to an order.
-ghost use Rattle.std.specs.Prelude.{◌≡◌, Some, MatchOption, MatchResult, IfOk, IfErr, map};
+ghost use Rattle.std.specs.Prelude.{◌≡◌, Some, IfOk, IfErr, map};
 ghost use Rattle.clap.specs.Words.{found_of, kind_of, rows_of, subcommand_rows_of};
-ghost use Rattle.portal_cli.specs.Orders.{IsOrder, IsNoOrder, Orders, Tells, TellsKind, IsNoHelp};
+ghost use Rattle.portal_cli.specs.Orders.{FindsNamed, Orders, Tells, TellsKind, IsNoHelp};
 
 use crate::command::command_line;
 use crate::found::{answer_of, check_of, print_of, serve_of, takings_of};
@@ -12,9 +12,9 @@ use std::alloc::Global;
 use std::convert::AsStr;
 
 /// The order of a subcommand, by its name.
-#[tactic(auto, using(crate::proofs::OrderLemmas::named_serve, crate::proofs::OrderLemmas::named_answer, crate::proofs::OrderLemmas::named_print, crate::proofs::OrderLemmas::named_takings, crate::proofs::OrderLemmas::named_check, crate::proofs::OrderLemmas::named_otherwise))]
+#[tactic(auto, using(crate::proofs::OrderLemmas::named))]
 fn order_named<'a>(name: &str, found: &ArgMatches<'a>) -> Option<Order<'a>>
-    ensures { MatchOption result (IsNoOrder (Some (name.now, rows_of (found_of found.now)))) (IsOrder (Some (name.now, rows_of (found_of found.now)))) }
+    ensures { FindsNamed (Some (name.now, rows_of (found_of found.now))) result }
 {
     if name == "serve" {
         serve_of(found)
@@ -34,12 +34,10 @@ fn order_named<'a>(name: &str, found: &ArgMatches<'a>) -> Option<Order<'a>>
 /// The order that was found.
 #[tactic(auto, using(crate::proofs::OrderLemmas::found_so))]
 fn order_of<'a>(matches: &ArgMatches<'a>) -> Option<Order<'a>>
-    ensures { MatchOption result (IsNoOrder (subcommand_rows_of matches.now)) (IsOrder (subcommand_rows_of matches.now)) }
+    ensures { FindsNamed (subcommand_rows_of matches.now) result }
 {
-    match matches.subcommand() {
-        None => None,
-        Some((name, found)) => order_named(name, found),
-    }
+    let (name, found) = matches.subcommand()?;
+    order_named(name, found)
 }
 
 /// Converts an error of clap into help, the version, a message or out of memory.

@@ -1,6 +1,7 @@
 //! What a command line asks for.
 
-/// What the words of a command line ask for. `db` is the path of the database file, `settings` that of the settings file.
+/// What the words of a command line ask for. `db` is the path of the database file, `settings` that of the
+/// settings file.
 #[derive(Clone, Copy, Debug, PartialEq, Eq)]
 pub enum Order<'a> {
     /// To serve so many connections at a port.
@@ -10,8 +11,8 @@ pub enum Order<'a> {
         port: u64,
         count: u64,
     },
-    /// To answer the request on standard input: the moment at which it comes, in whole UTC seconds, and the text of its seed. No
-    /// more is known of them than that the moment is a `u64`.
+    /// To answer the request on standard input: the moment at which it comes, in whole UTC seconds, and the
+    /// text of its seed. No more is known of them than that the moment is a `u64`.
     Answer {
         db: Option<&'a str>,
         settings: Option<&'a str>,

@@ -1,6 +1,7 @@
 //! The texts below the help of the program and of each subcommand.
 //!
-//! Each text is that of a function, and not a constant, so that the proofs of the commands do not carry it along.
+//! Each text is that of a function, and not a constant, so that the proofs of the commands do not carry it
+//! along.
 
 pub(crate) fn examples() -> &'static str {
     "\

@@ -54,8 +54,8 @@ pub struct BadCode;
 
 /// A voucher code: twelve or sixteen values from 0 to 30 whose weighted sum is divisible by 31.
 ///
-/// Codes are equal where all their values are, and are ordered by their first unequal value; where a long code begins with all
-/// values of a short one, the short one comes first.
+/// Codes are equal where all their values are, and are ordered by their first unequal value; where a long
+/// code begins with all values of a short one, the short one comes first.
 #[derive(Clone, Copy, Debug)]
 pub struct Code {
     values: [u8; LONG_SIGNS],
@@ -246,7 +246,8 @@ fn weighted_sum(weights: &[u32], values: &[u8]) -> u32
     sum
 }
 
-/// The values of the signs in a text, and their number, where there are as many as a code has. Zeros follow them.
+/// The values of the signs in a text, and their number, where there are as many as a code has. Zeros
+/// follow them.
 fn read_values(text: &[u8]) -> Result<([u8; LONG_SIGNS], usize), BadCode>
     ensures length { IfOk result (λ read. (read.1 ≡ 12) ⊎ (read.1 ≡ 16)) }
     ensures ok { IfOk result (λ read. signs_in text.now ≡ map sign_of (take read.1 read.0)) }
@@ -283,21 +284,25 @@ fn is_length(signs: usize) -> bool
 }
 
 /// A law: a text spells at most one code.
+#[tactic(auto, using(crate::proofs::Spelling::unique))]
 pub fn spelling_is_unique()
     ensures { SpellingIsUnique }
 {}
 
 /// A law: the printed text of a code spells that code.
+#[tactic(auto, using(crate::proofs::Spelling::printed_spells))]
 pub fn printed_text_spells()
     ensures { PrintedTextSpells }
 {}
 
 /// A law: a code with one sign changed is no code.
+#[tactic(auto, using(crate::proofs::Changed::one_change))]
 pub fn one_change_is_detected()
     ensures { OneChangeIsDetected }
 {}
 
 /// A law: a code with two unequal signs exchanged is no code.
+#[tactic(auto, using(crate::proofs::Changed::exchange))]
 pub fn exchange_is_detected()
     ensures { ExchangeIsDetected }
 {}

@@ -1,5 +1,7 @@
-//! Whether a command is accepted, and what it then changes. Each decision answers the first refusal whose condition holds, in the order of its verdict, want of memory aside.
-ghost use Rattle.std.specs.Prelude.{◌≡◌, ◌≤◌, IfOk, IfErr, Some, None};
+//! Whether a command is accepted, and what it then changes. Each decision answers the first refusal whose
+//! condition holds, in the order of its verdict; a lack of memory may come before any.
+ghost use Rattle.std.specs.Prelude.{◌≡◌, ◌≤◌};
+ghost use Rattle.portal_core.specs.Decision.{IsDecision};
 ghost use Rattle.portal_model.specs.History.{amount_left};
 ghost use Rattle.portal_model.specs.Verdict.{sell_verdict, report_verdict, refund_verdict, close_verdict};
 ghost use Rattle.portal_model.specs.Change.{sell_change, report_change, refund_change, close_change};
@@ -17,11 +19,11 @@ use portal_model::record::{Session, Voucher};
 use portal_model::refusal::Refusal;
 pub use redeem::decide_redeem;
 
-/// The sale of the voucher that was found under the code. Refused: `UnknownCode` where there is none, `SoldAlready`, `Expired` from its expiry moment on. A refunded voucher stays sold.
+/// The sale of the voucher that was found under the code. A refunded voucher stays sold.
+///
+/// Refused: `UnknownCode` where there is none, `SoldAlready`, `Expired` from its expiry moment on.
 pub fn decide_sell(voucher: Option<Voucher>, t: Moment) -> Result<Changes, Refusal>
-    ensures accepted { IfOk result (λ _. sell_verdict voucher t ≡ None) }
-    ensures refused { IfErr result (λ r. sell_verdict voucher t ≡ Some r) }
-    ensures change { IfOk result (λ change. sell_change voucher t ≡ Some change) }
+    ensures { IsDecision result (sell_verdict voucher t) (sell_change voucher t) }
 {
     let Some(voucher) = voucher else {
         return Err(Refusal::UnknownCode);
@@ -35,11 +37,11 @@ pub fn decide_sell(voucher: Option<Voucher>, t: Moment) -> Result<Changes, Refus
     Ok(Changes::Sale(Sale { at: t, voucher }))
 }
 
-/// A report of bytes for the session of that number, also one that is closed or has ended. Refused: `UnknownSession` where there is none.
+/// A report of bytes for the session of that number, also one that is closed or has ended.
+///
+/// Refused: `UnknownSession` where there is none.
 pub fn decide_report(session: Option<Session>, bytes: u64, t: Moment) -> Result<Changes, Refusal>
-    ensures accepted { IfOk result (λ _. report_verdict session ≡ None) }
-    ensures refused { IfErr result (λ r. report_verdict session ≡ Some r) }
-    ensures change { IfOk result (λ change. report_change session bytes t ≡ Some change) }
+    ensures { IsDecision result (report_verdict session) (report_change session bytes t) }
 {
     let Some(session) = session else {
         return Err(Refusal::UnknownSession);
@@ -59,11 +61,11 @@ fn amount_left(plan: Plan, redeemed: u64) -> u64
     u64::from(plan.price) * (u64::from(plan.uses) - redeemed) / u64::from(plan.uses)
 }
 
-/// The refund of the uses that are left of the voucher found under the code, also of an expired one. Refused: `UnknownCode` where there is none, `NotSold`, `Refunded`, `NothingLeft` where no use is left.
+/// The refund of the uses that are left of the voucher found under the code, also of an expired one.
+///
+/// Refused: `UnknownCode` where there is none, `NotSold`, `Refunded`, `NothingLeft` where no use is left.
 pub fn decide_refund(voucher: Option<Voucher>, t: Moment) -> Result<Changes, Refusal>
-    ensures accepted { IfOk result (λ _. refund_verdict voucher ≡ None) }
-    ensures refused { IfErr result (λ r. refund_verdict voucher ≡ Some r) }
-    ensures change { IfOk result (λ change. refund_change voucher t ≡ Some change) }
+    ensures { IsDecision result (refund_verdict voucher) (refund_change voucher t) }
 {
     let Some(voucher) = voucher else {
         return Err(Refusal::UnknownCode);
@@ -86,9 +88,7 @@ pub fn decide_refund(voucher: Option<Voucher>, t: Moment) -> Result<Changes, Ref
 
 /// The close of the session of that number. Refused: `UnknownSession` where there is none, `ClosedAlready`.
 pub fn decide_close(session: Option<Session>, t: Moment) -> Result<Changes, Refusal>
-    ensures accepted { IfOk result (λ _. close_verdict session ≡ None) }
-    ensures refused { IfErr result (λ r. close_verdict session ≡ Some r) }
-    ensures change { IfOk result (λ change. close_change session t ≡ Some change) }
+    ensures { IsDecision result (close_verdict session) (close_change session t) }
 {
     let Some(session) = session else {
         return Err(Refusal::UnknownSession);

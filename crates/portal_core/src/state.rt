@@ -7,14 +7,16 @@ use portal_model::captive::{Captive, OpenSession};
 use portal_model::moment::Moment;
 use portal_model::record::{Session, is_open};
 
-/// The moment at which a request is carried out: the one handed in, or that of the last accepted command where the clock was set back behind it.
+/// The moment at which a request is carried out: the one handed in, or that of the last accepted command
+/// where the clock was set back behind it.
 pub fn effective(moment: Moment, last: Moment) -> Moment
     ensures { result ≡ max moment last }
 {
     moment.max(last)
 }
 
-/// What a device is told whose last session is that one, or which had none (RFC 8908 section 5). Where the session is not open at `t` the device is captive.
+/// What a device is told whose last session is that one, or which had none (RFC 8908 section 5). Where the
+/// session is not open at `t` the device is captive.
 pub fn captive_of(last: Option<&Session>, t: Moment) -> Captive
     ensures { result ≡ captive_state t (option_copied last.entry) }
 {

@@ -7,7 +7,10 @@ use portal_days::{Day, DayRange, DayTakings};
 use portal_model::refusal::Refusal;
 use std::alloc::Global;
 
-/// The takings of each day of the range, in order, from sales and refunds that each have a day and an amount in hundredths. Pairs of other days are left out. The totals over the days fit `u64` and `u128`. Only want of memory is refused: `NoMemory`.
+/// The takings of each day of the range, in order, from sales and refunds that each have a day and an amount
+/// in hundredths. Pairs of other days are left out. The totals over the days fit `u64` and `u128`.
+///
+/// Only a lack of memory is refused: `NoMemory`.
 pub fn add_takings(
     alloc: Global,
     range: DayRange,
@@ -18,8 +21,5 @@ pub fn add_takings(
     ensures totals { IfOk result (λ v. TotalsFit v.items) }
     ensures memory { IfErr result (λ r. r ≡ Refusal.NoMemory) }
 {
-    match portal_days::add_takings(alloc, range, sales, refunds) {
-        Ok(days) => Ok(days),
-        Err(_) => Err(Refusal::NoMemory),
-    }
+    Ok(portal_days::add_takings(alloc, range, sales, refunds)?)
 }

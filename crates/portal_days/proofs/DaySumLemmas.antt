@@ -1,20 +1,8 @@
 -- What the pairs so far come to on a day: a pair more, and room for it.
-use Rattle.std.proofs.Common.{◌≡◌, ℕ, ◌+◌, ◌-◌, ◌*◌, ◌^◌, ◌<◌, ◌≤◌, ℤ, pos, ◌+ℤ◌, Bool, true, false, cond, List, [], ◌++◌, length, get_or, take, drop, map, refl, ap, sym, ◌∙◌, arith, inl, inr}
-use Rattle.std.specs.Prelude.{All, count_by, sum_by}
-use Rattle.std.specs.List.{range_with_len}
-use Rattle.std.proofs.Math.Nat.{mul-le-mul_right}
-use Rattle.std.proofs.Math.Seq.{take-append_seam}
-use Rattle.std.proofs.lemmas.Bool.{cases_Bool, cond-true, cond-false}
-use Rattle.std.proofs.lemmas.List.{length-take, take-append-le, take_all}
-use Rattle.std.proofs.lemmas.List.Elements.{All-weaker}
+use Rattle.portal_days.proofs.Common.{◌≡◌, ℕ, ◌+◌, ◌-◌, ◌^◌, ◌<◌, ◌≤◌, ℤ, pos, ◌+ℤ◌, cond, List, ◌++◌, length, get_or, take, drop, map, ap, sym, ◌∙◌, arith, inl, inr, All, count_by, range_with_len, mul-le-mul_right, cases_Bool, cond-true, cond-false, length-take, take-append-le, take_all, All-weaker, count_by-le-length, count_by_more_no, count_by_more_yes, sum_by_more, sum_by-le, Span, day_count, days_of, Pair, is_on, amount_on, day_sum, nothing, with_pair, HasRoom, DayTakings}
 use Rattle.std.proofs.lemmas.List.FromFn.{fill_by_all, get_or-map-range_with_len, length-map-range_with_len}
-use Rattle.std.proofs.lemmas.List.Sums.{count_by-le-length, count_by_more_no, count_by_more_yes, sum_by_more, sum_by-le}
 use Rattle.std.proofs.lemmas.Simd.{map-map}
-use Rattle.portal_days.specs.Span.{Span, day_count, days_of}
-use Rattle.portal_days.specs.Takings.{Pair, is_on, amount_on}
-use Rattle.portal_days.specs.Private.DaySums.{day_sum, nothing, with_pair, HasRoom}
 use Rattle.portal_days.specs.declared.takings.DaySum.{DaySum}
-use Rattle.portal_days.specs.declared.takings.DayTakings.{DayTakings}
 
 count_more : (day : ℤ) (pairs : List Pair) (i : ℕ) (d : Pair) → i < length pairs
     → count_by (is_on day) (take (i + 1) pairs) ≡ count_by (is_on day) (take i pairs) + cond (is_on day (get_or pairs i d)) 1 0

@@ -1,3 +1,4 @@
+pub mod Common
 pub mod DayLists
 pub mod DaySumLemmas
 pub mod Totals

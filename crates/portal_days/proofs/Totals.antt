@@ -1,16 +1,7 @@
 -- No pair is of two days, so what the days of a span come to together is at most what all pairs come to.
-use Rattle.std.proofs.Common.{◌≡◌, ℕ, ◌+◌, ◌-◌, ◌^◌, ◌<◌, ◌≤◌, zero, suc, ℤ, pos, ◌+ℤ◌, ◌<ℤ◌, cond, List, [], ◌∷◌, length, map, refl, ap, sym, ◌∙◌, arith, inl, inr}
-use Rattle.std.specs.Prelude.{All, sum_by}
-use Rattle.std.specs.List.{range_with_len}
+use Rattle.portal_days.proofs.Common.{◌≡◌, ℕ, ◌+◌, ◌-◌, ◌^◌, ◌<◌, ◌≤◌, zero, suc, ℤ, pos, ◌+ℤ◌, ◌<ℤ◌, cond, List, [], ◌∷◌, length, map, refl, ap, sym, ◌∙◌, arith, inl, inr, All, sum_by, range_with_len, cases_Bool, cond-true, cond-false, ints, All-weaker, sum_by-cons, sum_by-le, sum_by-le-sum_by, mul-le-mul_right, DayTakings, Pair, takings_on, TotalsFit, AreAmounts}
 use Rattle.std.specs.Ordering.{int_eq}
-use Rattle.std.proofs.lemmas.Bool.{cases_Bool, cond-true, cond-false}
 use Rattle.std.proofs.lemmas.Bool.Decides.{Decides-int_eq}
-use Rattle.std.proofs.lemmas.Int.{ints}
-use Rattle.std.proofs.lemmas.List.Elements.{All-weaker}
-use Rattle.std.proofs.lemmas.List.Sums.{sum_by-cons, sum_by-le, sum_by-le-sum_by}
-use Rattle.std.proofs.Math.Nat.{mul-le-mul_right}
-use Rattle.portal_days.specs.declared.takings.DayTakings.{DayTakings}
-use Rattle.portal_days.specs.Takings.{Pair, takings_on, TotalsFit, AreAmounts}
 
 -- what the pair weighs, where it is of the day
 abbrev weight_on : (Pair → ℕ) → ℤ → Pair → ℕ
@@ -19,7 +10,7 @@ weight_on v day p = cond (int_eq p.0 day) (v p) 0
 abbrev day_after : ℤ → ℕ → ℤ
 day_after first k = first +ℤ pos k
 
-sum_by-map : {X Y : Type 0} (f : Y → ℕ) (g : X → Y) (xs : List X) → sum_by f (map g xs) ≡ sum_by (λ x. f (g x)) xs
+pub sum_by-map : {X Y : Type 0} (f : Y → ℕ) (g : X → Y) (xs : List X) → sum_by f (map g xs) ≡ sum_by (λ x. f (g x)) xs
 sum_by-map f g [] = refl
 sum_by-map f g (x ∷ xs) = sum_by-cons f (g x) (map g xs) ∙ ap (λ n. f (g x) + n) (sum_by-map f g xs) ∙ sym (sum_by-cons (λ x. f (g x)) x xs)
 

@@ -1,3 +1,4 @@
+//! Civil days by their number, and ranges of them.
 ghost use Rattle.std.specs.Prelude.{◌≡◌, ◌↔◌, ◌<◌, ℕ, pos, ◌+ℤ◌, IsSome, IfSome, IfNone, false};
 ghost use Rattle.std.specs.Ordering.{int_eq};
 ghost use Rattle.portal_days.specs.Span.{Span, IsSpan, day_count};
@@ -106,7 +107,8 @@ impl DayRange {
     pub(crate) fn place(&self, day: Day) -> Option<u32>
         ensures within { IfSome result (λ k. k < day_count self.now) }
         ensures day { IfSome result (λ k. self.now.first +ℤ pos k ≡ day) }
-        ensures outside { IfNone result ((k : ℕ) → k < day_count self.now → int_eq day (self.now.first +ℤ pos k) ≡ false) }
+        ensures outside { IfNone result
+            ((k : ℕ) → k < day_count self.now → int_eq day (self.now.first +ℤ pos k) ≡ false) }
     {
         if day.get() < self.first.get() || day.get() > self.last.get() {
             return None;

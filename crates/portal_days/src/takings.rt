@@ -1,3 +1,4 @@
+//! What was taken on each day of a range.
 ghost use Rattle.std.specs.Prelude.{◌≡◌, ◌^◌, ◌<◌, ◌+ℤ◌, ℕ, pos, IfOk, OnOk, length, map, slice_index_or};
 ghost use Rattle.portal_days.specs.Span.{day_count, days_of};
 ghost use Rattle.portal_days.specs.Takings.{takings_on, AreAmounts, TotalsFit};
@@ -9,10 +10,15 @@ use std::alloc::{AllocError, Global};
 /// What was sold and refunded on a day: counts, and sums in hundredths.
 #[derive(Clone, Copy, Debug, PartialEq, Eq)]
 pub struct DayTakings {
+    /// The day.
     pub day: Day,
+    /// How many vouchers were sold.
     pub sold: u64,
+    /// What was paid for them, in hundredths.
     pub sales: u128,
+    /// How many vouchers were refunded.
     pub refunded: u64,
+    /// What was paid back for them, in hundredths.
     pub refunds: u128,
 }
 
@@ -29,7 +35,8 @@ fn add_pair(sums: &mut [DaySum], range: DayRange, day: Day, amount: u64)
     requires room { (k : ℕ) → k < day_count range → HasRoom (slice_index_or sums.old k nothing) }
     ensures days { length sums.new ≡ day_count range }
     ensures small { amount < 2 ^ 64 }
-    ensures added { (k : ℕ) → k < day_count range → slice_index_or sums.new k nothing ≡ with_pair (range.first +ℤ pos k) (day, amount) (slice_index_or sums.old k nothing) }
+    ensures added { (k : ℕ) → k < day_count range → slice_index_or sums.new k nothing
+        ≡ with_pair (range.first +ℤ pos k) (day, amount) (slice_index_or sums.old k nothing) }
 {
     if let Some(place) = range.place(day) {
         let sum = &mut sums[place as usize];

@@ -23,7 +23,7 @@ abbrev pub is_own : Refusal → Bool
 is_own Stopped = false
 is_own _ = true
 
-pub own_is_no_stop : (r : Refusal) → is_own r ≡ true → r ≢ Stopped
+own_is_no_stop : (r : Refusal) → is_own r ≡ true → r ≢ Stopped
 own_is_no_stop r own same = apart (sym (ap is_own same) ∙ own)
   where
     apart : false ≡ true → ⊥
@@ -50,15 +50,15 @@ first_own (check ∷ rest) all r is = let parts = both (is_own check.1) (all_own
 one : (x r : Refusal) → is_own x ≡ true → Some x ≡ Some r → is_own r ≡ true
 one x r own is = let it : x ≡ r = cc in subst (λ (y : Refusal). is_own y ≡ true) it own
 
-pub load_own : (kept : List ℕ → Option Plan) (plans : List Plan) (r : Refusal) → load_verdict kept plans ≡ Some r → is_own r ≡ true
+load_own : (kept : List ℕ → Option Plan) (plans : List Plan) (r : Refusal) → load_verdict kept plans ≡ Some r → is_own r ≡ true
 load_own kept plans r is = first_own ((list_any (λ p. differs (kept p.id) p) plans, PlanDiffers) ∷ []) refl r is
 
-pub issue_own : (plan : Option Plan) (batch : Option Batch) (taken : Bool) (codes : List (List ℕ)) (t : ℕ) (r : Refusal) → issue_verdict plan batch taken codes t ≡ Some r → is_own r ≡ true
+issue_own : (plan : Option Plan) (batch : Option Batch) (taken : Bool) (codes : List (List ℕ)) (t : ℕ) (r : Refusal) → issue_verdict plan batch taken codes t ≡ Some r → is_own r ≡ true
 issue_own None batch taken codes t r is = one UnknownPlan r refl is
 issue_own (Some plan) batch taken codes t r is =
     first_own ((is_some batch, BatchExists) ∷ (nat_lt greatest_moment (expiry t plan), MomentRange) ∷ (taken || stands_twice codes, CodeTaken) ∷ []) refl r is
 
-pub sell_own : (voucher : Option Voucher) (t : ℕ) (r : Refusal) → sell_verdict voucher t ≡ Some r → is_own r ≡ true
+sell_own : (voucher : Option Voucher) (t : ℕ) (r : Refusal) → sell_verdict voucher t ≡ Some r → is_own r ≡ true
 sell_own None t r is = one UnknownCode r refl is
 sell_own (Some v) t r is = first_own ((is_some v.sold, SoldAlready) ∷ (nat_le v.expires t, Expired) ∷ []) refl r is
 
@@ -69,7 +69,7 @@ place_own head plan t (Some s) r is =
     first_own ((not s.extend, NoExtend) ∷ (not (same_limits s plan), ShapeDiffers) ∷ (is_past greatest_allowance s.allowance plan.bytes, AllowanceFull)
     ∷ (is_past greatest_moment s.ends plan.seconds, MomentRange) ∷ (nat_le greatest_count head.grants, NumbersFull) ∷ []) refl r is
 
-pub redeem_own : (head : Head) (voucher : Option Voucher) (last : Option Session) (t : ℕ) (r : Refusal) → redeem_verdict head voucher last t ≡ Some r → is_own r ≡ true
+redeem_own : (head : Head) (voucher : Option Voucher) (last : Option Session) (t : ℕ) (r : Refusal) → redeem_verdict head voucher last t ≡ Some r → is_own r ≡ true
 redeem_own head None last t r is = one UnknownCode r refl is
 redeem_own head (Some v) last t r is =
     go (voucher_refusal v t) (first_own ((is_none v.sold, NotSold) ∷ (is_some v.refund, Refunded) ∷ (nat_le v.expires t, Expired) ∷ (nat_le v.plan.uses v.redeemed, UsedUp) ∷ []) refl) is
@@ -79,15 +79,15 @@ redeem_own head (Some v) last t r is =
     go None own same = place_own head v.plan t (kept_if (is_open_at t) last) r same
     go (Some x) own same = one x r (own x refl) same
 
-pub report_own : (session : Option Session) (r : Refusal) → report_verdict session ≡ Some r → is_own r ≡ true
+report_own : (session : Option Session) (r : Refusal) → report_verdict session ≡ Some r → is_own r ≡ true
 report_own None r is = one UnknownSession r refl is
 report_own (Some s) r is = absurd (cc)
 
-pub refund_own : (voucher : Option Voucher) (r : Refusal) → refund_verdict voucher ≡ Some r → is_own r ≡ true
+refund_own : (voucher : Option Voucher) (r : Refusal) → refund_verdict voucher ≡ Some r → is_own r ≡ true
 refund_own None r is = one UnknownCode r refl is
 refund_own (Some v) r is = first_own ((is_none v.sold, NotSold) ∷ (is_some v.refund, Refunded) ∷ (nat_le v.plan.uses v.redeemed, NothingLeft) ∷ []) refl r is
 
-pub close_own : (session : Option Session) (r : Refusal) → close_verdict session ≡ Some r → is_own r ≡ true
+close_own : (session : Option Session) (r : Refusal) → close_verdict session ≡ Some r → is_own r ≡ true
 close_own None r is = one UnknownSession r refl is
 close_own (Some s) r is = first_own ((is_some s.closed, ClosedAlready) ∷ []) refl r is
 

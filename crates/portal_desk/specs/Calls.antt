@@ -6,6 +6,7 @@ use Rattle.portal_model.specs.declared.refusal.Refusal.{Refusal}
 use Rattle.portal_model.specs.declared.refusal.Refusal.TheVariants.{NoMemory, Stopped}
 use Rattle.portal_model.specs.History.{History, effective_moment}
 use Rattle.portal_model.specs.Verdict.{verdict}
+use Rattle.portal_files.specs.SettingsFile.{SettingsValue}
 use Rattle.portal_ledger.specs.declared.marked.MarkedChanges.{MarkedChanges}
 use Rattle.portal_ledger.specs.Mark.{Mark}
 use Rattle.portal_ledger.specs.Ledger.{Accepted, Ledger, history_of, repeat_in, taken_at}
@@ -31,6 +32,16 @@ KeepsStop old new result = MatchResult result (λ _. new ≡ old) (TellsStop old
 abbrev pub StaysStopped : Bool → Bool → Type 0
 StaysStopped old new = old ≡ true → new ≡ true
 
+-- A call of a desk, by the desk's own words for its settings, for an honest disk, for having stopped and for where it stands. Whatever the
+-- disk did, the settings stay, and the answer tells whether the desk has stopped. A disk that is honest after the call was so before it, and
+-- then the call leads from where the desk stood before to where it stands after.
+pub record Moves {D A : Type 0} (settings : D → SettingsValue) (is_honest : D → Type 0) (has_stopped : D → Bool) (stands : D → State → Type 0)
+    (old new : D) (result : Result A Refusal) (Step : State → State → Type 0) : Type 0 where
+  pub told : settings new ≡ settings old
+  pub honest : is_honest new → is_honest old
+  pub stops : KeepsStop (has_stopped old) (has_stopped new) result
+  pub step : is_honest new → (before : State) → stands old before → (after : State) × stands new after × Step before after
+
 -- it answers what the history gives, and stays as it is
 abbrev pub Answers : {A : Type 0} → (History → A) → State → A → State → Type 0
 Answers given old answer new = ReadsThat old (λ H. answer ≡ given H) new
@@ -39,9 +50,19 @@ Answers given old answer new = ReadsThat old (λ H. answer ≡ given H) new
 abbrev pub CannotAnswer : State → Refusal → State → Type 0
 CannotAnswer old r new = FailsToRead NoMemory Stopped old r new
 
+-- it tells what is so of the history, and changes nothing; or it cannot answer
+abbrev pub Tells : {A : Type 0} → Result A Refusal → (A → History → Type 0) → State → State → Type 0
+Tells result Is old new =
+    MatchResult result (λ found. ReadsThat old (λ H. Is found H) new) (λ r. CannotAnswer old r new)
+
 -- the history gives nothing there, and that refusal says so; or it cannot answer
 abbrev pub Misses : {A : Type 0} → Refusal → (History → Option A) → State → Refusal → State → Type 0
 Misses unknown given old r new = ((r ≡ unknown) × Answers given old None new) ⊎ CannotAnswer old r new
+
+-- it answers what the history gives there, or it refuses where that is nothing
+abbrev pub Finds : {A : Type 0} → Refusal → (History → Option A) → Result A Refusal → State → State → Type 0
+Finds unknown given result old new =
+    MatchResult result (λ found. Answers given old (Some found) new) (λ r. Misses unknown given old r new)
 
 -- a command that is no repetition and that the verdict accepts, with what it changes and its mark; nothing is kept yet
 abbrev pub Prepares : State → Command → ℕ → Option Mark → MarkedChanges → State → Type 0

@@ -1,7 +1,7 @@
 //! The desk: what every desk answers, whatever keeps its records.
 #![tactic(auto)]
 
-ghost use Rattle.std.specs.Prelude.{◌≡◌, ℕ, List, Bool, true, None, Some, IfOk, MatchResult};
+ghost use Rattle.std.specs.Prelude.{◌≡◌, Bool, true, None, Some, IfOk, MatchResult};
 ghost use Rattle.portal_model.specs.Verdict.{IsWellFormed};
 ghost use Rattle.portal_model.specs.Captive.{captive_of, open_sessions_of};
 ghost use Rattle.portal_model.specs.History.{voucher_of};
@@ -10,7 +10,8 @@ ghost use Rattle.portal_files.specs.SettingsFile.{SettingsValue};
 ghost use Rattle.portal_ledger.specs.Ledger.{Accepted, Ledger, IsSound};
 ghost use Rattle.portal_ledger.specs.States.{State, MayStand};
 ghost use Rattle.portal_ledger.specs.Calls.{Fits, Keeps};
-ghost use Rattle.portal_desk.specs.Calls.{is_over, Answers, CannotAnswer, KeepsStop, Misses, Prepares, PreparesMarked, Refuses, CannotKeep};
+ghost use Rattle.portal_desk.specs.Calls.{is_over, CannotKeep, Finds, KeepsStop, Moves, Prepares, PreparesMarked, Refuses};
+ghost use Rattle.portal_desk.specs.Calls.{Tells};
 ghost use Rattle.portal_desk.specs.Sheets.{sheet_of, takings_over};
 
 pub mod prepared;
@@ -28,19 +29,20 @@ use portal_model::refusal::Refusal;
 pub use prepared::{Marked, Prepared};
 use std::alloc::Global;
 
-/// A desk, seen by what it stands for. Several ledgers may show in the same records, so what a desk stands for is a
-/// relation.
+/// A desk, seen by what it stands for. Several ledgers may show in the same records, so what a desk stands
+/// for is a relation.
 ///
-/// What a desk stands for is known as long as its store returns what was written to it (`is_honest`), which may fail
-/// at any call. `may_leave` says which files a stop at this moment may leave, and `shows` which ledgers files stand
-/// for. By the law `leaves` they show what a reopening may find, and by the law `sound` each ledger that files show
-/// is sound. `audits` says of an answer to `audit` that it is right about what the store holds, ledger or not.
+/// What a desk stands for is known as long as its store returns what was written to it (`is_honest`), which
+/// may fail at any call. `may_leave` says which files a stop at this moment may leave, and `shows` which
+/// ledgers files stand for. By the law `leaves` they show what a reopening may find, and by the law `sound`
+/// each ledger that files show is sound. `audits` says of an answer to `audit` that it is right about what
+/// the store holds, ledger or not.
 ///
-/// Whatever the store returns, `has_stopped` is known: after the answer `Stopped` the desk has stopped, and any
-/// other answer leaves it stopped or working as it was.
+/// Whatever the store returns, `has_stopped` is known: after the answer `Stopped` the desk has stopped, and
+/// any other answer leaves it stopped or working as it was.
 ///
-/// A desk that works stands at a ledger. `NoMemory` leaves it as it was. After `Stopped` it stands between the ledger
-/// and the same with one command more, and answers `Stopped` until it is made anew from its store.
+/// A desk that works stands at a ledger. `NoMemory` leaves it as it was. After `Stopped` it stands between
+/// the ledger and the same with one command more, and answers `Stopped` until it is made anew from its store.
 pub trait Desk {
     ghost Files: { Type 0 };
 
@@ -71,73 +73,54 @@ pub trait Desk {
     ///
     /// Refusals: `NoMemory` and `Stopped`.
     fn state(&mut self, moment: Moment, device: Device) -> Result<Captive, Refusal>
-        ensures told { settings self.new ≡ settings self.old }
-        ensures honest { is_honest self.new → is_honest self.old }
-        ensures stops { KeepsStop (has_stopped self.old) (has_stopped self.new) result }
-        ensures state { is_honest self.new → (old : State) → stands self.old old → (new : State) × stands self.new new
-            × MatchResult result (λ captive. Answers (λ H. captive_of H device moment) old captive new) (λ r. CannotAnswer old r new) };
+        ensures { Moves settings is_honest has_stopped stands self.old self.new result
+            (Tells result (λ captive H. captive ≡ captive_of H device moment)) };
 
     /// The voucher of a code, as it stands.
     ///
     /// Refusals: `UnknownCode` where the code was never issued; `NoMemory` and `Stopped` before any.
     fn voucher(&mut self, code: &Code) -> Result<Voucher, Refusal>
-        ensures told { settings self.new ≡ settings self.old }
-        ensures honest { is_honest self.new → is_honest self.old }
-        ensures stops { KeepsStop (has_stopped self.old) (has_stopped self.new) result }
-        ensures voucher { is_honest self.new → (old : State) → stands self.old old → (new : State) × stands self.new new
-            × MatchResult result (λ v. Answers (λ H. voucher_of H code.now) old (Some v) new)
-            (λ r. Misses Refusal.UnknownCode (λ H. voucher_of H code.now) old r new) };
+        ensures { Moves settings is_honest has_stopped stands self.old self.new result
+            (Finds Refusal.UnknownCode (λ H. voucher_of H code.now) result) };
 
     /// A batch with its plan, and its codes in order of issue: what its print file shows.
     ///
     /// Refusals: `UnknownBatch` where no such batch was issued; `NoMemory` and `Stopped` before any.
     fn batch(&mut self, alloc: Global, id: &Id) -> Result<BatchSheet, Refusal>
-        ensures told { settings self.new ≡ settings self.old }
-        ensures honest { is_honest self.new → is_honest self.old }
-        ensures stops { KeepsStop (has_stopped self.old) (has_stopped self.new) result }
-        ensures batch { is_honest self.new → (old : State) → stands self.old old → (new : State) × stands self.new new
-            × MatchResult result (λ sheet. Answers (λ H. sheet_of H id.now) old (Some sheet) new)
-            (λ r. Misses Refusal.UnknownBatch (λ H. sheet_of H id.now) old r new) };
+        ensures { Moves settings is_honest has_stopped stands self.old self.new result
+            (Finds Refusal.UnknownBatch (λ H. sheet_of H id.now) result) };
 
-    /// The sessions that are open at a moment, by their numbers, as the gateway is told of them (RFC 8952 section 2.4).
+    /// The sessions that are open at a moment, by their numbers, as the gateway is told of them (RFC 8952
+    /// section 2.4).
     ///
     /// Refusals: `NoMemory` and `Stopped`.
     fn open_now(&mut self, alloc: Global, moment: Moment) -> Result<Vec<OpenSession>, Refusal>
-        ensures told { settings self.new ≡ settings self.old }
-        ensures honest { is_honest self.new → is_honest self.old }
-        ensures stops { KeepsStop (has_stopped self.old) (has_stopped self.new) result }
-        ensures open_now { is_honest self.new → (old : State) → stands self.old old → (new : State) × stands self.new new
-            × MatchResult result (λ sessions. Answers (λ H. open_sessions_of H moment) old sessions.items new) (λ r. CannotAnswer old r new) };
+        ensures { Moves settings is_honest has_stopped stands self.old self.new result
+            (Tells result (λ sessions H. sessions.items ≡ open_sessions_of H moment)) };
 
-    /// The takings of each day of a range, in order, by the civil days of the settings' zone. Their totals fit the
-    /// numbers that a day has.
+    /// The takings of each day of a range, in order, by the civil days of the settings' zone. Their totals
+    /// fit the numbers that a day has.
     ///
     /// Refusals: `NoMemory` and `Stopped`.
     fn takings(&mut self, alloc: Global, range: DayRange) -> Result<Vec<DayTakings>, Refusal>
-        ensures told { settings self.new ≡ settings self.old }
-        ensures honest { is_honest self.new → is_honest self.old }
-        ensures stops { KeepsStop (has_stopped self.old) (has_stopped self.new) result }
         ensures totals { IfOk result (λ days. TotalsFit days.items) }
-        ensures takings { is_honest self.new → (old : State) → stands self.old old → (new : State) × stands self.new new
-            × MatchResult result (λ days. Answers (λ H. takings_over (settings self.old).zone H range) old days.items new)
-            (λ r. CannotAnswer old r new) };
+        ensures moves { Moves settings is_honest has_stopped stands self.old self.new result
+            (Tells result (λ days H. days.items ≡ takings_over (settings self.old).zone H range)) };
 
-    /// Whether the counters that it keeps agree with what they count, exactly. They do wherever the desk stands at a
-    /// ledger.
+    /// Whether the counters that it keeps agree with what they count, exactly. They do wherever the desk
+    /// stands at a ledger.
     ///
     /// Refusals: `NoMemory` and `Stopped`.
     fn audit(&mut self, alloc: Global) -> Result<bool, Refusal>
-        ensures told { settings self.new ≡ settings self.old }
-        ensures honest { is_honest self.new → is_honest self.old }
-        ensures stops { KeepsStop (has_stopped self.old) (has_stopped self.new) result }
-        ensures audit { is_honest self.new → (old : State) → stands self.old old → (new : State) × stands self.new new
-            × MatchResult result (λ agrees. Answers (λ H. true) old agrees new) (λ r. CannotAnswer old r new) }
+        ensures moves { Moves settings is_honest has_stopped stands self.old self.new result
+            (Tells result (λ agrees H. agrees ≡ true)) }
         ensures exact { is_honest self.new → IfOk result (audits self.old) };
 
-    /// Whether the command of a request without a number may be accepted at a moment, and what it then changes.
-    /// Nothing is kept yet.
+    /// Whether the command of a request without a number may be accepted at a moment, and what it then
+    /// changes. Nothing is kept yet.
     ///
-    /// Refusals: the first whose condition holds, in the order of the command; `NoMemory` and `Stopped` before any.
+    /// Refusals: the first whose condition holds, in the order of the command; `NoMemory` and `Stopped`
+    /// before any.
     fn prepare(
         &mut self,
         alloc: Global,
@@ -145,17 +128,15 @@ pub trait Desk {
         command: Command,
     ) -> Result<Prepared, Refusal>
         requires { IsWellFormed command }
-        ensures told { settings self.new ≡ settings self.old }
-        ensures honest { is_honest self.new → is_honest self.old }
-        ensures stops { KeepsStop (has_stopped self.old) (has_stopped self.new) result }
-        ensures prepare { is_honest self.new → (old : State) → stands self.old old → (new : State) × stands self.new new
-            × MatchResult result (λ p. Prepares old command moment None p new) (λ r. Refuses old command moment None r new) };
+        ensures { Moves settings is_honest has_stopped stands self.old self.new result
+            (λ old new. MatchResult result (λ p. Prepares old command moment None p new)
+            (λ r. Refuses old command moment None r new)) };
 
-    /// The same for a request that acts once: `Kept` where it was carried out before, which changes nothing. Nothing
-    /// is kept yet.
+    /// The same for a request that acts once: `Kept` where it was carried out before, which changes nothing.
+    /// Nothing is kept yet.
     ///
-    /// Refusals: `IdReused` where its number was used for another request, then those of `prepare`; `NoMemory` and
-    /// `Stopped` before any.
+    /// Refusals: `IdReused` where its number was used for another request, then those of `prepare`;
+    /// `NoMemory` and `Stopped` before any.
     fn prepare_marked(
         &mut self,
         alloc: Global,
@@ -164,12 +145,9 @@ pub trait Desk {
         mark: &RequestMark,
     ) -> Result<Marked, Refusal>
         requires { IsWellFormed command }
-        ensures told { settings self.new ≡ settings self.old }
-        ensures honest { is_honest self.new → is_honest self.old }
-        ensures stops { KeepsStop (has_stopped self.old) (has_stopped self.new) result }
-        ensures prepare { is_honest self.new → (old : State) → stands self.old old → (new : State) × stands self.new new
-            × MatchResult result (λ marked. PreparesMarked old command moment mark.now marked new)
-            (λ r. Refuses old command moment (Some mark.now) r new) };
+        ensures { Moves settings is_honest has_stopped stands self.old self.new result
+            (λ old new. MatchResult result (λ p. PreparesMarked old command moment mark.now p new)
+            (λ r. Refuses old command moment (Some mark.now) r new)) };
 
     /// Keeps what was prepared, whole or not at all: the changes and the mark.
     ///
@@ -178,8 +156,9 @@ pub trait Desk {
         ensures told { settings self.new ≡ settings self.old }
         ensures honest { is_honest self.new → is_honest self.old }
         ensures stops { KeepsStop (has_stopped self.old) (has_stopped self.new) result }
-        ensures finish { is_honest self.new → (old : State) → stands self.old old → (a : Accepted) → Fits old prepared a
-            → (new : State) × stands self.new new × MatchResult result (λ _. Keeps old a new) (λ r. CannotKeep old a r new) };
+        ensures finish { is_honest self.new → (old : State) → stands self.old old
+            → (a : Accepted) → Fits old prepared a → (new : State) × stands self.new new
+            × MatchResult result (λ _. Keeps old a new) (λ r. CannotKeep old a r new) };
 
     ghost leaves: { (desk : Self) (s : State) → stands desk s → (files : Files) → may_leave desk files
         → (found : Ledger) × MayStand s found × shows files found };

@@ -1,9 +1,9 @@
 //! The end of a command: what it tells, or its fault, is printed, and the status follows.
-ghost use Rattle.std.specs.Prelude.{◌≡◌};
 ghost use Rattle.portal_ends.specs.Ends.{EndsPrinting, EndsWith};
+ghost use Rattle.portal_ends.specs.Streams.{outlets};
 
 use crate::fault::Fault;
-use portal_head::write_response;
+use crate::printing::print_text;
 use std::io::Write;
 
 /// What a command tells that was carried out.
@@ -17,20 +17,23 @@ pub enum Told {
     Differs,
 }
 
-/// Prints a text on `output` and gives `good`; where it goes out in part alone, prints `portal: cut` on `errors` and gives 3.
+/// Prints a text on `output` and gives `good`; where it goes out in part alone, prints `portal: cut` on
+/// `errors` and gives 3.
 pub fn print_all<W: Write, E: Write>(text: &[u8], good: u8, output: &mut W, errors: &mut E) -> u8
-    ensures { EndsPrinting text.now good (record { output = W.contents output.old; output_after = W.contents output.new; errors = E.contents errors.old; errors_after = E.contents errors.new }) result }
+    ensures { EndsPrinting text.now good
+        (outlets W.Write E.Write output.old output.new errors.old errors.new) result }
 {
-    match write_response(output, text) {
+    match print_text(text, output) {
         Ok(()) => good,
-        Err(_) => Fault::Cut.report(errors),
+        Err(cut) => cut.report(errors),
     }
 }
 
-/// Prints what a command told on `output`, or its fault on `errors`, and gives the status with which the program ends: 0 for
-/// a text and where the counters agree, 1 where they differ, and at a fault the fault's own.
+/// Prints what a command told on `output`, or its fault on `errors`, and gives the status with which the
+/// program ends: 0 for a text and where the counters agree, 1 where they differ, and at a fault the fault's
+/// own.
 pub fn end<W: Write, E: Write>(told: &Result<Told, Fault>, output: &mut W, errors: &mut E) -> u8
-    ensures { EndsWith told.now (record { output = W.contents output.old; output_after = W.contents output.new; errors = E.contents errors.old; errors_after = E.contents errors.new }) result }
+    ensures { EndsWith told.now (outlets W.Write E.Write output.old output.new errors.old errors.new) result }
 {
     match told {
         Ok(Told::Text(text)) => print_all(text.as_slice(), 0, output, errors),

@@ -1,10 +1,12 @@
 //! What the program says when it cannot do what it was asked.
-ghost use Rattle.std.specs.Prelude.{◌≡◌, ◌++◌, codes};
+ghost use Rattle.std.specs.Prelude.{◌≡◌};
+ghost use Rattle.portal_ends.specs.declared.fault.Fault.TheVariants.{NoMemory};
 ghost use Rattle.portal_ends.specs.Faults.{line_of, line_with, status_of, word_of};
 ghost use Rattle.portal_ends.specs.Streams.{Prints};
 
-use portal_head::write_response;
+use crate::printing::print_text;
 use portal_model::refusal::Refusal;
+use std::alloc::AllocError;
 use std::io::Write;
 
 /// Why the program ends without having done what it was asked.
@@ -48,8 +50,8 @@ impl Fault {
         }
     }
 
-    /// The status with which the program ends: 1 for a refusal, want of memory for the command included; 2 for usage; 3 for every
-    /// other fault, and where the desk has stopped.
+    /// The status with which the program ends: 1 for a refusal, want of memory for the command included; 2
+    /// for usage; 3 for every other fault, and where the desk has stopped.
     pub fn status(self) -> u8
         ensures { result ≡ status_of self }
     {
@@ -61,42 +63,30 @@ impl Fault {
         }
     }
 
-    /// Prints the line of the fault, `portal: ` and its word, or as much of it as goes out, and gives the status.
+    /// Prints the line of the fault, `portal: ` and its word, or as much of it as goes out, and gives the
+    /// status.
     pub fn report<E: Write>(self, errors: &mut E) -> u8
         ensures status { result ≡ status_of self }
         ensures printed { Prints (E.contents errors.old) (E.contents errors.new) (line_of self) }
     {
-        print_line(errors, self.word());
+        let _cut = print_line(errors, self.word());
         self.status()
     }
 }
 
-/// Prints `portal: `, a word and a line feed, as far as they go out.
-fn print_line<E: Write>(errors: &mut E, word: &str)
+impl From<AllocError> for Fault {
+    ghost from_gives = { λ _ fault. fault ≡ NoMemory };
+
+    fn from(_error: AllocError) -> Fault {
+        Fault::NoMemory
+    }
+}
+
+/// Prints `portal: `, a word and a line feed, as far as they go out. Fault: `Cut`, where a part does not.
+fn print_line<E: Write>(errors: &mut E, word: &str) -> Result<(), Fault>
     ensures { Prints (E.contents errors.old) (E.contents errors.new) (line_with word.now) }
 {
-    match write_response(errors, b"portal: ".as_slice()) {
-        Ok(()) => print_rest(errors, word.as_bytes()),
-        Err(_) => {}
-    }
-}
-
-/// Prints a word and a line feed, as far as they go out.
-fn print_rest<E: Write>(errors: &mut E, word: &[u8])
-    ensures { Prints (E.contents errors.old) (E.contents errors.new) (word.now ++ codes "\n") }
-{
-    match write_response(errors, word) {
-        Ok(()) => print_end(errors),
-        Err(_) => {}
-    }
-}
-
-/// Prints a line feed, if it goes out.
-fn print_end<E: Write>(errors: &mut E)
-    ensures { Prints (E.contents errors.old) (E.contents errors.new) (codes "\n") }
-{
-    match write_response(errors, b"\n".as_slice()) {
-        Ok(()) => {}
-        Err(_) => {}
-    }
+    print_text(b"portal: ".as_slice(), errors)?;
+    print_text(word.as_bytes(), errors)?;
+    print_text(b"\n".as_slice(), errors)
 }

@@ -1,18 +1,11 @@
 -- Dates and their texts, and the years of day numbers.
-use Rattle.std.proofs.Common.{◌≡◌, ℕ, ◌+◌, ◌*◌, ◌/◌, ◌%◌, ◌<◌, ◌≤◌, ℤ, pos, negsuc, ◌≤ℤ◌, List, [], ◌∷◌, ◌++◌, length, get_or, take, drop, refl, ap, sym, ◌∙◌, subst, arith, Option, Some, None, is_some, IsSome, ◌↔◌, true, inl, inr, lit≤}
-use Rattle.std.specs.Prelude.{IfSome}
-use Rattle.std.proofs.lemmas.Bool.{false≢true}
-use Rattle.std.proofs.lemmas.Int.{ints, by_lt_z}
-use Rattle.jiff_core.specs.declared.civil.date.Date.{Date}
+use Rattle.portal_files.proofs.Common.{◌≡◌, ℕ, ◌+◌, ◌*◌, ◌/◌, ◌%◌, ◌<◌, ◌≤◌, ℤ, pos, negsuc, ◌≤ℤ◌, List, [], ◌∷◌, ◌++◌, length, get_or, take, drop, refl, ap, sym, ◌∙◌, subst, arith, Option, Some, None, is_some, IsSome, ◌↔◌, true, inl, inr, lit≤, IfSome, false≢true, ints, by_lt_z, Date, epoch_day, date_text, IsDay, IsPair, IsDateText, IsDayText}
 use Rattle.jiff_core.specs.Calendar.{IsDate, IsYear}
 use Rattle.jiff_core.proofs.CalendarLemmas.{days_in_month_bounds, days_from_civil-day_count, day_count-last_of_year}
 use Rattle.jiff_core.proofs.SignedLemmas.{signed_arith}
 use Rattle.jiff_core.proofs.DateLemmas.{epoch_day-lt, epoch_day_range, epoch_day_same, epoch_day_injective, cases_date, days_from_civil-next_year}
 use Rattle.jiff_core.proofs.StandardFacts.{known_days}
 use Rattle.jiff_fmt.specs.Text.{pad2, year_text}
-use Rattle.jiff.specs.Words.{epoch_day, date_text}
-use Rattle.portal_days.specs.Span.{IsDay}
-use Rattle.portal_files.specs.DayText.{IsPair, IsDateText, IsDayText}
 
 abbrev ymd_text : ℤ → ℕ → ℕ → List ℕ
 ymd_text y m d = year_text y ++ 45 ∷ [] ++ pad2 m ++ 45 ∷ [] ++ pad2 d
@@ -21,19 +14,9 @@ ymd_text y m d = year_text y ++ 45 ∷ [] ++ pad2 m ++ 45 ∷ [] ++ pad2 d
 ten-parts : (text p q r s : List ℕ) → length text ≡ 10 → get_or text 4 0 ≡ 45 → get_or text 7 0 ≡ 45
     → take 2 text ≡ p → take 2 (drop 2 text) ≡ q → take 2 (drop 5 text) ≡ r → take 2 (drop 8 text) ≡ s
     → text ≡ p ++ (q ++ 45 ∷ (r ++ 45 ∷ s))
-ten-parts [] p q r s n x y a b c d = absurd (omega arith)
-ten-parts (t0 ∷ []) p q r s n x y a b c d = absurd (omega arith)
-ten-parts (t0 ∷ t1 ∷ []) p q r s n x y a b c d = absurd (omega arith)
-ten-parts (t0 ∷ t1 ∷ t2 ∷ []) p q r s n x y a b c d = absurd (omega arith)
-ten-parts (t0 ∷ t1 ∷ t2 ∷ t3 ∷ []) p q r s n x y a b c d = absurd (omega arith)
-ten-parts (t0 ∷ t1 ∷ t2 ∷ t3 ∷ t4 ∷ []) p q r s n x y a b c d = absurd (omega arith)
-ten-parts (t0 ∷ t1 ∷ t2 ∷ t3 ∷ t4 ∷ t5 ∷ []) p q r s n x y a b c d = absurd (omega arith)
-ten-parts (t0 ∷ t1 ∷ t2 ∷ t3 ∷ t4 ∷ t5 ∷ t6 ∷ []) p q r s n x y a b c d = absurd (omega arith)
-ten-parts (t0 ∷ t1 ∷ t2 ∷ t3 ∷ t4 ∷ t5 ∷ t6 ∷ t7 ∷ []) p q r s n x y a b c d = absurd (omega arith)
-ten-parts (t0 ∷ t1 ∷ t2 ∷ t3 ∷ t4 ∷ t5 ∷ t6 ∷ t7 ∷ t8 ∷ []) p q r s n x y a b c d = absurd (omega arith)
 ten-parts (t0 ∷ t1 ∷ t2 ∷ t3 ∷ t4 ∷ t5 ∷ t6 ∷ t7 ∷ t8 ∷ t9 ∷ []) p q r s n x y a b c d =
     λ i. a i ++ (b i ++ x i ∷ (c i ++ y i ∷ d i))
-ten-parts (t0 ∷ t1 ∷ t2 ∷ t3 ∷ t4 ∷ t5 ∷ t6 ∷ t7 ∷ t8 ∷ t9 ∷ t10 ∷ rest) p q r s n x y a b c d = absurd (omega arith)
+ten-parts _ p q r s n x y a b c d = absurd (omega arith)
 
 -- what was read at the places of a text
 pub record WasReadAt (text : List ℕ) (a b m d : ℕ) : Type 0 where
@@ -70,15 +53,18 @@ natural : (z : ℤ) → pos 0 ≤ℤ z → (n : ℕ) × (z ≡ pos n)
 natural (pos n) h = (n, refl)
 natural (negsuc n) h = absurd (omega (arith, ints))
 
+-- a date from the year 0 on has a year of four digits at most, and a month and a day of two
+small-parts : (d : Date) (n : ℕ) → d.year ≡ pos n → (n ≤ 9999) × (d.month < 100) × (d.day < 100)
+small-parts d n year =
+    let in_range : IsYear (pos n) = subst IsYear year d.year_in in
+    (omega (arith, ints), omega (arith, d.month_in.1), omega (arith, d.day_in.1, (days_in_month_bounds d.year d.month).0))
+
 -- the calendar has the date that a text is
 text-date_of : (text : List ℕ) (a b m d : ℕ) (n : ℕ) (date : Date) → WasReadAt text a b m d → date.year ≡ pos n → text ≡ date_text date
     → (date.year ≡ pos (a * 100 + b)) × (date.month ≡ m) × (date.day ≡ d)
 text-date_of text a b m d n date is year e =
     let shown : text ≡ ymd_text (pos n) date.month date.day = e ∙ ap (λ y. ymd_text y date.month date.day) year in
-    let in_range : IsYear (pos n) = subst IsYear year date.year_in in
-    let small : n ≤ 9999 = omega (arith, ints) in
-    let month_small : date.month < 100 = omega (arith, date.month_in.1) in
-    let day_small : date.day < 100 = omega (arith, date.day_in.1, (days_in_month_bounds date.year date.month).0) in
+    let (small, month_small, day_small) = small-parts date n year in
     let century_is : a ≡ n / 100 = same-pair (take 2 text) a (n / 100) (omega arith) is.century (ap (take 2) shown) in
     let year_is : b ≡ n % 100 = same-pair (take 2 (drop 2 text)) b (n % 100) (omega arith) is.year (ap (λ x. take 2 (drop 2 x)) shown) in
     let month_is : m ≡ date.month = same-pair (take 2 (drop 5 text)) m date.month month_small is.month (ap (λ x. take 2 (drop 5 x)) shown) in
@@ -104,14 +90,8 @@ same-day_of : (a b : Date) (m n : ℕ) → a.year ≡ pos m → b.year ≡ pos n
 same-day_of a b m n year later e =
     let shown : ymd_text (pos m) a.month a.day ≡ ymd_text (pos n) b.month b.day =
     sym (ap (λ y. ymd_text y a.month a.day) year) ∙ e ∙ ap (λ y. ymd_text y b.month b.day) later in
-    let m_in : IsYear (pos m) = subst IsYear year a.year_in in
-    let n_in : IsYear (pos n) = subst IsYear later b.year_in in
-    let m_small : m ≤ 9999 = omega (arith, ints) in
-    let n_small : n ≤ 9999 = omega (arith, ints) in
-    let a_day : a.day < 100 = omega (arith, a.day_in.1, (days_in_month_bounds a.year a.month).0) in
-    let b_day : b.day < 100 = omega (arith, b.day_in.1, (days_in_month_bounds b.year b.month).0) in
-    let a_month : a.month < 100 = omega (arith, a.month_in.1) in
-    let b_month : b.month < 100 = omega (arith, b.month_in.1) in
+    let (m_small, a_month, a_day) = small-parts a m year in
+    let (n_small, b_month, b_day) = small-parts b n later in
     let century : m / 100 ≡ n / 100 = same-pair _ (m / 100) (n / 100) (omega arith) (pair (m / 100) (omega arith)) (ap (take 2) shown) in
     let decade : m % 100 ≡ n % 100 = same-pair _ (m % 100) (n % 100) (omega arith) (pair (m % 100) (omega arith)) (ap (λ x. take 2 (drop 2 x)) shown) in
     let month : a.month ≡ b.month = same-pair _ a.month b.month b_month (pair a.month a_month) (ap (λ x. take 2 (drop 5 x)) shown) in
@@ -162,9 +142,6 @@ no-day text date n r shown is some none day so =
     let other : IsDateText text so.date = record { text_is = so.text_is; year = omega (arith, ints, so.year) } in
     let there : is_some r ≡ true = some.1 (subst IsDay (sym (is ∙ same-day date so.date text shown other)) (day-from_year so.date so.year)) in
     absurd (false≢true (sym (ap is_some none) ∙ there))
-
-pub no-date : (text : List ℕ) → ((date : Date) → IsDateText text date → ⊥) → (day : ℤ) → IsDayText text day → ⊥
-no-date text none day so = none so.date (record { text_is = so.text_is; year = omega (arith, ints, so.year) })
 
 -- a day has one date, and the date one text
 same-text : (a b : Date) → epoch_day a ≡ epoch_day b → date_text a ≡ date_text b

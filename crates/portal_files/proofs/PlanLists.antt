@@ -1,18 +1,10 @@
 -- The array of a plans file, and the list of its plans.
-use Rattle.std.proofs.Common.{◌≡◌, ℕ, ◌+◌, ◌<◌, Bool, true, ◌||◌, List, [], ◌∷◌, ◌++◌, length, get_or, drop, codes, map, Option, Some, None, option_map, Vec, Global, zero, suc, Ordering, Less, Equal, Greater, nat_cmp, is_eq, Bor, refl, ap, sym, ◌∙◌, arith}
-use Rattle.std.specs.Prelude.{IfSome, bytes_eq}
-use Rattle.std.specs.List.{list_any}
+use Rattle.portal_files.proofs.Common.{◌≡◌, ℕ, ◌+◌, ◌<◌, Bool, true, ◌||◌, List, [], ◌∷◌, ◌++◌, length, get_or, drop, codes, map, Option, Some, None, option_map, Vec, zero, suc, Ordering, Less, Equal, Greater, nat_cmp, is_eq, Bor, refl, ap, sym, ◌∙◌, arith, IfSome, bytes_eq, list_any, ids_stand_twice, match_ordering, Plan, IsPlanData, ArePlanTables, member_count, Data, array, Items, no_items, item, Members, no_members, member, get_member, push_item, as_array, view, items_view, array_view, Value}
+use Rattle.std.proofs.Common.{Global}
 use Rattle.std.proofs.lemmas.List.{drop_more}
-use Rattle.portal_model.specs.Verdict.{ids_stand_twice}
-use Rattle.std.specs.Ordering.{match_ordering}
 use Rattle.std.specs.Cmp.Lexicographic.{slice_cmp}
 use Rattle.std.proofs.lemmas.Map.Text.{is_eq-slice_cmp}
 use Rattle.std.proofs.lemmas.Slice.Eq.{bytes_eq-Decides}
-use Rattle.portal_model.specs.declared.plan.Plan.{Plan}
-use Rattle.portal_files.specs.PlansFile.{IsPlanData, ArePlanTables, member_count}
-use Rattle.toml.specs.Data.{Data, string, integer, float, boolean, datetime, array, table, Items, no_items, item, Members, no_members, member, get_member, push_item, as_array}
-use Rattle.toml.specs.View.{view, items_view, array_view}
-use Rattle.toml.specs.declared.value.Value.{Value}
 
 -- The only member
 
@@ -33,15 +25,10 @@ pub found-array : (r : Option (Bor (Vec Value Global))) (d : Data) (ms : Members
     → member_count ms ≡ 1 → Some d ≡ get_member (codes "plan") ms
     → IfSome r (λ a. ms ≡ member (codes "plan") (array (array_view a.now)) no_members)
 found-array None d ms e c g = tt
-found-array (Some a) (string x) ms e c g = cc
-found-array (Some a) (integer x) ms e c g = cc
-found-array (Some a) (float x) ms e c g = cc
-found-array (Some a) (boolean x) ms e c g = cc
-found-array (Some a) (datetime x) ms e c g = cc
 found-array (Some a) (array ds) ms e c g =
     let same : array_view a.now ≡ ds = cc in
     only-member ms (codes "plan") (array ds) c g ∙ ap (λ x. member (codes "plan") (array x) no_members) (sym same)
-found-array (Some a) (table x) ms e c g = cc
+found-array (Some a) _ ms e c g = cc
 
 pub no-array : (r : Option (Bor (Vec Value Global))) (d : Data) (ms : Members) (items : Items) → option_map (λ v. array_view v.now) r ≡ as_array d
     → Some d ≡ get_member (codes "plan") ms → r ≡ None → ms ≡ member (codes "plan") (array items) no_members → ⊥

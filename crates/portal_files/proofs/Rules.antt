@@ -1,22 +1,13 @@
 -- What a rule of a zone says settles its civil days.
-use Rattle.std.proofs.Common.{◌≡◌, ℕ, ℤ, pos, ◌+ℤ◌, ◌*ℤ◌, Bool, true, false, List, Option, Some, None, refl, ap, sym, ◌∙◌}
-use Rattle.std.specs.Prelude.{option_map, unwrap_or, if◌then◌else◌, ◌&&◌, ◌||◌, int_lt, ◌-ℤ◌}
-use Rattle.std.specs.Int.{int_div_euclid}
-use Rattle.jiff.specs.Placed.{IsPosixZone}
+use Rattle.portal_files.proofs.Common.{◌≡◌, ℕ, ℤ, pos, ◌+ℤ◌, ◌*ℤ◌, Bool, true, false, List, Option, Some, None, refl, ap, sym, ◌∙◌, option_map, unwrap_or, if◌then◌else◌, ◌&&◌, ◌||◌, int_lt, ◌-ℤ◌, int_div_euclid, IsPosixZone, read_whole, TzText, DstText, tz_view, dst_view, TimeZone, UTC, Posix, local_day_of, RuleFixesDays}
+use Rattle.jiff_tz.specs.Zone.{offset_at}
 use Rattle.jiff_core.specs.Timestamp.{nanos_of_seconds}
 use Rattle.jiff_core.specs.declared.Offset.{Offset}
-use Rattle.jiff_tz.specs.PosixReader.{read_whole}
 use Rattle.jiff_tz.specs.PosixRule as rule
-use Rattle.jiff_tz.specs.PosixText.{TzText, DstText, tz_view, dst_view}
 use Rattle.jiff_tz.specs.Year.{year_of_nanos}
-use Rattle.jiff_tz.specs.Zone.{offset_at}
 use Rattle.jiff_tz.specs.declared.posix.Day.{Day}
 use Rattle.jiff_tz.specs.declared.posix.Dst.{Dst}
 use Rattle.jiff_tz.specs.declared.posix.TimeZone.{TimeZone as Rule}
-use Rattle.jiff_tz.specs.declared.timezone.TimeZone.{TimeZone}
-use Rattle.jiff_tz.specs.declared.timezone.TimeZone.TheVariants.{UTC, Unknown, Fixed, Posix, Tzif}
-use Rattle.portal_files.specs.LocalDay.{local_day_of}
-use Rattle.portal_files.specs.Takings.{RuleFixesDays}
 
 -- when a rule's moment falls in the year, by what the rule says
 abbrev pub nanos_said : ℤ → Day × ℤ → ℤ → ℤ
@@ -64,10 +55,7 @@ offset-said tz n = offset-by tz.std_offset tz.dst n
 pub zone_offset-said : (text : List ℕ) (said : TzText) (zone : TimeZone) (n : ℤ) → read_whole text ≡ Some said → IsPosixZone text zone → offset_at zone n ≡ offset_said said n
 unfolding offset_at
 zone_offset-said text said (Posix tz) n reads is = offset-said tz n ∙ ap (λ o. offset_said (unwrap_or o said) n) (sym is ∙ reads)
-zone_offset-said text said UTC n reads is = absurd is
-zone_offset-said text said Unknown n reads is = absurd is
-zone_offset-said text said (Fixed o) n reads is = absurd is
-zone_offset-said text said (Tzif z) n reads is = absurd is
+zone_offset-said text said _ n reads is = absurd is
 
 -- the civil day of a moment, by the rule
 abbrev pub day_said : TzText → ℕ → ℤ
@@ -76,10 +64,7 @@ day_said said t = int_div_euclid (pos t +ℤ offset_said said (pos t *ℤ pos 10
 pub local_day-said : (text : List ℕ) (said : TzText) (zone : TimeZone) → read_whole text ≡ Some said → IsPosixZone text zone → (t : ℕ) → local_day_of zone t ≡ day_said said t
 local_day-said text said zone reads is t = ap (λ off. int_div_euclid (pos t +ℤ off) (pos 86400)) (zone_offset-said text said zone (pos t *ℤ pos 1000000000) reads is)
 
-pub rule-fixes_days : RuleFixesDays
-rule-fixes_days text (Posix tz) other is also t =
+pub rule_fixes_days : RuleFixesDays
+rule_fixes_days text (Posix tz) other is also t =
     local_day-said text (tz_view tz) (Posix tz) is is t ∙ sym (local_day-said text (tz_view tz) other is also t)
-rule-fixes_days text UTC other is also t = absurd is
-rule-fixes_days text Unknown other is also t = absurd is
-rule-fixes_days text (Fixed o) other is also t = absurd is
-rule-fixes_days text (Tzif z) other is also t = absurd is
+rule_fixes_days text _ other is also t = absurd is

@@ -1,11 +1,8 @@
 -- The sample text, read.
-use Rattle.std.proofs.Common.{◌≡◌, ℕ, List, codes, Option, Some, None, refl, ap, sym, ◌∙◌, subst}
-use Rattle.jiff.specs.Placed.{IsPosixZone}
-use Rattle.toml.specs.Data.{Data, string, Members, no_members, member, get_member}
-use Rattle.toml.specs.Parse.{parse_document}
+use Rattle.portal_files.proofs.Common.{◌≡◌, ℕ, List, codes, Option, Some, None, refl, ap, sym, ◌∙◌, subst, IsPosixZone, Data, string, Members, no_members, member, get_member, parse_document, SettingsValue, IsVenueAt, IsSettingsFile}
 use Rattle.toml.proofs.OnLiterals.{toml_on_literals}
-use Rattle.portal_files.specs.SettingsFile.{SettingsValue, IsVenueAt, IsSettingsFile}
 use Rattle.portal_files.specs.Sample.{IsSample}
+use Rattle.portal_files.proofs.TextsAt.{same-members}
 
 abbrev pub sample_text : List ℕ
 sample_text = codes "zone = \"UTC0\"\nportal_url = \"https://wifi.example/portal\"\ndesk_token = \"desk-token\"\ngateway_token = \"gate-token\"\n"
@@ -20,9 +17,6 @@ sample_members =
 pub sample_document : parse_document sample_text ≡ Some sample_members
 unfolding toml_on_literals
 sample_document = refl
-
-same-members : {m n : Members} (o : Option Members) → o ≡ Some m → o ≡ Some n → m ≡ n
-same-members o e f = cc
 
 same-string : {o : Option Data} (t u : List ℕ) → o ≡ Some (string t) → o ≡ Some (string u) → u ≡ t
 same-string t u e f = cc

@@ -1,18 +1,12 @@
 -- The sample text is a settings file: what it says, and the zone of its rule.
-use Rattle.std.proofs.Common.{◌≡◌, ℕ, pos, List, [], ◌∷◌, codes, Some, None, refl, arith, lit≤}
+use Rattle.portal_files.proofs.Common.{◌≡◌, ℕ, pos, List, [], ◌∷◌, codes, Some, None, refl, arith, lit≤, ints, IsOffsetSeconds, read_whole, tz_view, Posix, SettingsValue, IsZoneAt, IsSettingsTable, IsSettingsFile}
+use Rattle.jiff_tz.proofs.OnLiterals.{jiff_tz_on_literals}
 use Rattle.std.specs.Str.{IsUtf8, is_utf8, chars}
 use Rattle.std.proofs.lemmas.Str.{IsUtf8-from_is_utf8}
-use Rattle.std.proofs.lemmas.Int.{ints}
 use lib.Utf8.{encode}
-use Rattle.jiff_core.specs.Timestamp.{IsOffsetSeconds}
 use Rattle.jiff_core.specs.declared.offset.Offset.{Offset}
-use Rattle.jiff_tz.proofs.OnLiterals.{jiff_tz_on_literals}
-use Rattle.jiff_tz.specs.PosixReader.{read_whole}
-use Rattle.jiff_tz.specs.PosixText.{tz_view}
 use Rattle.jiff_tz.specs.declared.abbreviation.Abbreviation.{Abbreviation}
 use Rattle.jiff_tz.specs.declared.posix.TimeZone.{TimeZone as Rule}
-use Rattle.jiff_tz.specs.declared.timezone.TimeZone.TheVariants.{Posix}
-use Rattle.portal_files.specs.SettingsFile.{SettingsValue, IsZoneAt, IsSettingsTable, IsSettingsFile}
 use Rattle.portal_files.specs.declared.fault.FileFault.{FileFault}
 use Rattle.portal_files.specs.declared.fault.FileFault.TheVariants.{Bad, Memory}
 use Rattle.portal_files.proofs.SampleText.{sample_text, sample_members, sample_document}

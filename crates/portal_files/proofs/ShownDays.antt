@@ -1,23 +1,16 @@
 -- The day that a clock shows.
-use Rattle.std.proofs.Common.{◌≡◌, ℕ, ◌<◌, ◌≤◌, ℤ, pos, negsuc, ◌+ℤ◌, ◌*ℤ◌, ◌≤ℤ◌, ◌<ℤ◌, arith, sym, ◌∙◌}
-use Rattle.std.specs.Int.{int_div_euclid}
-use Rattle.std.proofs.lemmas.Int.{ints}
-use Rattle.jiff_core.specs.Timestamp.{IsOffsetSeconds}
+use Rattle.portal_files.proofs.Common.{◌≡◌, ℕ, ◌<◌, ◌≤◌, ℤ, pos, negsuc, ◌+ℤ◌, ◌*ℤ◌, ◌≤ℤ◌, ◌<ℤ◌, arith, sym, ◌∙◌, int_div_euclid, ints, IsOffsetSeconds, epoch_day, TimeZone, UTC, Unknown, Fixed, Posix, Tzif, IsDay, local_seconds, local_day_of}
+use Rattle.jiff_tz.specs.Zone.{offset_at}
 use Rattle.jiff_core.specs.Time.{time_seconds}
 use Rattle.jiff_core.specs.declared.civil.time.Time.{Time}
 use Rattle.jiff_core.specs.declared.civil.datetime.DateTime.{DateTime}
 use Rattle.jiff_core.specs.DateTime.{civil_nanos, civil_seconds}
-use Rattle.jiff.specs.Words.{epoch_day, nanos_of_seconds}
+use Rattle.jiff.specs.Words.{nanos_of_seconds}
 use Rattle.jiff.proofs.Family.{civil_nanos-civil_seconds}
-use Rattle.jiff_tz.specs.Zone.{offset_at}
 use Rattle.jiff_tz.specs.PosixRule as PosixRule
 use Rattle.jiff_tz.specs.Tzif as Table
-use Rattle.jiff_tz.specs.declared.timezone.TimeZone.{TimeZone}
-use Rattle.jiff_tz.specs.declared.timezone.TimeZone.TheVariants.{UTC, Unknown, Fixed, Posix, Tzif}
-use Rattle.portal_days.specs.Span.{IsDay}
-use Rattle.portal_files.specs.LocalDay.{local_seconds, local_day_of}
 
-offset-within : (zone : TimeZone) (n : ℤ) → IsOffsetSeconds (offset_at zone n)
+pub offset-within : (zone : TimeZone) (n : ℤ) → IsOffsetSeconds (offset_at zone n)
 unfolding offset_at
 offset-within UTC n = omega (arith, ints)
 offset-within Unknown n = omega (arith, ints)

@@ -1,49 +1,19 @@
 -- What was read of a table, and the plan that it is.
-use Rattle.std.proofs.Common.{◌≡◌, ℕ, Bool, ℤ, pos, List, [], ◌∷◌, length, codes, Option, Some, None, Result, Ok, Err, IfOk, refl, ap, sym, ◌∙◌, arith, subst}
-use Rattle.std.specs.Prelude.{option_and_then, String, IfSome, IfErr}
+use Rattle.portal_files.proofs.Common.{◌≡◌, ℕ, Bool, pos, List, [], ◌∷◌, length, codes, Option, Some, None, Result, Ok, Err, IfOk, refl, ap, sym, ◌∙◌, arith, subst, option_and_then, String, IfSome, IfErr, Plan, IsIdText, AreTerms, IsPlanOf, IsPlanTable, member_count, Data, string, integer, boolean, Members, get_member, as_bool, as_str, members_view, Value}
 use Rattle.std.specs.Result.{result_ok}
 use Rattle.std.specs.declared.alloc.Global.{Global}
-use Rattle.portal_model.specs.declared.plan.Plan.{Plan}
-use Rattle.portal_model.specs.IdText.{IsIdText}
-use Rattle.portal_model.specs.Terms.{AreTerms, IsPlanOf}
-use Rattle.portal_files.specs.PlansFile.{IsPlanTable, member_count}
-use Rattle.toml.specs.Data.{Data, string, integer, float, boolean, datetime, array, table, Members, get_member, as_integer, as_bool, as_str}
-use Rattle.toml.specs.View.{members_view}
-use Rattle.toml.specs.declared.value.Value.{Value}
 
 pub member_count-view : (es : List (String Global × Value)) → member_count (members_view es) ≡ length es
 member_count-view [] = refl
 member_count-view (e ∷ es) = omega (arith, member_count-view es)
 
-integer-is : (o : Option Data) (z : ℤ) → Some z ≡ option_and_then as_integer o → o ≡ Some (integer z)
-integer-is None z e = cc
-integer-is (Some (string s)) z e = cc
-integer-is (Some (integer y)) z e = cc
-integer-is (Some (float x)) z e = cc
-integer-is (Some (boolean b)) z e = cc
-integer-is (Some (datetime dt)) z e = cc
-integer-is (Some (array ds)) z e = cc
-integer-is (Some (table ms)) z e = cc
-
 bool-is : (o : Option Data) (z : Bool) → Some z ≡ option_and_then as_bool o → o ≡ Some (boolean z)
-bool-is None z e = cc
-bool-is (Some (string s)) z e = cc
-bool-is (Some (integer y)) z e = cc
-bool-is (Some (float x)) z e = cc
 bool-is (Some (boolean b)) z e = cc
-bool-is (Some (datetime dt)) z e = cc
-bool-is (Some (array ds)) z e = cc
-bool-is (Some (table ms)) z e = cc
+bool-is _ z e = cc
 
 pub string-is : (o : Option Data) (z : List ℕ) → Some z ≡ option_and_then as_str o → o ≡ Some (string z)
-string-is None z e = cc
 string-is (Some (string s)) z e = cc
-string-is (Some (integer y)) z e = cc
-string-is (Some (float x)) z e = cc
-string-is (Some (boolean b)) z e = cc
-string-is (Some (datetime dt)) z e = cc
-string-is (Some (array ds)) z e = cc
-string-is (Some (table ms)) z e = cc
+string-is _ z e = cc
 
 -- what was read under each key
 pub record WasRead (ms : Members) (id : List ℕ) (price uses seconds bytes shelf_days : ℕ) (extend : Bool) : Type 0 where

@@ -1,24 +1,14 @@
 -- Worked takings, by computing them from what the rules of the zones say.
-use Rattle.std.proofs.Common.{◌≡◌, ℕ, ◌+◌, ◌-◌, ◌%◌, ℤ, pos, ◌+ℤ◌, ◌-ℤ◌, ◌*ℤ◌, List, [], ◌∷◌, codes, Some, None, refl, sym, ap, ◌∙◌, lit≤, rules}
-use Rattle.std.specs.Prelude.{length, filter, if◌then◌else◌, ◌&&◌, ◌||◌, int_lt}
-use Rattle.std.specs.Int.{int_div_euclid}
-use Rattle.std.specs.Ordering.{int_eq}
+use Rattle.portal_files.proofs.Common.{◌≡◌, ℕ, ◌+◌, ◌-◌, ◌%◌, ℤ, pos, ◌+ℤ◌, ◌-ℤ◌, ◌*ℤ◌, List, [], ◌∷◌, codes, Some, None, refl, sym, ap, ◌∙◌, lit≤, rules, length, filter, if◌then◌else◌, ◌&&◌, ◌||◌, int_lt, int_div_euclid, int_eq, Date, read_whole, TzText, DstText, DayTakings, Payment, payment, local_day_of, sum_of, TakingsLocalDay, TakingsRefundDay}
+use Rattle.jiff_tz.proofs.OnLiterals.{jiff_tz_on_literals}
 use Rattle.jiff_core.specs.Calendar.{day_count, days_from_civil, weekday_number}
 use Rattle.jiff_core.specs.Timestamp.{nanos_of_seconds}
-use Rattle.jiff_core.specs.declared.civil.date.Date.{Date}
 use Rattle.jiff_core.proofs.CalendarLemmas.{day_count-epoch}
 use Rattle.jiff_core.proofs.MarchLemmas.{day_count-early, day_count-late}
-use Rattle.jiff_tz.proofs.OnLiterals.{jiff_tz_on_literals}
 use Rattle.jiff_tz.proofs.YearLemmas.{year_of_day-date}
-use Rattle.jiff_tz.specs.PosixReader.{read_whole}
 use Rattle.jiff_tz.specs.PosixRule as rule
-use Rattle.jiff_tz.specs.PosixText.{TzText, DstText}
 use Rattle.jiff_tz.specs.Year.{year_of_day}
 use Rattle.jiff_tz.specs.declared.posix.Day.TheVariants.{WeekdayOfMonth}
-use Rattle.portal_days.specs.declared.takings.DayTakings.{DayTakings}
-use Rattle.portal_model.specs.Payments.{Payment, payment}
-use Rattle.portal_files.specs.LocalDay.{local_day_of}
-use Rattle.portal_files.specs.Takings.{sum_of, TakingsLocalDay, TakingsRefundDay}
 use Rattle.portal_files.proofs.Rules.{window_said, day_said, local_day-said}
 
 -- an hour ahead of UTC, and two from the last Sunday of March to that of October
@@ -83,9 +73,7 @@ summer : window_said summer_time (pos 2020) (pos 3600) ≡ (pos 1585443600000000
 unfolding weekday_number
 summer =
     summer-by_days
-    ∙ ap (λ d. summer_from d (days_from_civil (pos 2020) 3 31) (days_from_civil (pos 2020) 10 31)) first-day
-    ∙ ap (λ d. summer_from (pos 18262) d (days_from_civil (pos 2020) 10 31)) end-of_march
-    ∙ ap (λ d. summer_from (pos 18262) (pos 18352) d) end-of_october
+    ∙ (λ i. summer_from (first-day i) (end-of_march i) (end-of_october i))
 
 -- the day at that moment, by the window of daylight saving time
 abbrev day_by : ℤ × ℤ → ℤ
@@ -111,18 +99,18 @@ takings_by day sold sales refunded refunds = record {
   refunds = sum_of (filter (λ p. int_eq refunded day) refunds);
 }
 
-pub takings-local_day : TakingsLocalDay
-takings-local_day zone is =
+pub takings_local_day : TakingsLocalDay
+takings_local_day zone is =
     let day : local_day_of zone 1583105400 ≡ pos 18323 = local_day-said (codes "CET-1CEST,M3.5.0,M10.5.0/3") cet zone cet-reads is 1583105400 ∙ cet-day in
     let sale : List Payment = payment 1583105400 300 ∷ [] in
     (ap (λ d. takings_by (pos 18322) d sale d []) day, ap (λ d. takings_by (pos 18323) d sale d []) day)
 
-pub takings-refund_day : TakingsRefundDay
-takings-refund_day zone is =
+pub takings_refund_day : TakingsRefundDay
+takings_refund_day zone is =
     let sold : local_day_of zone 1000 ≡ pos 0 = local_day-said (codes "UTC0") utc zone utc-reads is 1000 in
     let refunded : local_day_of zone 86400 ≡ pos 1 = local_day-said (codes "UTC0") utc zone utc-reads is 86400 in
     let sale : List Payment = payment 1000 500 ∷ [] in
     let refund : List Payment = payment 86400 333 ∷ [] in (
-      ap (λ d. takings_by (pos 0) d sale (local_day_of zone 86400) refund) sold ∙ ap (λ d. takings_by (pos 0) (pos 0) sale d refund) refunded,
-      ap (λ d. takings_by (pos 1) d sale (local_day_of zone 86400) refund) sold ∙ ap (λ d. takings_by (pos 1) (pos 0) sale d refund) refunded,
+      (λ i. takings_by (pos 0) (sold i) sale (refunded i) refund),
+      (λ i. takings_by (pos 1) (sold i) sale (refunded i) refund),
     )

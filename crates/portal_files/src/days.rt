@@ -1,3 +1,5 @@
+//! Civil days and times of a zone, and the texts of days.
+
 ghost use Rattle.std.specs.Prelude.{◌≡◌, ◌≤◌, ℕ, ℤ, pos, ◌*ℤ◌, length, IsOk, IfOk, IfSome, None, string_bytes};
 ghost use Rattle.jiff.specs.Words.{civil_seconds};
 ghost use Rattle.jiff_core.specs.declared.civil.date.Date.{Date as PlainDate};

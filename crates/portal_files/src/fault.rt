@@ -1,3 +1,5 @@
+//! Why a file was not read.
+
 ghost use Rattle.std.specs.Prelude.{◌≡◌};
 ghost use Rattle.portal_files.specs.declared.fault.FileFault.TheVariants.{Memory};
 

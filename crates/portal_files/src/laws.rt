@@ -1,3 +1,5 @@
+//! Laws of the files: what a file fixes, and how takings are added up. Each contract is a law.
+
 ghost use Rattle.portal_files.specs.Laws.{FixesPlans, FixesSettings, NamesDays};
 ghost use Rattle.portal_files.specs.Takings.{RuleFixesDays, TakingsAreAdded, TakingsLocalDay, TakingsRefundDay};
 
@@ -17,16 +19,20 @@ pub fn text_names_day()
 {}
 
 /// Two zones of one rule have the same civil days.
+#[tactic(auto, using(crate::proofs::Rules::rule_fixes_days))]
 pub fn rule_fixes_days()
     ensures { RuleFixesDays }
 {}
 
-/// The takings of a day are added up from the sales and the refunds with their days, whatever the order of these.
+/// The takings of a day are added up from the sales and the refunds with their days, whatever the order
+/// of these.
+#[tactic(auto, using(crate::proofs::Added::takings_added))]
 pub fn takings_are_added()
     ensures { TakingsAreAdded }
 {}
 
-/// Worked takings: a sale before midnight in UTC that is one after midnight in the settings' zone, and a refund on the day after its sale.
+/// Worked takings: a sale before midnight in UTC that is one after midnight in the settings' zone, and a
+/// refund on the day after its sale.
 pub fn worked_takings()
     ensures takings_local_day { TakingsLocalDay }
     ensures takings_refund_day { TakingsRefundDay }

@@ -1,5 +1,5 @@
-//! What an operator writes by hand and what the counter prints: plans and settings from TOML, civil
-//! days, print files and takings reports.
+//! What an operator writes by hand: plans and settings from TOML. Also the civil days of the settings'
+//! zone, and what the print file of a batch shows.
 #![tactic(auto)]
 
 mod days;

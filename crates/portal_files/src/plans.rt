@@ -1,3 +1,5 @@
+//! The plans of a plans file.
+
 ghost use Rattle.std.specs.Prelude.{◌≡◌, List, IfSome, IfOk, IfErr, None, bytes_eq, codes};
 ghost use Rattle.std.specs.List.{list_any};
 ghost use Rattle.toml.specs.Data.{array, Items, member, no_members};
@@ -39,24 +41,20 @@ fn read_member(value: &Value) -> Option<Plan>
     ensures some { IfSome result (IsPlanData (view value.now)) }
     ensures none { result ≡ None → (p : Plan) → IsPlanData (view value.now) p → ⊥ }
 {
-    match value.as_table() {
-        Some(table) => read_plan(table),
-        None => None,
-    }
+    read_plan(value.as_table()?)
 }
 
 /// The array under `plan`, where the table has no other key.
 fn plan_values(table: &Table) -> Option<&Array>
-    ensures some { IfSome result (λ a. table_view table.now ≡ member (codes "plan") (array (array_view a.now)) no_members) }
-    ensures none { result ≡ None → (items : Items) → table_view table.now ≡ member (codes "plan") (array items) no_members → ⊥ }
+    ensures some { IfSome result
+        (λ a. table_view table.now ≡ member (codes "plan") (array (array_view a.now)) no_members) }
+    ensures none { result ≡ None → (items : Items)
+        → table_view table.now ≡ member (codes "plan") (array items) no_members → ⊥ }
 {
     if table.len() != 1 {
         return None;
     }
-    match table.get("plan") {
-        Some(value) => value.as_array(),
-        None => None,
-    }
+    table.get("plan")?.as_array()
 }
 
 /// Whether one of the plans has the id.
@@ -83,7 +81,8 @@ fn has_repeated_id(plans: &[Plan]) -> bool
 /// The plans of the values, in order.
 fn read_members(alloc: Global, values: &[Value]) -> Result<Plans, FileFault>
     ensures ok { IfOk result (λ plans. ArePlanTables (items_view values.now) plans) }
-    ensures bad { IfErr result (λ e. e ≡ FileFault.Bad → (plans : List Plan) → ArePlanTables (items_view values.now) plans → ⊥) }
+    ensures bad { IfErr result (λ e. e ≡ FileFault.Bad
+        → (plans : List Plan) → ArePlanTables (items_view values.now) plans → ⊥) }
 {
     let mut plans = Plans::new(alloc);
     for value in values {
@@ -100,7 +99,8 @@ fn read_members(alloc: Global, values: &[Value]) -> Result<Plans, FileFault>
 /// id twice. Any other bytes are `FileFault::Bad`.
 pub fn read_plans(alloc: Global, bytes: &[u8]) -> Result<Plans, FileFault>
     ensures ok { IfOk result (IsPlansFile bytes.now) }
-    ensures bad { IfErr result (λ e. e ≡ FileFault.Bad → (plans : List Plan) → IsPlansFile bytes.now plans → ⊥) }
+    ensures bad { IfErr result (λ e. e ≡ FileFault.Bad
+        → (plans : List Plan) → IsPlansFile bytes.now plans → ⊥) }
 {
     let table = read_document(alloc, bytes)?;
     let Some(array) = plan_values(&table) else {

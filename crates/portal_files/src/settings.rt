@@ -1,3 +1,5 @@
+//! The settings of a desk.
+
 ghost use Rattle.std.specs.Prelude.{◌≡◌, option_map};
 ghost use Rattle.jiff.specs.ZoneView.{plain_zone};
 
@@ -22,7 +24,13 @@ impl Model for Settings {
 
     ghost Value = { SettingsValue };
 
-    ghost view = { λ s. record { zone = plain_zone s.zone; portal_url = string_bytes s.portal_url; venue_url = option_map string_bytes s.venue_url; desk_token = string_bytes s.desk_token; gateway_token = string_bytes s.gateway_token } };
+    ghost view = { λ s. record {
+      zone = plain_zone s.zone;
+      portal_url = string_bytes s.portal_url;
+      venue_url = option_map string_bytes s.venue_url;
+      desk_token = string_bytes s.desk_token;
+      gateway_token = string_bytes s.gateway_token;
+    } };
 }
 
 impl Settings {
@@ -44,10 +52,7 @@ impl Settings {
     pub fn venue_url(&self) -> Option<&str>
         ensures { option_map (λ url. url.now) result ≡ self.now.venue_url }
     {
-        match &self.venue_url {
-            Some(url) => Some(url.as_str()),
-            None => None,
-        }
+        self.venue_url.as_ref().map(|url| url.as_str())
     }
 
     /// The token that the counter's requests carry.

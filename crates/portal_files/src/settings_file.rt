@@ -1,3 +1,5 @@
+//! The settings of a settings file.
+
 ghost use Rattle.std.specs.Prelude.{◌≡◌, ℕ, ◌≤◌, List, Option, IfSome, IfOk, IfErr, None, option_map, bytes_eq, codes, take, string_bytes, length};
 ghost use Rattle.std.specs.List.{list_all};
 ghost use Rattle.jiff.specs.ZoneView.{plain_zone};
@@ -17,8 +19,8 @@ use std::alloc::{AllocError, Global};
 use toml::Table;
 
 /// The text of the sample settings.
-const SAMPLE: &str =
-    "zone = \"UTC0\"\nportal_url = \"https://wifi.example/portal\"\ndesk_token = \"desk-token\"\ngateway_token = \"gate-token\"\n";
+const SAMPLE: &str = "zone = \"UTC0\"\nportal_url = \"https://wifi.example/portal\"\n\
+    desk_token = \"desk-token\"\ngateway_token = \"gate-token\"\n";
 
 fn is_visible(b: u8) -> bool
     ensures { result ≡ is_visible b }
@@ -97,10 +99,7 @@ fn zone_at(table: &Table) -> Option<TimeZone<'static>>
     ensures none { result ≡ None → (zone : PlainZone) → IsZoneAt (table_view table.now) zone → ⊥ }
 {
     let text = string_at(table, "zone")?;
-    if text.len() == 0 {
-        return None;
-    }
-    if text.len() > 64 {
+    if text.is_empty() || text.len() > 64 {
         return None;
     }
     TimeZone::posix(text).ok()
@@ -185,14 +184,12 @@ fn owned(alloc: Global, texts: Texts<'_>) -> Result<Settings, AllocError>
 /// differ. Any other bytes are `FileFault::Bad`.
 pub fn read_settings(alloc: Global, bytes: &[u8]) -> Result<Settings, FileFault>
     ensures ok { IfOk result (IsSettingsFile bytes.now) }
-    ensures bad { IfErr result (λ e. e ≡ FileFault.Bad → (s : SettingsValue) → IsSettingsFile bytes.now s → ⊥) }
+    ensures bad { IfErr result (λ e. e ≡ FileFault.Bad
+        → (s : SettingsValue) → IsSettingsFile bytes.now s → ⊥) }
 {
     let table = read_document(alloc, bytes)?;
-    let Some(texts) = texts_of(&table) else {
-        return Err(FileFault::Bad);
-    };
-    let settings = owned(alloc, texts)?;
-    Ok(settings)
+    let texts = texts_of(&table).ok_or(FileFault::Bad)?;
+    Ok(owned(alloc, texts)?)
 }
 
 /// The sample settings: zone `UTC0`, portal `https://wifi.example/portal`, tokens `desk-token` and

@@ -1,3 +1,5 @@
+//! What the print file of a batch shows.
+
 use portal_model::lists::Codes;
 use portal_model::plan::Plan;
 use portal_model::record::Batch;

@@ -1,62 +1,46 @@
 -- What the parser's spans say of a decided reply.
-use Rattle.std.proofs.Common.{◌≡◌, ℕ, ◌+◌, ◌-◌, ◌<◌, ◌≤◌, ◌⊎◌, List, [], ◌++◌, length, take, drop, Result, Ok, Err, sym, ap, ◌∙◌, subst, inl, inr, arith, append-nil, None}
-use Rattle.std.proofs.lemmas.Bool.Decides.{leb_tells}
-use Rattle.std.proofs.lemmas.List.{take_all, take-append-le, take-append-drop, length-drop, length-append}
-use Rattle.std.proofs.Math.Seq.{take-append-add, take-append_seam}
-use Rattle.httparse.specs.Grammar.{RequestHead, ReadsRequest, NeverHasRequest, MayBecomeRequest, EndsInTarget, print_request}
-use Rattle.httparse.proofs.GrammarLemmas.{request_unique, ReadsRequest-append}
-use Rattle.portal_head.specs.Limits.{head_limit, body_limit}
-use Rattle.portal_head.specs.declared.faults.HeadFault.{HeadFault}
-use Rattle.portal_head.specs.Message.{HeadOf, BeginsWith, length_of, bytes_after}
-use Rattle.portal_head.specs.Lines.{HasManyLines}
+use Rattle.portal_head.proofs.Common.{◌≡◌, ℕ, ◌+◌, ◌-◌, ◌<◌, ◌≤◌, ◌⊎◌, List, [], ◌++◌, length, take, drop, Bool, true, false, leb, Result, Ok, Err, refl, sym, ap, ◌∙◌, subst, inl, inr, arith, append-nil, Some, None, ◌↔◌, IfOk, IsTrue, MatchBool, false≢true, leb_tells, take_all, take-append-le, take-append-drop, length-drop, take-append-add, take-append_seam, RequestHead, ReadsRequest, NeverHasRequest, MayBecomeRequest, EndsInTarget, request_unique, ReadsRequest-append, head_limit, body_limit, HeadFault, HeadOf, BeginsWith, length_of, bytes_after, HasManyLines, Head, IsHeadAt, IsSettled, IsDecided, IsDecidedByHead, IsDecidedWithout, IsPastHead, IsOpen}
+use Rattle.httparse.specs.Grammar.{print_request}
 use Rattle.portal_head.proofs.LineFeedLemmas.{too_late}
-use Rattle.portal_head.specs.Steps.{HasNoHead, IsDecidedAt}
-use Rattle.portal_head.specs.Decided.{IsSettled, IsDecided, IsDecidedByHead, IsDecidedWithout, IsPastHead, IsOpen}
+use Rattle.portal_head.specs.Laws.{HasOneHead}
 
 -- ---- with no whole head
 
--- few bytes are their own front
-own_front : (bytes front : List ℕ) → front ≡ take head_limit bytes → length bytes < head_limit → front ≡ bytes
-own_front bytes front e short = e ∙ take_all head_limit bytes (omega arith)
-
-no_head : (bytes front : List ℕ) → front ≡ take head_limit bytes → HasNoHead front → HasNoHead (take head_limit bytes)
-no_head bytes front e none = subst HasNoHead e none
-
-pub not_by_head : (bytes front : List ℕ) → front ≡ take head_limit bytes → HasNoHead front → IsDecidedByHead bytes → ⊥
-not_by_head bytes front e none d = no_head bytes front e none d.0 d.1
-
--- a head that is not whole by now comes too late
-pub past : (bytes front : List ℕ) → front ≡ take head_limit bytes → HasNoHead front → IsPastHead bytes → IsDecided bytes
-past bytes front e none late = inr (no_head bytes front e none, inl late)
+pub not_by_head : (bytes : List ℕ) → HeadOf bytes None → IsDecidedByHead bytes → ⊥
+not_by_head bytes none d = none d.0 d.1
 
 -- no head can come
-pub hopeless : (bytes front : List ℕ) → front ≡ take head_limit bytes → HasNoHead front
-    → HasManyLines front ⊎ NeverHasRequest front → IsDecided bytes
-hopeless bytes front e none why =
+pub hopeless : (bytes : List ℕ) → HeadOf bytes None → HasManyLines (take head_limit bytes) ⊎ NeverHasRequest (take head_limit bytes) → IsDecided bytes
+hopeless bytes none why =
     elim (leb_tells head_limit (length bytes)) [
-      | inl p ↦ past bytes front e none (inl p.1)
+      | inl p ↦ inr (none, inl (inl p.1))
       | inr q ↦
-          let own : front ≡ bytes = own_front bytes front e q.1 in
+          let own : take head_limit bytes ≡ bytes = take_all head_limit bytes (omega arith) in
           elim why [
-            | inl many ↦ past bytes front e none (inr (subst HasManyLines own many))
-            | inr never ↦ inr (no_head bytes front e none, inr (subst NeverHasRequest own never))
+            | inl many ↦ inr (none, inl (inr (subst HasManyLines own many)))
+            | inr never ↦ inr (none, inr (subst NeverHasRequest own never))
           ]
     ]
 
 -- a head may come
-pub still_open : (bytes front : List ℕ) → front ≡ take head_limit bytes → HasNoHead front → MayBecomeRequest front
-    → (IsPastHead bytes → ⊥) → IsOpen bytes × (length bytes < head_limit)
-still_open bytes front e none may early =
+still_open : (bytes : List ℕ) → HeadOf bytes None → MayBecomeRequest (take head_limit bytes) → (IsPastHead bytes → ⊥) → IsOpen bytes
+still_open bytes none may early =
     let few : length bytes < head_limit = elim (leb_tells head_limit (length bytes)) [ inl p ↦ absurd (early (inl p.1)) | inr q ↦ q.1 ] in
-    let own : front ≡ bytes = own_front bytes front e few in
+    let own : take head_limit bytes ≡ bytes = take_all head_limit bytes (omega arith) in
     let open_yet : (IsDecided bytes → ⊥) ⊎ EndsInTarget bytes = elim (subst MayBecomeRequest own may) [
       | inl some ↦ inl (λ d. elim d [
-        | inl by ↦ not_by_head bytes front e none by
+        | inl by ↦ not_by_head bytes none by
         | inr without ↦ elim without.1 [ inl late ↦ early late | inr never ↦ never some.0 some.1 [] some.2 ]
       ])
       | inr target ↦ inr target
     ] in
-    (record { not_by_head = not_by_head bytes front e none; undecided = open_yet; short = omega arith }, few)
+    record { not_by_head = not_by_head bytes none; undecided = open_yet; short = omega arith }
+
+-- whether it comes too late decides
+pub decided_when_past : (bytes : List ℕ) (late : Bool) → HeadOf bytes None → MayBecomeRequest (take head_limit bytes)
+    → (IsTrue late ↔ IsPastHead bytes) → MatchBool late (IsDecided bytes) (IsOpen bytes)
+decided_when_past bytes true none may tells = inr (none, inl (tells.0 refl))
+decided_when_past bytes false none may tells = still_open bytes none may (λ late. false≢true (tells.1 late))
 
 -- ---- with a whole head
 
@@ -83,8 +67,14 @@ stays bytes more head begins =
     )
 
 -- there is one head
-pub one_head : (bytes : List ℕ) (head other : RequestHead) → BeginsWith bytes head → BeginsWith bytes other → head ≡ other
+one_head : (bytes : List ℕ) (head other : RequestHead) → BeginsWith bytes head → BeginsWith bytes other → head ≡ other
 one_head bytes head other x y = (request_unique bytes head other x.0 y.0 x.1 y.1).0
+
+pub heads_once : HasOneHead
+heads_once bytes None None x y = refl
+heads_once bytes None (Some other) x y = absurd (x other y)
+heads_once bytes (Some head) None x y = absurd (y head x)
+heads_once bytes (Some head) (Some other) x y = ap Some (one_head (take head_limit bytes) head other x y)
 
 -- the length that a head declares, where it is a number
 declared_settles : (head : RequestHead) (bytes : List ℕ) (start declared : ℕ) → start ≡ length (print_request head)
@@ -95,13 +85,13 @@ declared_settles head bytes start declared at sized =
     ∙ ap (λ (n : ℕ). declared ≤ length (drop n bytes)) (sym at)
 
 -- by a head whose fields are refused
-pub refused : (bytes : List ℕ) (head : RequestHead) (fault : HeadFault) → BeginsWith (take head_limit bytes) head
-    → length_of head ≡ Err fault → IsDecided bytes
-refused bytes head fault begins wrong =
-    inl (head, begins, subst (λ (l : Result ℕ HeadFault). IsSettled l (length (bytes_after head bytes))) (sym wrong) tt)
+pub refused : (bytes : List ℕ) (at : Head) (head : RequestHead) (fault : HeadFault) → IsHeadAt bytes at head → at.declared ≡ Err fault → IsDecided bytes
+refused bytes at head fault is fails =
+    let wrong : length_of head ≡ Err fault = sym is.declared ∙ fails in
+    inl (head, is.begins, subst (λ (l : Result ℕ HeadFault). IsSettled l (length (bytes_after head bytes))) (sym wrong) tt)
 
 -- by a head whose whole body is there
-pub whole_body : (bytes : List ℕ) (head : RequestHead) (start declared : ℕ) → BeginsWith (take head_limit bytes) head
+whole_body : (bytes : List ℕ) (head : RequestHead) (start declared : ℕ) → BeginsWith (take head_limit bytes) head
     → start ≡ length (print_request head) → length_of head ≡ Ok declared → declared ≤ length (drop start bytes) → IsDecided bytes
 whole_body bytes head start declared begins at sized enough =
     inl (head, begins, subst (λ (P : Type 0). P) (sym (declared_settles head bytes start declared at sized)) enough)
@@ -126,19 +116,22 @@ open_at bytes head start declared begins at within sized small few =
       short = omega (arith, length-drop start bytes);
     }
 
--- and how much of it
-pub waits : (bytes : List ℕ) (head : RequestHead) (start declared : ℕ) → BeginsWith (take head_limit bytes) head
-    → start ≡ length (print_request head) → start ≤ head_limit → start ≤ length bytes
-    → length_of head ≡ Ok declared → declared ≤ body_limit → length (drop start bytes) < declared
-    → IsOpen bytes × (length bytes < start + declared) × IsDecidedAt bytes (start + declared)
-waits bytes head start declared begins at within there sized small few =
-    let total : IsDecidedAt bytes (start + declared) = λ more.
-    let grown = stays bytes more head begins in (
-      λ enough. whole_body (bytes ++ more) head start declared grown at sized (omega (arith, length-drop start (bytes ++ more))),
-      λ fewer. open_at (bytes ++ more) head start declared grown at within sized small
-          (omega (arith, length-drop start (bytes ++ more), length-append bytes more)),
-    ) in
-    (open_at bytes head start declared begins at within sized small few, omega (arith, length-drop start bytes), total)
+-- whether the declared body is there decides
+pub decided_when_there : (bytes : List ℕ) (at : Head) (head : RequestHead) (declared : ℕ) → IsHeadAt bytes at head → at.declared ≡ Ok declared
+    → MatchBool (leb (at.spans.len + declared) (length bytes)) (IsDecided bytes) (IsOpen bytes)
+decided_when_there bytes at head declared is sized =
+    let length_is : length_of head ≡ Ok declared = sym is.declared ∙ sized in
+    let small : declared ≤ body_limit = subst (λ (r : Result ℕ HeadFault). IfOk r (λ length. length ≤ body_limit)) sized is.small in
+    let after = length-drop at.spans.len bytes in
+    elim (leb_tells (at.spans.len + declared) (length bytes)) [
+      | inl p ↦
+          subst (λ (b : Bool). MatchBool b (IsDecided bytes) (IsOpen bytes)) (sym p.0)
+          (whole_body bytes head at.spans.len declared is.begins is.is_at.len length_is (omega (arith, p.1, after)))
+      | inr q ↦
+          subst (λ (b : Bool). MatchBool b (IsDecided bytes) (IsOpen bytes)) (sym q.0)
+          (open_at bytes head at.spans.len declared is.begins is.is_at.len is.early length_is small
+          (omega (arith, q.1, after, is.within.section.len_fits)))
+    ]
 
 -- ---- bytes that follow
 

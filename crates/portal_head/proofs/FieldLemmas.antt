@@ -1,13 +1,9 @@
 -- The values of a name, field by field.
-use Rattle.std.proofs.Common.{◌≡◌, ℕ, ◌+◌, ◌<◌, ◌≤◌, Bool, true, false, cond, List, [], ◌∷◌, ◌++◌, length, get_or, drop, map, refl, sym, ap, ◌∙◌, append_assoc, append-nil, subst, filter}
-use Rattle.std.proofs.lemmas.List.{at_drop_more, at_drop_all}
+use Rattle.portal_head.proofs.Common.{◌≡◌, ℕ, ◌+◌, ◌<◌, ◌≤◌, Bool, true, false, cond, List, [], ◌∷◌, ◌++◌, length, get_or, drop, map, refl, sym, ap, ◌∙◌, append_assoc, append-nil, subst, filter, at_drop_more, at_drop_all, HeaderSpan, span_bytes, header_bytes, IsOccurrence}
 use Rattle.std.specs.Borrow.{Bor}
-use Rattle.httparse.specs.declared.spans.HeaderSpan.{HeaderSpan}
-use Rattle.httparse.specs.Spans.{span_bytes, header_bytes}
 use Rattle.portal_head.specs.declared.fields.Occurrence.{Occurrence}
 use Rattle.portal_head.specs.declared.fields.Occurrence.TheVariants.{Absent, Once, Repeated}
 use Rattle.portal_head.specs.Fields.{is_same_name, values_of}
-use Rattle.portal_head.specs.Steps.{IsOccurrence}
 
 -- a span of nothing, where a list has no field
 abbrev pub no_field : HeaderSpan

@@ -1,3 +1,4 @@
+pub mod Common
 pub mod FieldLemmas
 pub mod RequestLemmas
 pub mod LineLemmas

@@ -1,17 +1,8 @@
 -- A head with too many fields has many lines.
-use Rattle.std.proofs.Common.{◌≡◌, ◌⊎◌, ℕ, ◌+◌, ◌≤◌, Bool, true, false, cond, ◌||◌, ◌==◌, List, [], ◌∷◌, ◌++◌, length, refl, sym, ap, ◌∙◌, subst, inl, inr, arith, lit≤, append-nil, append_assoc, suc, All, codes, drop, take}
-use Rattle.std.proofs.lemmas.Bool.{false≢true}
-use Rattle.std.specs.Prelude.{count_by}
-use Rattle.std.specs.List.{flat_map}
-use Rattle.std.proofs.lemmas.Bool.Decides.{eqb_tells, leb_tells}
-use Rattle.std.proofs.lemmas.List.{length-append, take-append-le, take-append-drop}
-use Rattle.std.proofs.Math.Seq.{take-append_seam}
+use Rattle.portal_head.proofs.Common.{◌≡◌, ◌⊎◌, ℕ, ◌+◌, ◌≤◌, Bool, true, false, cond, ◌||◌, ◌==◌, List, [], ◌∷◌, ◌++◌, length, refl, sym, ap, ◌∙◌, subst, inl, inr, arith, lit≤, append-nil, append_assoc, suc, All, codes, drop, take, false≢true, count_by, flat_map, eqb_tells, leb_tells, length-append, take-append-le, take-append-drop, take-append_seam, LineEnd, crlf, lf, print_end, print_blank, print_version, Field, print_field, print_section, IsToken, is_uri_byte, is_value_byte, IsField, RequestHead, IsRequestHead, ReadsRequest, RequestExceeds, print_request-append, field_limit, HasManyLines}
 use Rattle.std.proofs.lemmas.List.Sums.{sum_by-append}
-use Rattle.httparse.specs.Grammar.{LineEnd, crlf, lf, print_end, print_blank, print_version, Field, print_field, print_section, IsToken, is_token_byte, is_uri_byte, is_value_byte, IsField, RequestHead, IsRequestHead, ReadsRequest, print_request}
-use Rattle.httparse.specs.Spans.{RequestExceeds}
-use Rattle.httparse.proofs.GrammarLemmas.{print_request-append}
-use Rattle.portal_head.specs.Limits.{field_limit}
-use Rattle.portal_head.specs.Lines.{from_start, HasManyLines}
+use Rattle.httparse.specs.Grammar.{is_token_byte, print_request}
+use Rattle.portal_head.specs.Lines.{from_start}
 
 -- the number of line feeds
 abbrev feeds : List ℕ → ℕ

@@ -1,6 +1,5 @@
 -- Line ends, byte by byte.
-use Rattle.std.proofs.Common.{◌≡◌, ℕ, ◌+◌, ◌<◌, ◌≤◌, cond, ◌||◌, ◌==◌, List, [], ◌∷◌, length, get_or, drop, refl, ◌∙◌}
-use Rattle.std.proofs.lemmas.List.{at_drop_more, at_drop_all}
+use Rattle.portal_head.proofs.Common.{◌≡◌, ℕ, ◌+◌, ◌<◌, ◌≤◌, cond, ◌||◌, ◌==◌, List, [], ◌∷◌, length, get_or, drop, refl, ◌∙◌, at_drop_more, at_drop_all}
 use Rattle.portal_head.specs.Lines.{from_start}
 
 start_step : (x : ℕ) (rest : List ℕ) → from_start (x ∷ rest) ≡ cond (x == 13 || x == 10) (from_start rest) (x ∷ rest)

@@ -1,38 +1,12 @@
 -- What pieces read one after the other make.
-use Rattle.std.proofs.Common.{◌≡◌, ◌≢◌, ℕ, ◌+◌, ◌<◌, ◌≤◌, Ok, Err, List, [], ◌∷◌, ◌++◌, length, Option, refl, sym, ap, ◌∙◌, subst, inl, inr, arith, lit≤, append_assoc, append-nil, codes, rules}
-use Rattle.std.proofs.lemmas.List.{length-append}
+use Rattle.portal_head.proofs.Common.{◌≡◌, ℕ, ◌+◌, ◌≤◌, Ok, Err, List, [], ◌∷◌, ◌++◌, length, Option, refl, sym, ap, ◌∙◌, subst, inl, inr, arith, lit≤, append-nil, codes, rules, length-append, Consumes, lf, RequestHead, IsRequestHead, NeverHasRequest, print_blank, print_version, print_end, print_section, print_request-append, IsDecidedByHead, IsOpen, IsOpenBefore, ReadsRequestBytes, BreaksOff, Receives}
 use Rattle.std.proofs.lemmas.Str.{IsUtf8-from_ascii}
 use Rattle.std.proofs.KnownBytes.{Consumes-trans, Consumes-kept}
-use Rattle.std.specs.Io.KnownBytes.{Consumes}
-use Rattle.httparse.specs.Grammar.{lf, RequestHead, IsRequestHead, NeverHasRequest, print_request, print_blank, print_version, print_end, print_section, is_token_byte}
-use Rattle.httparse.proofs.GrammarLemmas.{print_request-append}
+use Rattle.httparse.specs.Grammar.{print_request, is_token_byte}
 use Rattle.portal_head.specs.Lines.{from_start}
-use Rattle.portal_head.specs.Decided.{IsDecided, IsDecidedByHead, IsOpen}
-use Rattle.portal_head.specs.declared.decided.Wanted.{Wanted}
-use Rattle.portal_head.specs.declared.decided.Wanted.TheVariants.{Nothing, Head, Whole}
 use Rattle.portal_head.specs.declared.received.ReadFault.{ReadFault}
 use Rattle.portal_head.specs.declared.received.ReadFault.TheVariants.{Read, NoRoom}
 use Rattle.portal_head.specs.Received.{Incoming}
-use Rattle.portal_head.specs.Reading.{IsOpenBefore, ReadsRequestBytes, BreaksOff}
-use Rattle.portal_head.specs.Steps.{IsWanted, IsDecidedAt, Receives}
-
--- ---- with a whole head
-
--- with so many bytes the head decides
-pub enough : (front more whole : List ℕ) (total : ℕ) → whole ≡ front ++ more → IsDecidedAt front total
-    → total ≤ length whole → IsDecided whole
-enough front more whole total e at met =
-    subst IsDecided (sym e) ((at more).0 (subst (λ (l : List ℕ). total ≤ length l) e met))
-
--- with fewer the rest of the body is still wanted
-pub fewer : (front more whole : List ℕ) (total : ℕ) → whole ≡ front ++ more → IsDecidedAt front total
-    → length whole < total → IsOpen whole × (length whole < total) × IsDecidedAt whole total
-fewer front more whole total e at short = (
-  subst IsOpen (sym e) ((at more).1 (subst (λ (l : List ℕ). length l < total) e short)),
-  short,
-  λ next. subst (λ (l : List ℕ). (total ≤ length l → IsDecided l) × (length l < total → IsOpen l))
-      (sym (ap (λ (l : List ℕ). l ++ next) e ∙ append_assoc front more next)) (at (more ++ next)),
-)
 
 -- ---- before the first read
 
@@ -80,12 +54,6 @@ open_at_first =
     }
 
 -- ---- one read more
-
--- what is wanted is not there
-pub open_yet : (bytes : List ℕ) (wanted : Wanted) → IsWanted bytes wanted → wanted ≢ Nothing → IsOpen bytes
-open_yet bytes Nothing is more = absurd (more refl)
-open_yet bytes Head is more = is.0
-open_yet bytes (Whole total) is more = is.0
 
 -- what came in, and not too late
 pub record HasRead (old new : Option (List ℕ)) (received : Incoming) : Type 0 where

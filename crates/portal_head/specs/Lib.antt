@@ -8,3 +8,4 @@ pub mod Laws
 pub mod Received
 pub mod Steps
 pub mod Reading
+pub mod Bytes

@@ -1,5 +1,5 @@
 -- What the bytes of a request say.
-use Rattle.std.specs.Prelude.{ℕ, ◌≤◌, List, length, take, drop, map, nat_lt, if◌then◌else◌, Option, Some, None, option_map, Result, Ok, Err, codes}
+use Rattle.std.specs.Prelude.{◌≡◌, ℕ, ◌≤◌, List, length, take, drop, map, nat_lt, if◌then◌else◌, Option, Some, None, option_map, Result, Ok, Err, codes}
 use Rattle.std.specs.Borrow.{Bor}
 use Rattle.httparse.specs.Grammar.{RequestHead, ReadsRequest, print_request}
 use Rattle.httparse.specs.Spans.{name_and_value}
@@ -84,6 +84,10 @@ said_by request = record {
 abbrev pub message_of : Result Request HeadFault → Result Message HeadFault
 message_of (Err fault) = Err fault
 message_of (Ok request) = Ok (said_by request)
+
+-- what the bytes say, by the head that they begin with
+abbrev pub IsSaid : List ℕ → Result Request HeadFault → Type 0
+IsSaid bytes result = (head : Option RequestHead) × HeadOf bytes head × (message_of result ≡ message_in head bytes)
 
 -- the bytes in place of the borrow
 abbrev pub bytes_of : Result (Bor (List ℕ)) HeadFault → Result (List ℕ) HeadFault

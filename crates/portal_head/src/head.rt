@@ -1,10 +1,9 @@
 //! A whole request: its head, its fields of interest, and its body.
-ghost use Rattle.std.specs.Prelude.{◌≡◌, length, take, Option};
+ghost use Rattle.std.specs.Prelude.{◌≡◌, ◌++◌, ℕ, List, take};
 ghost use Rattle.httparse.specs.Grammar.{RequestHead};
-ghost use Rattle.httparse.specs.Spans.{IsRequestWithin};
-ghost use Rattle.portal_head.specs.Limits.{field_limit, head_limit};
-ghost use Rattle.portal_head.specs.Steps.{IsFinding, IfWhole};
-ghost use Rattle.portal_head.specs.Message.{HeadOf, body_after, bytes_of, message_in, message_of};
+ghost use Rattle.portal_head.specs.Limits.{head_limit};
+ghost use Rattle.portal_head.specs.Steps.{IsFinding, IsHeadAt};
+ghost use Rattle.portal_head.specs.Message.{IsSaid, body_after, bytes_of};
 
 use crate::faults::HeadFault;
 use crate::fields::Fields;
@@ -24,8 +23,8 @@ pub struct Request<'b> {
     pub token: Option<&'b [u8]>,
     /// The value of Portal-Device, where there is just one such field.
     pub device: Option<&'b [u8]>,
-    /// The value of Portal-Request, where there is one. More than one such field are a `BadRequest`, which is told only
-    /// where the field is looked at.
+    /// The value of Portal-Request, where there is one. More than one such field are a `BadRequest`, which is
+    /// told only where the field is looked at.
     pub number: Result<Option<&'b [u8]>, HeadFault>,
     /// As many bytes as Content-Length declares.
     pub body: &'b [u8],
@@ -42,26 +41,56 @@ pub fn front(bytes: &[u8]) -> &[u8]
     }
 }
 
-/// What the front of the bytes holds of a head of at most `FIELD_LIMIT` fields.
+/// Where a head is: the places of its parts, and the length that it declares for its body.
+#[derive(Clone, Copy)]
+pub struct Head {
+    pub spans: RequestSpans,
+    /// Where its fields are: as many as `spans` counts.
+    pub headers: [HeaderSpan; FIELD_LIMIT],
+    /// The length, or what is wrong with the fields.
+    pub declared: Result<usize, HeadFault>,
+}
+
+/// What some bytes hold of a head of at most `FIELD_LIMIT` fields.
 #[derive(Clone, Copy)]
 pub enum Finding {
-    Whole(RequestSpans),
+    Whole(Head),
     /// More bytes may make it whole.
     Unfinished,
     /// No bytes can.
     Hopeless,
 }
 
-/// Looks for a head at the front of the bytes, and writes where its fields are into `headers`.
-pub fn find_head(front: &[u8], headers: &mut [HeaderSpan]) -> Finding
-    requires { length headers.old ≡ field_limit }
-    ensures found { IsFinding front.now headers.new result }
-    ensures within { IfWhole result (IsRequestWithin front.now headers.new) }
+/// Looks for a head at the front of the bytes.
+pub fn find_head(bytes: &[u8]) -> Finding
+    ensures { IsFinding bytes.now result }
 {
-    match spans::parse_request(front, headers) {
-        Ok(Status::Complete(head)) => Finding::Whole(head),
+    let mut headers = [EMPTY_HEADER_SPAN; FIELD_LIMIT];
+    let front = front(bytes);
+    match spans::parse_request(front, &mut headers) {
+        Ok(Status::Complete(spans)) => {
+            let (used, _) = headers.split_at(spans.headers);
+            let declared = declared_length(&Fields::new(front, used), spans.version);
+            Finding::Whole(Head {
+                spans,
+                headers,
+                declared,
+            })
+        }
         Ok(Status::Partial) => Finding::Unfinished,
         Err(_) => Finding::Hopeless,
+    }
+}
+
+/// What was found in the first of these bytes, and what is found in all of them: a whole head stays, and else
+/// it is looked for again.
+pub fn find_again(found: Finding, bytes: &[u8]) -> Finding
+    requires { (front more : List ℕ) × (bytes.now ≡ front ++ more) × IsFinding front found }
+    ensures { IsFinding bytes.now result }
+{
+    match found {
+        Finding::Whole(_) => found,
+        Finding::Unfinished | Finding::Hopeless => find_head(bytes),
     }
 }
 
@@ -69,10 +98,43 @@ pub fn find_head(front: &[u8], headers: &mut [HeaderSpan]) -> Finding
 fn take_body(after: &[u8], declared: Result<usize, HeadFault>) -> Result<&[u8], HeadFault>
     ensures { bytes_of result ≡ body_after declared after.now }
 {
-    match declared {
-        Err(fault) => Err(fault),
-        Ok(length) if length > after.len() => Err(HeadFault::BadRequest),
-        Ok(length) => Ok(&after[..length]),
+    let length = declared?;
+    if length > after.len() {
+        return Err(HeadFault::BadRequest);
+    }
+    Ok(&after[..length])
+}
+
+/// What a request of that head says, or what is wrong with its shape.
+fn request_at<'b>(head: &Head, bytes: &'b [u8]) -> Result<Request<'b>, HeadFault>
+    requires { (is : RequestHead) × IsHeadAt bytes.now head.now is }
+    ensures { IsSaid bytes.now result }
+{
+    let (used, _) = head.headers.split_at(head.spans.headers);
+    let (_, after) = bytes.split_at(head.spans.len);
+    let fields = Fields::new(bytes, used);
+    let token = fields.only(b"portal-token");
+    let device = fields.only(b"portal-device");
+    let number = fields.at_most_one(b"portal-request");
+    let body = take_body(after, head.declared)?;
+    Ok(Request {
+        method: head.spans.method.of(bytes),
+        target: head.spans.path.of(bytes),
+        token,
+        device,
+        number,
+        body,
+    })
+}
+
+/// What a request says, or what is wrong with its shape, by the head that was found in its bytes.
+pub fn request_of<'b>(found: &Finding, bytes: &'b [u8]) -> Result<Request<'b>, HeadFault>
+    requires { IsFinding bytes.now found.now }
+    ensures { IsSaid bytes.now result }
+{
+    match found {
+        Finding::Whole(head) => request_at(head, bytes),
+        Finding::Unfinished | Finding::Hopeless => Err(HeadFault::BadRequest),
     }
 }
 
@@ -85,30 +147,7 @@ fn take_body(after: &[u8], declared: Result<usize, HeadFault>) -> Result<&[u8], 
 /// `TooLarge`, and fewer bytes after the head than declared `BadRequest`. Bytes after the body are
 /// not looked at.
 pub fn parse_request(bytes: &[u8]) -> Result<Request<'_>, HeadFault>
-    ensures { (head : Option RequestHead) × HeadOf bytes.now head
-        × (message_of result ≡ message_in head bytes.now) }
+    ensures { IsSaid bytes.now result }
 {
-    let mut headers = [EMPTY_HEADER_SPAN; FIELD_LIMIT];
-    let front = front(bytes);
-    let head = match find_head(front, &mut headers) {
-        Finding::Whole(head) => head,
-        Finding::Unfinished | Finding::Hopeless => return Err(HeadFault::BadRequest),
-    };
-    let (spans, _) = headers.split_at(head.headers);
-    let (_, after) = bytes.split_at(head.len);
-    let fields = Fields::new(front, spans);
-    let token = fields.only(b"portal-token");
-    let device = fields.only(b"portal-device");
-    let number = fields.at_most_one(b"portal-request");
-    match take_body(after, declared_length(&fields, head.version)) {
-        Err(fault) => Err(fault),
-        Ok(body) => Ok(Request {
-            method: head.method.of(front),
-            target: head.path.of(front),
-            token,
-            device,
-            number,
-            body,
-        }),
-    }
+    request_of(&find_head(bytes), bytes)
 }

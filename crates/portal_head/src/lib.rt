@@ -1,4 +1,5 @@
-//! The shape of a request: what the bytes that came in say, or what is wrong with them.
+//! HTTP messages: the shape of a request, what the bytes that came in say or what is wrong with them, and the
+//! bytes of a response.
 //!
 //! `parse_request` reads a whole request, as far as any route needs it. `read_request` reads one from
 //! a connection in pieces, and makes no read once its reply is decided, which `is_decided` tells of
@@ -16,6 +17,7 @@ mod limits;
 mod lines;
 mod reading;
 mod received;
+mod responses;
 mod writing;
 
 pub use crate::decided::is_decided;
@@ -25,4 +27,5 @@ pub use crate::laws::{decided_stays, one_head_at_most};
 pub use crate::limits::{BODY_LIMIT, FIELD_LIMIT, HEAD_LIMIT, LINE_LIMIT, PIECE_LIMIT};
 pub use crate::reading::read_request;
 pub use crate::received::{ReadFault, Received};
+pub use crate::responses::{ContentType, response, response_is_fixed};
 pub use crate::writing::{WriteFault, write_response};

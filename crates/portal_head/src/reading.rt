@@ -1,25 +1,10 @@
 //! Reading a request in pieces.
-ghost use Rattle.std.specs.Prelude.{◌≡◌, ℕ, List, ◌++◌, MatchResult};
+ghost use Rattle.std.specs.Prelude.{MatchResult};
 ghost use Rattle.portal_head.specs.Reading.{ReadsRequestBytes, BreaksOff};
-ghost use Rattle.portal_head.specs.Steps.{IsWanted};
 
-use crate::decided::{Wanted, wanted_after};
 use crate::received::{ReadFault, Received};
 use std::alloc::Global;
 use std::io::Read;
-
-/// What is wanted once more bytes are there than those after which `wanted` was: the head is looked
-/// for again, and with a whole head bytes are only counted.
-fn still_wanted(wanted: Wanted, bytes: &[u8]) -> Wanted
-    requires { (front more : List ℕ) × (bytes.now ≡ front ++ more) × IsWanted front wanted }
-    ensures { IsWanted bytes.now result }
-{
-    match wanted {
-        Wanted::Whole(total) if bytes.len() < total => wanted,
-        Wanted::Whole(_) => Wanted::Nothing,
-        _ => wanted_after(bytes),
-    }
-}
 
 /// Reads a request in pieces, until its reply is decided or the input ends.
 ///
@@ -32,14 +17,12 @@ pub fn read_request<R: Read>(alloc: Global, reader: &mut R) -> Result<Received, 
     ensures { MatchResult result (ReadsRequestBytes (R.remaining reader.old) (R.remaining reader.new))
         (BreaksOff (R.remaining reader.old) (R.remaining reader.new)) }
 {
-    let mut received = Received::new(alloc);
-    let mut wanted = Wanted::Head;
+    let mut received = Received::new(Vec::new(alloc));
     loop {
         if received.receive(reader)? == 0 {
             return Ok(received);
         }
-        wanted = still_wanted(wanted, received.bytes());
-        if let Wanted::Nothing = wanted {
+        if received.is_decided() {
             return Ok(received);
         }
     }

@@ -1,9 +1,14 @@
 //! What came in of a request, one read after another.
-ghost use Rattle.std.specs.Prelude.{◌≡◌, []};
+ghost use Rattle.std.specs.Prelude.{◌≡◌};
+ghost use Rattle.std.specs.Bool.{MatchBool};
+ghost use Rattle.portal_head.specs.Decided.{IsDecided, IsOpen};
+ghost use Rattle.portal_head.specs.Message.{IsSaid};
 ghost use Rattle.portal_head.specs.Steps.{Receives};
 
+use crate::decided::decides;
+use crate::faults::HeadFault;
+use crate::head::{Finding, Request, find_again, find_head, request_of};
 use crate::limits::PIECE_LIMIT;
-use std::alloc::Global;
 use std::io::Read;
 use std::marker::Model;
 
@@ -16,29 +21,36 @@ pub enum ReadFault {
     NoRoom,
 }
 
-/// The bytes that came in, and how many of them the last read gave. Only `receive` adds to them.
+/// The bytes that came in, how many of them the last read gave, and the head that was found in them. Only
+/// `receive` adds to the bytes.
 #[derive(Drop)]
 pub struct Received {
     bytes: Vec<u8>,
     last: usize,
+    found: Finding,
 }
 
 impl Model for Received {
     ghost use Rattle.portal_head.specs.Received.{Incoming};
+    ghost use Rattle.portal_head.specs.Steps.{IsFinding};
 
     ghost Value = { Incoming };
 
     ghost view = { λ received. record { bytes = received.bytes.items; last = received.last } };
+
+    ghost invariant = { λ received. IsFinding received.bytes.items received.found };
 }
 
 impl Received {
-    /// Nothing came in yet.
-    pub(crate) fn new(alloc: Global) -> Received
-        ensures { result ≡ record { bytes = []; last = 0 } }
+    /// Bytes that did not come from a read.
+    pub fn new(bytes: Vec<u8>) -> Received
+        ensures { result ≡ record { bytes = bytes.items; last = 0 } }
     {
+        let found = find_head(bytes.as_slice());
         Received {
-            bytes: Vec::new(alloc),
+            bytes,
             last: 0,
+            found,
         }
     }
 
@@ -51,12 +63,32 @@ impl Received {
         let Ok(count) = reader.read(&mut buffer) else {
             return Err(ReadFault::Read);
         };
-        let (piece, _) = buffer.split_at(count);
-        if count > 0 && self.bytes.extend_from_slice(piece).is_err() {
-            return Err(ReadFault::NoRoom);
+        if count == 0 {
+            self.last = 0;
+            return Ok(0);
         }
+        let (piece, _) = buffer.split_at(count);
+        let Ok(()) = self.bytes.extend_from_slice(piece) else {
+            return Err(ReadFault::NoRoom);
+        };
         self.last = count;
+        self.found = find_again(self.found, self.bytes.as_slice());
         Ok(count)
+    }
+
+    /// Whether the bytes decide the reply, as `is_decided` says.
+    pub fn is_decided(&self) -> bool
+        ensures { MatchBool result (IsDecided self.now.bytes) (IsOpen self.now.bytes) }
+    {
+        decides(&self.found, self.bytes.as_slice())
+    }
+
+    /// What the request says, or what is wrong with its shape, as `parse_request` gives it. The head is not
+    /// looked for again.
+    pub fn request(&self) -> Result<Request<'_>, HeadFault>
+        ensures { IsSaid self.now.bytes result }
+    {
+        request_of(&self.found, self.bytes.as_slice())
     }
 
     /// The bytes that came in.

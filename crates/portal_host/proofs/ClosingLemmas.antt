@@ -1,22 +1,13 @@
 -- Files that were closed hold what the connection had committed, with their log and without it.
-use Rattle.std.proofs.Common.{[], inl, subst}
+use Rattle.portal_host.proofs.Common.{[], inl, subst, Result, Ok, Err, IfOk, IfErr, Ghosts, Files, Image, Held, IsCopied, HoldsDatabase, file_state, over_files, Ledger, view, faults, recovers, is_shielded, ImageShows, AreWhole}
 use Rattle.std.proofs.Math.Logic.{∥∥₁_map}
-use Rattle.sqlite_disk.specs.declared.Disk.{Ghosts}
-use Rattle.sqlite_disk.specs.declared.Files.{Files}
-use Rattle.sqlite_wal.specs.Recovery.{Image}
 use Rattle.sqlite.specs.declared.FileStore.{FileStore}
 use Rattle.sqlite.specs.Effect.{Database}
-use Rattle.sqlite.specs.Held.{Held}
-use Rattle.sqlite.specs.Closing.{IsCopied}
-use Rattle.sqlite.specs.Files.{HoldsDatabase, file_state, over_files}
-use Rattle.portal_ledger.specs.Ledger.{Ledger}
 use Rattle.portal_sql.specs.StandsAt.{LeftShows}
 use Rattle.portal_tables.specs.Stores.{StoreShows}
-use Rattle.sqlite_store.specs.FileStore.{view, faults, recovers, is_shielded}
 use Rattle.sqlite_trees.specs.View.{IsQuiet}
-use Rattle.portal_tables.specs.Images.{ImageHolds, ImageShows, StoreMayLeave}
+use Rattle.portal_tables.specs.Images.{ImageHolds, StoreMayLeave}
 use Rattle.portal_tables.specs.TablesAt.{ConnAt, ConnMayLeave, Files as Tables, FilesShow}
-use Rattle.portal_host.specs.Opening.{AreWhole}
 
 module _ {D : Type 0} {g : Ghosts D} (L : Ledger) (old : Held (FileStore D g)) (at : ConnAt over_files old L) where
   unfoldable committed : Tables
@@ -40,3 +31,13 @@ pub unclosed_leaves : {D : Type 0} {g : Ghosts D} (old : Held (FileStore D g)) (
     → (tables : Tables) → StoreMayLeave last tables → ConnMayLeave over_files old tables
 unfolding Tables StoreMayLeave ConnMayLeave
 unclosed_leaves old last quiet tables may = quiet.outcomes tables may
+
+-- what closing the files of a connection leads to, once it is known of either result
+module _ {T E : Type 0} where
+  pub if_ok : (result : Result T E) (P Q : T → Type 0) → ((x : T) → P x → Q x) → IfOk result P → IfOk result Q
+  if_ok (Ok x) P Q leads is = leads x is
+  if_ok (Err e) P Q leads is = tt
+
+  pub if_err : (result : Result T E) (P Q : E → Type 0) → ((e : E) → P e → Q e) → IfErr result P → IfErr result Q
+  if_err (Ok x) P Q leads is = tt
+  if_err (Err e) P Q leads is = leads e is

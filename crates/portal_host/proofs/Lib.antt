@@ -1,3 +1,4 @@
+pub mod Common
 pub mod OpeningLemmas
 pub mod ClosingLemmas
 pub mod LookingLemmas

@@ -1,12 +1,6 @@
 -- A log of which nothing is taken holds no commits.
-use Rattle.std.proofs.Common.{◌≡◌, ℕ, ◌<◌, List, [], ◌∷◌, zero, suc, Option, Some, None, inl, inr, refl, sym, ◌∙◌, subst, arith, true≢false}
-use Rattle.std.specs.Prelude.{length, Bool, IsTrue, Result, Ok, Err, IfOk}
-use Rattle.sqlite_wal.specs.declared.page_size.PageSize.{PageSize}
-use Rattle.sqlite_wal.specs.PageSize.{bytes_of, IsPageSize, Names}
-use Rattle.sqlite_wal.specs.Format.{be32}
-use Rattle.sqlite_wal.specs.Recovery.{AreFramesOf, IsCommitted, IsIgnored}
+use Rattle.portal_host.proofs.Common.{◌≡◌, ℕ, ◌<◌, List, [], ◌∷◌, zero, suc, Some, None, inl, inr, sym, ◌∙◌, subst, arith, true≢false, length, Bool, IsTrue, Result, Ok, Err, IfOk, PageSize, bytes_of, IsPageSize, Names, be32, AreFramesOf, IsCommitted, IsIgnored, AreCommitted, HoldsCommits}
 use Rattle.sqlite_wal.proofs.FormatLemmas.{be32-part}
-use Rattle.portal_host.specs.Opening.{AreCommitted, HoldsCommits}
 
 pub not_ignored : (size frames : ℕ) (log : List ℕ) → 0 < frames → IsCommitted size log frames → ¬ IsIgnored log
 not_ignored size frames log some committed (inl short) = absurd (omega (arith, (committed.valid 0 some).within, short))

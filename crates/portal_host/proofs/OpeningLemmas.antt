@@ -1,13 +1,7 @@
 -- What holds of files that were opened, and opened again.
-use Rattle.std.proofs.Common.{◌≡◌, ◌∙◌, sym, subst}
-use Rattle.std.specs.Prelude.{Bool, IsTrue, Result, Ok, Err, IfOk}
-use Rattle.sqlite_wal.specs.Recovery.{Image}
-use Rattle.portal_host.specs.Opening.{ComesFrom, IsFound, IsReopened}
-use Rattle.sqlite_disk.specs.declared.Disk.{Ghosts}
+use Rattle.portal_host.proofs.Common.{◌≡◌, ◌∙◌, sym, subst, Bool, IsTrue, Result, Ok, Err, IfOk, IsErrAnd, Image, ComesFrom, IsReopened, OpensFiles, Ghosts, Held, AreFoundIn, file_state, over_files}
 use Rattle.sqlite_store.specs.declared.store.FileStore.{FileStore}
-use Rattle.sqlite.specs.Held.{Held}
 use Rattle.sqlite.specs.State.{HasCleanDisk}
-use Rattle.sqlite.specs.Files.{AreFoundIn, file_state, over_files}
 use Rattle.sqlite.specs.Start.{FindsIn}
 use Rattle.sqlite_trees.specs.Tree.{Trees}
 use Rattle.portal_tables.specs.TablesAt.{ConnIsHonest}
@@ -29,11 +23,6 @@ pub stands_on : {C E : Type 0} (again : Result C E) (Clean At : C → Type 0) (W
 stands_on (Ok c) Clean At Was Before honest stands opened = λ clean. stands (opened (honest clean)) clean
 stands_on (Err e) Clean At Was Before honest stands opened = tt
 
--- what was found in two files is what they are supposed to hold
-pub found_at : {C E : Type 0} (opened : Result (C × Bool) E) (Clean : C → Type 0) (old new : Image) → old ≡ new
-    → IfOk opened (λ o. Clean o.0 → IsFound old o.1) → IfOk opened (λ o. Clean o.0 → IsFound new o.1)
-found_at opened Clean old new same found = subst (λ (i : Image). IfOk opened (λ o. Clean o.0 → IsFound i o.1)) same found
-
 module _ {D : Type 0} {g : Ghosts D} where
   abbrev Clean : Held (FileStore D g) → Type 0
   Clean conn = HasCleanDisk (file_state conn)
@@ -53,13 +42,8 @@ module _ {D : Type 0} {g : Ghosts D} where
       (here, λ is. (first, was, reopened clean is))
   from_on (Err e) image copies first honest same reopened found = tt
 
-  -- what comes from what was found in two files comes from what they are supposed to hold
-  pub from_at : {E : Type 0} (opened : Result (Held (FileStore D g) × Bool) E) (copies : Bool) (old new : Image) → old ≡ new
-      → IfOk opened (λ o. Clean o.0 → ComesFrom old copies o.0) → IfOk opened (λ o. Clean o.0 → ComesFrom new copies o.0)
-  from_at opened copies old new same from = subst (λ (i : Image). IfOk opened (λ o. Clean o.0 → ComesFrom i copies o.0)) same from
-
--- what holds of what was opened holds where it was asked for
-pub when_asked : {C E : Type 0} (again : Result C E) (IsClean Was : C → Type 0) (Asked : Type 0)
-    → IfOk again (λ c. IsClean c → Was c) → IfOk again (λ c. IsClean c → Asked → Was c)
-when_asked (Ok c) IsClean Was Asked is = λ clean asked. is clean
-when_asked (Err e) IsClean Was Asked is = tt
+  -- two files that were not opened
+  pub opens_not : {E : Type 0} (image : Image) (copies : Bool) (result : Result (Held (FileStore D g) × Bool) E) (Q : E → Type 0) → IsErrAnd result Q
+      → OpensFiles image copies result
+  opens_not image copies (Ok opened) Q failed = absurd failed
+  opens_not image copies (Err e) Q failed = record { opened = λ L shown. tt; found = tt; from = tt }

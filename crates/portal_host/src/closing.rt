@@ -13,20 +13,19 @@ use portal_store::StoreDesk;
 use sqlite::{Error, FileStore};
 use sqlite_disk::{Disk, Files};
 
-/// Closes the files of a desk: what the log holds is copied into the database file. All tables of the desk's store, ours and
-/// those of others, stand in the two files then as they were committed, and in the database file with no log beside it. Where
-/// that fails, a stop leaves what it might leave of the desk.
+/// Closes the files of a desk: what the log holds is copied into the database file. All tables of the desk's
+/// store, ours and those of others, stand in the two files then as they were committed, and in the database
+/// file with no log beside it. Where that fails, a stop leaves what it might leave of the desk.
 pub fn close_desk<D: Disk + Drop>(
     desk: StoreDesk<FileStore<D>>,
 ) -> Result<Files<D>, (Error, FileStore<D>)>
     ensures copied { IfOk result (λ files. AreClean D.Disk files.log files.db → AreCopied desk files) }
-    ensures whole { IfOk result (λ files. AreClean D.Disk files.log files.db → (L : Ledger) → DeskAt over_files desk (running L) → AreWhole D.Disk files L) }
+    ensures whole { IfOk result (λ files. AreClean D.Disk files.log files.db
+        → (L : Ledger) → DeskAt over_files desk (running L) → AreWhole D.Disk files L) }
     ensures unclosed { (L : Ledger) → DeskAt over_files desk (running L)
         → IfErr result (λ e. (tables : Tables) → StoreMayLeave e.1 tables → FilesShow tables L) }
-    ensures left { IfErr result (λ e. (tables : Tables) → StoreMayLeave e.1 tables → DeskMayLeave over_files desk tables) }
+    ensures left { IfErr result (λ e.
+        (tables : Tables) → StoreMayLeave e.1 tables → DeskMayLeave over_files desk tables) }
 {
-    match desk.release().close_files() {
-        Ok(files) => Ok(files),
-        Err(unclosed) => Err(unclosed),
-    }
+    desk.release().close_files()
 }

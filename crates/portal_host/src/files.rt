@@ -27,7 +27,8 @@ use std::alloc::Global;
 use std::fmt::Display;
 use std::fs;
 
-/// The files of the machine. `start` is what is supposed of the disk: how a stop may leave what was written to it.
+/// The files of the machine. `start` is what is supposed of the disk: how a stop may leave what was written
+/// to it.
 #[derive(Drop)]
 pub struct HostFiles<'h, S: Start> {
     pub host: &'h HostRuntime,
@@ -65,7 +66,8 @@ impl<'h, S: Start> Place for HostFiles<'h, S> {
 
     ghost fails_to_read = { λ _ _ _. ⊤ };
 
-    ghost refuses = { λ place path trouble. RefusesFiles ⟦<FileFrom<S> as Disk>⟧ (image_at S.Start) trouble.fault };
+    ghost refuses = { λ place path trouble.
+        RefusesFiles ⟦<FileFrom<S> as Disk>⟧ (image_at S.Start) trouble.fault };
 
     ghost fails_to_close = { λ desk path trouble. IsUnclosed desk };
 
@@ -88,11 +90,14 @@ impl<'h, S: Start> Place for HostFiles<'h, S> {
         copies: bool,
     ) -> Result<Opened<StoreDesk<FileStore<FileFrom<S>>>>, Trouble>
         ensures why { IfErr result (λ trouble. IsOfStore trouble.fault × IsAt path.now trouble) }
-        ensures refused { IfErr result (λ trouble. RefusesFiles ⟦<FileFrom<S> as Disk>⟧ (image_at S.Start) trouble.fault) }
+        ensures refused { IfErr result (λ trouble.
+            RefusesFiles ⟦<FileFrom<S> as Disk>⟧ (image_at S.Start) trouble.fault) }
         ensures told { IfOk result (λ opened. settings_of opened.desk ≡ settings) }
         ensures stands { (L : Ledger) → ImageShows (image_at S.Start) L
-            → IfOk result (λ opened. DeskIsHonest over_files opened.desk → DeskAt over_files opened.desk (running L)) }
-        ensures found { IfOk result (λ opened. DeskIsHonest over_files opened.desk → IsFound (image_at S.Start) opened.is_new) }
+            → IfOk result (λ opened.
+            DeskIsHonest over_files opened.desk → DeskAt over_files opened.desk (running L)) }
+        ensures found { IfOk result (λ opened.
+            DeskIsHonest over_files opened.desk → IsFound (image_at S.Start) opened.is_new) }
         ensures opened { IfOk result (λ opened. OpensTo (image_at S.Start) copies opened.desk) }
     {
         match open_store(self.host, path, self.start, copies) {

@@ -14,7 +14,8 @@ use std::io;
 /// Whether a file is empty.
 fn is_empty<D: Disk>(file: &mut D) -> io::Result<bool>
     requires { IsTrue (D.Disk.is_usable file.old) }
-    ensures value { IfOk result (λ empty. IsClean D.Disk file.new → (IsTrue empty ↔ (length (D.Disk.seen file.old) ≡ 0))) }
+    ensures value { IfOk result (λ empty.
+        IsClean D.Disk file.new → (IsTrue empty ↔ (length (D.Disk.seen file.old) ≡ 0))) }
     ensures same { OnlyReads D.Disk file.old file.new }
 {
     let len = file.len()?;
@@ -24,20 +25,21 @@ fn is_empty<D: Disk>(file: &mut D) -> io::Result<bool>
 /// Whether recovery takes frames of a log of pages of this size.
 fn takes_frames<D: Disk>(alloc: Global, log: &mut D, size: PageSize) -> Result<bool, Error>
     requires { IsTrue (D.Disk.is_usable log.old) }
-    ensures value { IfOk result (λ takes. IsClean D.Disk log.new → AreCommitted (bytes_of size) (D.Disk.seen log.old) → IsTrue takes) }
+    ensures value { IfOk result (λ takes.
+        IsClean D.Disk log.new → AreCommitted (bytes_of size) (D.Disk.seen log.old) → IsTrue takes) }
     ensures same { OnlyReads D.Disk log.old log.new }
 {
-    match probe_frames(alloc, log, size) {
-        Ok(frames) => Ok(!frames.is_empty()),
-        Err(error) => Err(error),
-    }
+    let frames = probe_frames(alloc, log, size)?;
+    Ok(!frames.is_empty())
 }
 
 /// Whether the log of a database file holds commits.
 fn holds_commits<D: Disk>(alloc: Global, files: &mut Files<D>) -> Result<bool, Error>
     requires log { IsTrue (D.Disk.is_usable files.old.log) }
     requires db { IsTrue (D.Disk.is_usable files.old.db) }
-    ensures value { IfOk result (λ holds. AreClean D.Disk files.new.log files.new.db → HoldsCommits (D.Disk.seen files.old.log) → IsTrue holds) }
+    ensures value { IfOk result (λ holds.
+        AreClean D.Disk files.new.log files.new.db
+        → HoldsCommits (D.Disk.seen files.old.log) → IsTrue holds) }
     ensures log { OnlyReads D.Disk files.old.log files.new.log }
     ensures db { OnlyReads D.Disk files.old.db files.new.db }
 {
@@ -50,11 +52,13 @@ fn holds_commits<D: Disk>(alloc: Global, files: &mut Files<D>) -> Result<bool, E
     }
 }
 
-/// Whether the database has yet to be made: its file is empty. `Lost`, where its log holds commits all the same.
+/// Whether the database has yet to be made: its file is empty. `Lost`, where its log holds commits all the
+/// same.
 pub fn look<D: Disk>(alloc: Global, files: &mut Files<D>) -> Result<bool, Unopened>
     requires log { IsTrue (D.Disk.is_usable files.old.log) }
     requires db { IsTrue (D.Disk.is_usable files.old.db) }
-    ensures found { IfOk result (λ is_new. AreClean D.Disk files.new.log files.new.db → IsFound (image_of D.Disk files.old) is_new) }
+    ensures found { IfOk result (λ is_new.
+        AreClean D.Disk files.new.log files.new.db → IsFound (image_of D.Disk files.old) is_new) }
     ensures log { OnlyReads D.Disk files.old.log files.new.log }
     ensures db { OnlyReads D.Disk files.old.db files.new.db }
 {

@@ -1,43 +1,12 @@
--- An exchange as a run of at most one request, and the status that a response shows.
-use Rattle.std.proofs.Common.{◌≡◌, ℕ, List, [], ◌∷◌, ◌++◌, length, take, refl, sym, ap, ◌∙◌, subst, Option}
-use Rattle.std.specs.Prelude.{Result, Ok, Err}
-use Rattle.std.specs.Fmt.{digits}
-use Rattle.std.specs.Io.KnownBytes.{Appends, Keeps}
+-- An exchange as a run of at most one request.
+use Rattle.portal_http.proofs.Common.{◌≡◌, ℕ, List, [], ◌∷◌, length, take, refl, sym, subst, Option, Result, Ok, Err, Appends, State, SettingsValue, Arrived, Step, Served}
+use Rattle.std.specs.Io.KnownBytes.{Keeps}
 use Rattle.std.proofs.Math.Seq.{take-length}
-use Rattle.portal_model.specs.declared.refusal.Refusal.{Refusal}
-use Rattle.portal_model.specs.declared.refusal.Refusal.TheVariants.{Stopped}
-use Rattle.portal_model.specs.Refusal.{status_of}
-use Rattle.portal_ledger.specs.States.{State}
-use Rattle.portal_files.specs.SettingsFile.{SettingsValue}
-use Rattle.portal_response.specs.declared.ContentType.{ContentType}
-use Rattle.portal_response.specs.Bytes.{head_bytes, IsResponse}
-use Rattle.portal_http.specs.Arrived.{Arrived}
 use Rattle.portal_http.specs.declared.exchanges.Done.{Done}
 use Rattle.portal_http.specs.declared.exchanges.Cause.{Cause}
 use Rattle.portal_http.specs.declared.exchanges.Cause.TheVariants.{Read, NoRoom, Write}
 use Rattle.portal_http.specs.declared.exchanges.Cut.{Cut}
-use Rattle.portal_http.specs.Runs.{Step, Served}
-use Rattle.portal_http.specs.Exchanges.{Wire, status_shown, HasNoRoom, Carries, CutsOff, EndsExchange}
-
--- ---- the status that a response shows
-
-accepted_line : (phrase date media_type : List ℕ) (size : ℕ) (last body : List ℕ) → status_shown (head_bytes 200 phrase date media_type size last ++ body) ≡ 200
-unfolding head_bytes digits
-accepted_line phrase date media_type size last body = refl
-
-refused_line : (r : Refusal) (phrase date media_type : List ℕ) (size : ℕ) (last body : List ℕ)
-    → status_shown (head_bytes (status_of r) phrase date media_type size last ++ body) ≡ status_of r
-unfolding head_bytes digits
-refused_line Stopped phrase date media_type size last body = refl
-refused_line _ phrase date media_type size last body = refl
-
-pub accepted_shown : (moment : ℕ) (content_type : ContentType) (allow : Option (List ℕ)) (body response : List ℕ)
-    → IsResponse 200 moment content_type allow body response → status_shown response ≡ 200
-accepted_shown moment content_type allow body response (date, dated, same) = ap status_shown same ∙ accepted_line _ _ _ _ _ _
-
-pub refused_shown : (r : Refusal) (moment : ℕ) (content_type : ContentType) (allow : Option (List ℕ)) (body response : List ℕ)
-    → IsResponse (status_of r) moment content_type allow body response → status_shown response ≡ status_of r
-refused_shown r moment content_type allow body response (date, dated, same) = ap status_shown same ∙ refused_line r _ _ _ _ _ _
+use Rattle.portal_http.specs.Exchanges.{Wire, HasNoRoom, Carries, CutsOff, EndsExchange}
 
 -- ---- a run of at most one request
 
@@ -45,12 +14,9 @@ pub whole_goes_out : (old new : Option (List ℕ)) (response : List ℕ) → App
 whole_goes_out old new response h = subst (Appends old new) (sym (take-length response)) h
 
 -- the step of a request is a run of it
-pub one_served : (settings : SettingsValue) (old new : State) (moment : ℕ) (seed given bytes : List ℕ) (a : Arrived) (response : List ℕ)
-    → a ≡ record { moment = moment; seed = seed; bytes = given } → given ≡ bytes → Step settings old a response new
-    → Served settings old (record { moment = moment; seed = seed; bytes = bytes } ∷ []) (response ∷ []) new
-one_served settings old new moment seed given bytes a response same read step =
-    let here : a ≡ record { moment = moment; seed = seed; bytes = bytes } = same ∙ ap (λ (b : List ℕ). record { moment = moment; seed = seed; bytes = b }) read in
-    (new, subst (λ (x : Arrived). Step settings old x response new) here step, refl)
+pub one_served : (settings : SettingsValue) (old new : State) (a arrived : Arrived) (response : List ℕ) → arrived ≡ a
+    → Step settings old arrived response new → Served settings old (a ∷ []) (response ∷ []) new
+one_served settings old new a arrived response same step = (new, subst (λ (x : Arrived). Step settings old x response new) same step, refl)
 
 -- there was no room: nothing was done
 pub no_room : (IsRun : List Arrived → List (List ℕ) → Type 0) (wire : Wire) (moment : ℕ) (seed : List ℕ) (cut : Cut)

@@ -1,30 +1,11 @@
 -- What a run leaves, from the steps of its requests.
-use Rattle.std.proofs.Common.{◌≡◌, ◌⊎◌, inl, inr, ℕ, List, [], ◌∷◌, ◌++◌, length, take, true, false, Option, Some, None, refl, sym, ap, subst, ◌∙◌}
-use Rattle.std.specs.Prelude.{◌≢◌, MatchOption, Result, Ok, Err, IfErr}
-use Rattle.portal_model.specs.declared.command.Command.{Command}
-use Rattle.portal_model.specs.declared.change.Answer.{Answer}
-use Rattle.portal_model.specs.declared.refusal.Refusal.{Refusal}
-use Rattle.portal_model.specs.declared.refusal.Refusal.TheVariants.{NoMemory, Stopped, UnknownBatch, UnknownCode}
-use Rattle.portal_model.specs.Change.{answer_of}
-use Rattle.portal_model.specs.History.{voucher_of}
+use Rattle.portal_http.proofs.Common.{◌≡◌, ◌⊎◌, inl, inr, ℕ, List, [], ◌∷◌, ◌++◌, length, take, true, false, Option, Some, None, refl, sym, ap, subst, ◌∙◌, ◌≢◌, MatchOption, Result, Ok, Err, IfErr, Command, Answer, Refusal, NoMemory, Stopped, UnknownBatch, UnknownCode, answer_of, voucher_of, verdict, Mark, Accepted, Ledger, history_of, held_in, repeat_in, taken_at, new_by, IsSound, State, running, stopped, MayStand, SettingsValue, Wanted, Sheet, Takings, OpenSessions, Act, Denied, Arrived, IsChecked, IsOfRequest, IsRefusal, IsVerdict, IsCommand, IsReply, sheet_of, takings_over, Stops, Step, Run, Served, is_ok, with_command, Acknowledges, Replies, Leads, IsInDoubt, IsFound, Survives}
 use Rattle.portal_model.specs.Captive.{captive_of, open_sessions_of}
-use Rattle.portal_model.specs.Verdict.{verdict}
 use Rattle.portal_laws.proofs.Granted.{grants_bounded}
-use Rattle.portal_ledger.specs.Mark.{Mark}
-use Rattle.portal_ledger.specs.Ledger.{Accepted, Ledger, history_of, held_in, repeat_in, taken_at, new_by, IsSound}
-use Rattle.portal_ledger.specs.States.{State, running, stopped, MayStand}
 use Rattle.portal_ledger.proofs.Ledgers.{the_sound_is_legal}
-use Rattle.portal_files.specs.SettingsFile.{SettingsValue}
-use Rattle.portal_checks.specs.declared.wanted.Wanted.{Wanted}
-use Rattle.portal_checks.specs.declared.wanted.Wanted.TheVariants.{State as Asks, Sheet, Voucher, Takings, OpenSessions, Act}
-use Rattle.portal_checks.specs.declared.denials.Denied.{Denied}
+use Rattle.portal_checks.specs.declared.wanted.Wanted.TheVariants.{State as Asks, Voucher}
 use Rattle.portal_checks.specs.Denials.{refusal_of, allow_of}
-use Rattle.portal_http.specs.Arrived.{Arrived}
-use Rattle.portal_checks.specs.Checks.{IsChecked, IsOfRequest}
-use Rattle.portal_http.specs.Replies.{IsRefusal, IsSheet, IsVoucher, IsAnswer, IsVerdict, IsCommand, IsReply}
-use Rattle.portal_desk.specs.Sheets.{sheet_of, takings_over}
-use Rattle.portal_http.specs.Runs.{Stops, Step, Run, Served}
-use Rattle.portal_http.specs.Headline.{is_ok, with_command, Acknowledges, Replies, Leads, IsInDoubt, IsFound, Survives}
+use Rattle.portal_http.specs.Replies.{IsSheet, IsVoucher, IsAnswer}
 use Rattle.portal_desk.proofs.Verdicts.{verdict_is_no_stop, repeat_is_no_stop}
 use Rattle.portal_http.proofs.Lines.{state_ok, sheet_ok, voucher_ok, takings_ok, sessions_ok, answer_ok, refused_off, other_apart, ok_apart}
 

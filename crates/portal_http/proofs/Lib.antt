@@ -1,3 +1,4 @@
+pub mod Common
 pub mod ResponseLemmas
 pub mod ServeLemmas
 pub mod RunLemmas

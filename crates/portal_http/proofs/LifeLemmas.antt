@@ -1,10 +1,5 @@
 -- A whole life keeps what was acknowledged.
-use Rattle.std.proofs.Common.{◌≡◌, ◌⊎◌, inl, inr, ℕ, List, [], ◌∷◌, length, take, refl, sym, subst}
-use Rattle.portal_ledger.specs.Ledger.{Accepted, Ledger}
-use Rattle.portal_files.specs.SettingsFile.{SettingsValue}
-use Rattle.portal_ledger.specs.States.{State, MayStand}
-use Rattle.portal_http.specs.Arrived.{Arrived}
-use Rattle.portal_http.specs.Headline.{Leads, IsInDoubt}
+use Rattle.portal_http.proofs.Common.{◌≡◌, ◌⊎◌, inl, inr, ℕ, List, [], ◌∷◌, length, take, refl, sym, subst, Accepted, Ledger, SettingsValue, State, MayStand, Arrived, Leads, IsInDoubt}
 use Rattle.portal_http.specs.Lives.{Round, missed, ran, Life, IsKept, LifeIsKept}
 use Rattle.portal_http.proofs.HeadlineLemmas.{Ends, works, halts, doubts, ends}
 

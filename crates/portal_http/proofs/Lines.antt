@@ -1,6 +1,5 @@
 -- The bytes of a response tell whether it is a 200, and whether it is that of a desk that stopped.
-use Rattle.std.proofs.Common.{◌≡◌, ◌+◌, ◌-◌, ◌≤◌, ℕ, Bool, true, false, List, ◌++◌, length, drop, nat_eq, nat_le, refl, sym, ◌∙◌, ap, arith, Option, None}
-use Rattle.std.specs.Prelude.{◌≢◌, codes}
+use Rattle.portal_http.proofs.Common.{◌≡◌, ◌+◌, ◌-◌, ◌≤◌, ℕ, Bool, true, false, List, ◌++◌, length, drop, nat_eq, nat_le, refl, sym, ◌∙◌, ap, arith, Option, None, ◌≢◌, codes, Answer, Refusal, Stopped, status_of, SettingsValue, last_lines, media_type_of, phrase_of, Json, IsRefusal, is_ok}
 use Rattle.std.specs.Fmt.{digits}
 use Rattle.std.specs.List.{ends_with}
 use Rattle.std.specs.Cmp.Lexicographic.{pointwise}
@@ -14,16 +13,9 @@ use Rattle.portal_model.specs.declared.captive.Captive.{Captive}
 use Rattle.portal_model.specs.declared.captive.OpenSession.{OpenSession}
 use Rattle.portal_model.specs.declared.record.Voucher.{Voucher}
 use Rattle.portal_files.specs.declared.sheet.BatchSheet.{BatchSheet}
-use Rattle.portal_model.specs.declared.change.Answer.{Answer}
-use Rattle.portal_model.specs.declared.refusal.Refusal.{Refusal}
-use Rattle.portal_model.specs.declared.refusal.Refusal.TheVariants.{Stopped}
-use Rattle.portal_model.specs.Refusal.{status_of}
-use Rattle.portal_files.specs.SettingsFile.{SettingsValue}
 use Rattle.portal_json.specs.Bodies.{error_body}
-use Rattle.portal_response.specs.Bytes.{head_bytes, last_lines, media_type_of, phrase_of}
-use Rattle.portal_response.specs.declared.ContentType.TheVariants.{Json}
-use Rattle.portal_http.specs.Replies.{IsError, IsRefusal, IsState, IsSheet, IsVoucher, IsTakings, AreSessions, IsAnswer}
-use Rattle.portal_http.specs.Headline.{is_ok}
+use Rattle.portal_head.specs.Bytes.{head_bytes}
+use Rattle.portal_http.specs.Replies.{IsError, IsState, IsSheet, IsVoucher, IsTakings, AreSessions, IsAnswer}
 
 -- the body of the refusal of a desk that stopped
 abbrev stopped_body : List ℕ

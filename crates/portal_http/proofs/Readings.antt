@@ -1,67 +1,57 @@
 -- Requests and their responses settle what was acknowledged, and what is in doubt.
-use Rattle.std.proofs.Common.{◌≡◌, inl, inr, ℕ, List, [], ◌∷◌, Bool, true, false, Option, sym, ap, subst, ◌∙◌}
-use Rattle.std.specs.Prelude.{Result, Ok}
+use Rattle.portal_http.proofs.Common.{◌≡◌, inl, inr, ℕ, List, [], ◌∷◌, Bool, true, false, Option, sym, ap, subst, ◌∙◌, Result, Ok, Command, Mark, Accepted, Ledger, taken_at, SettingsValue, Wanted, Act, Denied, Arrived, IsChecked, is_ok, with_command, Acknowledges, Leads, IsAccepted, IsInDoubt, OneReading}
 use Rattle.std.specs.Bool.{MatchBool}
-use Rattle.portal_model.specs.declared.command.Command.{Command}
-use Rattle.portal_ledger.specs.Mark.{Mark}
-use Rattle.portal_ledger.specs.Ledger.{Accepted, Ledger, taken_at}
-use Rattle.portal_files.specs.SettingsFile.{SettingsValue}
-use Rattle.portal_checks.specs.declared.wanted.Wanted.{Wanted}
-use Rattle.portal_checks.specs.declared.wanted.Wanted.TheVariants.{Act}
-use Rattle.portal_checks.specs.declared.denials.Denied.{Denied}
-use Rattle.portal_http.specs.Arrived.{Arrived}
-use Rattle.portal_checks.specs.Checks.{IsChecked}
-use Rattle.portal_http.specs.Headline.{is_ok, with_command, Acknowledges, Leads, IsAccepted, IsInDoubt, OneReading}
-use Rattle.portal_checks.proofs.CheckedOnce.{checked_once}
+use Rattle.portal_checks.specs.Laws.{ChecksAreExact}
 
 -- with its command, where it was answered 200
 abbrev Adds : SettingsValue → Ledger → Arrived → Ledger → Type 0
 Adds settings L a after = (wanted : Result Wanted Denied) × IsChecked settings a.seed a.bytes wanted × (after ≡ with_command L wanted a.moment)
 
--- the ledger after one request
-acknowledged_once : (settings : SettingsValue) (L : Ledger) (a : Arrived) (r : List ℕ) (one other : Ledger)
-    → Acknowledges settings L a r one → Acknowledges settings L a r other → one ≡ other
-acknowledged_once settings L a r one other = go (is_ok r)
-  where
-    go : (b : Bool) → MatchBool b (Adds settings L a one) (one ≡ L) → MatchBool b (Adds settings L a other) (other ≡ L) → one ≡ other
-    go true (w, checked, is) (v, checked2, also) = is ∙ ap (λ (x : Result Wanted Denied). with_command L x a.moment) (checked_once settings a.seed a.bytes w v checked checked2) ∙ sym also
-    go false is also = is ∙ sym also
+module _ (checked_once : ChecksAreExact) where
+  -- the ledger after one request
+  acknowledged_once : (settings : SettingsValue) (L : Ledger) (a : Arrived) (r : List ℕ) (one other : Ledger)
+      → Acknowledges settings L a r one → Acknowledges settings L a r other → one ≡ other
+  acknowledged_once settings L a r one other = go (is_ok r)
+    where
+      go : (b : Bool) → MatchBool b (Adds settings L a one) (one ≡ L) → MatchBool b (Adds settings L a other) (other ≡ L) → one ≡ other
+      go true (w, checked, is) (v, checked2, also) = is ∙ ap (λ (x : Result Wanted Denied). with_command L x a.moment) (checked_once settings a.seed a.bytes w v checked checked2) ∙ sym also
+      go false is also = is ∙ sym also
 
-leads_once : (settings : SettingsValue) (L : Ledger) (arrivals : List Arrived) (responses : List (List ℕ)) (last other : Ledger)
-    → Leads settings L arrivals responses last → Leads settings L arrivals responses other → last ≡ other
-leads_once settings L [] [] last other is also = is ∙ sym also
-leads_once settings L [] (r ∷ rs) last other is also = absurd is
-leads_once settings L (a ∷ rest) [] last other is also = absurd is
-leads_once settings L (a ∷ rest) (r ∷ rs) last other is also =
-    let same = acknowledged_once settings L a r is.0 also.0 is.1 also.1 in
-    leads_once settings is.0 rest rs last other is.3 (subst (λ (K : Ledger). Leads settings K rest rs other) (sym same) also.3)
+  leads_once : (settings : SettingsValue) (L : Ledger) (arrivals : List Arrived) (responses : List (List ℕ)) (last other : Ledger)
+      → Leads settings L arrivals responses last → Leads settings L arrivals responses other → last ≡ other
+  leads_once settings L [] [] last other is also = is ∙ sym also
+  leads_once settings L [] (r ∷ rs) last other is also = absurd is
+  leads_once settings L (a ∷ rest) [] last other is also = absurd is
+  leads_once settings L (a ∷ rest) (r ∷ rs) last other is also =
+      let same = acknowledged_once settings L a r is.0 also.0 is.1 also.1 in
+      leads_once settings is.0 rest rs last other is.3 (subst (λ (K : Ledger). Leads settings K rest rs other) (sym same) also.3)
 
--- the command and the mark of a request
-abbrev command_in : Command → Option Mark → Result Wanted Denied → Command
-command_in command mark (Ok (Act c m)) = c
-command_in command mark _ = command
+  -- the command and the mark of a request
+  abbrev command_in : Command → Option Mark → Result Wanted Denied → Command
+  command_in command mark (Ok (Act c m)) = c
+  command_in command mark _ = command
 
-abbrev mark_in : Command → Option Mark → Result Wanted Denied → Option Mark
-mark_in command mark (Ok (Act c m)) = m
-mark_in command mark _ = mark
+  abbrev mark_in : Command → Option Mark → Result Wanted Denied → Option Mark
+  mark_in command mark (Ok (Act c m)) = m
+  mark_in command mark _ = mark
 
-accepted_once : (settings : SettingsValue) (L : Ledger) (a : Arrived) (own other : Accepted) → IsAccepted settings L a own → IsAccepted settings L a other → own ≡ other
-accepted_once settings L a own other (c, m, checked, is, free, passes) (d, n, checked2, also, free2, passes2) =
-    let same = checked_once settings a.seed a.bytes (Ok (Act c m)) (Ok (Act d n)) checked checked2 in
-    let command : c ≡ d = ap (command_in c m) same in
-    let mark : m ≡ n = ap (mark_in c m) same in
-    is ∙ ap (λ (x : Command). taken_at L a.moment x m) command ∙ ap (λ (x : Option Mark). taken_at L a.moment d x) mark ∙ sym also
+  accepted_once : (settings : SettingsValue) (L : Ledger) (a : Arrived) (own other : Accepted) → IsAccepted settings L a own → IsAccepted settings L a other → own ≡ other
+  accepted_once settings L a own other (c, m, checked, is, free, passes) (d, n, checked2, also, free2, passes2) =
+      let same = checked_once settings a.seed a.bytes (Ok (Act c m)) (Ok (Act d n)) checked checked2 in
+      let command : c ≡ d = ap (command_in c m) same in
+      let mark : m ≡ n = ap (mark_in c m) same in
+      is ∙ ap (λ (x : Command). taken_at L a.moment x m) command ∙ ap (λ (x : Option Mark). taken_at L a.moment d x) mark ∙ sym also
 
-doubt_once : (settings : SettingsValue) (L : Ledger) (arrivals : List Arrived) (responses : List (List ℕ)) (own other : Accepted)
-    → IsInDoubt settings L arrivals responses own → IsInDoubt settings L arrivals responses other → own ≡ other
-doubt_once settings L [] rs own other is also = absurd is
-doubt_once settings L (a ∷ rest) [] own other is also = absurd is
-doubt_once settings L (a ∷ rest) (r ∷ rs) own other (inl is) (inl also) = accepted_once settings L a own other is.1 also.1
-doubt_once settings L (a ∷ rest) (r ∷ rs) own other (inl is) (inr also) = absurd (also.0 is.0)
-doubt_once settings L (a ∷ rest) (r ∷ rs) own other (inr is) (inl also) = absurd (is.0 also.0)
-doubt_once settings L (a ∷ rest) (r ∷ rs) own other (inr is) (inr also) =
-    let same = acknowledged_once settings L a r is.1 also.1 is.2 also.2 in
-    doubt_once settings is.1 rest rs own other is.3 (subst (λ (K : Ledger). IsInDoubt settings K rest rs other) (sym same) also.3)
+  doubt_once : (settings : SettingsValue) (L : Ledger) (arrivals : List Arrived) (responses : List (List ℕ)) (own other : Accepted)
+      → IsInDoubt settings L arrivals responses own → IsInDoubt settings L arrivals responses other → own ≡ other
+  doubt_once settings L [] rs own other is also = absurd is
+  doubt_once settings L (a ∷ rest) [] own other is also = absurd is
+  doubt_once settings L (a ∷ rest) (r ∷ rs) own other (inl is) (inl also) = accepted_once settings L a own other is.1 also.1
+  doubt_once settings L (a ∷ rest) (r ∷ rs) own other (inl is) (inr also) = absurd (also.0 is.0)
+  doubt_once settings L (a ∷ rest) (r ∷ rs) own other (inr is) (inl also) = absurd (is.0 also.0)
+  doubt_once settings L (a ∷ rest) (r ∷ rs) own other (inr is) (inr also) =
+      let same = acknowledged_once settings L a r is.1 also.1 is.2 also.2 in
+      doubt_once settings is.1 rest rs own other is.3 (subst (λ (K : Ledger). IsInDoubt settings K rest rs other) (sym same) also.3)
 
-pub one_reading : OneReading
-one_reading = record { leads = leads_once; in_doubt = doubt_once }
+  pub one_reading : OneReading
+  one_reading = record { leads = leads_once; in_doubt = doubt_once }

@@ -1,10 +1,10 @@
 -- One exchange with a peer: what is read of it, the run of at most one request, and what goes out.
-use Rattle.std.specs.Prelude.{◌≡◌, ◌⊎◌, ℕ, ◌+◌, ◌-◌, ◌*◌, ◌<◌, List, [], ◌∷◌, length, take, get_or, Option, Result, Ok, Err}
+use Rattle.std.specs.Prelude.{◌≡◌, ◌⊎◌, ℕ, ◌<◌, List, [], ◌∷◌, length, take, Option, Result, Ok, Err}
 use Rattle.std.specs.Io.KnownBytes.{Appends, Keeps}
 use Rattle.portal_model.specs.declared.refusal.Refusal.{Refusal}
 use Rattle.portal_model.specs.Refusal.{status_of}
-use Rattle.portal_response.specs.declared.ContentType.{ContentType}
-use Rattle.portal_response.specs.Bytes.{IsResponse}
+use Rattle.portal_head.specs.declared.responses.ContentType.{ContentType}
+use Rattle.portal_head.specs.Bytes.{IsResponse}
 use Rattle.portal_head.specs.declared.received.ReadFault.TheVariants as fault
 use Rattle.portal_head.specs.Received.{Incoming}
 use Rattle.portal_head.specs.Reading.{ReadsRequestBytes, BreaksOff}
@@ -13,6 +13,7 @@ use Rattle.portal_http.specs.declared.exchanges.Cause.{Cause}
 use Rattle.portal_http.specs.declared.exchanges.Cause.TheVariants.{Read, NoRoom, Write}
 use Rattle.portal_http.specs.declared.exchanges.Cut.{Cut}
 use Rattle.portal_http.specs.Arrived.{Arrived}
+use Rattle.portal_http.specs.Status.{status_shown}
 
 -- what is known of the bytes that a peer has left to send and was sent, before and after
 pub record Wire : Type 0 where
@@ -24,14 +25,6 @@ pub record Wire : Type 0 where
 -- that of a reader and a writer, each before and after
 abbrev pub between : Option (List ℕ) → Option (List ℕ) → Option (List ℕ) → Option (List ℕ) → Wire
 between unread unread_after sent sent_after = record { unread = unread; unread_after = unread_after; sent = sent; sent_after = sent_after }
-
--- the digit that a response shows at a place
-abbrev pub digit_shown : List ℕ → ℕ → ℕ
-digit_shown response place = get_or response place 48 - 48
-
--- the status that a response shows: the three digits after `HTTP/1.1 `
-abbrev pub status_shown : List ℕ → ℕ
-status_shown response = 100 * digit_shown response 9 + 10 * digit_shown response 10 + digit_shown response 11
 
 -- a response shows its status, be it 200 or a refusal's
 pub record StatusIsShown : Type 0 where

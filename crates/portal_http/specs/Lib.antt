@@ -1,7 +1,10 @@
 pub mod Arrived
+pub mod Status
 pub mod Replies
 pub mod Runs
 pub mod Serving
 pub mod Headline
 pub mod Lives
 pub mod Exchanges
+pub mod Responses
+pub mod Calls

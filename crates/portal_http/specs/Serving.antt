@@ -1,7 +1,8 @@
 -- What one command comes to, and the response to it.
-use Rattle.std.specs.Prelude.{◌≡◌, ◌⊎◌, ℕ, List, ◌∷◌, Option, Some, Ok}
+use Rattle.std.specs.Prelude.{◌≡◌, ◌≢◌, ◌⊎◌, ℕ, List, ◌∷◌, Option, Some, Ok}
 use Rattle.portal_model.specs.declared.command.Command.{Command}
 use Rattle.portal_model.specs.declared.change.Answer.{Answer}
+use Rattle.portal_model.specs.declared.refusal.Refusal.{Refusal}
 use Rattle.portal_model.specs.declared.refusal.Refusal.TheVariants.{NoMemory, Stopped}
 use Rattle.portal_ledger.specs.Ledger.{Accepted, Ledger}
 use Rattle.portal_ledger.specs.States.{State, running, stopped}
@@ -11,6 +12,10 @@ use Rattle.portal_checks.specs.declared.wanted.Wanted.{Wanted}
 use Rattle.portal_checks.specs.declared.wanted.Wanted.TheVariants.{Act}
 use Rattle.portal_http.specs.Replies.{IsRefusal, IsAnswer}
 use Rattle.portal_http.specs.Runs.{CarriesOut}
+
+-- the response of a refusal, or that of want of memory in its place
+abbrev pub Tells : Refusal → ℕ → List ℕ → Type 0
+Tells r moment bytes = IsRefusal r moment bytes ⊎ ((r ≢ Stopped) × IsRefusal NoMemory moment bytes)
 
 -- it is kept and answered; or there was no memory, and nothing has changed; or the desk stopped, and the command is in doubt
 abbrev pub Finishes : Ledger → Accepted → Answer → ℕ → List ℕ → State → Type 0

@@ -4,6 +4,7 @@
 mod arrivals;
 pub mod exchanges;
 mod lives;
+mod reply;
 mod responses;
 mod runs;
 mod serving;

@@ -1,18 +1,16 @@
 //! One request, from its bytes to its response.
 ghost use Rattle.std.specs.Prelude.{◌≡◌, ◌≢◌, ◌⊎◌, Some, None, IfErr, MatchResult};
-ghost use Rattle.portal_model.specs.Change.{answer_of};
 ghost use Rattle.portal_model.specs.Verdict.{IsWellFormed};
-ghost use Rattle.portal_ledger.specs.Ledger.{Accepted, Ledger};
-ghost use Rattle.portal_ledger.specs.States.{State, running};
-ghost use Rattle.portal_ledger.specs.Calls.{Fits};
 ghost use Rattle.portal_checks.specs.declared.wanted.Wanted.TheVariants as wanted;
 ghost use Rattle.portal_checks.specs.Checks.{IsInOrder};
-ghost use Rattle.portal_desk.specs.Calls.{StaysStopped};
 ghost use Rattle.portal_http.specs.Replies.{IsRefusal, IsDenial};
+ghost use Rattle.portal_http.specs.Responses.{IsSpare};
 ghost use Rattle.portal_http.specs.Runs.{Step};
-ghost use Rattle.portal_http.specs.Serving.{Finishes, Serves, ServesWanted};
+ghost use Rattle.portal_http.specs.Serving.{Tells};
+ghost use Rattle.portal_http.specs.Calls.{FinishesAt, Moves, ServesAt};
 
 use crate::arrivals::Arrival;
+use crate::reply::Response;
 use crate::responses::{
     answer_response, captive_response, denial_response, refusal_response, sessions_response,
     sheet_response, takings_response, voucher_response,
@@ -30,17 +28,20 @@ use portal_model::refusal::Refusal;
 use portal_route::Routes;
 use std::alloc::Global;
 
-/// The two responses that may be wanted when there is no memory for one: they are made before the desk is asked.
+/// The two responses that may be wanted when there is no memory for one: they are made before the desk is
+/// asked.
 #[derive(Drop)]
 pub struct Spare {
-    pub no_memory: Vec<u8>,
-    pub stopped: Vec<u8>,
+    pub no_memory: Response,
+    pub stopped: Response,
 }
 
-/// The response to a request that does not reach the desk, or that of `NoMemory` where there is no memory for it.
-fn denied(alloc: Global, moment: Moment, denied: Denied, spare: Spare) -> Vec<u8>
-    requires no_memory { IsRefusal Refusal.NoMemory moment spare.no_memory.items }
-    ensures { IsDenial denied moment result.items ⊎ IsRefusal Refusal.NoMemory moment result.items }
+/// The response to a request that does not reach the desk, or that of `NoMemory` where there is no memory for
+/// it.
+fn denied(alloc: Global, moment: Moment, denied: Denied, spare: Spare) -> Response
+    requires { IsRefusal Refusal.NoMemory moment spare.no_memory.bytes.items }
+    ensures { IsDenial denied moment result.bytes.items
+        ⊎ IsRefusal Refusal.NoMemory moment result.bytes.items }
 {
     match denial_response(alloc, moment, denied) {
         Ok(response) => response,
@@ -49,10 +50,9 @@ fn denied(alloc: Global, moment: Moment, denied: Denied, spare: Spare) -> Vec<u8
 }
 
 /// The response of a refusal of the desk, or that of `NoMemory` where there is no memory for it.
-fn told(alloc: Global, moment: Moment, refusal: Refusal, spare: Spare) -> Vec<u8>
-    requires no_memory { IsRefusal Refusal.NoMemory moment spare.no_memory.items }
-    requires stopped { IsRefusal Refusal.Stopped moment spare.stopped.items }
-    ensures { IsRefusal refusal moment result.items ⊎ ((refusal ≢ Refusal.Stopped) × IsRefusal Refusal.NoMemory moment result.items) }
+fn told(alloc: Global, moment: Moment, refusal: Refusal, spare: Spare) -> Response
+    requires { IsSpare moment spare }
+    ensures { Tells refusal moment result.bytes.items }
 {
     match refusal {
         Refusal::Stopped => spare.stopped,
@@ -64,9 +64,9 @@ fn told(alloc: Global, moment: Moment, refusal: Refusal, spare: Spare) -> Vec<u8
 }
 
 /// The response to a command that was not kept: after `Stopped` it is in doubt, and else nothing has changed.
-fn unkept(refusal: Refusal, spare: Spare) -> Vec<u8>
-    ensures stopped { (refusal ≡ Refusal.Stopped) → result.items ≡ spare.stopped.items }
-    ensures no_memory { (refusal ≢ Refusal.Stopped) → result.items ≡ spare.no_memory.items }
+fn unkept(refusal: Refusal, spare: Spare) -> Response
+    ensures stopped { (refusal ≡ Refusal.Stopped) → result.bytes.items ≡ spare.stopped.bytes.items }
+    ensures no_memory { (refusal ≢ Refusal.Stopped) → result.bytes.items ≡ spare.no_memory.bytes.items }
 {
     match refusal {
         Refusal::Stopped => spare.stopped,
@@ -81,14 +81,9 @@ fn serve_state<D: Desk>(
     moment: Moment,
     device: Device,
     spare: Spare,
-) -> Vec<u8>
-    requires no_memory { IsRefusal Refusal.NoMemory moment spare.no_memory.items }
-    requires stopped { IsRefusal Refusal.Stopped moment spare.stopped.items }
-    ensures told { D.settings desk.new ≡ D.settings desk.old }
-    ensures honest { D.is_honest desk.new → D.is_honest desk.old }
-    ensures stays { StaysStopped (D.has_stopped desk.old) (D.has_stopped desk.new) }
-    ensures step { D.is_honest desk.new → (old : State) → D.stands desk.old old → (new : State) × D.stands desk.new new
-        × ServesWanted (D.settings desk.old) (wanted.State device) old moment result.items new }
+) -> Response
+    requires { IsSpare moment spare }
+    ensures { ServesAt D.Desk (wanted.State device) moment result.bytes.items desk.old desk.new }
 {
     match desk.state(moment, device) {
         Ok(captive) => match captive_response(alloc, desk.settings(), moment, &captive) {
@@ -106,14 +101,9 @@ fn serve_sheet<D: Desk>(
     moment: Moment,
     id: Id,
     spare: Spare,
-) -> Vec<u8>
-    requires no_memory { IsRefusal Refusal.NoMemory moment spare.no_memory.items }
-    requires stopped { IsRefusal Refusal.Stopped moment spare.stopped.items }
-    ensures told { D.settings desk.new ≡ D.settings desk.old }
-    ensures honest { D.is_honest desk.new → D.is_honest desk.old }
-    ensures stays { StaysStopped (D.has_stopped desk.old) (D.has_stopped desk.new) }
-    ensures step { D.is_honest desk.new → (old : State) → D.stands desk.old old → (new : State) × D.stands desk.new new
-        × ServesWanted (D.settings desk.old) (wanted.Sheet id) old moment result.items new }
+) -> Response
+    requires { IsSpare moment spare }
+    ensures { ServesAt D.Desk (wanted.Sheet id) moment result.bytes.items desk.old desk.new }
 {
     match desk.batch(alloc, &id) {
         Ok(sheet) => match sheet_response(alloc, desk.settings(), moment, &sheet) {
@@ -131,14 +121,9 @@ fn serve_voucher<D: Desk>(
     moment: Moment,
     code: Code,
     spare: Spare,
-) -> Vec<u8>
-    requires no_memory { IsRefusal Refusal.NoMemory moment spare.no_memory.items }
-    requires stopped { IsRefusal Refusal.Stopped moment spare.stopped.items }
-    ensures told { D.settings desk.new ≡ D.settings desk.old }
-    ensures honest { D.is_honest desk.new → D.is_honest desk.old }
-    ensures stays { StaysStopped (D.has_stopped desk.old) (D.has_stopped desk.new) }
-    ensures step { D.is_honest desk.new → (old : State) → D.stands desk.old old → (new : State) × D.stands desk.new new
-        × ServesWanted (D.settings desk.old) (wanted.Voucher code) old moment result.items new }
+) -> Response
+    requires { IsSpare moment spare }
+    ensures { ServesAt D.Desk (wanted.Voucher code) moment result.bytes.items desk.old desk.new }
 {
     match desk.voucher(&code) {
         Ok(voucher) => match voucher_response(alloc, moment, &voucher) {
@@ -156,14 +141,9 @@ fn serve_takings<D: Desk>(
     moment: Moment,
     range: DayRange,
     spare: Spare,
-) -> Vec<u8>
-    requires no_memory { IsRefusal Refusal.NoMemory moment spare.no_memory.items }
-    requires stopped { IsRefusal Refusal.Stopped moment spare.stopped.items }
-    ensures told { D.settings desk.new ≡ D.settings desk.old }
-    ensures honest { D.is_honest desk.new → D.is_honest desk.old }
-    ensures stays { StaysStopped (D.has_stopped desk.old) (D.has_stopped desk.new) }
-    ensures step { D.is_honest desk.new → (old : State) → D.stands desk.old old → (new : State) × D.stands desk.new new
-        × ServesWanted (D.settings desk.old) (wanted.Takings range) old moment result.items new }
+) -> Response
+    requires { IsSpare moment spare }
+    ensures { ServesAt D.Desk (wanted.Takings range) moment result.bytes.items desk.old desk.new }
 {
     match desk.takings(alloc, range) {
         Ok(days) => match takings_response(alloc, moment, days.as_slice()) {
@@ -175,14 +155,9 @@ fn serve_takings<D: Desk>(
 }
 
 /// The open sessions.
-fn serve_sessions<D: Desk>(alloc: Global, desk: &mut D, moment: Moment, spare: Spare) -> Vec<u8>
-    requires no_memory { IsRefusal Refusal.NoMemory moment spare.no_memory.items }
-    requires stopped { IsRefusal Refusal.Stopped moment spare.stopped.items }
-    ensures told { D.settings desk.new ≡ D.settings desk.old }
-    ensures honest { D.is_honest desk.new → D.is_honest desk.old }
-    ensures stays { StaysStopped (D.has_stopped desk.old) (D.has_stopped desk.new) }
-    ensures step { D.is_honest desk.new → (old : State) → D.stands desk.old old → (new : State) × D.stands desk.new new
-        × ServesWanted (D.settings desk.old) wanted.OpenSessions old moment result.items new }
+fn serve_sessions<D: Desk>(alloc: Global, desk: &mut D, moment: Moment, spare: Spare) -> Response
+    requires { IsSpare moment spare }
+    ensures { ServesAt D.Desk wanted.OpenSessions moment result.bytes.items desk.old desk.new }
 {
     match desk.open_now(alloc, moment) {
         Ok(sessions) => match sessions_response(alloc, moment, sessions.as_slice()) {
@@ -200,14 +175,9 @@ fn serve_prepared<D: Desk>(
     moment: Moment,
     prepared: Prepared,
     spare: Spare,
-) -> Vec<u8>
-    requires no_memory { IsRefusal Refusal.NoMemory moment spare.no_memory.items }
-    requires stopped { IsRefusal Refusal.Stopped moment spare.stopped.items }
-    ensures told { D.settings desk.new ≡ D.settings desk.old }
-    ensures honest { D.is_honest desk.new → D.is_honest desk.old }
-    ensures stays { StaysStopped (D.has_stopped desk.old) (D.has_stopped desk.new) }
-    ensures finished { D.is_honest desk.new → (L : Ledger) → D.stands desk.old (running L) → (a : Accepted) → Fits (running L) prepared a
-        → (new : State) × D.stands desk.new new × Finishes L a (answer_of prepared.changes) moment result.items new }
+) -> Response
+    requires { IsSpare moment spare }
+    ensures { FinishesAt D.Desk prepared moment result.bytes.items desk.old desk.new }
 {
     match answer_response(alloc, moment, prepared.answer()) {
         Err(_) => spare.no_memory,
@@ -225,15 +195,10 @@ fn serve_unmarked<D: Desk>(
     moment: Moment,
     command: Command,
     spare: Spare,
-) -> Vec<u8>
+) -> Response
     requires well_formed { IsWellFormed command }
-    requires no_memory { IsRefusal Refusal.NoMemory moment spare.no_memory.items }
-    requires stopped { IsRefusal Refusal.Stopped moment spare.stopped.items }
-    ensures told { D.settings desk.new ≡ D.settings desk.old }
-    ensures honest { D.is_honest desk.new → D.is_honest desk.old }
-    ensures stays { StaysStopped (D.has_stopped desk.old) (D.has_stopped desk.new) }
-    ensures step { D.is_honest desk.new → (old : State) → D.stands desk.old old → (new : State) × D.stands desk.new new
-        × Serves (D.settings desk.old) command None old moment result.items new }
+    requires spare { IsSpare moment spare }
+    ensures { ServesAt D.Desk (wanted.Act command None) moment result.bytes.items desk.old desk.new }
 {
     match desk.prepare(alloc, moment, command) {
         Err(refusal) => told(alloc, moment, refusal, spare),
@@ -249,15 +214,11 @@ fn serve_marked<D: Desk>(
     command: Command,
     mark: &RequestMark,
     spare: Spare,
-) -> Vec<u8>
+) -> Response
     requires well_formed { IsWellFormed command }
-    requires no_memory { IsRefusal Refusal.NoMemory moment spare.no_memory.items }
-    requires stopped { IsRefusal Refusal.Stopped moment spare.stopped.items }
-    ensures told { D.settings desk.new ≡ D.settings desk.old }
-    ensures honest { D.is_honest desk.new → D.is_honest desk.old }
-    ensures stays { StaysStopped (D.has_stopped desk.old) (D.has_stopped desk.new) }
-    ensures step { D.is_honest desk.new → (old : State) → D.stands desk.old old → (new : State) × D.stands desk.new new
-        × Serves (D.settings desk.old) command (Some mark.now) old moment result.items new }
+    requires spare { IsSpare moment spare }
+    ensures { ServesAt D.Desk (wanted.Act command (Some mark.now)) moment result.bytes.items
+        desk.old desk.new }
 {
     match desk.prepare_marked(alloc, moment, command, mark) {
         Err(refusal) => told(alloc, moment, refusal, spare),
@@ -270,19 +231,16 @@ fn serve_marked<D: Desk>(
 }
 
 /// The responses that are made before the desk is asked; without memory for both, that of `NoMemory` alone.
-fn spare_responses(alloc: Global, moment: Moment) -> Result<Result<Spare, Vec<u8>>, Refusal>
+fn spare_responses(alloc: Global, moment: Moment) -> Result<Result<Spare, Response>, Refusal>
     ensures { MatchResult result
-        (λ made. MatchResult made
-        (λ spare. IsRefusal Refusal.NoMemory moment spare.no_memory.items × IsRefusal Refusal.Stopped moment spare.stopped.items)
-        (λ response. IsRefusal Refusal.NoMemory moment response.items))
+        (λ made. MatchResult made (IsSpare moment)
+        (λ response. IsRefusal Refusal.NoMemory moment response.bytes.items))
         (λ r. r ≡ Refusal.NoMemory) }
 {
-    match refusal_response(alloc, moment, Refusal::NoMemory) {
-        Err(r) => Err(r),
-        Ok(no_memory) => match refusal_response(alloc, moment, Refusal::Stopped) {
-            Ok(stopped) => Ok(Ok(Spare { no_memory, stopped })),
-            Err(_) => Ok(Err(no_memory)),
-        },
+    let no_memory = refusal_response(alloc, moment, Refusal::NoMemory)?;
+    match refusal_response(alloc, moment, Refusal::Stopped) {
+        Ok(stopped) => Ok(Ok(Spare { no_memory, stopped })),
+        Err(_) => Ok(Err(no_memory)),
     }
 }
 
@@ -293,15 +251,10 @@ fn serve_wanted<D: Desk>(
     moment: Moment,
     wanted: Wanted,
     spare: Spare,
-) -> Vec<u8>
+) -> Response
     requires in_order { IsInOrder wanted }
-    requires no_memory { IsRefusal Refusal.NoMemory moment spare.no_memory.items }
-    requires stopped { IsRefusal Refusal.Stopped moment spare.stopped.items }
-    ensures told { D.settings desk.new ≡ D.settings desk.old }
-    ensures honest { D.is_honest desk.new → D.is_honest desk.old }
-    ensures stays { StaysStopped (D.has_stopped desk.old) (D.has_stopped desk.new) }
-    ensures step { D.is_honest desk.new → (old : State) → D.stands desk.old old → (new : State) × D.stands desk.new new
-        × ServesWanted (D.settings desk.old) wanted old moment result.items new }
+    requires spare { IsSpare moment spare }
+    ensures { ServesAt D.Desk wanted moment result.bytes.items desk.old desk.new }
 {
     match wanted {
         Wanted::State(device) => serve_state(alloc, desk, moment, device, spare),
@@ -323,14 +276,10 @@ fn serve_checked<D: Desk>(
     routes: &Routes,
     arrival: &Arrival,
     spare: Spare,
-) -> Vec<u8>
-    requires no_memory { IsRefusal Refusal.NoMemory arrival.now.moment spare.no_memory.items }
-    requires stopped { IsRefusal Refusal.Stopped arrival.now.moment spare.stopped.items }
-    ensures told { D.settings desk.new ≡ D.settings desk.old }
-    ensures honest { D.is_honest desk.new → D.is_honest desk.old }
-    ensures stays { StaysStopped (D.has_stopped desk.old) (D.has_stopped desk.new) }
-    ensures step { D.is_honest desk.new → (old : State) → D.stands desk.old old → (new : State) × D.stands desk.new new
-        × Step (D.settings desk.old) old arrival.now result.items new }
+) -> Response
+    requires { IsSpare arrival.now.moment spare }
+    ensures { Moves D.Desk (λ old new. Step (D.settings desk.old) old arrival.now result.bytes.items new)
+        desk.old desk.new }
 {
     let moment = arrival.moment();
     match check_request(
@@ -338,7 +287,7 @@ fn serve_checked<D: Desk>(
         desk.settings(),
         routes,
         arrival.seed(),
-        arrival.bytes(),
+        arrival.received(),
     ) {
         Err(refused) => denied(alloc, moment, refused, spare),
         Ok(wanted) => serve_wanted(alloc, desk, moment, wanted, spare),
@@ -351,17 +300,14 @@ pub fn serve<D: Desk>(
     desk: &mut D,
     routes: &Routes,
     arrival: &Arrival,
-) -> Result<Vec<u8>, Refusal>
-    ensures told { D.settings desk.new ≡ D.settings desk.old }
+) -> Result<Response, Refusal>
     ensures err { IfErr result (λ r. r ≡ Refusal.NoMemory) }
-    ensures honest { D.is_honest desk.new → D.is_honest desk.old }
-    ensures stays { StaysStopped (D.has_stopped desk.old) (D.has_stopped desk.new) }
-    ensures step { D.is_honest desk.new → (old : State) → D.stands desk.old old → (new : State) × D.stands desk.new new
-        × MatchResult result (λ response. Step (D.settings desk.old) old arrival.now response.items new) (λ _. new ≡ old) }
+    ensures desk { Moves D.Desk (λ old new. MatchResult result
+        (λ response. Step (D.settings desk.old) old arrival.now response.bytes.items new) (λ _. new ≡ old))
+        desk.old desk.new }
 {
-    match spare_responses(alloc, arrival.moment()) {
-        Err(r) => Err(r),
-        Ok(Err(response)) => Ok(response),
-        Ok(Ok(spare)) => Ok(serve_checked(alloc, desk, routes, arrival, spare)),
+    match spare_responses(alloc, arrival.moment())? {
+        Ok(spare) => Ok(serve_checked(alloc, desk, routes, arrival, spare)),
+        Err(response) => Ok(response),
     }
 }

@@ -1,3 +1,4 @@
+pub mod Common
 pub mod ObjectLemmas
 pub mod SessionLemmas
 pub mod TextLemmas

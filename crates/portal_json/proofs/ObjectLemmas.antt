@@ -1,14 +1,10 @@
 -- Objects whose keys are put in in byte order.
-use Rattle.std.proofs.Common.{◌≡◌, Bool, true, false, ◌&&◌, List, [], ◌∷◌, ◌++◌, ℕ, Option, Some, None, Result, Ok, Err, refl, sym, ap, ◌∙◌, append_assoc, append-nil}
-use Rattle.std.specs.Prelude.{IfOk, String, string_bytes}
+use Rattle.portal_json.proofs.Common.{◌≡◌, Bool, true, false, ◌&&◌, List, [], ◌∷◌, ◌++◌, ℕ, Option, Some, None, Result, Ok, Err, refl, sym, ap, ◌∙◌, append_assoc, append-nil, IfOk, String, string_bytes, Data, member, no_members, object, put, compact_text, Keyed, members_in_order, put_some, put_all, object_of}
 use Rattle.std.specs.declared.alloc.Global.{Global}
 use Rattle.std.specs.declared.cmp.Ordering.{Ordering}
 use Rattle.std.specs.declared.cmp.Ordering.TheVariants.{Less, Equal, Greater}
 use Rattle.std.specs.Ordering.{nat_cmp, is_gt, match_ordering}
 use Rattle.std.specs.Cmp.Lexicographic.{slice_cmp}
-use Rattle.serde_json.specs.Data.{Data, member, no_members, object, put}
-use Rattle.serde_json.specs.Written.{compact_text}
-use Rattle.portal_json.specs.Objects.{Keyed, members_in_order, put_some, put_all, object_of}
 
 -- the key comes after each of these
 abbrev is_after : List Keyed → List ℕ → Bool

@@ -1,13 +1,8 @@
 -- Open sessions as values, one after another.
-use Rattle.std.proofs.Common.{◌≡◌, ℕ, ◌+◌, ◌<◌, Bool, false, ◌||◌, List, [], ◌∷◌, ◌++◌, length, map, take, get_or, Option, Some, None, refl, sym, ap, ◌∙◌}
+use Rattle.portal_json.proofs.Common.{◌≡◌, ℕ, ◌+◌, ◌<◌, Bool, false, ◌||◌, List, [], ◌∷◌, ◌++◌, length, map, take, get_or, Option, Some, None, refl, sym, ap, ◌∙◌, Data, object, no_members, view, items_of, has_float, items_have_float, put_all, session_keys, session_data, sessions_data}
 use Rattle.std.proofs.lemmas.List.{map-append, take_more}
-use Rattle.serde_json.specs.Data.{Data, object, no_members}
-use Rattle.serde_json.specs.View.{view, items_of}
-use Rattle.serde_json.specs.Written.{has_float, items_have_float}
 use Rattle.serde_json.specs.declared.value.Value.{Value}
 use Rattle.portal_model.specs.declared.captive.OpenSession.{OpenSession}
-use Rattle.portal_json.specs.Objects.{put_all}
-use Rattle.portal_json.specs.Bodies.{session_keys, session_data, sessions_data}
 use Rattle.portal_json.proofs.ObjectLemmas.{put_all-rising}
 
 pub session_in_order : (s : OpenSession) → object (put_all (session_keys s) no_members) ≡ session_data s

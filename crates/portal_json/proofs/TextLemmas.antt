@@ -1,6 +1,5 @@
 -- The text of a device is ASCII.
-use Rattle.std.proofs.Common.{ℕ, ◌<◌, ◌/◌, ◌%◌, List, [], ◌∷◌, map, arith}
-use Rattle.std.specs.Prelude.{IsAscii, All}
+use Rattle.portal_json.proofs.Common.{ℕ, ◌<◌, ◌/◌, ◌%◌, List, [], ◌∷◌, map, arith, IsAscii, All}
 use Rattle.std.specs.List.{join_with_byte}
 use Rattle.std.proofs.lemmas.Bool.Decides.{nat_tests}
 use Rattle.std.proofs.lemmas.List.Elements.{All-head, All-tail}

@@ -47,10 +47,8 @@ pub fn answer_text(alloc: Global, answer: Answer) -> Result<String, Refusal>
     ensures ok { IfOk result (λ text. string_bytes text ≡ answer_body answer) }
     ensures err { IfErr result (λ refusal. refusal ≡ Refusal.NoMemory) }
 {
-    match answer_value(alloc, answer) {
-        Ok(value) => written(alloc, &value),
-        Err(_) => Err(Refusal::NoMemory),
-    }
+    let value = answer_value(alloc, answer)?;
+    written(alloc, &value)
 }
 
 fn error_value(alloc: Global, refusal: Refusal) -> Result<Value, AllocError>
@@ -65,8 +63,6 @@ pub fn error_text(alloc: Global, refusal: Refusal) -> Result<String, Refusal>
     ensures ok { IfOk result (λ text. string_bytes text ≡ error_body refusal) }
     ensures err { IfErr result (λ refusal. refusal ≡ Refusal.NoMemory) }
 {
-    match error_value(alloc, refusal) {
-        Ok(value) => written(alloc, &value),
-        Err(_) => Err(Refusal::NoMemory),
-    }
+    let value = error_value(alloc, refusal)?;
+    written(alloc, &value)
 }

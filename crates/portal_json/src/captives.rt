@@ -57,8 +57,6 @@ pub fn captive_text(
         ≡ captive_body state.now portal_url.now (option_map (λ url. url.now) venue_url.entry)) }
     ensures err { IfErr result (λ refusal. refusal ≡ Refusal.NoMemory) }
 {
-    match captive_value(alloc, state, portal_url, venue_url) {
-        Ok(value) => written(alloc, &value),
-        Err(_) => Err(Refusal::NoMemory),
-    }
+    let value = captive_value(alloc, state, portal_url, venue_url)?;
+    written(alloc, &value)
 }

@@ -30,20 +30,14 @@ pub fn put_some(
 pub fn number(value: Option<u64>) -> Option<Value>
     ensures { option_map view result ≡ option_map whole value }
 {
-    match value {
-        None => None,
-        Some(number) => Some(Value::from(number)),
-    }
+    value.map(|number| Value::from(number))
 }
 
 /// A truth value, where there is one.
 pub fn flag(value: Option<bool>) -> Option<Value>
     ensures { option_map view result ≡ option_map boolean value }
 {
-    match value {
-        None => None,
-        Some(flag) => Some(Value::Bool(flag)),
-    }
+    value.map(|flag| Value::Bool(flag))
 }
 
 /// A text, where there is one.
@@ -52,10 +46,7 @@ pub fn text(alloc: Global, value: Option<&str>) -> Result<Option<Value>, AllocEr
 {
     match value {
         None => Ok(None),
-        Some(text) => {
-            let text = String::from_str(alloc, text)?;
-            Ok(Some(Value::String(text)))
-        }
+        Some(text) => Ok(Some(Value::String(String::from_str(alloc, text)?))),
     }
 }
 
@@ -63,10 +54,7 @@ pub fn text(alloc: Global, value: Option<&str>) -> Result<Option<Value>, AllocEr
 pub fn number_or_null(value: Option<u64>) -> Value
     ensures { view result ≡ whole_or_null value }
 {
-    match value {
-        None => Value::Null,
-        Some(number) => Value::from(number),
-    }
+    value.map_or(Value::Null, |number| Value::from(number))
 }
 
 /// ASCII bytes, as text.
@@ -83,8 +71,5 @@ pub fn written(alloc: Global, value: &Value) -> Result<String, Refusal>
     ensures ok { IfOk result (λ text. string_bytes text ≡ compact_text (view value.now)) }
     ensures err { IfErr result (λ refusal. refusal ≡ Refusal.NoMemory) }
 {
-    match value.to_string(alloc) {
-        Ok(text) => Ok(text),
-        Err(_) => Err(Refusal::NoMemory),
-    }
+    Ok(value.to_string(alloc)?)
 }

@@ -45,14 +45,11 @@ fn read_value(alloc: Global, body: &[u8]) -> Result<Value, Refusal>
     ensures err { IfErr result (λ r. ((r ≡ Refusal.BadRequest) × ((value : Data) → ¬ (Reads body.now value)))
         ⊎ (r ≡ Refusal.NoMemory)) }
 {
-    match Value::from_slice(alloc, body) {
-        Ok(value) => Ok(value),
-        Err(error) => if error.is_memory() {
-            Err(Refusal::NoMemory)
-        } else {
-            Err(Refusal::BadRequest)
-        },
-    }
+    Value::from_slice(alloc, body).map_err(|error| if error.is_memory() {
+        Refusal::NoMemory
+    } else {
+        Refusal::BadRequest
+    })
 }
 
 /// The text under a key.
@@ -77,36 +74,25 @@ fn number_in(value: &Value, key: &str) -> Option<u64>
 /// The id under a key.
 fn id_in(value: &Value, key: &str) -> Option<Id>
     ensures some { IfSome result (λ id. (text_at key.now (view value.now) ≡ Some id) × IsIdText id) }
-    ensures none { IfNone result ((id : List ℕ) → text_at key.now (view value.now) ≡ Some id → ¬ (IsIdText id)) }
+    ensures none { IfNone result
+        ((id : List ℕ) → text_at key.now (view value.now) ≡ Some id → ¬ (IsIdText id)) }
 {
-    match text_in(value, key) {
-        None => None,
-        Some(text) => Id::read(text),
-    }
+    Id::read(text_in(value, key)?)
 }
 
 /// The code under `code`.
 fn code_in(value: &Value) -> Result<Code, Refusal>
     ensures { CodeOrder (view value.now) result }
 {
-    match text_in(value, "code") {
-        None => Err(Refusal::BadRequest),
-        Some(text) => match Code::read(text) {
-            Ok(code) => Ok(code),
-            Err(_) => Err(Refusal::BadCode),
-        },
-    }
+    let text = text_in(value, "code").ok_or(Refusal::BadRequest)?;
+    Code::read(text).map_err(|_| Refusal::BadCode)
 }
 
 fn batch_in(value: &Value) -> Result<BatchOrder, Refusal>
     ensures { Exactly (IsBatchOrder (view value.now)) result }
 {
-    let Some(batch) = id_in(value, "batch") else {
-        return Err(Refusal::BadRequest);
-    };
-    let Some(plan) = id_in(value, "plan") else {
-        return Err(Refusal::BadRequest);
-    };
+    let batch = id_in(value, "batch").ok_or(Refusal::BadRequest)?;
+    let plan = id_in(value, "plan").ok_or(Refusal::BadRequest)?;
     match number_in(value, "count") {
         Some(count @ 1..=500) => Ok(BatchOrder { batch, plan, count }),
         _ => Err(Refusal::BadRequest),
@@ -116,32 +102,22 @@ fn batch_in(value: &Value) -> Result<BatchOrder, Refusal>
 fn report_in(value: &Value) -> Result<ReportOrder, Refusal>
     ensures { Exactly (IsReportOrder (view value.now)) result }
 {
-    let Some(session) = number_in(value, "session") else {
-        return Err(Refusal::BadRequest);
-    };
-    let Some(bytes) = number_in(value, "bytes") else {
-        return Err(Refusal::BadRequest);
-    };
+    let session = number_in(value, "session").ok_or(Refusal::BadRequest)?;
+    let bytes = number_in(value, "bytes").ok_or(Refusal::BadRequest)?;
     Ok(ReportOrder { session, bytes })
 }
 
 fn session_in(value: &Value) -> Result<u64, Refusal>
     ensures { Exactly (IsCloseOrder (view value.now)) result }
 {
-    match number_in(value, "session") {
-        Some(session) => Ok(session),
-        None => Err(Refusal::BadRequest),
-    }
+    number_in(value, "session").ok_or(Refusal::BadRequest)
 }
 
 /// The code of a body.
 fn read_code(alloc: Global, body: &[u8]) -> Result<Code, Refusal>
     ensures { FromBody CodeOrder body.now result }
 {
-    match read_value(alloc, body) {
-        Ok(value) => code_in(&value),
-        Err(refusal) => Err(refusal),
-    }
+    code_in(&read_value(alloc, body)?)
 }
 
 /// The code that a guest redeems, from `{"code": ..}`. Refused: `BadRequest`, and `BadCode` where
@@ -171,10 +147,7 @@ pub fn read_refund(alloc: Global, body: &[u8]) -> Result<Code, Refusal>
 pub fn read_batch(alloc: Global, body: &[u8]) -> Result<BatchOrder, Refusal>
     ensures { FromBody (λ value. Exactly (IsBatchOrder value)) body.now result }
 {
-    match read_value(alloc, body) {
-        Ok(value) => batch_in(&value),
-        Err(refusal) => Err(refusal),
-    }
+    batch_in(&read_value(alloc, body)?)
 }
 
 /// The gateway's report, from `{"session": .., "bytes": ..}`. Refused: `BadRequest`; `NoMemory`
@@ -182,10 +155,7 @@ pub fn read_batch(alloc: Global, body: &[u8]) -> Result<BatchOrder, Refusal>
 pub fn read_report(alloc: Global, body: &[u8]) -> Result<ReportOrder, Refusal>
     ensures { FromBody (λ value. Exactly (IsReportOrder value)) body.now result }
 {
-    match read_value(alloc, body) {
-        Ok(value) => report_in(&value),
-        Err(refusal) => Err(refusal),
-    }
+    report_in(&read_value(alloc, body)?)
 }
 
 /// The number of the session that is closed, from `{"session": ..}`. Refused: `BadRequest`;
@@ -193,8 +163,5 @@ pub fn read_report(alloc: Global, body: &[u8]) -> Result<ReportOrder, Refusal>
 pub fn read_close(alloc: Global, body: &[u8]) -> Result<u64, Refusal>
     ensures { FromBody (λ value. Exactly (IsCloseOrder value)) body.now result }
 {
-    match read_value(alloc, body) {
-        Ok(value) => session_in(&value),
-        Err(refusal) => Err(refusal),
-    }
+    session_in(&read_value(alloc, body)?)
 }

@@ -68,8 +68,6 @@ pub fn sessions_text(alloc: Global, sessions: &[OpenSession]) -> Result<String, 
     ensures ok { IfOk result (λ text. string_bytes text ≡ sessions_body sessions.now) }
     ensures err { IfErr result (λ refusal. refusal ≡ Refusal.NoMemory) }
 {
-    match sessions_value(alloc, sessions) {
-        Ok(value) => written(alloc, &value),
-        Err(_) => Err(Refusal::NoMemory),
-    }
+    let value = sessions_value(alloc, sessions)?;
+    written(alloc, &value)
 }

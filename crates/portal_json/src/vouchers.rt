@@ -14,10 +14,7 @@ use std::alloc::{AllocError, Global};
 fn seconds(moment: Option<Moment>) -> Option<u64>
     ensures { result ≡ moment }
 {
-    match moment {
-        None => None,
-        Some(moment) => Some(moment.get()),
-    }
+    moment.map(|moment| moment.get())
 }
 
 fn voucher_value(alloc: Global, voucher: &Voucher) -> Result<Value, AllocError>
@@ -44,8 +41,6 @@ pub fn voucher_text(alloc: Global, voucher: &Voucher) -> Result<String, Refusal>
     ensures ok { IfOk result (λ text. string_bytes text ≡ voucher_body voucher.now) }
     ensures err { IfErr result (λ refusal. refusal ≡ Refusal.NoMemory) }
 {
-    match voucher_value(alloc, voucher) {
-        Ok(value) => written(alloc, &value),
-        Err(_) => Err(Refusal::NoMemory),
-    }
+    let value = voucher_value(alloc, voucher)?;
+    written(alloc, &value)
 }

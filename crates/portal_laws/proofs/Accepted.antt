@@ -1,21 +1,12 @@
 -- What an accepted command found in the records.
-use Rattle.std.proofs.Common.{◌≡◌, ℕ, ◌<◌, Bool, true, false, List, [], ◌∷◌, Option, Some, None, refl, leb-false}
-use Rattle.std.specs.Prelude.{is_some, is_none, nat_le, nat_lt, ◌||◌}
-use Rattle.portal_model.specs.declared.plan.Plan.{Plan}
-use Rattle.portal_model.specs.declared.record.Batch.{Batch}
-use Rattle.portal_model.specs.declared.record.Voucher.{Voucher}
-use Rattle.portal_model.specs.declared.record.Session.{Session}
-use Rattle.portal_model.specs.declared.record.Head.{Head}
+use Rattle.portal_laws.proofs.Common.{cond, ◌≡◌, ℕ, ◌<◌, Bool, true, false, List, Option, Some, None, refl, leb-false, is_some, is_none, nat_le, nat_lt, ◌||◌, Plan, Batch, Voucher, Session, Head, expiry, kept_if, is_open_at, greatest_moment, stands_twice, issue_verdict, sell_verdict, voucher_refusal, place_verdict, else_verdict, redeem_verdict, report_verdict, refund_verdict, close_verdict}
 use Rattle.portal_model.specs.declared.refusal.Refusal.{Refusal}
-use Rattle.portal_model.specs.declared.refusal.Refusal.TheVariants.{BatchExists, CodeTaken, MomentRange, NotSold, Refunded, Expired, UsedUp, NothingLeft, SoldAlready, ClosedAlready}
-use Rattle.portal_model.specs.History.{expiry, kept_if, is_open_at}
-use Rattle.portal_model.specs.Verdict.{Check, first_refusal, greatest_moment, stands_twice, issue_verdict, sell_verdict, voucher_refusal, place_verdict, else_verdict, redeem_verdict, report_verdict, refund_verdict, close_verdict}
 use Rattle.portal_laws.proofs.Basics.{is_some-none, or-false}
 
 -- where no check refuses, the first does not hold and none of the others refuses
-pub passed : (b : Bool) (r : Refusal) (checks : List Check) → first_refusal ((b, r) ∷ checks) ≡ None → (b ≡ false) × (first_refusal checks ≡ None)
-passed true r checks e = cc
-passed false r checks e = (refl, e)
+pub passed : (b : Bool) (r : Refusal) (others : Option Refusal) → cond b (Some r) others ≡ None → (b ≡ false) × (others ≡ None)
+passed true r others e = cc
+passed false r others e = (refl, e)
 
 -- where two verdicts refuse nothing, neither does
 pub neither-refuses : (a b : Option Refusal) → else_verdict a b ≡ None → (a ≡ None) × (b ≡ None)
@@ -33,17 +24,15 @@ pub record IsIssuable (plan : Option Plan) (batch : Option Batch) (taken : Bool)
 pub issuable : (plan : Option Plan) (batch : Option Batch) (taken : Bool) (codes : List (List ℕ)) (t : ℕ) → issue_verdict plan batch taken codes t ≡ None → IsIssuable plan batch taken codes t
 issuable None batch taken codes t e = cc
 issuable (Some p) batch taken codes t e =
-    let third : List Check = (taken || stands_twice codes, CodeTaken) ∷ [] in
-    let second : List Check = (nat_lt greatest_moment (expiry t p), MomentRange) ∷ third in
-    let new = passed (is_some batch) BatchExists second e in
-    let timely = passed (nat_lt greatest_moment (expiry t p)) MomentRange third new.1 in
-    let apart = passed (taken || stands_twice codes) CodeTaken [] timely.1 in
+    let new = passed (is_some batch) _ _ e in
+    let timely = passed (nat_lt greatest_moment (expiry t p)) _ _ new.1 in
+    let apart = passed (taken || stands_twice codes) _ _ timely.1 in
     let parts = or-false taken (stands_twice codes) apart.0 in
     record { plan_is = p; known = refl; unknown = is_some-none batch new.0; timely = timely.0; free = parts.0; once = parts.1 }
 
 pub sellable : (o : Option Voucher) (t : ℕ) → sell_verdict o t ≡ None → (v : Voucher) × (o ≡ Some v) × (v.sold ≡ None)
 sellable None t e = cc
-sellable (Some v) t e = (v, refl, is_some-none v.sold (passed (is_some v.sold) SoldAlready ((nat_le v.expires t, Expired) ∷ []) e).0)
+sellable (Some v) t e = (v, refl, is_some-none v.sold (passed (is_some v.sold) _ _ e).0)
 
 pub redeemable : (head : Head) (o : Option Voucher) (last : Option Session) (t : ℕ) → redeem_verdict head o last t ≡ None
     → (v : Voucher) × (o ≡ Some v) × (voucher_refusal v t ≡ None) × (place_verdict head v.plan t (kept_if (is_open_at t) last) ≡ None)
@@ -55,13 +44,10 @@ redeemable head (Some v) last t e =
 -- a voucher that may be redeemed has a use left
 pub use-left : (v : Voucher) (t : ℕ) → voucher_refusal v t ≡ None → v.redeemed < v.plan.uses
 use-left v t e =
-    let fourth : List Check = (nat_le v.plan.uses v.redeemed, UsedUp) ∷ [] in
-    let third : List Check = (nat_le v.expires t, Expired) ∷ fourth in
-    let second : List Check = (is_some v.refund, Refunded) ∷ third in
-    let sold = passed (is_none v.sold) NotSold second e in
-    let kept = passed (is_some v.refund) Refunded third sold.1 in
-    let live = passed (nat_le v.expires t) Expired fourth kept.1 in
-    leb-false v.plan.uses v.redeemed (passed (nat_le v.plan.uses v.redeemed) UsedUp [] live.1).0
+    let sold = passed (is_none v.sold) _ _ e in
+    let kept = passed (is_some v.refund) _ _ sold.1 in
+    let live = passed (nat_le v.expires t) _ _ kept.1 in
+    leb-false v.plan.uses v.redeemed (passed (nat_le v.plan.uses v.redeemed) _ _ live.1).0
 
 pub reportable : (o : Option Session) → report_verdict o ≡ None → (s : Session) × (o ≡ Some s)
 reportable None e = cc
@@ -70,12 +56,10 @@ reportable (Some s) e = (s, refl)
 pub refundable : (o : Option Voucher) → refund_verdict o ≡ None → (v : Voucher) × (o ≡ Some v) × (v.refund ≡ None)
 refundable None e = cc
 refundable (Some v) e =
-    let third : List Check = (nat_le v.plan.uses v.redeemed, NothingLeft) ∷ [] in
-    let second : List Check = (is_some v.refund, Refunded) ∷ third in
-    let sold = passed (is_none v.sold) NotSold second e in
-    let kept = passed (is_some v.refund) Refunded third sold.1 in
+    let sold = passed (is_none v.sold) _ _ e in
+    let kept = passed (is_some v.refund) _ _ sold.1 in
     (v, refl, is_some-none v.refund kept.0)
 
 pub closable : (o : Option Session) → close_verdict o ≡ None → (s : Session) × (o ≡ Some s) × (s.closed ≡ None)
 closable None e = cc
-closable (Some s) e = (s, refl, is_some-none s.closed (passed (is_some s.closed) ClosedAlready [] e).0)
+closable (Some s) e = (s, refl, is_some-none s.closed (passed (is_some s.closed) _ _ e).0)

@@ -1,17 +1,8 @@
 -- Refunds, what remains, and the number of sessions.
-use Rattle.std.proofs.Common.{◌≡◌, ℕ, ◌-◌, ◌*◌, ◌<◌, ◌≤◌, Bool, true, false, cond, List, [], ◌∷◌, length, Option, Some, None, refl, arith, subst, ap, ◌∙◌}
-use Rattle.std.specs.Prelude.{bytes_eq, option_map, nat_eq, nat_lt, is_none, ◌&&◌, unwrap_or, filter}
-use Rattle.std.specs.Option.{option_or}
+use Rattle.portal_laws.proofs.Common.{All, All-nil, All-cons, All-weaker, ◌≡◌, ℕ, ◌-◌, ◌*◌, ◌<◌, ◌≤◌, Bool, true, false, cond, List, [], ◌∷◌, length, Option, Some, None, refl, arith, subst, ap, ◌∙◌, bytes_eq, option_map, nat_lt, is_none, ◌&&◌, unwrap_or, option_or, nat_tests, Issue, Redeem, Refund, Plan, Voucher, Session, entry, History, Issued, Grant, Repaid, repaid_at, amount_left, issued_of, refund_of, uses_of, voucher_row, grants_of, grant_at, greatest_session, members, oldest, last_number, session_of, session_row, last_session_of, kept_if, is_open_at, is_below, last_moment, effective_moment, IsLegal}
 use Rattle.std.proofs.Math.Nat.{div-le_of_le-mul, mul_comm, mul-le-mul_left}
-use Rattle.std.proofs.lemmas.Bool.Decides.{nat_tests}
-use Rattle.portal_model.specs.declared.command.Command.TheVariants.{Load, Issue, Sell, Redeem, Report, Refund, Close}
-use Rattle.portal_model.specs.declared.plan.Plan.{Plan}
-use Rattle.portal_model.specs.declared.record.Voucher.{Voucher}
-use Rattle.portal_model.specs.declared.record.Session.{Session}
-use Rattle.portal_model.specs.History.{entry, History, Issued, Grant, Repaid, repaid_at, amount_left, issued_of, refund_of, uses_of, voucher_row, grants_of, grant_at, greatest_session, members, oldest, last_number, session_of, session_row, last_session_of, kept_if, is_open_at, is_below, last_moment, effective_moment}
-use Rattle.portal_model.specs.Verdict.{IsLegal}
 use Rattle.portal_laws.specs.Laws.{SessionsAreFewer, RefundsAreBounded, RemainsIsBounded}
-use Rattle.portal_laws.proofs.Placing.{kept-some, number-of, number-le}
+use Rattle.portal_laws.proofs.Placing.{kept-some, number-of, number-le, granted, All-oldest}
 use Rattle.portal_laws.proofs.Basics.{and-true, some-of-map}
 
 -- Sessions are fewer than redemptions
@@ -31,13 +22,8 @@ low-running H t d s is =
 
 pub sessions_fewer : SessionsAreFewer
 sessions_fewer [] = omega arith
-sessions_fewer (entry t (Load plans) ∷ H) = sessions_fewer H
-sessions_fewer (entry t (Issue b p codes) ∷ H) = sessions_fewer H
-sessions_fewer (entry t (Sell c) ∷ H) = sessions_fewer H
 sessions_fewer (entry t (Redeem d c) ∷ H) = more-grants (issued_of H c) (grants_of H) (kept_if (is_open_at t) (last_session_of H d)) t d c (low-running H t d) (sessions_fewer H)
-sessions_fewer (entry t (Report n bytes) ∷ H) = sessions_fewer H
-sessions_fewer (entry t (Refund c) ∷ H) = sessions_fewer H
-sessions_fewer (entry t (Close n) ∷ H) = sessions_fewer H
+sessions_fewer (_ ∷ H) = sessions_fewer H
 
 -- A refund is at most the price
 
@@ -65,13 +51,9 @@ fits-repaid false o t n r h = h
 
 pub refund_fits : (H : History) (code : List ℕ) → IsLegal H → RefundFits (issued_of H code) (refund_of H code)
 refund_fits [] code legal = refl
-refund_fits (entry t (Load plans) ∷ H) code legal = refund_fits H code legal.1
 refund_fits (entry t (Issue b p codes) ∷ H) code legal = fits-or (issued_of H code) _ (refund_of H code) (refund_fits H code legal.1)
-refund_fits (entry t (Sell c) ∷ H) code legal = refund_fits H code legal.1
-refund_fits (entry t (Redeem d c) ∷ H) code legal = refund_fits H code legal.1
-refund_fits (entry t (Report n bytes) ∷ H) code legal = refund_fits H code legal.1
 refund_fits (entry t (Refund c) ∷ H) code legal = fits-repaid (bytes_eq c code) (issued_of H code) t (uses_of H code) (refund_of H code) (refund_fits H code legal.1)
-refund_fits (entry t (Close n) ∷ H) code legal = refund_fits H code legal.1
+refund_fits (_ ∷ H) code legal = refund_fits H code legal.1
 
 repaid-low : (i : Issued) (o : Option Repaid) (amount : ℕ) → RefundFits (Some i) o → option_map (λ (r : Repaid). r.amount) o ≡ Some amount → amount ≤ i.plan.price
 repaid-low i None amount h e = cc
@@ -87,48 +69,26 @@ refunds_bounded H legal code v amount is e =
 
 -- What remains
 
-abbrev AllBefore : ℕ → List Grant → Type 0
-AllBefore m [] = Unit {0}
-AllBefore m (g ∷ gs) = (g.at ≤ m) × AllBefore m gs
+abbrev IsBy : ℕ → Grant → Type 0
+IsBy m g = g.at ≤ m
 
-before-more : (m n : ℕ) (gs : List Grant) → m ≤ n → AllBefore m gs → AllBefore n gs
-before-more m n [] le h = tt
-before-more m n (g ∷ gs) le h = (omega (arith, h.0), before-more m n gs le h.1)
+by-later : (m n : ℕ) (gs : List Grant) → m ≤ n → All (IsBy m) gs → All (IsBy n) gs
+by-later m n gs le all = All-weaker (IsBy m) (IsBy n) (λ g h. omega arith) gs all
 
-before-placed : (o : Option Issued) (gs : List Grant) (running : Option Session) (t : ℕ) (d c : List ℕ) → AllBefore t gs → AllBefore t (unwrap_or (option_map (grant_at t d c gs running) o) gs)
-before-placed None gs running t d c h = h
-before-placed (Some i) gs running t d c h = (omega arith, h)
+by-placed : (o : Option Issued) (gs : List Grant) (running : Option Session) (t : ℕ) (d c : List ℕ) → All (IsBy t) gs → All (IsBy t) (unwrap_or (option_map (grant_at t d c gs running) o) gs)
+by-placed None gs running t d c all = all
+by-placed (Some i) gs running t d c all = All-cons (IsBy t) (granted gs running d c i t) gs (omega arith) all
 
-all_before : (H : History) → IsLegal H → AllBefore (last_moment H) (grants_of H)
-all_before [] legal = tt
-all_before (entry t (Load plans) ∷ H) legal = before-more (last_moment H) t (grants_of H) legal.0.in_order (all_before H legal.1)
-all_before (entry t (Issue b p codes) ∷ H) legal = before-more (last_moment H) t (grants_of H) legal.0.in_order (all_before H legal.1)
-all_before (entry t (Sell c) ∷ H) legal = before-more (last_moment H) t (grants_of H) legal.0.in_order (all_before H legal.1)
-all_before (entry t (Redeem d c) ∷ H) legal = before-placed (issued_of H c) (grants_of H) (kept_if (is_open_at t) (last_session_of H d)) t d c (before-more (last_moment H) t (grants_of H) legal.0.in_order (all_before H legal.1))
-all_before (entry t (Report n bytes) ∷ H) legal = before-more (last_moment H) t (grants_of H) legal.0.in_order (all_before H legal.1)
-all_before (entry t (Refund c) ∷ H) legal = before-more (last_moment H) t (grants_of H) legal.0.in_order (all_before H legal.1)
-all_before (entry t (Close n) ∷ H) legal = before-more (last_moment H) t (grants_of H) legal.0.in_order (all_before H legal.1)
-
-before-filter : (m : ℕ) (f : Grant → Bool) (gs : List Grant) → AllBefore m gs → AllBefore m (filter f gs)
-before-filter m f [] h = tt
-before-filter m f (g ∷ gs) h = go (f g) (before-filter m f gs h.1)
-  where
-    go : (b : Bool) → AllBefore m (filter f gs) → AllBefore m (cond b (g ∷ filter f gs) (filter f gs))
-    go true rest = (h.0, rest)
-    go false rest = rest
-
-before-oldest : (m : ℕ) (gs : List Grant) (g : Grant) → AllBefore m gs → oldest gs ≡ Some g → g.at ≤ m
-before-oldest m [] g h e = cc
-before-oldest m (x ∷ gs) g h e = go (oldest gs) e (λ y is. before-oldest m gs y h.1 is)
-  where
-    go : (o : Option Grant) → option_or o (Some x) ≡ Some g → ((y : Grant) → o ≡ Some y → y.at ≤ m) → g.at ≤ m
-    go None e' rest = let same : x ≡ g = cc in subst (λ (y : Grant). y.at ≤ m) same h.0
-    go (Some y) e' rest = rest g e'
+all_before : (H : History) → IsLegal H → All (IsBy (last_moment H)) (grants_of H)
+all_before [] legal = All-nil (IsBy 0)
+all_before (entry t (Redeem d c) ∷ H) legal =
+    by-placed (issued_of H c) (grants_of H) (kept_if (is_open_at t) (last_session_of H d)) t d c (by-later (last_moment H) t (grants_of H) legal.0.in_order (all_before H legal.1))
+all_before (entry t _ ∷ H) legal = by-later (last_moment H) t (grants_of H) legal.0.in_order (all_before H legal.1)
 
 opened-before : (H : History) → IsLegal H → (n : ℕ) (s : Session) → session_of H n ≡ Some s → s.opened ≤ last_moment H
 opened-before H legal n s e =
     let found = some-of-map (session_row H n (members (grants_of H) n)) (oldest (members (grants_of H) n)) s e in
-    let low = before-oldest (last_moment H) (members (grants_of H) n) found.0 (before-filter (last_moment H) (λ g. nat_eq g.session n) (grants_of H) (all_before H legal)) found.1 in
+    let low = All-oldest (IsBy (last_moment H)) (grants_of H) n found.0 (all_before H legal) found.1 in
     subst (λ (r : Session). r.opened ≤ last_moment H) found.2 low
 
 below-is : (t : ℕ) (o : Option ℕ) (limit : ℕ) → is_below t o ≡ true → o ≡ Some limit → t < limit

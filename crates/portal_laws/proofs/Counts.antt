@@ -1,11 +1,5 @@
 -- A voucher's redemptions are its rows of portal_grants.
-use Rattle.std.proofs.Common.{◌≡◌, ℕ, ◌+◌, Bool, true, false, cond, List, [], ◌∷◌, Option, length, refl, arith, ap, sym, ◌∙◌}
-use Rattle.std.specs.Prelude.{bytes_eq, count_by}
-use Rattle.std.proofs.lemmas.List.Sums.{sum_by_push}
-use Rattle.portal_model.specs.declared.command.Command.TheVariants.{Load, Issue, Sell, Redeem, Report, Refund, Close}
-use Rattle.portal_model.specs.declared.record.Session.{Session}
-use Rattle.portal_model.specs.History.{entry, History, Grant, uses_of, grants_of, kept_if, is_open_at, last_session_of}
-use Rattle.portal_model.specs.Rows.{GrantRow, grant_rows, row_of_grant}
+use Rattle.portal_laws.proofs.Common.{◌≡◌, ℕ, ◌+◌, Bool, true, false, cond, List, [], ◌∷◌, Option, length, refl, arith, ap, sym, ◌∙◌, bytes_eq, count_by, sum_by_push, Redeem, Session, entry, History, Grant, uses_of, grants_of, kept_if, is_open_at, last_session_of, GrantRow, grant_rows, row_of_grant}
 use Rattle.portal_laws.specs.Laws.{UsesAreRows}
 use Rattle.portal_laws.proofs.Placing.{granted}
 use Rattle.portal_laws.proofs.Opens.{Adds, adds}
@@ -31,10 +25,5 @@ counted H t d c code running new before =
 
 pub uses_are_rows : UsesAreRows
 uses_are_rows [] legal code = refl
-uses_are_rows (entry t (Load plans) ∷ H) legal code = uses_are_rows H legal.1 code
-uses_are_rows (entry t (Issue b p codes) ∷ H) legal code = uses_are_rows H legal.1 code
-uses_are_rows (entry t (Sell c) ∷ H) legal code = uses_are_rows H legal.1 code
 uses_are_rows (entry t (Redeem d c) ∷ H) legal code = counted H t d c code (kept_if (is_open_at t) (last_session_of H d)) (adds H t d c legal) (uses_are_rows H legal.1 code)
-uses_are_rows (entry t (Report n bytes) ∷ H) legal code = uses_are_rows H legal.1 code
-uses_are_rows (entry t (Refund c) ∷ H) legal code = uses_are_rows H legal.1 code
-uses_are_rows (entry t (Close n) ∷ H) legal code = uses_are_rows H legal.1 code
+uses_are_rows (_ ∷ H) legal code = uses_are_rows H legal.1 code

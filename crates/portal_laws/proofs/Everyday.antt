@@ -1,47 +1,29 @@
 -- A history with every command is legal, by computing it.
-use Rattle.std.proofs.Common.{ℕ, ◌<◌, List, [], ◌∷◌, codes, refl, lit≤, lit<}
-use Rattle.std.specs.Prelude.{All}
-use Rattle.std.proofs.lemmas.List.Elements.{All-nil, All-cons, All-from_recursion}
-use Rattle.portal_codes.specs.Code.{IsCode}
-use Rattle.portal_model.specs.declared.plan.Plan.{Plan}
-use Rattle.portal_model.specs.IdText.{IsIdText}
-use Rattle.portal_model.specs.Device.{IsDevice}
+use Rattle.portal_laws.proofs.Common.{arith, ◌≡◌, ℕ, ◌<◌, true, List, [], ◌∷◌, codes, refl, lit≤, lit<, nat_lt, nat_tests, All, All-nil, All-cons, All-weaker, IsCode, Plan, IsIdText, IsDevice, IsLegal}
+use Rattle.portal_model.proofs.Devices.{six-octets}
 use Rattle.portal_model.specs.Worked.{hour, gig, device1, device2, code1, code3, hour_redeemed, second_sold}
-use Rattle.portal_model.specs.Verdict.{IsLegal}
+use Rattle.std.specs.List.{list_all}
+use Rattle.std.proofs.lemmas.List.Sums.{AllPass-from_list_all}
 use Rattle.portal_laws.specs.Everyday.{long_code, EveryCommandIsLegal}
 
-octets : (a b c d e f : ℕ) → a < 256 → b < 256 → c < 256 → d < 256 → e < 256 → f < 256 → IsDevice (a ∷ b ∷ c ∷ d ∷ e ∷ f ∷ [])
-octets a b c d e f p q r s t u = record {
-  six = refl;
-  below = All-from_recursion (λ (x : ℕ). x < 256) (a ∷ b ∷ c ∷ d ∷ e ∷ f ∷ []) (p, (q, (r, (s, (t, (u, tt))))));
-}
-
 device1-is : IsDevice device1
-device1-is = octets 2 0 0 0 0 1 (lit< tt) (lit< tt) (lit< tt) (lit< tt) (lit< tt) (lit< tt)
+device1-is = six-octets device1 refl (lit< tt) (lit< tt) (lit< tt) (lit< tt) (lit< tt) (lit< tt)
 
 device2-is : IsDevice device2
-device2-is = octets 2 0 0 0 0 2 (lit< tt) (lit< tt) (lit< tt) (lit< tt) (lit< tt) (lit< tt)
+device2-is = six-octets device2 refl (lit< tt) (lit< tt) (lit< tt) (lit< tt) (lit< tt) (lit< tt)
+
+-- values that are below 31, by a test of each
+below_31 : (values : List ℕ) → list_all (λ v. nat_lt v 31) values ≡ true → All (λ v. v < 31) values
+below_31 values e = All-weaker (λ v. nat_lt v 31 ≡ true) (λ v. v < 31) (λ v h. grind (arith, nat_tests)) values (AllPass-from_list_all (λ v. nat_lt v 31) values e)
 
 code1-is : IsCode code1
-code1-is = record {
-  whole = refl;
-  below = All-from_recursion (λ (x : ℕ). x < 31) code1 (lit< tt, (lit< tt, (lit< tt, (lit< tt, (lit< tt, (lit< tt, (lit< tt, (lit< tt, (lit< tt, (lit< tt, (lit< tt, (lit< tt, tt))))))))))));
-  sum = refl;
-}
-
-long_code-is : IsCode long_code
-long_code-is = record {
-  whole = refl;
-  below = All-from_recursion (λ (x : ℕ). x < 31) long_code (lit< tt, (lit< tt, (lit< tt, (lit< tt, (lit< tt, (lit< tt, (lit< tt, (lit< tt, (lit< tt, (lit< tt, (lit< tt, (lit< tt, (lit< tt, (lit< tt, (lit< tt, (lit< tt, tt))))))))))))))));
-  sum = refl;
-}
+code1-is = record { whole = refl; below = below_31 code1 refl; sum = refl }
 
 code3-is : IsCode code3
-code3-is = record {
-  whole = refl;
-  below = All-from_recursion (λ (x : ℕ). x < 31) code3 (lit< tt, (lit< tt, (lit< tt, (lit< tt, (lit< tt, (lit< tt, (lit< tt, (lit< tt, (lit< tt, (lit< tt, (lit< tt, (lit< tt, tt))))))))))));
-  sum = refl;
-}
+code3-is = record { whole = refl; below = below_31 code3 refl; sum = refl }
+
+long_code-is : IsCode long_code
+long_code-is = record { whole = refl; below = below_31 long_code refl; sum = refl }
 
 one_code : (c : List ℕ) → IsCode c → All IsCode (c ∷ [])
 one_code c is = All-cons IsCode c [] is (All-nil IsCode)

@@ -1,7 +1,5 @@
 -- In the rows no voucher has more grants than its plan has uses.
-use Rattle.std.proofs.Common.{◌≡◌, ℕ, ◌≤◌, Some, None, subst, sym, ◌∙◌}
-use Rattle.portal_model.specs.declared.record.Voucher.{Voucher}
-use Rattle.portal_model.specs.History.{issued_of, uses_of, voucher_of, voucher_row}
+use Rattle.portal_laws.proofs.Common.{◌≡◌, ℕ, ◌≤◌, Some, None, subst, sym, ◌∙◌, Voucher, issued_of, uses_of, voucher_of, voucher_row}
 use Rattle.portal_laws.specs.Laws.{GrantsAreBounded}
 use Rattle.portal_laws.proofs.Basics.{none-of-map, some-of-map}
 use Rattle.portal_laws.proofs.Counts.{uses_are_rows}

@@ -1,15 +1,5 @@
 -- The plans that are held of the listed ids.
-use Rattle.std.proofs.Common.{◌≡◌, ℕ, Bool, true, false, cond, List, [], ◌∷◌, Option, Some, None, refl, ap, sym, ◌∙◌}
-use Rattle.std.specs.Prelude.{bytes_eq, ◌||◌, All}
-use Rattle.std.specs.List.{list_any}
-use Rattle.std.specs.Option.{option_or, option_to_list}
-use Rattle.std.proofs.lemmas.List.Elements.{All-nil, All-cons, All-head, All-tail, All-weaker}
-use Rattle.std.proofs.lemmas.List.Folds.{find-append}
-use Rattle.portal_model.specs.declared.plan.Plan.{Plan}
-use Rattle.portal_model.specs.History.{plan_of}
-use Rattle.portal_model.specs.Change.{plan_among, added}
-use Rattle.portal_model.specs.Rows.{plans_of}
-use Rattle.portal_model.specs.Verdict.{differs}
+use Rattle.portal_laws.proofs.Common.{◌≡◌, ℕ, Bool, true, false, cond, List, [], ◌∷◌, Option, Some, None, refl, ap, sym, ◌∙◌, bytes_eq, ◌||◌, All, list_any, option_or, option_to_list, All-nil, All-cons, All-head, All-tail, All-weaker, find-append, Plan, plan_of, plan_among, added, plans_of, differs}
 use Rattle.portal_laws.specs.Laws.{HeldServe, HeldLoadAlike}
 use Rattle.portal_laws.specs.FromRows.{held_among}
 use Rattle.portal_laws.proofs.Basics.{bytes_same, bytes_refl, found-passes}
@@ -28,8 +18,7 @@ found_alone x id (Some p) named b is =
 
 or_same : (o : Option Plan) (b : Bool) → option_or o (cond b o None) ≡ o
 or_same None true = refl
-or_same None false = refl
-or_same (Some p) b = refl
+or_same _ _ = refl
 
 -- of a listed id the plan of the rows is found, and of another none
 held-among : (rows listed : List Plan) (id : List ℕ) → plan_among (held_among rows listed) id ≡ cond (is_listed id listed) (plan_among rows id) None

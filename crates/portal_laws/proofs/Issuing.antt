@@ -1,15 +1,6 @@
 -- Each issued code has its place in a batch, and each batch its plan.
-use Rattle.std.proofs.Common.{◌≡◌, ℕ, ◌+◌, Bool, true, false, cond, List, [], ◌∷◌, length, Option, Some, None, refl, ap, sym, ◌∙◌}
-use Rattle.std.specs.Prelude.{bytes_eq, option_map, option_and_then, find}
-use Rattle.std.specs.Option.{option_or}
-use Rattle.std.proofs.lemmas.List.Folds.{find-append}
-use Rattle.portal_model.specs.declared.command.Command.TheVariants.{Load, Issue, Sell, Redeem, Report, Refund, Close}
-use Rattle.portal_model.specs.declared.plan.Plan.{Plan}
-use Rattle.portal_model.specs.declared.record.Batch.{Batch}
-use Rattle.portal_model.specs.History.{entry, History, Place, placed, Issued, issued_of, issued_at, plan_of, batch_of, batch_row}
-use Rattle.portal_model.specs.Rows.{places_of}
-use Rattle.portal_model.specs.Verdict.{IsLegal, any_held}
-use Rattle.portal_laws.proofs.Basics.{bytes_same, bytes_refl, or-some, cond-true}
+use Rattle.portal_laws.proofs.Common.{inl, inr, is_some, ◌≡◌, ℕ, ◌+◌, Bool, true, false, cond, List, [], ◌∷◌, length, Option, Some, None, refl, ap, sym, ◌∙◌, bytes_eq, option_map, option_and_then, find, option_or, find-append, Load, Issue, Plan, Batch, entry, History, Place, placed, Issued, issued_of, issued_at, plan_of, batch_of, batch_row, places_of, IsLegal, any_held}
+use Rattle.portal_laws.proofs.Basics.{picked, is_some-none, bytes_same, bytes_refl, or-some, cond-true}
 use Rattle.portal_laws.proofs.Plans.{plan-id}
 use Rattle.portal_laws.proofs.Accepted.{issuable}
 
@@ -56,11 +47,11 @@ agrees-later b c p q kb kp (Some i) (Some k) h = record {
 -- a place of a batch is of that batch
 pub placed-batch : (code b : List ℕ) (n : ℕ) (codes : List (List ℕ)) (k : Place) → place_among (placed b n codes) code ≡ Some k → k.batch ≡ b
 placed-batch code b n [] k e = cc
-placed-batch code b n (c ∷ codes) k e = go (placed-batch code b (n + 1) codes k) (bytes_eq c code) e
-  where
-    go : (place_among (placed b (n + 1) codes) code ≡ Some k → k.batch ≡ b) → (x : Bool) → cond x (Some (record { code = c; batch = b; place = n })) (place_among (placed b (n + 1) codes) code) ≡ Some k → k.batch ≡ b
-    go rest true is = cc
-    go rest false is = rest is
+placed-batch code b n (c ∷ codes) k e =
+    elim (picked (bytes_eq c code) (record { code = c; batch = b; place = n }) k (place_among (placed b (n + 1) codes) code) e) [
+      | inl is ↦ sym (ap (λ (x : Place). x.batch) is.1)
+      | inr is ↦ placed-batch code b (n + 1) codes k is.1
+    ]
 
 new_batch-keeps : (H : History) (t : ℕ) (b p : List ℕ) (codes : List (List ℕ)) → batch_of H b ≡ None → Keeps (batch_of H) (batch_of (entry t (Issue b p codes) ∷ H))
 new_batch-keeps H t b p codes none = λ id x e. go id x e (bytes_eq b id) refl
@@ -105,17 +96,14 @@ issued_is_placed (entry t (Issue b p codes) ∷ H) legal code =
     let facts = issuable (plan_of H p) (batch_of H b) (any_held H codes) codes t legal.0.accepted in
     rw (find-append (λ (k : Place). bytes_eq k.code code) (places_of H) (placed b 0 codes))
     (agrees-issued H t b p codes facts.plan_is facts.known facts.unknown code (issued_of H code) (place_among (places_of H) code) (issued_is_placed H legal.1 code))
-issued_is_placed (entry t (Sell c) ∷ H) legal code = issued_is_placed H legal.1 code
-issued_is_placed (entry t (Redeem d c) ∷ H) legal code = issued_is_placed H legal.1 code
-issued_is_placed (entry t (Report n bytes) ∷ H) legal code = issued_is_placed H legal.1 code
-issued_is_placed (entry t (Refund c) ∷ H) legal code = issued_is_placed H legal.1 code
-issued_is_placed (entry t (Close n) ∷ H) legal code = issued_is_placed H legal.1 code
+issued_is_placed (_ ∷ H) legal code = issued_is_placed H legal.1 code
 
-agrees-none : (b : List ℕ → Option Batch) (p : List ℕ → Option Plan) (o : Option Issued) (q : Option Place) → Agrees b p o q → o ≡ None → q ≡ None
-agrees-none b p None None h e = refl
-agrees-none b p None (Some k) h e = absurd h
-agrees-none b p (Some i) q h e = cc
+pub agrees-some : (b : List ℕ → Option Batch) (p : List ℕ → Option Plan) (o : Option Issued) (q : Option Place) → Agrees b p o q → is_some o ≡ is_some q
+agrees-some b p None None h = refl
+agrees-some b p (Some i) (Some k) h = refl
+agrees-some b p _ _ h = absurd h
 
 -- a code that was not issued has no place
 pub unplaced : (H : History) → IsLegal H → (code : List ℕ) → issued_of H code ≡ None → place_among (places_of H) code ≡ None
-unplaced H legal code none = agrees-none (batch_of H) (plan_of H) (issued_of H code) (place_among (places_of H) code) (issued_is_placed H legal code) none
+unplaced H legal code none =
+    is_some-none (place_among (places_of H) code) (sym (agrees-some (batch_of H) (plan_of H) (issued_of H code) (place_among (places_of H) code) (issued_is_placed H legal code)) ∙ ap is_some none)

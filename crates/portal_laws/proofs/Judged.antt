@@ -1,10 +1,5 @@
 -- Commands are judged over the rows as over the history.
-use Rattle.std.proofs.Common.{refl, ap, sym, ◌∙◌}
-use Rattle.portal_model.specs.declared.command.Command.TheVariants.{Load, Issue, Sell, Redeem, Report, Refund, Close}
-use Rattle.portal_model.specs.History.{batch_of, head_of, last_session_of}
-use Rattle.portal_model.specs.Change.{plan_among, issue_change, sell_change, redeem_change, report_change, refund_change, close_change}
-use Rattle.portal_model.specs.Rows.{rows_of, plans_of, batches_of, batch_among, voucher_from}
-use Rattle.portal_model.specs.Verdict.{issue_verdict, sell_verdict, redeem_verdict, report_verdict, refund_verdict, close_verdict, any_held}
+use Rattle.portal_laws.proofs.Common.{refl, ap, sym, Load, Issue, Sell, Redeem, Report, Refund, Close, head_of, issue_change, sell_change, redeem_change, report_change, refund_change, close_change, plans_of, issue_verdict, sell_verdict, redeem_verdict, report_verdict, refund_verdict, close_verdict}
 use Rattle.portal_laws.specs.Laws.{RowsJudgeAlike}
 use Rattle.portal_laws.proofs.Plans.{plan_is_row}
 use Rattle.portal_laws.proofs.Keys.{batch_is_row}
@@ -20,23 +15,14 @@ rows_judge_alike H legal (Issue b p codes) t =
     let plan = plan_is_row H p in
     let batch = batch_is_row H legal b in
     let taken = taken_are_rows H legal codes in
-    record {
-      verdict =
-          ap (λ o. issue_verdict o (batch_of H b) (any_held H codes) codes t) plan
-          ∙ ap (λ o. issue_verdict (plan_among (plans_of H) p) o (any_held H codes) codes t) batch
-          ∙ ap (λ x. issue_verdict (plan_among (plans_of H) p) (batch_among (batches_of H) b) x codes t) taken;
-      changes = ap (λ o. issue_change o b codes t) plan;
-    }
+    record { verdict = λ i. issue_verdict (plan i) (batch i) (taken i) codes t; changes = ap (λ o. issue_change o b codes t) plan }
 rows_judge_alike H legal (Sell c) t =
     let voucher = voucher_is_row H legal c in
     record { verdict = ap (λ o. sell_verdict o t) voucher; changes = ap (λ o. sell_change o t) voucher }
 rows_judge_alike H legal (Redeem d c) t =
     let voucher = voucher_is_row H legal c in
     let last = last_session_is_row H legal d in
-    record {
-      verdict = ap (λ o. redeem_verdict (head_of H) o (last_session_of H d) t) voucher ∙ ap (λ o. redeem_verdict (head_of H) (voucher_from (rows_of H) c) o t) last;
-      changes = ap (λ o. redeem_change (head_of H) o (last_session_of H d) d t) voucher ∙ ap (λ o. redeem_change (head_of H) (voucher_from (rows_of H) c) o d t) last;
-    }
+    record { verdict = λ i. redeem_verdict (head_of H) (voucher i) (last i) t; changes = λ i. redeem_change (head_of H) (voucher i) (last i) d t }
 rows_judge_alike H legal (Report n bytes) t =
     let session = session_is_row H legal n in
     record { verdict = ap report_verdict session; changes = ap (λ o. report_change o bytes t) session }

@@ -1,22 +1,10 @@
 -- Each key stands once in the rows of its table, and the reader of a key finds its row.
-use Rattle.std.proofs.Common.{◌≡◌, ℕ, ◌+◌, Bool, true, false, cond, List, [], ◌∷◌, ◌++◌, map, filter, Option, Some, None, refl, subst, ap, sym, ◌∙◌}
-use Rattle.std.specs.Prelude.{bytes_eq, option_map, is_some, is_none, ◌||◌, find, length}
-use Rattle.std.specs.List.{list_any}
-use Rattle.std.specs.Option.{option_or, option_to_list}
-use Rattle.std.proofs.lemmas.List.{map-append}
-use Rattle.std.proofs.lemmas.List.Folds.{find-append, list_any-append}
-use Rattle.portal_model.specs.declared.command.Command.TheVariants.{Load, Issue, Sell, Redeem, Report, Refund, Close}
-use Rattle.portal_model.specs.declared.plan.Plan.{Plan}
-use Rattle.portal_model.specs.declared.record.Batch.{Batch}
-use Rattle.portal_model.specs.History.{entry, History, Place, placed, issued_of, plan_of, batch_of, batch_row}
-use Rattle.portal_model.specs.Verdict.{IsLegal, any_held, stands_twice}
-use Rattle.portal_model.specs.Change.{added}
-use Rattle.portal_model.specs.Rows.{places_of, plans_of, batches_of, batch_among}
+use Rattle.portal_laws.proofs.Common.{◌≡◌, ℕ, ◌+◌, Bool, true, false, cond, List, [], ◌∷◌, ◌++◌, map, filter, Option, Some, None, refl, subst, ap, sym, ◌∙◌, bytes_eq, option_map, is_some, is_none, ◌||◌, find, length, list_any, option_or, option_to_list, map-append, find-append, list_any-append, Load, Issue, Plan, Batch, entry, History, Place, placed, issued_of, plan_of, batch_of, batch_row, IsLegal, any_held, stands_twice, added, places_of, plans_of, batches_of, batch_among}
 use Rattle.portal_laws.specs.Laws.{BatchIsRow}
 use Rattle.portal_laws.proofs.Accepted.{issuable}
 use Rattle.portal_laws.proofs.Plans.{plan_is_row}
 use Rattle.portal_laws.proofs.Issuing.{place_among, unplaced}
-use Rattle.portal_laws.proofs.Basics.{bytes_same, bytes_swap, false_if, is_none-true, is_some-none, not_both, or-false, or-right}
+use Rattle.portal_laws.proofs.Basics.{cond-ap, cond-both, bytes_eq-swap, found-listed, bytes_same, is_none-true, is_some-none, or-false, or-right}
 
 -- Keys that stand once
 
@@ -31,7 +19,7 @@ any-swap x xs (y ∷ ys) h =
     let first = or-false (bytes_eq y x || list_any (bytes_eq y) xs) (list_any (λ z. bytes_eq z x || list_any (bytes_eq z) xs) ys) h in
     let parts = or-false (bytes_eq y x) (list_any (bytes_eq y) xs) first.0 in
     let rest = any-swap x xs ys first.1 in
-    let other : bytes_eq x y ≡ false = false_if (bytes_eq x y) (λ e. not_both (bytes_eq y x) (bytes_swap x y e) parts.0) in
+    let other : bytes_eq x y ≡ false = bytes_eq-swap x y ∙ parts.0 in
     (rw (other, rest.0), rw (parts.1, rest.1))
 
 pub apart-append : (xs ys : List (List ℕ)) → stands_twice xs ≡ false → stands_twice ys ≡ false → AreNew xs ys → stands_twice (xs ++ ys) ≡ false
@@ -48,19 +36,12 @@ codes_in places = map (λ k. k.code) places
 
 -- a key that is not found does not stand among the keys
 unfound : {A : Type 0} (key : A → List ℕ) (id : List ℕ) (xs : List A) → find (λ x. bytes_eq (key x) id) xs ≡ None → list_any (bytes_eq id) (map key xs) ≡ false
-unfound key id [] e = refl
-unfound key id (x ∷ xs) e = go (unfound key id xs) (bytes_eq (key x) id) refl e
-  where
-    go : (find (λ y. bytes_eq (key y) id) xs ≡ None → list_any (bytes_eq id) (map key xs) ≡ false) → (b : Bool) → bytes_eq (key x) id ≡ b → cond b (Some x) (find (λ y. bytes_eq (key y) id) xs) ≡ None → (bytes_eq id (key x) || list_any (bytes_eq id) (map key xs)) ≡ false
-    go rest true same h = cc
-    go rest false same h =
-        let other : bytes_eq id (key x) ≡ false = false_if (bytes_eq id (key x)) (λ y. not_both (bytes_eq (key x) id) (bytes_swap id (key x) y) same) in
-        rw other (rest h)
+unfound key id xs e = sym (found-listed key id xs) ∙ ap is_some e
 
 placeless : (code : List ℕ) (places : List Place) → place_among places code ≡ None → list_any (bytes_eq code) (codes_in places) ≡ false
 placeless code places none = unfound (λ (k : Place). k.code) code places none
 
-codes-placed : (b : List ℕ) (n : ℕ) (codes : List (List ℕ)) → codes_in (placed b n codes) ≡ codes
+pub codes-placed : (b : List ℕ) (n : ℕ) (codes : List (List ℕ)) → codes_in (placed b n codes) ≡ codes
 codes-placed b n [] = refl
 codes-placed b n (code ∷ codes) = ap (λ cs. code ∷ cs) (codes-placed b (n + 1) codes)
 
@@ -79,16 +60,11 @@ new_codes H legal (code ∷ codes) h =
 
 pub codes_apart : (H : History) → IsLegal H → stands_twice (codes_in (places_of H)) ≡ false
 codes_apart [] legal = refl
-codes_apart (entry t (Load plans) ∷ H) legal = codes_apart H legal.1
 codes_apart (entry t (Issue b p codes) ∷ H) legal =
     let facts = issuable (plan_of H p) (batch_of H b) (any_held H codes) codes t legal.0.accepted in
     rw (map-append (λ (k : Place). k.code) (places_of H) (placed b 0 codes), codes-placed b 0 codes)
     (apart-append (codes_in (places_of H)) codes (codes_apart H legal.1) facts.once (new_codes H legal.1 codes facts.free))
-codes_apart (entry t (Sell c) ∷ H) legal = codes_apart H legal.1
-codes_apart (entry t (Redeem d c) ∷ H) legal = codes_apart H legal.1
-codes_apart (entry t (Report n bytes) ∷ H) legal = codes_apart H legal.1
-codes_apart (entry t (Refund c) ∷ H) legal = codes_apart H legal.1
-codes_apart (entry t (Close n) ∷ H) legal = codes_apart H legal.1
+codes_apart (_ ∷ H) legal = codes_apart H legal.1
 
 -- Plans stand once
 
@@ -99,21 +75,17 @@ fewer : (x : List ℕ) (f : Plan → Bool) (plans : List Plan) → list_any (byt
 fewer x f [] h = refl
 fewer x f (p ∷ plans) h =
     let parts : (bytes_eq x p.id ≡ false) × (list_any (bytes_eq x) (ids_in plans) ≡ false) = or-false (bytes_eq x p.id) (list_any (bytes_eq x) (ids_in plans)) h in
-    go parts.0 (fewer x f plans parts.1) (f p)
-  where
-    go : bytes_eq x p.id ≡ false → list_any (bytes_eq x) (ids_in (filter f plans)) ≡ false → (b : Bool) → list_any (bytes_eq x) (ids_in (cond b (p ∷ filter f plans) (filter f plans))) ≡ false
-    go other rest true = rw other rest
-    go other rest false = rest
+    let kept : List Plan = filter f plans in
+    let rest = fewer x f plans parts.1 in
+    cond-ap (λ ps. list_any (bytes_eq x) (ids_in ps)) (f p) (p ∷ kept) kept ∙ cond-both (f p) (list_any (bytes_eq x) (ids_in (p ∷ kept))) (list_any (bytes_eq x) (ids_in kept)) false (rw parts.0 rest) rest
 
 apart-filter : (f : Plan → Bool) (plans : List Plan) → stands_twice (ids_in plans) ≡ false → stands_twice (ids_in (filter f plans)) ≡ false
 apart-filter f [] h = refl
 apart-filter f (p ∷ plans) h =
     let parts : (list_any (bytes_eq p.id) (ids_in plans) ≡ false) × (stands_twice (ids_in plans) ≡ false) = or-false (list_any (bytes_eq p.id) (ids_in plans)) (stands_twice (ids_in plans)) h in
-    go (fewer p.id f plans parts.0) (apart-filter f plans parts.1) (f p)
-  where
-    go : list_any (bytes_eq p.id) (ids_in (filter f plans)) ≡ false → stands_twice (ids_in (filter f plans)) ≡ false → (b : Bool) → stands_twice (ids_in (cond b (p ∷ filter f plans) (filter f plans))) ≡ false
-    go other rest true = rw other rest
-    go other rest false = rest
+    let kept : List Plan = filter f plans in
+    let rest = apart-filter f plans parts.1 in
+    cond-ap (λ ps. stands_twice (ids_in ps)) (f p) (p ∷ kept) kept ∙ cond-both (f p) (stands_twice (ids_in (p ∷ kept))) (stands_twice (ids_in kept)) false (rw (fewer p.id f plans parts.0) rest) rest
 
 new_plans : (H : History) (plans : List Plan) → AreNew (ids_in (plans_of H)) (ids_in (added (plan_of H) plans))
 new_plans H [] = refl
@@ -128,12 +100,7 @@ plans_apart [] legal = refl
 plans_apart (entry t (Load plans) ∷ H) legal =
     rw (map-append (λ (p : Plan). p.id) (plans_of H) (added (plan_of H) plans))
     (apart-append (ids_in (plans_of H)) (ids_in (added (plan_of H) plans)) (plans_apart H legal.1) (apart-filter (λ p. is_none (plan_of H p.id)) plans legal.0.well_formed.2) (new_plans H plans))
-plans_apart (entry t (Issue b p codes) ∷ H) legal = plans_apart H legal.1
-plans_apart (entry t (Sell c) ∷ H) legal = plans_apart H legal.1
-plans_apart (entry t (Redeem d c) ∷ H) legal = plans_apart H legal.1
-plans_apart (entry t (Report n bytes) ∷ H) legal = plans_apart H legal.1
-plans_apart (entry t (Refund c) ∷ H) legal = plans_apart H legal.1
-plans_apart (entry t (Close n) ∷ H) legal = plans_apart H legal.1
+plans_apart (_ ∷ H) legal = plans_apart H legal.1
 
 -- Batches
 
@@ -151,7 +118,6 @@ batches-issued H t b p codes plan e = ap (λ o. batches_of H ++ option_to_list (
 
 pub batch_is_row : BatchIsRow
 batch_is_row [] legal id = refl
-batch_is_row (entry t (Load plans) ∷ H) legal id = batch_is_row H legal.1 id
 batch_is_row (entry t (Issue b p codes) ∷ H) legal id =
     let facts = issuable (plan_of H p) (batch_of H b) (any_held H codes) codes t legal.0.accepted in
     let plan : Plan = facts.plan_is in
@@ -159,18 +125,13 @@ batch_is_row (entry t (Issue b p codes) ∷ H) legal id =
     ap (λ o. cond (bytes_eq b id) (option_map (batch_row t b (length codes)) o) (batch_of H id)) facts.known
     ∙ one-more (batches_of H) (batch_row t b (length codes) plan) id (batch_of H id) (batch_is_row H legal.1 id) new
     ∙ ap (λ (bs : List Batch). batch_among bs id) (sym (batches-issued H t b p codes plan facts.known))
-batch_is_row (entry t (Sell c) ∷ H) legal id = batch_is_row H legal.1 id
-batch_is_row (entry t (Redeem d c) ∷ H) legal id = batch_is_row H legal.1 id
-batch_is_row (entry t (Report n bytes) ∷ H) legal id = batch_is_row H legal.1 id
-batch_is_row (entry t (Refund c) ∷ H) legal id = batch_is_row H legal.1 id
-batch_is_row (entry t (Close n) ∷ H) legal id = batch_is_row H legal.1 id
+batch_is_row (_ ∷ H) legal id = batch_is_row H legal.1 id
 
 abbrev batch_ids : List Batch → List (List ℕ)
 batch_ids batches = map (λ b. b.id) batches
 
 pub batches_apart : (H : History) → IsLegal H → stands_twice (batch_ids (batches_of H)) ≡ false
 batches_apart [] legal = refl
-batches_apart (entry t (Load plans) ∷ H) legal = batches_apart H legal.1
 batches_apart (entry t (Issue b p codes) ∷ H) legal =
     let facts = issuable (plan_of H p) (batch_of H b) (any_held H codes) codes t legal.0.accepted in
     let r : Batch = batch_row t b (length codes) facts.plan_is in
@@ -179,8 +140,4 @@ batches_apart (entry t (Issue b p codes) ∷ H) legal =
     ap (λ (bs : List Batch). stands_twice (batch_ids bs)) (batches-issued H t b p codes facts.plan_is facts.known)
     ∙ ap stands_twice (map-append (λ (x : Batch). x.id) (batches_of H) (r ∷ []))
     ∙ apart
-batches_apart (entry t (Sell c) ∷ H) legal = batches_apart H legal.1
-batches_apart (entry t (Redeem d c) ∷ H) legal = batches_apart H legal.1
-batches_apart (entry t (Report n bytes) ∷ H) legal = batches_apart H legal.1
-batches_apart (entry t (Refund c) ∷ H) legal = batches_apart H legal.1
-batches_apart (entry t (Close n) ∷ H) legal = batches_apart H legal.1
+batches_apart (_ ∷ H) legal = batches_apart H legal.1

@@ -1,35 +1,12 @@
 -- What an accepted command makes of the rows.
-use Rattle.std.proofs.Common.{◌≡◌, ℕ, ◌+◌, ◌≤◌, max, Bool, true, false, cond, List, [], ◌∷◌, ◌++◌, map, length, Option, Some, None, refl, arith, subst, ap, sym, ◌∙◌}
-use Rattle.std.specs.Prelude.{bytes_eq, option_map, nat_eq, nat_lt, is_some, unwrap_or}
-use Rattle.std.specs.Option.{option_to_list}
-use Rattle.std.proofs.lemmas.List.{map-append, append-nil}
-use Rattle.std.proofs.lemmas.List.Elements.{All-weaker}
-use Rattle.std.proofs.lemmas.Bool.Decides.{nat_tests}
-use Rattle.portal_model.specs.declared.command.Command.TheVariants.{Load, Issue, Sell, Redeem, Report, Refund, Close}
-use Rattle.portal_model.specs.declared.plan.Plan.{Plan}
-use Rattle.portal_model.specs.declared.record.Batch.{Batch}
-use Rattle.portal_model.specs.declared.record.Voucher.{Voucher}
-use Rattle.portal_model.specs.declared.record.Session.{Session}
-use Rattle.portal_model.specs.declared.record.Head.{Head}
-use Rattle.portal_model.specs.declared.change.Changes.{Changes}
-use Rattle.portal_model.specs.declared.change.Changes.TheVariants.{Issuance, Sale, Usage, Repayment, Closing}
-use Rattle.portal_model.specs.History.{entry, History, Place, placed, Issued, Grant, issued_of, uses_of, voucher_of, voucher_row, sold_of, refund_of, Repaid, repaid_at, plan_of, batch_of, batch_row, amount_left, grants_of, grant_at, greatest_session, members, oldest, last_number, session_of, session_row, last_session_of, used_of, closed_of, kept_if, is_open_at, head_of}
-use Rattle.portal_model.specs.Verdict.{IsLegal, any_held}
-use Rattle.portal_model.specs.Change.{session_after, head_after, changes_of, load_change, redemption, reported}
-use Rattle.portal_model.specs.Rows.{row_of_grant, VoucherRow, SessionRow, GrantRow, Rows, places_of, row_of_place, row_of_opening, openings, grant_rows, batches_of, vouchers_of, sessions_of, rows_of, lead, moved_to, new_vouchers, sold_if, refunded_if, used_if, closed_if, new_session, new_grant, CountRow, TotalRow, count_of_place, counts_of, new_counts, counted_if, session_opened, total_row, total_of_opening, totals_of, totalled_if, totals_after}
+use Rattle.portal_laws.proofs.Common.{◌≡◌, ℕ, ◌+◌, ◌≤◌, max, Bool, true, false, cond, List, [], ◌∷◌, ◌++◌, map, length, Option, Some, None, refl, arith, subst, ap, sym, ◌∙◌, bytes_eq, option_map, nat_eq, nat_lt, is_some, unwrap_or, option_to_list, map-append, append-nil, All-weaker, nat_tests, Issue, Sell, Redeem, Report, Refund, Close, Plan, Batch, Voucher, Session, Head, Changes, Issuance, Usage, entry, History, Place, placed, Issued, Grant, issued_of, uses_of, voucher_row, sold_of, refund_of, Repaid, repaid_at, plan_of, batch_of, batch_row, amount_left, grants_of, grant_at, greatest_session, members, oldest, last_number, session_of, session_row, last_session_of, used_of, closed_of, kept_if, is_open_at, head_of, IsLegal, Follows, any_held, Command, session_after, redemption, reported, row_of_grant, VoucherRow, SessionRow, GrantRow, Rows, places_of, row_of_place, row_of_opening, openings, grant_rows, batches_of, vouchers_of, sessions_of, rows_of, lead, moved_to, new_vouchers, sold_if, refunded_if, used_if, closed_if, new_session, new_grant, CountRow, TotalRow, count_of_place, counts_of, new_counts, counted_if, session_opened, total_row, total_of_opening, totals_of, totalled_if, totals_after}
+use Rattle.portal_laws.proofs.Commands.{OfEach, by_command}
 use Rattle.portal_laws.specs.Laws.{RowsLead}
 use Rattle.portal_laws.proofs.Placing.{kept-some, number-of, number-le, unreported, granted, redeem_leads}
 use Rattle.portal_laws.proofs.Openings.{IsFirst, still-first, new-first, openings_first, session_at, total-changed, report_session}
 use Rattle.portal_laws.proofs.Accepted.{issuable}
 use Rattle.portal_laws.proofs.Unissued.{unissued}
-use Rattle.portal_laws.proofs.Basics.{bytes_same, cond-false, cond-true, is_some-none, map-changed, map-changed_all, map-same, nat_eq-other, nat_eq-refl, nat_eq-same, or-false, some-of-map, some-same}
-
--- Load
-
-load_leads : (H : History) (t : ℕ) (plans : List Plan) (ch : Changes) → changes_of H (Load plans) t ≡ Some ch → rows_of (entry t (Load plans) ∷ H) ≡ lead ch (rows_of H)
-load_leads H t plans ch e =
-    let is : load_change (plan_of H) plans t ≡ ch = cc in
-    subst (λ (c : Changes). rows_of (entry t (Load plans) ∷ H) ≡ lead c (rows_of H)) is refl
+use Rattle.portal_laws.proofs.Basics.{cond-ap, cond-same, bytes_same, cond-false, cond-true, is_some-none, map-changed, map-changed_all, map-same, nat_eq-other, nat_eq-refl, nat_eq-same, or-false, some-of-map, some-same}
 
 -- Issue
 
@@ -55,20 +32,17 @@ new_count_rows H legal b n (code ∷ codes) h =
 abbrev with_batch : History → ℕ → List Batch → List VoucherRow → List CountRow → Rows
 with_batch H t batches vouchers counts = record (rows_of H) { head = moved_to t (head_of H); batches = batches; vouchers = vouchers; counts = counts }
 
-issue_leads : (H : History) → IsLegal H → (t : ℕ) (b p : List ℕ) (codes : List (List ℕ)) → any_held H codes ≡ false → (ch : Changes) → changes_of H (Issue b p codes) t ≡ Some ch
-    → rows_of (entry t (Issue b p codes) ∷ H) ≡ lead ch (rows_of H)
-issue_leads H legal t b p codes free ch e =
-    let found = some-of-map (λ (plan : Plan). Issuance (record { at = t; batch = batch_row t b (length codes) plan; codes = codes })) (plan_of H p) ch e in
-    let row : Batch = batch_row t b (length codes) found.0 in
-    let batches : batches_of (entry t (Issue b p codes) ∷ H) ≡ batches_of H ++ row ∷ [] = ap (λ o. batches_of H ++ option_to_list (option_map (batch_row t b (length codes)) o)) found.1 in
-    let vouchers : map (row_of_place H) (places_of H ++ placed b 0 codes) ≡ vouchers_of H ++ new_vouchers b 0 codes =
+issue_leads : (H : History) → IsLegal H → (t : ℕ) (b p : List ℕ) (codes : List (List ℕ)) (plan : Plan) → plan_of H p ≡ Some plan → any_held H codes ≡ false
+    → rows_of (entry t (Issue b p codes) ∷ H) ≡ lead (Issuance (record { at = t; batch = batch_row t b (length codes) plan; codes = codes })) (rows_of H)
+issue_leads H legal t b p codes plan is free =
+    let after : History = entry t (Issue b p codes) ∷ H in
+    let row : Batch = batch_row t b (length codes) plan in
+    let vouchers : vouchers_of after ≡ vouchers_of H ++ new_vouchers b 0 codes =
     map-append (row_of_place H) (places_of H) (placed b 0 codes) ∙ ap (λ rows. vouchers_of H ++ rows) (new_rows H legal b 0 codes free) in
-    let counts : map (count_of_place H) (places_of H ++ placed b 0 codes) ≡ counts_of H ++ new_counts codes =
+    let counts : counts_of after ≡ counts_of H ++ new_counts codes =
     map-append (count_of_place H) (places_of H) (placed b 0 codes) ∙ ap (λ rows. counts_of H ++ rows) (new_count_rows H legal b 0 codes free) in
-    subst (λ (c : Changes). rows_of (entry t (Issue b p codes) ∷ H) ≡ lead c (rows_of H)) found.2
-    (ap (λ bs. with_batch H t bs (vouchers_of (entry t (Issue b p codes) ∷ H)) (counts_of (entry t (Issue b p codes) ∷ H))) batches
-    ∙ ap (λ vs. with_batch H t (batches_of H ++ row ∷ []) vs (counts_of (entry t (Issue b p codes) ∷ H))) vouchers
-    ∙ ap (with_batch H t (batches_of H ++ row ∷ []) (vouchers_of H ++ new_vouchers b 0 codes)) counts)
+    let batches : batches_of after ≡ batches_of H ++ row ∷ [] = ap (λ o. batches_of H ++ option_to_list (option_map (batch_row t b (length codes)) o)) is in
+    λ i. with_batch H t (batches i) (vouchers i) (counts i)
 
 -- Sell
 
@@ -76,48 +50,18 @@ abbrev with_vouchers : History → ℕ → List VoucherRow → Rows
 with_vouchers H t vouchers = record (rows_of H) { head = moved_to t (head_of H); vouchers = vouchers }
 
 sell_row : (H : History) (t : ℕ) (c : List ℕ) (k : Place) → row_of_place (entry t (Sell c) ∷ H) k ≡ sold_if c t (row_of_place H k)
-sell_row H t c k = go (bytes_eq c k.code)
-  where
-    go : (b : Bool) → record (row_of_place H k) { sold = cond b (Some t) (sold_of H k.code) } ≡ cond b (record (row_of_place H k) { sold = Some t }) (row_of_place H k)
-    go true = refl
-    go false = refl
-
-sell_leads : (H : History) (t : ℕ) (c : List ℕ) (ch : Changes) → changes_of H (Sell c) t ≡ Some ch → rows_of (entry t (Sell c) ∷ H) ≡ lead ch (rows_of H)
-sell_leads H t c ch e =
-    let found = some-of-map (λ (v : Voucher). Sale (record { at = t; voucher = v })) (voucher_of H c) ch e in
-    let issued = some-of-map (voucher_row H c) (issued_of H c) found.0 found.1 in
-    let at_row : rows_of (entry t (Sell c) ∷ H) ≡ lead (Sale (record { at = t; voucher = voucher_row H c issued.0 })) (rows_of H) =
-    ap (with_vouchers H t) (map-changed (row_of_place H) (row_of_place (entry t (Sell c) ∷ H)) (sold_if c t) (sell_row H t c) (places_of H)) in
-    subst (λ (x : Changes). rows_of (entry t (Sell c) ∷ H) ≡ lead x (rows_of H)) found.2
-    (subst (λ (v : Voucher). rows_of (entry t (Sell c) ∷ H) ≡ lead (Sale (record { at = t; voucher = v })) (rows_of H)) issued.2 at_row)
+sell_row H t c k = cond-ap (λ o. record (row_of_place H k) { sold = o }) (bytes_eq c k.code) (Some t) (sold_of H k.code)
 
 -- Refund
 
 refund_row : (H : History) (t : ℕ) (c : List ℕ) (i : Issued) → issued_of H c ≡ Some i → (k : Place)
     → row_of_place (entry t (Refund c) ∷ H) k ≡ refunded_if c t (amount_left i.plan (uses_of H c)) (row_of_place H k)
-refund_row H t c i e k = go (bytes_eq c k.code) refl
-  where
-    repaid : List ℕ → Option Repaid
-    repaid x = option_map (repaid_at t (uses_of H x)) (issued_of H x)
-
-    go : (b : Bool) → bytes_eq c k.code ≡ b
-        → record (row_of_place H k) { refunded = option_map (λ r. r.at) (cond b (repaid k.code) (refund_of H k.code)); amount = option_map (λ r. r.amount) (cond b (repaid k.code) (refund_of H k.code)) }
-        ≡ cond b (record (row_of_place H k) { refunded = Some t; amount = Some (amount_left i.plan (uses_of H c)) }) (row_of_place H k)
-    go true same =
-        let here : repaid k.code ≡ Some (record { at = t; amount = amount_left i.plan (uses_of H c) }) =
-        subst (λ (x : List ℕ). repaid x ≡ Some (record { at = t; amount = amount_left i.plan (uses_of H c) })) (bytes_same c k.code same) (ap (option_map (repaid_at t (uses_of H c))) e) in
-        ap (λ (o : Option Repaid). record (row_of_place H k) { refunded = option_map (λ r. r.at) o; amount = option_map (λ r. r.amount) o }) here
-    go false same = refl
-
-refund_leads : (H : History) (t : ℕ) (c : List ℕ) (ch : Changes) → changes_of H (Refund c) t ≡ Some ch → rows_of (entry t (Refund c) ∷ H) ≡ lead ch (rows_of H)
-refund_leads H t c ch e =
-    let found = some-of-map (λ (v : Voucher). Repayment (record { at = t; voucher = v; amount = amount_left v.plan v.redeemed })) (voucher_of H c) ch e in
-    let issued = some-of-map (voucher_row H c) (issued_of H c) found.0 found.1 in
-    let i : Issued = issued.0 in
-    let at_row : rows_of (entry t (Refund c) ∷ H) ≡ lead (Repayment (record { at = t; voucher = voucher_row H c i; amount = amount_left i.plan (uses_of H c) })) (rows_of H) =
-    ap (with_vouchers H t) (map-changed (row_of_place H) (row_of_place (entry t (Refund c) ∷ H)) (refunded_if c t (amount_left i.plan (uses_of H c))) (refund_row H t c i issued.1) (places_of H)) in
-    subst (λ (x : Changes). rows_of (entry t (Refund c) ∷ H) ≡ lead x (rows_of H)) found.2
-    (subst (λ (v : Voucher). rows_of (entry t (Refund c) ∷ H) ≡ lead (Repayment (record { at = t; voucher = v; amount = amount_left v.plan v.redeemed })) (rows_of H)) issued.2 at_row)
+refund_row H t c i e k =
+    let repaid : List ℕ → Option Repaid = λ x. option_map (repaid_at t (uses_of H x)) (issued_of H x) in
+    let with_refund : Option Repaid → VoucherRow = λ o. record (row_of_place H k) { refunded = option_map (λ r. r.at) o; amount = option_map (λ r. r.amount) o } in
+    cond-ap with_refund (bytes_eq c k.code) (repaid k.code) (refund_of H k.code)
+    ∙ cond-same (bytes_eq c k.code) (with_refund (repaid k.code)) (with_refund (Some (repaid_at t (uses_of H c) i))) (row_of_place H k)
+    (λ same. ap (λ (x : List ℕ). with_refund (repaid x)) (sym (bytes_same c k.code same)) ∙ ap (λ o. with_refund (option_map (repaid_at t (uses_of H c)) o)) e)
 
 -- Report and close
 
@@ -131,47 +75,33 @@ session_is H n s e =
     (sym (ap (λ (r : Session). r.number) found.2), sym (ap (λ (r : Session). r.used) found.2))
 
 report_row : (H : History) (t n bytes : ℕ) (g : Grant) → row_of_opening (entry t (Report n bytes) ∷ H) g ≡ used_if n (max bytes (used_of H n)) (row_of_opening H g)
-report_row H t n bytes g = go (nat_eq n g.session) refl
-  where
-    go : (b : Bool) → nat_eq n g.session ≡ b
-        → record (row_of_opening H g) { used = cond b (max bytes (used_of H g.session)) (used_of H g.session) } ≡ cond b (record (row_of_opening H g) { used = max bytes (used_of H n) }) (row_of_opening H g)
-    go true same = ap (λ (m : ℕ). record (row_of_opening H g) { used = max bytes (used_of H m) }) (sym (nat_eq-same n g.session same))
-    go false same = refl
+report_row H t n bytes g =
+    let with_used : ℕ → SessionRow = λ used. record (row_of_opening H g) { used = used } in
+    cond-ap with_used (nat_eq n g.session) (max bytes (used_of H g.session)) (used_of H g.session)
+    ∙ cond-same (nat_eq n g.session) (with_used (max bytes (used_of H g.session))) (with_used (max bytes (used_of H n))) (row_of_opening H g)
+    (λ same. ap (λ (m : ℕ). with_used (max bytes (used_of H m))) (sym (nat_eq-same n g.session same)))
 
 abbrev with_usage : History → ℕ → List SessionRow → List TotalRow → Rows
 with_usage H t sessions totals = record (rows_of H) { head = moved_to t (head_of H); sessions = sessions; totals = totals }
 
-report_leads : (H : History) (t n bytes : ℕ) (ch : Changes) → changes_of H (Report n bytes) t ≡ Some ch → rows_of (entry t (Report n bytes) ∷ H) ≡ lead ch (rows_of H)
-report_leads H t n bytes ch e =
+report_leads : (H : History) (t n bytes : ℕ) (s : Session) → session_of H n ≡ Some s
+    → rows_of (entry t (Report n bytes) ∷ H) ≡ lead (Usage (record { at = t; session = s; bytes = bytes })) (rows_of H)
+report_leads H t n bytes s found =
     let after : History = entry t (Report n bytes) ∷ H in
-    let found = some-of-map (λ (s : Session). Usage (record { at = t; session = s; bytes = bytes })) (session_of H n) ch e in
-    let s : Session = found.0 in
-    let is = session_is H n s found.1 in
-    let rows = map-changed (row_of_opening H) (row_of_opening after) (used_if n (max bytes (used_of H n))) (report_row H t n bytes) (openings (grants_of H)) in
+    let is = session_is H n s found in
+    let number = sym is.0 in
+    let used = sym is.1 in
+    let rows : sessions_of after ≡ map (used_if s.number (max bytes s.used)) (sessions_of H) =
+    map-changed (row_of_opening H) (row_of_opening after) (used_if n (max bytes (used_of H n))) (report_row H t n bytes) (openings (grants_of H))
+    ∙ (λ i. map (used_if (number i) (max bytes (used i))) (sessions_of H)) in
     let totals : totals_of after ≡ map (totalled_if (reported bytes s)) (totals_of H) =
     map-changed_all (total_of_opening H) (total_of_opening after) (totalled_if (reported bytes s)) (openings (grants_of H))
     (All-weaker (IsFirst (grants_of H)) (λ g. total_of_opening after g ≡ totalled_if (reported bytes s) (total_of_opening H g))
-    (λ g first. total-changed H after (reported bytes s) g first first (report_session H t n bytes s found.1 g.session)) (openings (grants_of H)) (openings_first (grants_of H))) in
-    subst (λ (x : Changes). rows_of after ≡ lead x (rows_of H)) found.2
-    (ap (λ ts. with_usage H t (map (row_of_opening after) (openings (grants_of H))) ts) totals
-    ∙ ap (λ rs. with_usage H t rs (map (totalled_if (reported bytes s)) (totals_of H))) rows
-    ∙ ap (λ (m : ℕ). with_usage H t (map (used_if m (max bytes (used_of H n))) (sessions_of H)) (map (totalled_if (reported bytes s)) (totals_of H))) (sym is.0)
-    ∙ ap (λ (m : ℕ). with_usage H t (map (used_if s.number (max bytes m)) (sessions_of H)) (map (totalled_if (reported bytes s)) (totals_of H))) (sym is.1))
+    (λ g first. total-changed H after (reported bytes s) g first first (report_session H t n bytes s found g.session)) (openings (grants_of H)) (openings_first (grants_of H))) in
+    λ i. with_usage H t (rows i) (totals i)
 
 close_row : (H : History) (t n : ℕ) (g : Grant) → row_of_opening (entry t (Close n) ∷ H) g ≡ closed_if n t (row_of_opening H g)
-close_row H t n g = go (nat_eq n g.session)
-  where
-    go : (b : Bool) → record (row_of_opening H g) { closed = cond b (Some t) (closed_of H g.session) } ≡ cond b (record (row_of_opening H g) { closed = Some t }) (row_of_opening H g)
-    go true = refl
-    go false = refl
-
-close_leads : (H : History) (t n : ℕ) (ch : Changes) → changes_of H (Close n) t ≡ Some ch → rows_of (entry t (Close n) ∷ H) ≡ lead ch (rows_of H)
-close_leads H t n ch e =
-    let found = some-of-map (λ (s : Session). Closing (record { at = t; session = s })) (session_of H n) ch e in
-    let is = session_is H n found.0 found.1 in
-    let rows = map-changed (row_of_opening H) (row_of_opening (entry t (Close n) ∷ H)) (closed_if n t) (close_row H t n) (openings (grants_of H)) in
-    subst (λ (x : Changes). rows_of (entry t (Close n) ∷ H) ≡ lead x (rows_of H)) found.2
-    (ap (with_sessions H t) rows ∙ ap (λ (m : ℕ). with_sessions H t (map (closed_if m t) (sessions_of H))) (sym is.0))
+close_row H t n g = cond-ap (λ o. record (row_of_opening H g) { closed = o }) (nat_eq n g.session) (Some t) (closed_of H g.session)
 
 -- Redeem
 
@@ -180,12 +110,11 @@ rows_with H head sessions grants counts totals = record (rows_of H) { head = hea
 
 -- the count of the redeemed voucher is one more
 redeem_count : (H : History) (t : ℕ) (d c : List ℕ) (k : Place) → count_of_place (entry t (Redeem d c) ∷ H) k ≡ counted_if c (uses_of H c + 1) (count_of_place H k)
-redeem_count H t d c k = go (bytes_eq c k.code) refl
-  where
-    go : (b : Bool) → bytes_eq c k.code ≡ b
-        → record (count_of_place H k) { redeemed = cond b (uses_of H k.code + 1) (uses_of H k.code) } ≡ cond b (record (count_of_place H k) { redeemed = uses_of H c + 1 }) (count_of_place H k)
-    go true same = ap (λ (x : List ℕ). record (count_of_place H k) { redeemed = uses_of H x + 1 }) (sym (bytes_same c k.code same))
-    go false same = refl
+redeem_count H t d c k =
+    let with_uses : ℕ → CountRow = λ uses. record (count_of_place H k) { redeemed = uses } in
+    cond-ap with_uses (bytes_eq c k.code) (uses_of H k.code + 1) (uses_of H k.code)
+    ∙ cond-same (bytes_eq c k.code) (with_uses (uses_of H k.code + 1)) (with_uses (uses_of H c + 1)) (count_of_place H k)
+    (λ same. ap (λ (x : List ℕ). with_uses (uses_of H x + 1)) (sym (bytes_same c k.code same)))
 
 -- the rows of the sessions, with one more grant
 opening-after : (H : History) → IsLegal H → (d c : List ℕ) (i : Issued) (t : ℕ) (v : Voucher) (running : Option Session)
@@ -263,38 +192,42 @@ totals-redeemed H legal t d c i (Some r) is one leaves =
     ∙ map-changed_all (total_of_opening H) (total_of_opening after) (totalled_if s) (openings gs)
     (All-weaker (IsFirst gs) (λ x. total_of_opening after x ≡ totalled_if s (total_of_opening H x)) changed (openings gs) (openings_first gs))
 
-redeem_leads_rows : (H : History) → IsLegal H → (t : ℕ) (d c : List ℕ) (ch : Changes) → changes_of H (Redeem d c) t ≡ Some ch → rows_of (entry t (Redeem d c) ∷ H) ≡ lead ch (rows_of H)
-redeem_leads_rows H legal t d c ch e =
+redeem_leads_rows : (H : History) → IsLegal H → (t : ℕ) (d c : List ℕ) (i : Issued) → issued_of H c ≡ Some i
+    → rows_of (entry t (Redeem d c) ∷ H) ≡ lead (redemption (head_of H) (kept_if (is_open_at t) (last_session_of H d)) d t (voucher_row H c i)) (rows_of H)
+redeem_leads_rows H legal t d c i is =
     let gs : List Grant = grants_of H in
     let after : History = entry t (Redeem d c) ∷ H in
     let running : Option Session = kept_if (is_open_at t) (last_session_of H d) in
-    let found = some-of-map (redemption (head_of H) running d t) (voucher_of H c) ch e in
-    let issued = some-of-map (voucher_row H c) (issued_of H c) found.0 found.1 in
-    let i : Issued = issued.0 in
     let v : Voucher = voucher_row H c i in
     let s : Session = session_after (head_of H) i.plan running d t in
-    let one : grants_of after ≡ granted gs running d c i t ∷ gs = ap (λ o. unwrap_or (option_map (grant_at t d c gs running) o) gs) issued.1 in
-    let leaves = redeem_leads H legal d c t v (ap (option_map (voucher_row H c)) issued.1) in
+    let one : grants_of after ≡ granted gs running d c i t ∷ gs = ap (λ o. unwrap_or (option_map (grant_at t d c gs running) o) gs) is in
+    let leaves = redeem_leads H legal d c t v (ap (option_map (voucher_row H c)) is) in
     let counts : counts_of after ≡ map (counted_if c (uses_of H c + 1)) (counts_of H) = map-changed (count_of_place H) (count_of_place after) (counted_if c (uses_of H c + 1)) (redeem_count H t d c) (places_of H) in
     let totals : totals_of after ≡ totals_after running s (totals_of H) = totals-redeemed H legal t d c i running refl one leaves.session in
     let sessions : map (row_of_opening H) (openings (grants_of after)) ≡ sessions_of H ++ new_session running v s =
     ap (λ (x : List Grant). map (row_of_opening H) (openings x)) one ∙ opening-after H legal d c i t v running refl refl in
     let grants : grant_rows (grants_of after) ≡ grant_rows gs ++ new_grant (head_of H) v s t ∷ [] =
     ap grant_rows one ∙ ap (λ (row : GrantRow). grant_rows gs ++ row ∷ []) (grant-after H d c i t running) in
-    let at_row : rows_of after ≡ lead (redemption (head_of H) running d t v) (rows_of H) =
-    ap (λ (x : Head). rows_with H x (sessions_of after) (grant_rows (grants_of after)) (counts_of after) (totals_of after)) leaves.head
-    ∙ ap (λ (x : List SessionRow). rows_with H (head_after (head_of H) running t) x (grant_rows (grants_of after)) (counts_of after) (totals_of after)) sessions
-    ∙ ap (λ (x : List GrantRow). rows_with H (head_after (head_of H) running t) (sessions_of H ++ new_session running v s) x (counts_of after) (totals_of after)) grants
-    ∙ ap (λ (x : List CountRow). rows_with H (head_after (head_of H) running t) (sessions_of H ++ new_session running v s) (grant_rows gs ++ new_grant (head_of H) v s t ∷ []) x (totals_of after)) counts
-    ∙ ap (rows_with H (head_after (head_of H) running t) (sessions_of H ++ new_session running v s) (grant_rows gs ++ new_grant (head_of H) v s t ∷ []) (map (counted_if c (uses_of H c + 1)) (counts_of H))) totals in
-    subst (λ (x : Changes). rows_of after ≡ lead x (rows_of H)) found.2
-    (subst (λ (w : Voucher). rows_of after ≡ lead (redemption (head_of H) running d t w) (rows_of H)) issued.2 at_row)
+    λ i. rows_with H (leaves.head i) (sessions i) (grants i) (counts i) (totals i)
+
+-- Every command
+
+abbrev Leads : History → ℕ → Command → Changes → Type 0
+Leads H t command ch = Follows H t command → rows_of (entry t command ∷ H) ≡ lead ch (rows_of H)
+
+each-leads : (H : History) → IsLegal H → (t : ℕ) → OfEach H t (Leads H t)
+each-leads H legal t = record {
+  load = λ plans follows. refl;
+  issue = λ b p codes plan is follows. issue_leads H legal t b p codes plan is (issuable (plan_of H p) (batch_of H b) (any_held H codes) codes t follows.accepted).free;
+  sell = λ c i is follows. ap (with_vouchers H t) (map-changed (row_of_place H) (row_of_place (entry t (Sell c) ∷ H)) (sold_if c t) (sell_row H t c) (places_of H));
+  redeem = λ d c i is follows. redeem_leads_rows H legal t d c i is;
+  report = λ n bytes s is follows. report_leads H t n bytes s is;
+  refund = λ c i is follows.
+      ap (with_vouchers H t) (map-changed (row_of_place H) (row_of_place (entry t (Refund c) ∷ H)) (refunded_if c t (amount_left i.plan (uses_of H c))) (refund_row H t c i is) (places_of H));
+  close = λ n s is follows.
+      ap (with_sessions H t) (map-changed (row_of_opening H) (row_of_opening (entry t (Close n) ∷ H)) (closed_if n t) (close_row H t n) (openings (grants_of H)))
+      ∙ ap (λ (m : ℕ). with_sessions H t (map (closed_if m t) (sessions_of H))) (sym (session_is H n s is).0);
+}
 
 pub rows_lead : RowsLead
-rows_lead H legal (Load plans) t follows ch e = load_leads H t plans ch e
-rows_lead H legal (Issue b p codes) t follows ch e = issue_leads H legal t b p codes (issuable (plan_of H p) (batch_of H b) (any_held H codes) codes t follows.accepted).free ch e
-rows_lead H legal (Sell c) t follows ch e = sell_leads H t c ch e
-rows_lead H legal (Redeem d c) t follows ch e = redeem_leads_rows H legal t d c ch e
-rows_lead H legal (Report n bytes) t follows ch e = report_leads H t n bytes ch e
-rows_lead H legal (Refund c) t follows ch e = refund_leads H t c ch e
-rows_lead H legal (Close n) t follows ch e = close_leads H t n ch e
+rows_lead H legal command t follows ch e = by_command H t (Leads H t) (each-leads H legal t) command ch e follows

@@ -1,7 +1,9 @@
+pub mod Common
 pub mod Accepted
 pub mod Basics
 pub mod Bounds
 pub mod Changing
+pub mod Commands
 pub mod Counts
 pub mod Everyday
 pub mod Granted

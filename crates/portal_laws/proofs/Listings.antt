@@ -1,17 +1,8 @@
 -- The sessions of the rows, and the codes of a batch in its rows.
-use Rattle.std.proofs.Common.{◌≡◌, ℕ, ◌+◌, Bool, true, false, cond, List, [], ◌∷◌, ◌++◌, map, length, Option, Some, None, refl, subst, ap, sym, ◌∙◌}
-use Rattle.std.specs.Prelude.{bytes_eq, option_map, filter, All}
-use Rattle.std.specs.List.{filter_map, range_with_len}
-use Rattle.std.proofs.lemmas.List.{append-nil}
-use Rattle.std.proofs.lemmas.List.Elements.{All-head, All-tail, All-weaker, filter-append}
-use Rattle.portal_model.specs.declared.command.Command.TheVariants.{Load, Issue, Sell, Redeem, Report, Refund, Close}
-use Rattle.portal_model.specs.declared.plan.Plan.{Plan}
-use Rattle.portal_model.specs.declared.record.Batch.{Batch}
-use Rattle.portal_model.specs.History.{entry, History, Place, placed, plan_of, batch_of, batch_row, codes_of, grants_of}
-use Rattle.portal_model.specs.Rows.{VoucherRow, SessionRow, rows_of, places_of, row_of_place, vouchers_of, openings, row_of_opening, session_opened, session_from}
-use Rattle.portal_model.specs.Verdict.{IsLegal, any_held}
+use Rattle.portal_laws.proofs.Common.{◌≡◌, ℕ, ◌+◌, Bool, true, false, cond, List, [], ◌∷◌, ◌++◌, map, length, Option, Some, None, refl, subst, ap, sym, ◌∙◌, bytes_eq, option_map, filter, All, filter_map, range_with_len, append-nil, All-head, All-tail, All-weaker, filter-append, Issue, Plan, Batch, entry, History, Place, placed, plan_of, batch_of, batch_row, codes_of, grants_of, VoucherRow, SessionRow, rows_of, places_of, row_of_place, vouchers_of, openings, row_of_opening, session_opened, session_from, IsLegal, any_held}
 use Rattle.portal_laws.specs.Laws.{SessionsAreRows, CodesAreRows}
-use Rattle.portal_laws.proofs.Basics.{bytes_same, filter-map, map-map, some-of-map}
+use Rattle.portal_laws.proofs.Keys.{codes-placed}
+use Rattle.portal_laws.proofs.Basics.{cond-ap, bytes_same, filter-map, map-map, some-of-map}
 use Rattle.portal_laws.proofs.Accepted.{issuable}
 use Rattle.portal_laws.proofs.Openings.{IsFirst, openings_first, session_at}
 use Rattle.portal_laws.proofs.Sessions.{session_is_row}
@@ -36,11 +27,7 @@ abbrev places_in : List ℕ → List Place → List Place
 places_in id places = filter (λ k. bytes_eq k.batch id) places
 
 filter-placed : (id b : List ℕ) (n : ℕ) (codes : List (List ℕ)) → places_in id (placed b n codes) ≡ cond (bytes_eq b id) (placed b n codes) []
-filter-placed id b n [] = go (bytes_eq b id)
-  where
-    go : (same : Bool) → [] ≡ cond same (placed b n []) []
-    go true = refl
-    go false = refl
+filter-placed id b n [] = cond-ap (λ (x : Bool). []) (bytes_eq b id) true true
 filter-placed id b n (code ∷ codes) = go (bytes_eq b id) (filter-placed id b (n + 1) codes)
   where
     go : (same : Bool) → places_in id (placed b (n + 1) codes) ≡ cond same (placed b (n + 1) codes) []
@@ -51,7 +38,6 @@ filter-placed id b n (code ∷ codes) = go (bytes_eq b id) (filter-placed id b (
 -- a batch that was not issued has no places
 no_places : (H : History) → IsLegal H → (id : List ℕ) → batch_of H id ≡ None → places_in id (places_of H) ≡ []
 no_places [] legal id none = refl
-no_places (entry t (Load plans) ∷ H) legal id none = no_places H legal.1 id none
 no_places (entry t (Issue b p codes) ∷ H) legal id none =
     let facts = issuable (plan_of H p) (batch_of H b) (any_held H codes) codes t legal.0.accepted in
     filter-append (λ (k : Place). bytes_eq k.batch id) (places_of H) (placed b 0 codes)
@@ -62,16 +48,11 @@ no_places (entry t (Issue b p codes) ∷ H) legal id none =
         → places_in id (places_of H) ++ cond same (placed b 0 codes) [] ≡ []
     go plan known rest true e = let some : option_map (batch_row t b (length codes)) (plan_of H p) ≡ Some (batch_row t b (length codes) plan) = ap (option_map (batch_row t b (length codes))) known in cc
     go plan known rest false e = append-nil (places_in id (places_of H)) ∙ rest e
-no_places (entry t (Sell c) ∷ H) legal id none = no_places H legal.1 id none
-no_places (entry t (Redeem d c) ∷ H) legal id none = no_places H legal.1 id none
-no_places (entry t (Report n bytes) ∷ H) legal id none = no_places H legal.1 id none
-no_places (entry t (Refund c) ∷ H) legal id none = no_places H legal.1 id none
-no_places (entry t (Close n) ∷ H) legal id none = no_places H legal.1 id none
+no_places (_ ∷ H) legal id none = no_places H legal.1 id none
 
 -- the places of a batch are its codes, from place 0 on
 batch_places : (H : History) → IsLegal H → (id : List ℕ) → places_in id (places_of H) ≡ placed id 0 (codes_of H id)
 batch_places [] legal id = refl
-batch_places (entry t (Load plans) ∷ H) legal id = batch_places H legal.1 id
 batch_places (entry t (Issue b p codes) ∷ H) legal id =
     let facts = issuable (plan_of H p) (batch_of H b) (any_held H codes) codes t legal.0.accepted in
     filter-append (λ (k : Place). bytes_eq k.batch id) (places_of H) (placed b 0 codes)
@@ -84,15 +65,7 @@ batch_places (entry t (Issue b p codes) ∷ H) legal id =
         let equal = bytes_same b id is in
         ap (λ xs. xs ++ placed b 0 codes) (subst (λ (x : List ℕ). places_in x (places_of H) ≡ []) equal none) ∙ ap (λ (x : List ℕ). placed x 0 codes) equal
     go none rest false is = append-nil (places_in id (places_of H)) ∙ rest
-batch_places (entry t (Sell c) ∷ H) legal id = batch_places H legal.1 id
-batch_places (entry t (Redeem d c) ∷ H) legal id = batch_places H legal.1 id
-batch_places (entry t (Report n bytes) ∷ H) legal id = batch_places H legal.1 id
-batch_places (entry t (Refund c) ∷ H) legal id = batch_places H legal.1 id
-batch_places (entry t (Close n) ∷ H) legal id = batch_places H legal.1 id
-
-placed-codes : (b : List ℕ) (n : ℕ) (codes : List (List ℕ)) → map (λ k. k.code) (placed b n codes) ≡ codes
-placed-codes b n [] = refl
-placed-codes b n (code ∷ codes) = ap (λ cs. code ∷ cs) (placed-codes b (n + 1) codes)
+batch_places (_ ∷ H) legal id = batch_places H legal.1 id
 
 placed-numbers : (b : List ℕ) (n : ℕ) (codes : List (List ℕ)) → map (λ k. k.place) (placed b n codes) ≡ range_with_len n (length codes)
 placed-numbers b n [] = refl
@@ -100,17 +73,12 @@ placed-numbers b n (code ∷ codes) = ap (λ (xs : List ℕ). n ∷ xs) (placed-
 
 batch_size : (H : History) → IsLegal H → (id : List ℕ) (b : Batch) → batch_of H id ≡ Some b → b.size ≡ length (codes_of H id)
 batch_size [] legal id b e = cc
-batch_size (entry t (Load plans) ∷ H) legal id b e = batch_size H legal.1 id b e
 batch_size (entry t (Issue x p codes) ∷ H) legal id b e = go (batch_size H legal.1 id b) (bytes_eq x id) e
   where
     go : (batch_of H id ≡ Some b → b.size ≡ length (codes_of H id)) → (same : Bool) → cond same (option_map (batch_row t x (length codes)) (plan_of H p)) (batch_of H id) ≡ Some b → b.size ≡ length (cond same codes (codes_of H id))
     go rest true is = let found = some-of-map (batch_row t x (length codes)) (plan_of H p) b is in sym (ap (λ (r : Batch). r.size) found.2)
     go rest false is = rest is
-batch_size (entry t (Sell c) ∷ H) legal id b e = batch_size H legal.1 id b e
-batch_size (entry t (Redeem d c) ∷ H) legal id b e = batch_size H legal.1 id b e
-batch_size (entry t (Report n bytes) ∷ H) legal id b e = batch_size H legal.1 id b e
-batch_size (entry t (Refund c) ∷ H) legal id b e = batch_size H legal.1 id b e
-batch_size (entry t (Close n) ∷ H) legal id b e = batch_size H legal.1 id b e
+batch_size (_ ∷ H) legal id b e = batch_size H legal.1 id b e
 
 batch_rows : (H : History) → IsLegal H → (id : List ℕ) → filter (λ v. bytes_eq v.batch id) (vouchers_of H) ≡ map (row_of_place H) (placed id 0 (codes_of H id))
 batch_rows H legal id = filter-map (row_of_place H) (λ (v : VoucherRow). bytes_eq v.batch id) (places_of H) ∙ ap (map (row_of_place H)) (batch_places H legal id)
@@ -119,7 +87,7 @@ pub codes_are_rows : CodesAreRows
 codes_are_rows H legal id =
     let codes : List (List ℕ) = codes_of H id in
     record {
-      codes = sym (ap (map (λ (v : VoucherRow). v.code)) (batch_rows H legal id) ∙ map-map (row_of_place H) (λ (v : VoucherRow). v.code) (placed id 0 codes) ∙ placed-codes id 0 codes);
+      codes = sym (ap (map (λ (v : VoucherRow). v.code)) (batch_rows H legal id) ∙ map-map (row_of_place H) (λ (v : VoucherRow). v.code) (placed id 0 codes) ∙ codes-placed id 0 codes);
       places = ap (map (λ (v : VoucherRow). v.place)) (batch_rows H legal id) ∙ map-map (row_of_place H) (λ (v : VoucherRow). v.place) (placed id 0 codes) ∙ placed-numbers id 0 codes;
       size = batch_size H legal id;
     }

@@ -1,14 +1,7 @@
 -- Sessions and grants are numbered without a gap.
-use Rattle.std.proofs.Common.{◌≡◌, ℕ, ◌+◌, ◌<◌, List, map, length, arith, subst, ap, sym, ◌∙◌}
-use Rattle.std.specs.List.{range_with_len}
+use Rattle.portal_laws.proofs.Common.{◌≡◌, ℕ, ◌+◌, ◌<◌, List, map, length, arith, subst, ap, sym, ◌∙◌, range_with_len, length-map, Grant, grants_of, greatest_session, SessionRow, TotalRow, openings, row_of_opening, total_of_opening, sessions_of, grant_rows, VoucherRow, CountRow, places_of, row_of_place, count_of_place, head_of, stands_twice}
 use Rattle.std.specs.List.Sorted.{IsStrictlyIncreasing}
-use Rattle.std.proofs.lemmas.List.{length-map}
 use Rattle.std.proofs.lemmas.List.FromFn.{length-range_with_len, get_or-range_with_len}
-use Rattle.portal_model.specs.History.{Grant, grants_of, greatest_session}
-use Rattle.portal_model.specs.Rows.{SessionRow, TotalRow, openings, row_of_opening, total_of_opening, sessions_of, grant_rows}
-use Rattle.portal_model.specs.Rows.{VoucherRow, CountRow, places_of, row_of_place, count_of_place}
-use Rattle.portal_model.specs.History.{head_of}
-use Rattle.portal_model.specs.Verdict.{stands_twice}
 use Rattle.portal_laws.specs.Laws.{RowsAreNumbered, KeysAreApart}
 use Rattle.portal_laws.proofs.Basics.{map-map}
 use Rattle.portal_laws.proofs.Keys.{plans_apart, batches_apart, codes_apart}

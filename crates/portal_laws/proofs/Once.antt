@@ -1,11 +1,5 @@
 -- A voucher is sold and refunded at most once, and a session closed at most once.
-use Rattle.std.proofs.Common.{◌≡◌, ℕ, ◌+◌, ◌≤◌, Bool, true, false, cond, List, [], ◌∷◌, Option, Some, None, refl, arith, subst, ap, sym, ◌∙◌}
-use Rattle.std.specs.Prelude.{bytes_eq, nat_eq, option_map, is_some}
-use Rattle.portal_model.specs.declared.command.Command.TheVariants.{Load, Issue, Sell, Redeem, Report, Refund, Close}
-use Rattle.portal_model.specs.declared.record.Voucher.{Voucher}
-use Rattle.portal_model.specs.declared.record.Session.{Session}
-use Rattle.portal_model.specs.History.{entry, History, Repaid, repaid_at, issued_of, sold_of, uses_of, refund_of, closed_of, voucher_of, voucher_row, grants_of, members, oldest, session_of, session_row}
-use Rattle.portal_model.specs.Verdict.{IsLegal}
+use Rattle.portal_laws.proofs.Common.{◌≡◌, ℕ, ◌+◌, ◌≤◌, Bool, true, false, cond, List, [], ◌∷◌, Option, Some, None, refl, arith, subst, ap, sym, ◌∙◌, bytes_eq, nat_eq, option_map, is_some, Sell, Refund, Close, Voucher, Session, entry, History, Repaid, repaid_at, issued_of, sold_of, uses_of, refund_of, closed_of, voucher_of, voucher_row, grants_of, members, oldest, session_of, session_row, IsLegal}
 use Rattle.portal_laws.specs.Laws.{times_sold, times_refunded, times_closed, SoldOnce, RefundedOnce, ClosedOnce}
 use Rattle.portal_laws.proofs.Basics.{bytes_same, nat_eq-same, some-of-map, none-of-map}
 use Rattle.portal_laws.proofs.Accepted.{sellable, refundable, closable}
@@ -37,15 +31,10 @@ sale-new H c code v is unsold same =
 
 sales_are : (H : History) → IsLegal H → (code : List ℕ) → times_sold H code ≡ once (sold_of H code)
 sales_are [] legal code = refl
-sales_are (entry t (Load plans) ∷ H) legal code = sales_are H legal.1 code
-sales_are (entry t (Issue b p codes) ∷ H) legal code = sales_are H legal.1 code
 sales_are (entry t (Sell c) ∷ H) legal code =
     let v = sellable (voucher_of H c) t legal.0.accepted in
     one-more (bytes_eq c code) (times_sold H code) (sold_of H code) (Some t) (sales_are H legal.1 code) (λ same. (sale-new H c code v.0 v.1 v.2 same, (t, refl)))
-sales_are (entry t (Redeem d c) ∷ H) legal code = sales_are H legal.1 code
-sales_are (entry t (Report n bytes) ∷ H) legal code = sales_are H legal.1 code
-sales_are (entry t (Refund c) ∷ H) legal code = sales_are H legal.1 code
-sales_are (entry t (Close n) ∷ H) legal code = sales_are H legal.1 code
+sales_are (_ ∷ H) legal code = sales_are H legal.1 code
 
 pub sold_once : SoldOnce
 sold_once H legal code = subst (λ (n : ℕ). n ≤ 1) (sym (sales_are H legal code)) (once-low (sold_of H code))
@@ -62,15 +51,10 @@ refund-new H t c code v is kept same =
 
 refunds_are : (H : History) → IsLegal H → (code : List ℕ) → times_refunded H code ≡ once (refund_of H code)
 refunds_are [] legal code = refl
-refunds_are (entry t (Load plans) ∷ H) legal code = refunds_are H legal.1 code
-refunds_are (entry t (Issue b p codes) ∷ H) legal code = refunds_are H legal.1 code
-refunds_are (entry t (Sell c) ∷ H) legal code = refunds_are H legal.1 code
-refunds_are (entry t (Redeem d c) ∷ H) legal code = refunds_are H legal.1 code
-refunds_are (entry t (Report n bytes) ∷ H) legal code = refunds_are H legal.1 code
 refunds_are (entry t (Refund c) ∷ H) legal code =
     let v = refundable (voucher_of H c) legal.0.accepted in
     one-more (bytes_eq c code) (times_refunded H code) (refund_of H code) (option_map (repaid_at t (uses_of H code)) (issued_of H code)) (refunds_are H legal.1 code) (refund-new H t c code v.0 v.1 v.2)
-refunds_are (entry t (Close n) ∷ H) legal code = refunds_are H legal.1 code
+refunds_are (_ ∷ H) legal code = refunds_are H legal.1 code
 
 pub refunded_once : RefundedOnce
 refunded_once H legal code = subst (λ (n : ℕ). n ≤ 1) (sym (refunds_are H legal code)) (once-low (refund_of H code))
@@ -84,15 +68,10 @@ close-new H m n s is kept same =
 
 closes_are : (H : History) → IsLegal H → (n : ℕ) → times_closed H n ≡ once (closed_of H n)
 closes_are [] legal n = refl
-closes_are (entry t (Load plans) ∷ H) legal n = closes_are H legal.1 n
-closes_are (entry t (Issue b p codes) ∷ H) legal n = closes_are H legal.1 n
-closes_are (entry t (Sell c) ∷ H) legal n = closes_are H legal.1 n
-closes_are (entry t (Redeem d c) ∷ H) legal n = closes_are H legal.1 n
-closes_are (entry t (Report m bytes) ∷ H) legal n = closes_are H legal.1 n
-closes_are (entry t (Refund c) ∷ H) legal n = closes_are H legal.1 n
 closes_are (entry t (Close m) ∷ H) legal n =
     let s = closable (session_of H m) legal.0.accepted in
     one-more (nat_eq m n) (times_closed H n) (closed_of H n) (Some t) (closes_are H legal.1 n) (λ same. (close-new H m n s.0 s.1 s.2 same, (t, refl)))
+closes_are (_ ∷ H) legal n = closes_are H legal.1 n
 
 pub closed_once : ClosedOnce
 closed_once H legal n = subst (λ (k : ℕ). k ≤ 1) (sym (closes_are H legal n)) (once-low (closed_of H n))

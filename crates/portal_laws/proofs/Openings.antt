@@ -1,14 +1,7 @@
 -- The grants that opened the sessions, and the rows of portal_totals.
-use Rattle.std.proofs.Common.{◌≡◌, ℕ, ◌<◌, max, Bool, true, false, cond, List, [], ◌∷◌, Some, refl, arith, subst, ap, sym, ◌∙◌}
-use Rattle.std.specs.Prelude.{nat_eq, nat_lt, option_map, All}
-use Rattle.std.proofs.lemmas.Bool.Decides.{nat_tests}
-use Rattle.std.proofs.lemmas.List.Elements.{All-nil, All-cons, All-append, All-weaker}
-use Rattle.portal_model.specs.declared.command.Command.TheVariants.{Report}
-use Rattle.portal_model.specs.declared.record.Session.{Session}
-use Rattle.portal_model.specs.History.{entry, History, Grant, grants_of, greatest_session, members, oldest, session_of, session_row, used_of}
-use Rattle.portal_model.specs.Change.{reported}
-use Rattle.portal_model.specs.Rows.{openings, session_opened, total_row, total_of_opening, totalled_if}
-use Rattle.portal_laws.proofs.Basics.{nat_eq-same, nat_eq-refl, or-some, some-of-map, some-same, cond-true}
+use Rattle.portal_laws.proofs.Common.{Option, None, ◌≡◌, ℕ, ◌<◌, max, Bool, true, false, cond, List, [], ◌∷◌, Some, refl, arith, ap, sym, ◌∙◌, nat_eq, nat_lt, option_map, All, nat_tests, All-nil, All-cons, All-append, All-weaker, Report, Session, entry, History, Grant, grants_of, greatest_session, members, oldest, session_of, session_row, used_of, reported, openings, session_opened, total_row, total_of_opening, totalled_if}
+use Rattle.portal_model.specs.History.{session_in}
+use Rattle.portal_laws.proofs.Basics.{cond-both, cond-ap, cond-same, nat_eq-same, nat_eq-refl, or-some, some-same, cond-true}
 use Rattle.portal_laws.proofs.Placing.{members-above, number-of}
 
 -- the grant is the first of its session
@@ -17,11 +10,9 @@ IsFirst gs g = oldest (members gs g.session) ≡ Some g
 
 -- a first grant stays so with one more grant
 pub still-first : (g : Grant) (gs : List Grant) (x : Grant) → IsFirst gs x → IsFirst (g ∷ gs) x
-still-first g gs x first = go (nat_eq g.session x.session)
-  where
-    go : (b : Bool) → oldest (cond b (g ∷ members gs x.session) (members gs x.session)) ≡ Some x
-    go true = or-some (oldest (members gs x.session)) (Some g) x first
-    go false = first
+still-first g gs x first =
+    let ms : List Grant = members gs x.session in
+    cond-ap oldest (nat_eq g.session x.session) (g ∷ ms) ms ∙ cond-both (nat_eq g.session x.session) (oldest (g ∷ ms)) (oldest ms) (Some x) (or-some (oldest ms) (Some g) x first) first
 
 -- the grant of a new session is its first
 pub new-first : (g : Grant) (gs : List Grant) → greatest_session gs < g.session → IsFirst (g ∷ gs) g
@@ -52,27 +43,29 @@ pub total-changed : (H after : History) (s : Session) (g : Grant) → IsFirst (g
     → session_of after g.session ≡ cond (nat_eq s.number g.session) (Some s) (session_of H g.session)
     → total_of_opening after g ≡ totalled_if s (total_of_opening H g)
 total-changed H after s g first first' e =
-    go (nat_eq s.number g.session) (sym (session_at after g first') ∙ e ∙ ap (λ o. cond (nat_eq s.number g.session) (Some s) o) (session_at H g first))
+    let test = nat_eq s.number g.session in
+    let same = sym (session_at after g first') ∙ e ∙ ap (λ o. cond test (Some s) o) (session_at H g first) ∙ sym (cond-ap Some test s (session_opened H g)) in
+    ap total_row (some-same (session_opened after g) (cond test s (session_opened H g)) same) ∙ cond-ap total_row test s (session_opened H g)
+
+-- a command that changes the rows of one session alone
+pub session_changed : (H now : History) (m n : ℕ) (s : Session) (f : Session → Session) → session_of H m ≡ Some s
+    → ((first : Grant) → session_row now n (members (grants_of H) n) first ≡ cond (nat_eq m n) (f (session_row H n (members (grants_of H) n) first)) (session_row H n (members (grants_of H) n) first))
+    → session_in (grants_of H) now n ≡ cond (nat_eq s.number n) (Some (f s)) (session_of H n)
+session_changed H now m n s f e each =
+    go (oldest ms)
+    ∙ cond-same (nat_eq m n) (option_map f (session_of H n)) (Some (f s)) (session_of H n) (λ same. ap (λ (k : ℕ). option_map f (session_of H k)) (sym (nat_eq-same m n same)) ∙ ap (option_map f) e)
+    ∙ ap (λ (k : ℕ). cond (nat_eq k n) (Some (f s)) (session_of H n)) (sym (number-of H (grants_of H) m s e))
   where
-    go : (b : Bool) → Some (session_opened after g) ≡ cond b (Some s) (Some (session_opened H g)) → total_row (session_opened after g) ≡ cond b (total_row s) (total_row (session_opened H g))
-    go true is = ap total_row (some-same (session_opened after g) s is)
-    go false is = ap total_row (some-same (session_opened after g) (session_opened H g) is)
+    ms : List Grant
+    ms = members (grants_of H) n
+
+    go : (o : Option Grant) → option_map (session_row now n ms) o ≡ cond (nat_eq m n) (option_map f (option_map (session_row H n ms) o)) (option_map (session_row H n ms) o)
+    go None = cond-ap (λ (b : Bool). None) (nat_eq m n) true true
+    go (Some first) = ap Some (each first) ∙ cond-ap Some (nat_eq m n) (f (session_row H n ms first)) (session_row H n ms first)
 
 -- a report changes its session
 pub report_session : (H : History) (t m bytes : ℕ) (s : Session) → session_of H m ≡ Some s → (n : ℕ)
     → session_of (entry t (Report m bytes) ∷ H) n ≡ cond (nat_eq s.number n) (Some (reported bytes s)) (session_of H n)
 report_session H t m bytes s e n =
-    go (nat_eq m n) refl ∙ ap (λ (k : ℕ). cond (nat_eq k n) (Some (reported bytes s)) (session_of H n)) (sym (number-of H (grants_of H) m s e))
-  where
-    ms : List Grant
-    ms = members (grants_of H) n
-
-    with_used : ℕ → Grant → Session
-    with_used used first = record (session_row H n ms first) { used = used }
-
-    go : (b : Bool) → nat_eq m n ≡ b → option_map (with_used (cond b (max bytes (used_of H n)) (used_of H n))) (oldest ms) ≡ cond b (Some (reported bytes s)) (session_of H n)
-    go true same =
-        let here : session_of H n ≡ Some s = subst (λ (k : ℕ). session_of H k ≡ Some s) (nat_eq-same m n same) e in
-        let found = some-of-map (session_row H n ms) (oldest ms) s here in
-        ap (option_map (with_used (max bytes (used_of H n)))) found.1 ∙ ap (λ (r : Session). Some (reported bytes r)) found.2
-    go false same = refl
+    session_changed H (entry t (Report m bytes) ∷ H) m n s (reported bytes) e
+    (λ first. cond-ap (λ u. record (session_row H n (members (grants_of H) n) first) { used = u }) (nat_eq m n) (max bytes (used_of H n)) (used_of H n))

@@ -1,27 +1,13 @@
 -- What was paid and paid back, by the rows of the vouchers.
-use Rattle.std.proofs.Common.{◌≡◌, ℕ, ◌+◌, Bool, true, false, cond, List, [], ◌∷◌, ◌++◌, map, Option, Some, None, get_or, refl, subst, ap, sym, ◌∙◌}
+use Rattle.portal_laws.proofs.Common.{◌≡◌, ℕ, ◌+◌, Bool, true, false, cond, List, [], ◌∷◌, ◌++◌, map, Option, Some, None, get_or, refl, subst, ap, sym, ◌∙◌, filter_map-append, bytes_eq, option_map, option_and_then, is_some, ◌||◌, All, option_or, option_to_list, filter_map, cons_option, list_any, All-nil, All-cons, All-head, All-tail, All-weaker, append-nil, Issue, Sell, Refund, Plan, Batch, Voucher, entry, History, Place, placed, Issued, Repaid, repaid_at, amount_left, issued_of, sold_of, uses_of, refund_of, plan_of, batch_of, voucher_of, voucher_row, rows_of, plans_of, places_of, row_of_place, plan_among, IsLegal, any_held, stands_twice}
 use Rattle.std.specs.List.Sorted.{IsPermutation}
 use Rattle.std.proofs.lemmas.List.Sorted.{IsPermutation-refl, IsPermutation-sym, IsPermutation-cons, IsPermutation-trans, IsPermutation-middle, IsPermutation-push_more}
-use Rattle.std.proofs.lemmas.List.Elements.{filter_map-append}
-use Rattle.std.specs.Prelude.{bytes_eq, option_map, option_and_then, is_some, ◌||◌, All}
-use Rattle.std.specs.Option.{option_or, option_to_list}
-use Rattle.std.specs.List.{filter_map, cons_option, list_any}
-use Rattle.std.proofs.lemmas.List.Elements.{All-nil, All-cons, All-head, All-tail, All-weaker}
-use Rattle.std.proofs.lemmas.List.{append-nil}
-use Rattle.portal_model.specs.declared.command.Command.TheVariants.{Load, Issue, Sell, Redeem, Report, Refund, Close}
-use Rattle.portal_model.specs.declared.plan.Plan.{Plan}
-use Rattle.portal_model.specs.declared.record.Batch.{Batch}
-use Rattle.portal_model.specs.declared.record.Voucher.{Voucher}
-use Rattle.portal_model.specs.History.{entry, History, Place, placed, Issued, Repaid, repaid_at, amount_left, issued_of, sold_of, uses_of, refund_of, plan_of, batch_of, voucher_of, voucher_row}
-use Rattle.portal_model.specs.Rows.{rows_of, plans_of, places_of, row_of_place}
-use Rattle.portal_model.specs.Change.{plan_among}
 use Rattle.portal_model.specs.Payments.{sales_from, refunds_from, Payment, payment, sales_of, refunds_of, sale_from, refund_from, plan_of_row}
-use Rattle.portal_model.specs.Verdict.{IsLegal, any_held, stands_twice}
 use Rattle.portal_laws.specs.Laws.{SalesAreRows, RefundsAreRows}
-use Rattle.portal_laws.proofs.Basics.{bytes_same, bytes_refl, bytes_swap, or-false, some-of-map, some-same, none-of-map, is_some-none}
+use Rattle.portal_laws.proofs.Basics.{found-listed, bytes_same, bytes_refl, or-false, some-of-map, some-same, none-of-map, is_some-none}
 use Rattle.portal_laws.proofs.Accepted.{issuable, sellable, refundable}
 use Rattle.portal_laws.proofs.Plans.{plan_is_row}
-use Rattle.portal_laws.proofs.Issuing.{place_among, IsBacked, Agrees, issued_is_placed}
+use Rattle.portal_laws.proofs.Issuing.{place_among, IsBacked, Agrees, agrees-some, issued_is_placed}
 use Rattle.portal_laws.proofs.Unissued.{unissued}
 use Rattle.portal_laws.proofs.Keys.{batch_is_row, codes_in, codes_apart}
 
@@ -97,33 +83,12 @@ module _ (code : List ℕ) (p : Payment) (before after : List ℕ → Option Pay
       go rest false other h =
           subst (λ o. IsPermutation (p ∷ paid_at before (k ∷ places)) (cons_option o (paid_at after places))) (sym (other-kept k other)) (beside (before k.code) (rest twice.1 h))
 
--- the payments of a history, with one more
-paid-push : (paid : List Payment) (p : Payment) (before after : List Payment) → IsPermutation paid before → IsPermutation (p ∷ before) after → IsPermutation (paid ++ p ∷ []) after
-paid-push paid p before after h k = IsPermutation-push_more paid before after p h k
-
 -- a code that was issued stands among the places
-agreed-listed : (H : History) (i : Issued) (code : List ℕ) (o : Option Issued) (places : List Place) → o ≡ Some i → Agrees (batch_of H) (plan_of H) o (place_among places code) → list_any (bytes_eq code) (codes_in places) ≡ true
-agreed-listed H i code o places e h = go (place_among places code) refl o e h
-  where
-    listed : (k : Place) (ks : List Place) → place_among ks code ≡ Some k → list_any (bytes_eq code) (codes_in ks) ≡ true
-    listed k [] is = cc
-    listed k (x ∷ ks) is = pick (listed k ks) (bytes_eq x.code code) refl is
-      where
-        pick : (place_among ks code ≡ Some k → list_any (bytes_eq code) (codes_in ks) ≡ true) → (b : Bool) → bytes_eq x.code code ≡ b → cond b (Some x) (place_among ks code) ≡ Some k → (bytes_eq code x.code || list_any (bytes_eq code) (codes_in ks)) ≡ true
-        pick rest true same found = rw (bytes_swap x.code code same)
-        pick rest false same found = later (bytes_eq code x.code) (rest found)
-          where
-            later : (b : Bool) → list_any (bytes_eq code) (codes_in ks) ≡ true → (b || list_any (bytes_eq code) (codes_in ks)) ≡ true
-            later true y = refl
-            later false y = y
-
-    go : (q : Option Place) → place_among places code ≡ q → (o : Option Issued) → o ≡ Some i → Agrees (batch_of H) (plan_of H) o q → list_any (bytes_eq code) (codes_in places) ≡ true
-    go None is None e h = cc
-    go None is (Some j) e h = absurd h
-    go (Some k) is o e h = listed k places is
-
 issued-listed : (H : History) → IsLegal H → (code : List ℕ) (i : Issued) → issued_of H code ≡ Some i → list_any (bytes_eq code) (codes_in (places_of H)) ≡ true
-issued-listed H legal code i e = agreed-listed H i code (issued_of H code) (places_of H) e (issued_is_placed H legal code)
+issued-listed H legal code i e =
+    sym (found-listed (λ (k : Place). k.code) code (places_of H))
+    ∙ sym (agrees-some (batch_of H) (plan_of H) (issued_of H code) (place_among (places_of H) code) (issued_is_placed H legal code))
+    ∙ ap is_some e
 
 -- Sales
 
@@ -154,17 +119,23 @@ free-codes H (code ∷ codes) e =
     let parts = or-false (is_some (issued_of H code)) (any_held H codes) e in
     All-cons (λ c. issued_of H c ≡ None) code codes (is_some-none (issued_of H code) parts.0) (free-codes H codes parts.1)
 
+-- new codes are not paid, and the payments of the others stay
+paid_issue : (H : History) (before after : List ℕ → Option Payment) → ((code : List ℕ) → after code ≡ before code) → ((code : List ℕ) → issued_of H code ≡ None → before code ≡ None)
+    → (b : List ℕ) (codes : List (List ℕ)) → any_held H codes ≡ false → paid_at after (places_of H ++ placed b 0 codes) ≡ paid_at before (places_of H)
+paid_issue H before after kept unpaid b codes free =
+    let old = filter_map-alike (λ (k : Place). after k.code) (λ k. before k.code) (places_of H) (λ i d h. kept ((get_or (places_of H) i d).code)) in
+    let new : paid_at after (placed b 0 codes) ≡ [] =
+    placed-none after b 0 codes (All-weaker (λ c. issued_of H c ≡ None) (λ c. after c ≡ None) (λ c none. kept c ∙ unpaid c none) codes (free-codes H codes free)) in
+    filter_map-append (λ (k : Place). after k.code) (places_of H) (placed b 0 codes)
+    ∙ ap (λ ps. paid_at after (places_of H) ++ ps) new
+    ∙ append-nil (paid_at after (places_of H))
+    ∙ old
+
 sales_issue : (H : History) → IsLegal H → (t : ℕ) (b p : List ℕ) (codes : List (List ℕ)) → any_held H codes ≡ false
     → paid_at (sale_at (entry t (Issue b p codes) ∷ H)) (places_of H ++ placed b 0 codes) ≡ paid_at (sale_at H) (places_of H)
 sales_issue H legal t b p codes free =
-    let after : History = entry t (Issue b p codes) ∷ H in
-    let kept : (code : List ℕ) → sale_at after code ≡ sale_at H code = λ code. sale-kept (issued_of H code) _ (sold_of H code) (λ none. (unissued H legal code none).sold) in
-    let old : paid_at (sale_at after) (places_of H) ≡ paid_at (sale_at H) (places_of H) = filter_map-alike (λ k. sale_at after k.code) (λ k. sale_at H k.code) (places_of H) (λ i d h. kept ((get_or (places_of H) i d).code)) in
-    let new : paid_at (sale_at after) (placed b 0 codes) ≡ [] = placed-none (sale_at after) b 0 codes (All-weaker (λ c. issued_of H c ≡ None) (λ c. sale_at after c ≡ None) (λ c none. kept c ∙ unsold H c ((unissued H legal c none).sold)) codes (free-codes H codes free)) in
-    filter_map-append (λ (k : Place). sale_at after k.code) (places_of H) (placed b 0 codes)
-    ∙ ap (λ ps. paid_at (sale_at after) (places_of H) ++ ps) new
-    ∙ append-nil (paid_at (sale_at after) (places_of H))
-    ∙ old
+    paid_issue H (sale_at H) (sale_at (entry t (Issue b p codes) ∷ H)) (λ code. sale-kept (issued_of H code) _ (sold_of H code) (λ none. (unissued H legal code none).sold))
+    (λ code none. unsold H code (unissued H legal code none).sold) b codes free
 
 sales_sell : (H : History) → IsLegal H → (t : ℕ) (c : List ℕ) (v : Voucher) → voucher_of H c ≡ Some v → v.sold ≡ None
     → IsPermutation (sales_of H) (paid_at (sale_at H) (places_of H)) → IsPermutation (sales_of (entry t (Sell c) ∷ H)) (paid_at (sale_at (entry t (Sell c) ∷ H)) (places_of H))
@@ -176,7 +147,7 @@ sales_sell H legal t c v is kept before =
     let one : sales_of (entry t (Sell c) ∷ H) ≡ sales_of H ++ paid ∷ [] = ap (λ o. sales_of H ++ option_to_list (option_map (λ x. payment t x.plan.price) o)) issued.1 in
     let more = one-more c paid (sale_at H) (sale_at (entry t (Sell c) ∷ H)) (unsold H c none) (λ code. go i issued.1 code (bytes_eq c code) refl) (places_of H) (codes_apart H legal) (issued-listed H legal c i issued.1) in
     subst (λ ps. IsPermutation ps (paid_at (sale_at (entry t (Sell c) ∷ H)) (places_of H))) (sym one)
-    (paid-push (sales_of H) paid (paid_at (sale_at H) (places_of H)) (paid_at (sale_at (entry t (Sell c) ∷ H)) (places_of H)) before more)
+    (IsPermutation-push_more (sales_of H) (paid_at (sale_at H) (places_of H)) (paid_at (sale_at (entry t (Sell c) ∷ H)) (places_of H)) paid before more)
   where
     go : (i : Issued) → issued_of H c ≡ Some i → (code : List ℕ) (b : Bool) → bytes_eq c code ≡ b
         → option_and_then (λ at. option_map (λ x. payment at x.plan.price) (issued_of H code)) (cond b (Some t) (sold_of H code)) ≡ cond b (Some (payment t i.plan.price)) (sale_at H code)
@@ -185,16 +156,12 @@ sales_sell H legal t c v is kept before =
 
 sales_placed : (H : History) → IsLegal H → IsPermutation (sales_of H) (paid_at (sale_at H) (places_of H))
 sales_placed [] legal = IsPermutation-refl []
-sales_placed (entry t (Load plans) ∷ H) legal = sales_placed H legal.1
 sales_placed (entry t (Issue b p codes) ∷ H) legal =
     subst (IsPermutation (sales_of H)) (sym (sales_issue H legal.1 t b p codes (issuable (plan_of H p) (batch_of H b) (any_held H codes) codes t legal.0.accepted).free)) (sales_placed H legal.1)
 sales_placed (entry t (Sell c) ∷ H) legal =
     let v = sellable (voucher_of H c) t legal.0.accepted in
     sales_sell H legal.1 t c v.0 v.1 v.2 (sales_placed H legal.1)
-sales_placed (entry t (Redeem d c) ∷ H) legal = sales_placed H legal.1
-sales_placed (entry t (Report n bytes) ∷ H) legal = sales_placed H legal.1
-sales_placed (entry t (Refund c) ∷ H) legal = sales_placed H legal.1
-sales_placed (entry t (Close n) ∷ H) legal = sales_placed H legal.1
+sales_placed (_ ∷ H) legal = sales_placed H legal.1
 
 -- A place that is among the places is the place of its code
 own_place : (places : List Place) → stands_twice (codes_in places) ≡ false → All (λ k. place_among places k.code ≡ Some k) places
@@ -244,11 +211,7 @@ unrefunded : (H : History) (code : List ℕ) → refund_of H code ≡ None → r
 unrefunded H code none = ap (option_map (λ (r : Repaid). payment r.at r.amount)) none
 
 refunds_issue : (H : History) → IsLegal H → (b : List ℕ) (codes : List (List ℕ)) → any_held H codes ≡ false → paid_at (refund_at H) (places_of H ++ placed b 0 codes) ≡ paid_at (refund_at H) (places_of H)
-refunds_issue H legal b codes free =
-    let new : paid_at (refund_at H) (placed b 0 codes) ≡ [] = placed-none (refund_at H) b 0 codes (All-weaker (λ c. issued_of H c ≡ None) (λ c. refund_at H c ≡ None) (λ c none. unrefunded H c ((unissued H legal c none).refund)) codes (free-codes H codes free)) in
-    filter_map-append (λ (k : Place). refund_at H k.code) (places_of H) (placed b 0 codes)
-    ∙ ap (λ ps. paid_at (refund_at H) (places_of H) ++ ps) new
-    ∙ append-nil (paid_at (refund_at H) (places_of H))
+refunds_issue H legal b codes free = paid_issue H (refund_at H) (refund_at H) (λ code. refl) (λ code none. unrefunded H code (unissued H legal code none).refund) b codes free
 
 refunds_refund : (H : History) → IsLegal H → (t : ℕ) (c : List ℕ) (v : Voucher) → voucher_of H c ≡ Some v → v.refund ≡ None
     → IsPermutation (refunds_of H) (paid_at (refund_at H) (places_of H)) → IsPermutation (refunds_of (entry t (Refund c) ∷ H)) (paid_at (refund_at (entry t (Refund c) ∷ H)) (places_of H))
@@ -260,7 +223,7 @@ refunds_refund H legal t c v is kept before =
     let one : refunds_of (entry t (Refund c) ∷ H) ≡ refunds_of H ++ paid ∷ [] = ap (λ o. refunds_of H ++ option_to_list (option_map (λ x. payment t (amount_left x.plan (uses_of H c))) o)) issued.1 in
     let more = one-more c paid (refund_at H) (refund_at (entry t (Refund c) ∷ H)) (unrefunded H c none) (λ code. go i issued.1 code (bytes_eq c code) refl) (places_of H) (codes_apart H legal) (issued-listed H legal c i issued.1) in
     subst (λ ps. IsPermutation ps (paid_at (refund_at (entry t (Refund c) ∷ H)) (places_of H))) (sym one)
-    (paid-push (refunds_of H) paid (paid_at (refund_at H) (places_of H)) (paid_at (refund_at (entry t (Refund c) ∷ H)) (places_of H)) before more)
+    (IsPermutation-push_more (refunds_of H) (paid_at (refund_at H) (places_of H)) (paid_at (refund_at (entry t (Refund c) ∷ H)) (places_of H)) paid before more)
   where
     go : (i : Issued) → issued_of H c ≡ Some i → (code : List ℕ) (b : Bool) → bytes_eq c code ≡ b
         → option_map (λ r. payment r.at r.amount) (cond b (option_map (repaid_at t (uses_of H code)) (issued_of H code)) (refund_of H code)) ≡ cond b (Some (payment t (amount_left i.plan (uses_of H c)))) (refund_at H code)
@@ -271,16 +234,12 @@ refunds_refund H legal t c v is kept before =
 
 refunds_placed : (H : History) → IsLegal H → IsPermutation (refunds_of H) (paid_at (refund_at H) (places_of H))
 refunds_placed [] legal = IsPermutation-refl []
-refunds_placed (entry t (Load plans) ∷ H) legal = refunds_placed H legal.1
 refunds_placed (entry t (Issue b p codes) ∷ H) legal =
     subst (IsPermutation (refunds_of H)) (sym (refunds_issue H legal.1 b codes (issuable (plan_of H p) (batch_of H b) (any_held H codes) codes t legal.0.accepted).free)) (refunds_placed H legal.1)
-refunds_placed (entry t (Sell c) ∷ H) legal = refunds_placed H legal.1
-refunds_placed (entry t (Redeem d c) ∷ H) legal = refunds_placed H legal.1
-refunds_placed (entry t (Report n bytes) ∷ H) legal = refunds_placed H legal.1
 refunds_placed (entry t (Refund c) ∷ H) legal =
     let v = refundable (voucher_of H c) legal.0.accepted in
     refunds_refund H legal.1 t c v.0 v.1 v.2 (refunds_placed H legal.1)
-refunds_placed (entry t (Close n) ∷ H) legal = refunds_placed H legal.1
+refunds_placed (_ ∷ H) legal = refunds_placed H legal.1
 
 refund-alike : (H : History) (k : Place) → refund_from (row_of_place H k) ≡ refund_at H k.code
 refund-alike H k = go (refund_of H k.code)

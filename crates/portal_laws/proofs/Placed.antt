@@ -1,19 +1,9 @@
 -- Each grant opens a session with the next number, or is in the last session of its device.
-use Rattle.std.proofs.Common.{◌≡◌, ℕ, zero, suc, ◌+◌, ◌<◌, ◌≤◌, ◌⊎◌, inl, inr, max, Bool, true, false, cond, List, [], ◌∷◌, ◌++◌, map, length, Option, Some, None, refl, arith, subst, ap, sym, ◌∙◌}
-use Rattle.std.specs.Prelude.{bytes_eq, nat_eq, nat_lt, find, All}
-use Rattle.std.specs.Option.{option_or}
-use Rattle.std.specs.List.{range_with_len}
-use Rattle.std.proofs.lemmas.Bool.Decides.{nat_tests}
-use Rattle.std.proofs.lemmas.List.{map-append, append-nil}
-use Rattle.std.proofs.lemmas.List.Elements.{All-nil, All-cons, All-append, All-head, All-tail}
-use Rattle.std.proofs.lemmas.List.Folds.{find-append}
-use Rattle.portal_model.specs.declared.command.Command.TheVariants.{Load, Issue, Sell, Redeem, Report, Refund, Close}
-use Rattle.portal_model.specs.declared.record.Session.{Session}
-use Rattle.portal_model.specs.History.{entry, History, Grant, grants_of, greatest_session, members, oldest, last_number, session_of, session_row, last_session_of, kept_if, is_open_at}
-use Rattle.portal_model.specs.Rows.{openings, GrantRow, grant_rows}
-use Rattle.portal_model.specs.Verdict.{IsLegal}
+use Rattle.portal_laws.proofs.Common.{◌≡◌, ℕ, ◌+◌, ◌<◌, ◌≤◌, ◌⊎◌, inl, inr, max, Bool, true, false, cond, List, [], ◌∷◌, ◌++◌, map, length, Option, Some, None, refl, arith, subst, ap, sym, ◌∙◌, bytes_eq, nat_eq, nat_lt, find, All, option_or, range_with_len, nat_tests, map-append, append-nil, All-nil, All-cons, All-append, All-head, All-tail, find-append, Redeem, Session, entry, History, Grant, grants_of, greatest_session, members, oldest, last_number, session_of, session_row, last_session_of, kept_if, is_open_at, openings, GrantRow, grant_rows, IsLegal}
 use Rattle.portal_laws.proofs.Basics.{cond-false, or-right, some-of-map, nat_eq-same, nat_eq-other}
 use Rattle.portal_laws.proofs.Placing.{kept-some, members-above, number-of}
+use Rattle.std.proofs.Common.{map-id}
+use Rattle.std.proofs.lemmas.List.FromFn.{map-range_with_len_more}
 use Rattle.portal_laws.proofs.Opens.{Adds, adds, last-kept, last-new, last-other}
 
 -- the grant is in the last session of its device, which has a first grant
@@ -39,13 +29,8 @@ placed-grant H t d c (Some s) is new before =
 
 pub are_placed : (H : History) → IsLegal H → ArePlaced (grants_of H)
 are_placed [] legal = tt
-are_placed (entry t (Load plans) ∷ H) legal = are_placed H legal.1
-are_placed (entry t (Issue b p codes) ∷ H) legal = are_placed H legal.1
-are_placed (entry t (Sell c) ∷ H) legal = are_placed H legal.1
 are_placed (entry t (Redeem d c) ∷ H) legal = placed-grant H t d c (kept_if (is_open_at t) (last_session_of H d)) refl (adds H t d c legal) (are_placed H legal.1)
-are_placed (entry t (Report n bytes) ∷ H) legal = are_placed H legal.1
-are_placed (entry t (Refund c) ∷ H) legal = are_placed H legal.1
-are_placed (entry t (Close n) ∷ H) legal = are_placed H legal.1
+are_placed (_ ∷ H) legal = are_placed H legal.1
 
 -- The opening grants
 
@@ -74,18 +59,6 @@ All-openings P (g ∷ gs) all =
     go : (b : Bool) → All P (cond b (g ∷ []) [])
     go true = All-cons P g [] (All-head P g gs all) (All-nil P)
     go false = All-nil P
-
-pub All-oldest : (P : Grant → Type 0) (gs : List Grant) (n : ℕ) (g : Grant) → All P gs → oldest (members gs n) ≡ Some g → P g
-All-oldest P [] n g all e = cc
-All-oldest P (x ∷ gs) n g all e = go (All-oldest P gs n g (All-tail P x gs all)) (All-head P x gs all) (nat_eq x.session n) e
-  where
-    pick : (o : Option Grant) → (o ≡ Some g → P g) → P x → option_or o (Some x) ≡ Some g → P g
-    pick None rest here is = let same : x ≡ g = cc in subst P same here
-    pick (Some y) rest here is = rest is
-
-    go : (oldest (members gs n) ≡ Some g → P g) → P x → (b : Bool) → oldest (cond b (x ∷ members gs n) (members gs n)) ≡ Some g → P g
-    go rest here true is = pick (oldest (members gs n)) rest here is
-    go rest here false is = rest is
 
 -- the grant of a session among those that opened one is its first
 pub find-openings : (gs : List Grant) → ArePlaced gs → (n : ℕ) → find (λ g. nat_eq g.session n) (openings gs) ≡ oldest (members gs n)
@@ -128,13 +101,8 @@ no-zero (g ∷ gs) placed = go (no-zero gs placed.1) placed.0
 -- Numbers
 
 range-more : (a n : ℕ) → range_with_len a (n + 1) ≡ range_with_len a n ++ (a + n) ∷ []
-range-more a zero = let first : a ≡ a + 0 = omega arith in ap (λ (k : ℕ). k ∷ []) first
-range-more a (suc n) =
-    let longer : suc n + 1 ≡ suc (n + 1) = omega arith in
-    let last : a + 1 + n ≡ a + suc n = omega arith in
-    ap (range_with_len a) longer
-    ∙ ap (λ xs. a ∷ xs) (range-more (a + 1) n)
-    ∙ ap (λ (k : ℕ). a ∷ (range_with_len (a + 1) n ++ k ∷ [])) last
+range-more a n =
+    sym (map-id (range_with_len a (n + 1))) ∙ map-range_with_len_more (λ (k : ℕ). k) a n (a + n) refl ∙ ap (λ xs. xs ++ (a + n) ∷ []) (map-id (range_with_len a n))
 
 pub openings-numbers : (gs : List Grant) → ArePlaced gs → map (λ g. g.session) (openings gs) ≡ range_with_len 1 (greatest_session gs)
 openings-numbers [] placed = refl
@@ -147,8 +115,7 @@ openings-numbers (g ∷ gs) placed = go (openings-numbers gs placed.1) placed.0
         let number : g.session ≡ 1 + greatest_session gs = omega arith in
         ap (map (λ (x : Grant). x.session)) (opening-new g gs new)
         ∙ map-append (λ (x : Grant). x.session) (openings gs) (g ∷ [])
-        ∙ ap (λ xs. xs ++ g.session ∷ []) rest
-        ∙ ap (λ (k : ℕ). range_with_len 1 (greatest_session gs) ++ k ∷ []) number
+        ∙ (λ i. rest i ++ number i ∷ [])
         ∙ sym (range-more 1 (greatest_session gs))
         ∙ ap (range_with_len 1) (sym next)
     go rest (inr joins) =
@@ -162,8 +129,7 @@ grants-numbers (g ∷ gs) =
     let longer : length (g ∷ gs) ≡ length gs + 1 = omega arith in
     let next : length gs + 1 ≡ 1 + length gs = omega arith in
     map-append (λ (x : GrantRow). x.number) (grant_rows gs) _
-    ∙ ap (λ xs. xs ++ (length gs + 1) ∷ []) (grants-numbers gs)
-    ∙ ap (λ (k : ℕ). range_with_len 1 (length gs) ++ k ∷ []) next
+    ∙ (λ i. grants-numbers gs i ++ next i ∷ [])
     ∙ sym (range-more 1 (length gs))
     ∙ ap (range_with_len 1) (sym longer)
 

@@ -1,19 +1,9 @@
 -- Where redemptions are placed, and what that leaves in the records.
-use Rattle.std.proofs.Common.{◌≡◌, ℕ, ◌+◌, ◌<◌, ◌≤◌, max, Bool, true, false, cond, List, [], ◌∷◌, length, Option, Some, None, refl, arith, subst, ap, sym, ◌∙◌, zero-add}
-use Rattle.std.specs.Prelude.{bytes_eq, option_map, nat_eq, sum_by, unwrap_or}
-use Rattle.std.specs.Option.{option_or}
-use Rattle.std.proofs.lemmas.List.Sums.{sum_by-cons}
-use Rattle.std.proofs.lemmas.Slice.Eq.{bytes_eq-Decides}
-use Rattle.portal_model.specs.declared.command.Command.TheVariants.{Load, Issue, Sell, Redeem, Report, Refund, Close}
-use Rattle.portal_model.specs.declared.record.Voucher.{Voucher}
-use Rattle.portal_model.specs.declared.record.Session.{Session}
-use Rattle.portal_model.specs.declared.record.Head.{Head}
-use Rattle.portal_model.specs.History.{entry, History, Issued, Grant, issued_of, uses_of, voucher_of, voucher_row, grants_of, grant_at, greatest_session, members, oldest, last_number, session_in, session_of, session_row, last_session_of, used_of, closed_of, limited, kept_if, is_open_at, head_of, place_of}
-use Rattle.portal_model.specs.Verdict.{IsLegal}
-use Rattle.portal_model.specs.Change.{raised, session_after, head_after}
+use Rattle.portal_laws.proofs.Common.{false, true, All, All-head, All-tail, inl, inr, ◌≡◌, ℕ, ◌+◌, ◌<◌, ◌≤◌, max, Bool, cond, List, [], ◌∷◌, length, Option, Some, None, refl, arith, subst, ap, sym, ◌∙◌, zero-add, bytes_eq, option_map, nat_eq, sum_by, unwrap_or, option_or, sum_by-cons, bytes_eq-Decides, Redeem, Report, Close, Voucher, Session, Head, entry, History, Issued, Grant, issued_of, uses_of, voucher_of, voucher_row, grants_of, grant_at, greatest_session, members, oldest, last_number, session_in, session_of, session_row, last_session_of, used_of, closed_of, limited, kept_if, is_open_at, head_of, place_of, IsLegal, raised, session_after, head_after}
 use Rattle.portal_laws.specs.Laws.{RedeemLeads, RedeemLeaves}
 use Rattle.portal_laws.proofs.Accepted.{reportable, closable}
-use Rattle.portal_laws.proofs.Basics.{cond-false, cond-same, nat_eq-other, nat_eq-same, some-of-map}
+use Rattle.std.proofs.lemmas.Option.{none-some}
+use Rattle.portal_laws.proofs.Basics.{cond-ap, picked, cond-false, cond-same, nat_eq-other, nat_eq-same, some-of-map}
 
 abbrev pub head_row : ℕ → List Grant → Head
 head_row t gs = record { last = t; grants = length gs; sessions = greatest_session gs }
@@ -26,6 +16,19 @@ members-above (g ∷ gs) n h =
 
 pub session_in-above : (gs : List Grant) (H : History) (n : ℕ) → greatest_session gs < n → session_in gs H n ≡ None
 session_in-above gs H n h = ap (λ ms. option_map (session_row H n ms) (oldest ms)) (members-above gs n h)
+
+-- what holds of every grant holds of the first of a session
+pub All-oldest : (P : Grant → Type 0) (gs : List Grant) (n : ℕ) (g : Grant) → All P gs → oldest (members gs n) ≡ Some g → P g
+All-oldest P [] n g all e = cc
+All-oldest P (x ∷ gs) n g all e = go (All-oldest P gs n g (All-tail P x gs all)) (All-head P x gs all) (nat_eq x.session n) e
+  where
+    pick : (o : Option Grant) → (o ≡ Some g → P g) → P x → option_or o (Some x) ≡ Some g → P g
+    pick None rest here is = let same : x ≡ g = cc in subst P same here
+    pick (Some y) rest here is = rest is
+
+    go : (oldest (members gs n) ≡ Some g → P g) → P x → (b : Bool) → oldest (cond b (x ∷ members gs n) (members gs n)) ≡ Some g → P g
+    go rest here true is = pick (oldest (members gs n)) rest here is
+    go rest here false is = rest is
 
 -- a session's number is at most the greatest
 pub number-le : (gs : List Grant) (H : History) (n : ℕ) (s : Session) → session_in gs H n ≡ Some s → n ≤ greatest_session gs
@@ -41,9 +44,6 @@ greatest-grant (Some i) gs running t n d c h = omega arith
 -- a session that was never opened has no report and no close
 pub unreported : (H : History) → IsLegal H → (n : ℕ) → greatest_session (grants_of H) < n → (used_of H n ≡ 0) × (closed_of H n ≡ None)
 unreported [] legal n h = (refl, refl)
-unreported (entry t (Load plans) ∷ H) legal n h = unreported H legal.1 n h
-unreported (entry t (Issue b p codes) ∷ H) legal n h = unreported H legal.1 n h
-unreported (entry t (Sell c) ∷ H) legal n h = unreported H legal.1 n h
 unreported (entry t (Redeem d c) ∷ H) legal n h =
     unreported H legal.1 n (greatest-grant (issued_of H c) (grants_of H) (kept_if (is_open_at t) (session_in (grants_of H) H (last_number (grants_of H) d))) t n d c h)
 unreported (entry t (Report m bytes) ∷ H) legal n h =
@@ -51,27 +51,19 @@ unreported (entry t (Report m bytes) ∷ H) legal n h =
     let known = reportable (session_of H m) legal.0.accepted in
     let low = number-le (grants_of H) H m known.0 known.1 in
     (cond-false (nat_eq m n) (max bytes (used_of H n)) (used_of H n) (nat_eq-other m n (λ e. omega arith)) ∙ before.0, before.1)
-unreported (entry t (Refund c) ∷ H) legal n h = unreported H legal.1 n h
 unreported (entry t (Close m) ∷ H) legal n h =
     let before = unreported H legal.1 n h in
     let known = closable (session_of H m) legal.0.accepted in
     let low = number-le (grants_of H) H m known.0 known.1 in
     (before.0, cond-false (nat_eq m n) (Some t) (closed_of H n) (nat_eq-other m n (λ e. omega arith)) ∙ before.1)
+unreported (_ ∷ H) legal n h = unreported H legal.1 n h
 
 limited-more : (given total more : ℕ) → limited given (total + more) ≡ raised (limited given total) more
-limited-more given total more = go (nat_eq given 0)
-  where
-    go : (b : Bool) → cond b None (Some (total + more)) ≡ raised (cond b None (Some total)) more
-    go true = refl
-    go false = refl
+limited-more given total more = sym (cond-ap (λ o. raised o more) (nat_eq given 0) None (Some total))
 
 pub kept-some : {A : Type 0} (test : A → Bool) (o : Option A) (s : A) → kept_if test o ≡ Some s → o ≡ Some s
 kept-some test None s e = cc
-kept-some test (Some x) s e = go (test x) e
-  where
-    go : (b : Bool) → cond b (Some x) None ≡ Some s → Some x ≡ Some s
-    go true h = h
-    go false h = cc
+kept-some test (Some x) s e = elim (picked (test x) x s None e) [ inl is ↦ ap Some is.1 | inr is ↦ absurd (none-some s is.1) ]
 
 -- the session of g and of those before it
 abbrev session_with : Grant → List Grant → History → ℕ → Option Session
@@ -79,13 +71,7 @@ session_with g ms H n = option_map (session_row H n (g ∷ ms)) (oldest (g ∷ m
 
 session_in-cons : (g : Grant) (gs : List Grant) (H : History) (n : ℕ)
     → session_in (g ∷ gs) H n ≡ cond (nat_eq g.session n) (session_with g (members gs n) H n) (session_in gs H n)
-session_in-cons g gs H n = go (nat_eq g.session n) (members gs n)
-  where
-    go : (b : Bool) (ms : List Grant)
-        → option_map (session_row H n (cond b (g ∷ ms) ms)) (oldest (cond b (g ∷ ms) ms))
-        ≡ cond b (session_with g ms H n) (option_map (session_row H n ms) (oldest ms))
-    go true ms = refl
-    go false ms = refl
+session_in-cons g gs H n = cond-ap (λ ms. option_map (session_row H n ms) (oldest ms)) (nat_eq g.session n) (g ∷ members gs n) (members gs n)
 
 -- a limit of the session, with one more grant
 more-limited : (given at : ℕ) (f : Grant → ℕ) (g : Grant) (ms : List Grant)
@@ -119,6 +105,14 @@ pub number-of : (H : History) (gs : List Grant) (n : ℕ) (s : Session) → sess
 number-of H gs n s e =
     let found = some-of-map (session_row H n (members gs n)) (oldest (members gs n)) s e in
     sym (ap (λ (r : Session). r.number) found.2)
+
+-- a session, and what it was before a command that adds no grant
+pub before_row : (H now : History) (n : ℕ) (s : Session) → session_in (grants_of H) now n ≡ Some s
+    → (first : Grant) × (session_of H n ≡ Some (session_row H n (members (grants_of H) n) first)) × (session_row now n (members (grants_of H) n) first ≡ s)
+before_row H now n s e =
+    let ms : List Grant = members (grants_of H) n in
+    let found = some-of-map (session_row now n ms) (oldest ms) s e in
+    (found.0, ap (option_map (session_row H n ms)) found.1, found.2)
 
 abbrev pub granted : List Grant → Option Session → List ℕ → List ℕ → Issued → ℕ → Grant
 granted gs running d c i t = record { session = place_of gs running; device = d; code = c; plan = i.plan; at = t }
@@ -183,12 +177,7 @@ row_with H code n i = record (voucher_row H code i) { redeemed = n }
 used-once : (H : History) (d c : List ℕ) (t : ℕ) (code : List ℕ)
     → voucher_of (entry t (Redeem d c) ∷ H) code
     ≡ cond (bytes_eq c code) (option_map (row_with H code (uses_of H code + 1)) (issued_of H code)) (voucher_of H code)
-used-once H d c t code = go (bytes_eq c code)
-  where
-    go : (b : Bool) → option_map (row_with H code (cond b (uses_of H code + 1) (uses_of H code))) (issued_of H code)
-        ≡ cond b (option_map (row_with H code (uses_of H code + 1)) (issued_of H code)) (voucher_of H code)
-    go true = refl
-    go false = refl
+used-once H d c t code = cond-ap (λ n. option_map (row_with H code n) (issued_of H code)) (bytes_eq c code) (uses_of H code + 1) (uses_of H code)
 
 pub redeem_leads : RedeemLeads
 redeem_leads H legal d c t v e =

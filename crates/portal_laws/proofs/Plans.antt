@@ -1,13 +1,5 @@
 -- The plan of an id is its row.
-use Rattle.std.proofs.Common.{◌≡◌, ℕ, Bool, true, false, cond, List, [], ◌∷◌, Option, Some, None, refl, subst, ap, sym, ◌∙◌}
-use Rattle.std.specs.Prelude.{bytes_eq, is_none, find}
-use Rattle.std.specs.Option.{option_or}
-use Rattle.std.proofs.lemmas.List.Folds.{find-append}
-use Rattle.portal_model.specs.declared.command.Command.TheVariants.{Load, Issue, Sell, Redeem, Report, Refund, Close}
-use Rattle.portal_model.specs.declared.plan.Plan.{Plan}
-use Rattle.portal_model.specs.History.{entry, History, plan_of}
-use Rattle.portal_model.specs.Change.{added, plan_among}
-use Rattle.portal_model.specs.Rows.{plans_of}
+use Rattle.portal_laws.proofs.Common.{◌≡◌, ℕ, Bool, true, false, cond, List, [], ◌∷◌, Option, Some, None, refl, subst, ap, sym, ◌∙◌, bytes_eq, is_none, find, option_or, find-append, Load, Plan, entry, History, plan_of, added, plan_among, plans_of}
 use Rattle.portal_laws.specs.Laws.{PlanIsRow}
 use Rattle.portal_laws.proofs.Basics.{bytes_same, not_both, found-passes}
 
@@ -37,12 +29,7 @@ plan_is_row (entry t (Load plans) ∷ H) id =
     or-added H id plans (plan_of H id) refl
     ∙ ap (λ o. option_or o (plan_among (added (plan_of H) plans) id)) (plan_is_row H id)
     ∙ sym (find-append (λ p. bytes_eq p.id id) (plans_of H) (added (plan_of H) plans))
-plan_is_row (entry t (Issue b p codes) ∷ H) id = plan_is_row H id
-plan_is_row (entry t (Sell c) ∷ H) id = plan_is_row H id
-plan_is_row (entry t (Redeem d c) ∷ H) id = plan_is_row H id
-plan_is_row (entry t (Report n bytes) ∷ H) id = plan_is_row H id
-plan_is_row (entry t (Refund c) ∷ H) id = plan_is_row H id
-plan_is_row (entry t (Close n) ∷ H) id = plan_is_row H id
+plan_is_row (_ ∷ H) id = plan_is_row H id
 
 -- the plan of an id has that id
 pub plan-id : (H : History) (id : List ℕ) (p : Plan) → plan_of H id ≡ Some p → p.id ≡ id

@@ -1,11 +1,7 @@
 -- What is told remains is at least 1.
-use Rattle.std.proofs.Common.{◌≡◌, ℕ, ◌-◌, ◌<◌, ◌≤◌, Bool, true, false, cond, List, [], ◌∷◌, Option, Some, None, refl, arith, sym, subst}
-use Rattle.std.specs.Prelude.{is_none, ◌&&◌, filter, All}
-use Rattle.std.proofs.lemmas.Bool.Decides.{nat_tests}
-use Rattle.std.proofs.lemmas.List.Elements.{All-nil, All-cons, All-map}
-use Rattle.portal_model.specs.declared.record.Session.{Session}
-use Rattle.portal_model.specs.History.{History, kept_if, is_open_at, is_below, last_session_of, effective_moment}
+use Rattle.portal_laws.proofs.Common.{All-weaker, ◌≡◌, ℕ, ◌-◌, ◌<◌, ◌≤◌, Bool, true, false, cond, Option, Some, None, refl, arith, is_none, ◌&&◌, filter, nat_tests, All-map, Session, kept_if, is_open_at, is_below, last_session_of, effective_moment}
 use Rattle.portal_model.specs.Captive.{left_below, told_of, open_session, all_sessions}
+use Rattle.std.proofs.lemmas.List.Elements.{filter_passes}
 use Rattle.portal_laws.specs.Laws.{AtLeastOne, GuestsAreToldWhatRemains, GatewayIsToldWhatRemains}
 use Rattle.portal_laws.proofs.Basics.{and-true}
 
@@ -33,17 +29,9 @@ told-least t (Some s) = by_test (is_open_at t s) refl
 pub guests-told : GuestsAreToldWhatRemains
 guests-told H device t = told-least (effective_moment H t) (last_session_of H device)
 
--- what passes a test has what the test tells
-passing : (P : Session → Type 0) (test : Session → Bool) → ((s : Session) → test s ≡ true → P s) → (ss : List Session) → All P (filter test ss)
-passing P test tells [] = All-nil P
-passing P test tells (s ∷ ss) = by_test (test s) refl (passing P test tells ss)
-  where
-    by_test : (passes : Bool) → test s ≡ passes → All P (filter test ss) → All P (cond passes (s ∷ filter test ss) (filter test ss))
-    by_test true e rest = All-cons P s (filter test ss) (tells s e) rest
-    by_test false e rest = rest
-
 pub gateway-told : GatewayIsToldWhatRemains
 gateway-told H t =
     let now : ℕ = effective_moment H t in
     All-map (λ o. AtLeastOne o.seconds o.bytes) (open_session now) (filter (is_open_at now) (all_sessions H))
-    (passing (λ s. AtLeastOne (left_below now s.ends) (left_below s.used s.allowance)) (is_open_at now) (open-least now) (all_sessions H))
+    (All-weaker (λ s. is_open_at now s ≡ true) (λ s. AtLeastOne (left_below now s.ends) (left_below s.used s.allowance)) (open-least now)
+    (filter (is_open_at now) (all_sessions H)) (filter_passes (is_open_at now) (all_sessions H)))

@@ -1,24 +1,13 @@
 -- The session of a number is the join of its rows, and the counters are the sums of the other rows.
-use Rattle.std.proofs.Common.{◌≡◌, ℕ, ◌+◌, Bool, true, false, cond, List, [], ◌∷◌, map, length, Option, Some, None, pos, ◌+ℤ◌, ◌-ℤ◌, refl, arith, subst, ap, sym, ◌∙◌}
-use Rattle.std.specs.Prelude.{bytes_eq, nat_eq, nat_abs, option_map, option_and_then, find, filter, sum_by, All}
-use Rattle.std.specs.Option.{option_or}
-use Rattle.std.proofs.lemmas.Int.{ints}
-use Rattle.std.proofs.lemmas.List.Elements.{All-nil, All-cons, All-weaker, filter-append}
-use Rattle.std.proofs.lemmas.List.Sums.{sum_by-append, sum_by-cons}
-use Rattle.portal_model.specs.declared.command.Command.TheVariants.{Load, Issue, Sell, Redeem, Report, Refund, Close}
-use Rattle.portal_model.specs.declared.plan.Plan.{Plan}
-use Rattle.portal_model.specs.declared.record.Session.{Session}
-use Rattle.portal_model.specs.History.{entry, History, Place, Issued, Grant, issued_of, plan_of, batch_of, grants_of, members, oldest, last_number, session_of, session_row}
-use Rattle.portal_model.specs.Change.{plan_among}
-use Rattle.portal_model.specs.Rows.{SessionRow, TotalRow, GrantRow, Rows, rows_of, plans_of, places_of, row_of_place, count_of_place, count_from, openings, row_of_opening, session_opened, total_of_opening, total_from, totals_of, remaining_of, sessions_of, row_of_grant, grant_rows, session_among, total_among, allowance_from, joined_session, session_from, last_among}
-use Rattle.portal_model.specs.Verdict.{IsLegal}
+use Rattle.portal_laws.proofs.Common.{◌≡◌, ℕ, ◌+◌, Bool, true, false, cond, List, [], ◌∷◌, map, length, Option, Some, None, pos, ◌+ℤ◌, ◌-ℤ◌, refl, arith, subst, ap, sym, ◌∙◌, bytes_eq, nat_eq, nat_abs, option_map, option_and_then, find, filter, sum_by, All, option_or, ints, All-nil, All-cons, All-weaker, filter-append, sum_by-append, sum_by-cons, Load, Redeem, Plan, Session, entry, History, Place, Issued, Grant, issued_of, plan_of, batch_of, grants_of, members, oldest, last_number, session_of, session_row, plan_among, SessionRow, TotalRow, GrantRow, Rows, rows_of, plans_of, places_of, row_of_place, count_of_place, count_from, openings, row_of_opening, session_opened, total_of_opening, total_from, totals_of, remaining_of, sessions_of, row_of_grant, grant_rows, session_among, total_among, allowance_from, joined_session, session_from, last_among, IsLegal}
 use Rattle.portal_laws.specs.Laws.{SessionIsRow, LastSessionIsRow, CountsAreSums, TotalsAreSums}
 use Rattle.portal_laws.proofs.Basics.{find-map, found-passes, nat_eq-same, or-some, map-alike, map-map, map-same}
 use Rattle.portal_laws.proofs.Plans.{plan_is_row, plan-id}
 use Rattle.portal_laws.proofs.Issuing.{Agrees, place_among, issued_is_placed}
 use Rattle.portal_laws.proofs.Counts.{uses_are_rows}
 use Rattle.portal_laws.proofs.Opens.{adds}
-use Rattle.portal_laws.proofs.Placed.{are_placed, All-openings, All-oldest, find-openings, no-zero, last_opening, number_in, last_opening-number}
+use Rattle.portal_laws.proofs.Placing.{All-oldest}
+use Rattle.portal_laws.proofs.Placed.{are_placed, All-openings, find-openings, no-zero, last_opening, number_in, last_opening-number}
 
 -- The plan of a grant is held
 
@@ -39,15 +28,11 @@ pub grants-plans : (H : History) → IsLegal H → All (Knows (plan_of H)) (gran
 grants-plans [] legal = All-nil (Knows (plan_of []))
 grants-plans (entry t (Load plans) ∷ H) legal =
     All-weaker (Knows (plan_of H)) (Knows (plan_of (entry t (Load plans) ∷ H))) (λ g e. or-some (plan_of H g.plan.id) (find (λ p. bytes_eq p.id g.plan.id) plans) g.plan e) (grants_of H) (grants-plans H legal.1)
-grants-plans (entry t (Issue b p codes) ∷ H) legal = grants-plans H legal.1
-grants-plans (entry t (Sell c) ∷ H) legal = grants-plans H legal.1
 grants-plans (entry t (Redeem d c) ∷ H) legal =
     let new = adds H t d c legal in
     subst (All (Knows (plan_of H))) (sym new.grants)
     (All-cons (Knows (plan_of H)) _ (grants_of H) (issued-plan H legal.1 c new.issued new.found) (grants-plans H legal.1))
-grants-plans (entry t (Report n bytes) ∷ H) legal = grants-plans H legal.1
-grants-plans (entry t (Refund c) ∷ H) legal = grants-plans H legal.1
-grants-plans (entry t (Close n) ∷ H) legal = grants-plans H legal.1
+grants-plans (_ ∷ H) legal = grants-plans H legal.1
 
 -- The session of a number
 
@@ -89,8 +74,7 @@ session_cases H legal n (Some g) is =
 pub session_is_row : SessionIsRow
 session_is_row H legal n =
     session_cases H legal n (oldest (members (grants_of H) n)) refl
-    ∙ ap (λ o. join_of (rows_of H) o (option_map (total_of_opening H) (oldest (members (grants_of H) n)))) (sym (session_among-openings H legal n))
-    ∙ ap (λ o. join_of (rows_of H) (session_among (sessions_of H) n) o) (sym (total_among-openings H legal n))
+    ∙ sym (λ i. join_of (rows_of H) (session_among-openings H legal n i) (total_among-openings H legal n i))
 
 -- The last session of a device
 

@@ -1,17 +1,5 @@
 -- Ids are id texts, codes are codes and devices are devices, in every row.
-use Rattle.std.proofs.Common.{◌≡◌, ℕ, ◌+◌, List, [], ◌∷◌, length, Option, Some, None, refl, subst, sym, ◌∙◌}
-use Rattle.std.specs.Prelude.{bytes_eq, option_map, is_none, All}
-use Rattle.std.specs.Option.{option_to_list}
-use Rattle.std.proofs.lemmas.List.Elements.{All-nil, All-cons, All-append, All-head, All-tail, All-weaker, All-map, All-filter}
-use Rattle.portal_codes.specs.Code.{IsCode}
-use Rattle.portal_model.specs.declared.command.Command.TheVariants.{Load, Issue, Sell, Redeem, Report, Refund, Close}
-use Rattle.portal_model.specs.declared.plan.Plan.{Plan}
-use Rattle.portal_model.specs.declared.record.Batch.{Batch}
-use Rattle.portal_model.specs.IdText.{IsIdText}
-use Rattle.portal_model.specs.Device.{IsDevice}
-use Rattle.portal_model.specs.History.{entry, History, Place, placed, Grant, plan_of, batch_row, grants_of}
-use Rattle.portal_model.specs.Rows.{VoucherRow, CountRow, SessionRow, GrantRow, plans_of, batches_of, places_of, row_of_place, count_of_place, openings, row_of_opening, row_of_grant, grant_rows}
-use Rattle.portal_model.specs.Verdict.{IsLegal}
+use Rattle.portal_laws.proofs.Common.{◌≡◌, ℕ, ◌+◌, List, [], ◌∷◌, length, Option, Some, None, refl, subst, sym, ◌∙◌, bytes_eq, option_map, is_none, All, option_to_list, All-nil, All-cons, All-append, All-head, All-tail, All-weaker, All-map, All-filter, IsCode, Load, Issue, Redeem, Plan, Batch, IsIdText, IsDevice, entry, History, Place, placed, Grant, plan_of, batch_row, grants_of, VoucherRow, CountRow, SessionRow, GrantRow, plans_of, batches_of, places_of, row_of_place, count_of_place, openings, row_of_opening, row_of_grant, grant_rows, IsLegal}
 use Rattle.portal_laws.specs.Laws.{RowsAreTyped}
 use Rattle.portal_laws.proofs.Basics.{All-found}
 use Rattle.portal_laws.proofs.Plans.{plan_is_row}
@@ -26,12 +14,7 @@ typed-plans : (H : History) → IsLegal H → All HasIdText (plans_of H)
 typed-plans [] legal = All-nil HasIdText
 typed-plans (entry t (Load plans) ∷ H) legal =
     All-append HasIdText (plans_of H) _ (typed-plans H legal.1) (All-filter (λ p. is_none (plan_of H p.id)) HasIdText plans legal.0.typed)
-typed-plans (entry t (Issue b p codes) ∷ H) legal = typed-plans H legal.1
-typed-plans (entry t (Sell c) ∷ H) legal = typed-plans H legal.1
-typed-plans (entry t (Redeem d c) ∷ H) legal = typed-plans H legal.1
-typed-plans (entry t (Report n bytes) ∷ H) legal = typed-plans H legal.1
-typed-plans (entry t (Refund c) ∷ H) legal = typed-plans H legal.1
-typed-plans (entry t (Close n) ∷ H) legal = typed-plans H legal.1
+typed-plans (_ ∷ H) legal = typed-plans H legal.1
 
 -- a plan that is found has an id text
 typed-plan : (H : History) → IsLegal H → (id : List ℕ) (p : Plan) → plan_of H id ≡ Some p → IsIdText p.id
@@ -47,14 +30,9 @@ typed-batch H legal t size b p is (Some plan) e = All-cons HasIds (batch_row t b
 
 typed-batches : (H : History) → IsLegal H → All HasIds (batches_of H)
 typed-batches [] legal = All-nil HasIds
-typed-batches (entry t (Load plans) ∷ H) legal = typed-batches H legal.1
 typed-batches (entry t (Issue b p codes) ∷ H) legal =
     All-append HasIds (batches_of H) _ (typed-batches H legal.1) (typed-batch H legal.1 t (length codes) b p legal.0.typed.0 (plan_of H p) refl)
-typed-batches (entry t (Sell c) ∷ H) legal = typed-batches H legal.1
-typed-batches (entry t (Redeem d c) ∷ H) legal = typed-batches H legal.1
-typed-batches (entry t (Report n bytes) ∷ H) legal = typed-batches H legal.1
-typed-batches (entry t (Refund c) ∷ H) legal = typed-batches H legal.1
-typed-batches (entry t (Close n) ∷ H) legal = typed-batches H legal.1
+typed-batches (_ ∷ H) legal = typed-batches H legal.1
 
 pub record HasTexts (k : Place) : Type 0 where
   pub code : IsCode k.code
@@ -67,14 +45,9 @@ typed-placed b is n (code ∷ codes) all =
 
 typed-places : (H : History) → IsLegal H → All HasTexts (places_of H)
 typed-places [] legal = All-nil HasTexts
-typed-places (entry t (Load plans) ∷ H) legal = typed-places H legal.1
 typed-places (entry t (Issue b p codes) ∷ H) legal =
     All-append HasTexts (places_of H) (placed b 0 codes) (typed-places H legal.1) (typed-placed b legal.0.typed.0 0 codes legal.0.typed.2)
-typed-places (entry t (Sell c) ∷ H) legal = typed-places H legal.1
-typed-places (entry t (Redeem d c) ∷ H) legal = typed-places H legal.1
-typed-places (entry t (Report n bytes) ∷ H) legal = typed-places H legal.1
-typed-places (entry t (Refund c) ∷ H) legal = typed-places H legal.1
-typed-places (entry t (Close n) ∷ H) legal = typed-places H legal.1
+typed-places (_ ∷ H) legal = typed-places H legal.1
 
 pub record HasParts (g : Grant) : Type 0 where
   pub code : IsCode g.code
@@ -83,17 +56,12 @@ pub record HasParts (g : Grant) : Type 0 where
 
 typed-grants : (H : History) → IsLegal H → All HasParts (grants_of H)
 typed-grants [] legal = All-nil HasParts
-typed-grants (entry t (Load plans) ∷ H) legal = typed-grants H legal.1
-typed-grants (entry t (Issue b p codes) ∷ H) legal = typed-grants H legal.1
-typed-grants (entry t (Sell c) ∷ H) legal = typed-grants H legal.1
 typed-grants (entry t (Redeem d c) ∷ H) legal =
     let new = adds H t d c legal in
     let known = issued-plan H legal.1 c new.issued new.found in
     subst (All HasParts) (sym new.grants)
     (All-cons HasParts _ (grants_of H) (record { code = legal.0.typed.1; device = legal.0.typed.0; plan = typed-plan H legal.1 new.issued.plan.id new.issued.plan known }) (typed-grants H legal.1))
-typed-grants (entry t (Report n bytes) ∷ H) legal = typed-grants H legal.1
-typed-grants (entry t (Refund c) ∷ H) legal = typed-grants H legal.1
-typed-grants (entry t (Close n) ∷ H) legal = typed-grants H legal.1
+typed-grants (_ ∷ H) legal = typed-grants H legal.1
 
 typed-grant-rows : (gs : List Grant) → All HasParts gs → All (λ g. IsCode g.code) (grant_rows gs)
 typed-grant-rows [] all = All-nil (λ (g : GrantRow). IsCode g.code)

@@ -1,10 +1,5 @@
 -- A code that was not issued was not sold, redeemed or refunded.
-use Rattle.std.proofs.Common.{◌≡◌, ℕ, ◌+◌, List, ◌∷◌, [], true, Some, None, refl, subst, ap, sym, ◌∙◌}
-use Rattle.std.specs.Prelude.{bytes_eq, option_map}
-use Rattle.portal_model.specs.declared.command.Command.TheVariants.{Load, Issue, Sell, Redeem, Report, Refund, Close}
-use Rattle.portal_model.specs.declared.record.Voucher.{Voucher}
-use Rattle.portal_model.specs.History.{entry, History, repaid_at, issued_of, sold_of, uses_of, refund_of, voucher_of, voucher_row, head_of, last_session_of}
-use Rattle.portal_model.specs.Verdict.{IsLegal}
+use Rattle.portal_laws.proofs.Common.{◌≡◌, ℕ, ◌+◌, List, ◌∷◌, [], true, Some, None, refl, subst, ap, sym, ◌∙◌, bytes_eq, option_map, Issue, Sell, Redeem, Refund, Voucher, entry, History, repaid_at, issued_of, sold_of, uses_of, refund_of, voucher_of, voucher_row, head_of, last_session_of, IsLegal}
 use Rattle.portal_laws.proofs.Basics.{bytes_same, cond-not, or-none}
 use Rattle.portal_laws.proofs.Accepted.{sellable, redeemable, refundable}
 
@@ -18,35 +13,29 @@ no_voucher H c code v none is same =
     let here : voucher_of H c ≡ None = subst (λ (x : List ℕ). voucher_of H x ≡ None) (sym (bytes_same c code same)) (ap (option_map (voucher_row H code)) none) in
     cc
 
-pub unissued : (H : History) → IsLegal H → (code : List ℕ) → issued_of H code ≡ None → IsUntouched H code
-unissued [] legal code none = record { sold = refl; uses = refl; refund = refl }
-unissued (entry t (Load plans) ∷ H) legal code none = let h = unissued H legal.1 code none in record { sold = h.sold; uses = h.uses; refund = h.refund }
-unissued (entry t (Issue b p codes) ∷ H) legal code none =
-    let h = unissued H legal.1 code (or-none (issued_of H code) _ none).0 in
-    record { sold = h.sold; uses = h.uses; refund = h.refund }
-unissued (entry t (Sell c) ∷ H) legal code none =
-    let h = unissued H legal.1 code none in
+untouched-sold : (H : History) → IsLegal H → (code : List ℕ) → issued_of H code ≡ None → sold_of H code ≡ None
+untouched-sold [] legal code none = refl
+untouched-sold (entry t (Issue b p codes) ∷ H) legal code none = untouched-sold H legal.1 code (or-none (issued_of H code) _ none).0
+untouched-sold (entry t (Sell c) ∷ H) legal code none =
     let v = sellable (voucher_of H c) t legal.0.accepted in
-    record {
-      sold = cond-not (bytes_eq c code) (Some t) (sold_of H code) (no_voucher H c code v.0 none v.1) ∙ h.sold;
-      uses = h.uses;
-      refund = h.refund;
-    }
-unissued (entry t (Redeem d c) ∷ H) legal code none =
-    let h = unissued H legal.1 code none in
+    cond-not (bytes_eq c code) (Some t) (sold_of H code) (no_voucher H c code v.0 none v.1) ∙ untouched-sold H legal.1 code none
+untouched-sold (_ ∷ H) legal code none = untouched-sold H legal.1 code none
+
+untouched-uses : (H : History) → IsLegal H → (code : List ℕ) → issued_of H code ≡ None → uses_of H code ≡ 0
+untouched-uses [] legal code none = refl
+untouched-uses (entry t (Issue b p codes) ∷ H) legal code none = untouched-uses H legal.1 code (or-none (issued_of H code) _ none).0
+untouched-uses (entry t (Redeem d c) ∷ H) legal code none =
     let v = redeemable (head_of H) (voucher_of H c) (last_session_of H d) t legal.0.accepted in
-    record {
-      sold = h.sold;
-      uses = cond-not (bytes_eq c code) (uses_of H code + 1) (uses_of H code) (no_voucher H c code v.0 none v.1) ∙ h.uses;
-      refund = h.refund;
-    }
-unissued (entry t (Report n bytes) ∷ H) legal code none = let h = unissued H legal.1 code none in record { sold = h.sold; uses = h.uses; refund = h.refund }
-unissued (entry t (Refund c) ∷ H) legal code none =
-    let h = unissued H legal.1 code none in
+    cond-not (bytes_eq c code) (uses_of H code + 1) (uses_of H code) (no_voucher H c code v.0 none v.1) ∙ untouched-uses H legal.1 code none
+untouched-uses (_ ∷ H) legal code none = untouched-uses H legal.1 code none
+
+untouched-refund : (H : History) → IsLegal H → (code : List ℕ) → issued_of H code ≡ None → refund_of H code ≡ None
+untouched-refund [] legal code none = refl
+untouched-refund (entry t (Issue b p codes) ∷ H) legal code none = untouched-refund H legal.1 code (or-none (issued_of H code) _ none).0
+untouched-refund (entry t (Refund c) ∷ H) legal code none =
     let v = refundable (voucher_of H c) legal.0.accepted in
-    record {
-      sold = h.sold;
-      uses = h.uses;
-      refund = cond-not (bytes_eq c code) (option_map (repaid_at t (uses_of H code)) (issued_of H code)) (refund_of H code) (no_voucher H c code v.0 none v.1) ∙ h.refund;
-    }
-unissued (entry t (Close n) ∷ H) legal code none = let h = unissued H legal.1 code none in record { sold = h.sold; uses = h.uses; refund = h.refund }
+    cond-not (bytes_eq c code) (option_map (repaid_at t (uses_of H code)) (issued_of H code)) (refund_of H code) (no_voucher H c code v.0 none v.1) ∙ untouched-refund H legal.1 code none
+untouched-refund (_ ∷ H) legal code none = untouched-refund H legal.1 code none
+
+pub unissued : (H : History) → IsLegal H → (code : List ℕ) → issued_of H code ≡ None → IsUntouched H code
+unissued H legal code none = record { sold = untouched-sold H legal code none; uses = untouched-uses H legal code none; refund = untouched-refund H legal code none }

@@ -1,13 +1,5 @@
 -- A voucher is never redeemed beyond its uses.
-use Rattle.std.proofs.Common.{◌≡◌, ℕ, ◌+◌, ◌<◌, ◌≤◌, Bool, true, false, cond, List, [], ◌∷◌, Option, Some, None, refl, arith, subst, sym}
-use Rattle.std.specs.Prelude.{bytes_eq, option_map}
-use Rattle.std.specs.Option.{option_or}
-use Rattle.portal_model.specs.declared.command.Command.TheVariants.{Load, Issue, Sell, Redeem, Report, Refund, Close}
-use Rattle.portal_model.specs.declared.record.Voucher.{Voucher}
-use Rattle.portal_model.specs.declared.record.Session.{Session}
-use Rattle.portal_model.specs.declared.record.Head.{Head}
-use Rattle.portal_model.specs.History.{entry, History, Issued, issued_of, uses_of, voucher_row, head_of, last_session_of}
-use Rattle.portal_model.specs.Verdict.{IsLegal, redeem_verdict}
+use Rattle.portal_laws.proofs.Common.{◌≡◌, ℕ, ◌+◌, ◌<◌, ◌≤◌, Bool, true, false, cond, List, [], ◌∷◌, Option, Some, None, refl, arith, subst, sym, bytes_eq, option_map, option_or, Issue, Redeem, Voucher, Session, Head, entry, History, Issued, issued_of, uses_of, voucher_row, head_of, last_session_of, IsLegal, redeem_verdict}
 use Rattle.portal_laws.specs.Laws.{UsesAreBounded}
 use Rattle.portal_laws.proofs.Basics.{bytes_same, some-same}
 use Rattle.portal_laws.proofs.Accepted.{use-left, redeemable}
@@ -37,17 +29,13 @@ fits-cond false o n more same = same
 
 pub uses_fit : (H : History) → IsLegal H → (code : List ℕ) → UsesFit (issued_of H code) (uses_of H code)
 uses_fit [] legal code = refl
-uses_fit (entry t (Load plans) ∷ H) legal code = uses_fit H legal.1 code
 uses_fit (entry t (Issue b p codes) ∷ H) legal code = fits-option_or (issued_of H code) _ (uses_of H code) (uses_fit H legal.1 code)
-uses_fit (entry t (Sell c) ∷ H) legal code = uses_fit H legal.1 code
 uses_fit (entry t (Redeem d c) ∷ H) legal code =
     fits-cond (bytes_eq c code) (issued_of H code) (uses_of H code)
     (λ same. subst (λ (x : List ℕ). UsesFit (issued_of H x) (uses_of H x + 1)) (bytes_same c code same)
     (fits-redeem (head_of H) (issued_of H c) H c (last_session_of H d) t legal.0.accepted))
     (uses_fit H legal.1 code)
-uses_fit (entry t (Report n bytes) ∷ H) legal code = uses_fit H legal.1 code
-uses_fit (entry t (Refund c) ∷ H) legal code = uses_fit H legal.1 code
-uses_fit (entry t (Close n) ∷ H) legal code = uses_fit H legal.1 code
+uses_fit (_ ∷ H) legal code = uses_fit H legal.1 code
 
 from_fit : (H : History) (code : List ℕ) (o : Option Issued) (v : Voucher) → UsesFit o (uses_of H code) → option_map (voucher_row H code) o ≡ Some v → v.redeemed ≤ v.plan.uses
 from_fit H code None v fit e = cc

@@ -1,11 +1,5 @@
 -- The voucher of a code is the join of its rows.
-use Rattle.std.proofs.Common.{◌≡◌, ℕ, List, [], ◌∷◌, map, Option, Some, None, refl, ap, sym, ◌∙◌}
-use Rattle.std.specs.Prelude.{bytes_eq, option_map, option_and_then, is_some}
-use Rattle.portal_model.specs.declared.record.Voucher.{Voucher}
-use Rattle.portal_model.specs.History.{History, Place, Issued, issued_of, plan_of, batch_of, voucher_row}
-use Rattle.portal_model.specs.Change.{plan_among}
-use Rattle.portal_model.specs.Rows.{VoucherRow, CountRow, Rows, rows_of, places_of, row_of_place, count_of_place, plans_of, batches_of, batch_among, row_among, count_among, joined}
-use Rattle.portal_model.specs.Verdict.{IsLegal}
+use Rattle.portal_laws.proofs.Common.{◌≡◌, ℕ, List, [], ◌∷◌, map, Option, Some, None, refl, ap, sym, ◌∙◌, bytes_eq, option_map, option_and_then, is_some, Voucher, History, Place, Issued, issued_of, plan_of, batch_of, voucher_row, plan_among, VoucherRow, CountRow, Rows, rows_of, places_of, row_of_place, count_of_place, plans_of, batches_of, batch_among, row_among, count_among, joined, IsLegal}
 use Rattle.portal_laws.specs.Laws.{VoucherIsRow, TakenAreRows}
 use Rattle.portal_laws.proofs.Basics.{bytes_same, find-map, found-passes}
 use Rattle.portal_laws.proofs.Plans.{plan_is_row}
@@ -42,8 +36,7 @@ count_among-places H code = find-map (count_of_place H) (λ v. bytes_eq v.code c
 pub voucher_is_row : VoucherIsRow
 voucher_is_row H legal code =
     voucher_cases H legal code (issued_of H code) (place_among (places_of H) code) refl (issued_is_placed H legal code)
-    ∙ ap (λ o. join_of (rows_of H) o (option_map (count_of_place H) (place_among (places_of H) code))) (sym (row_among-places H code))
-    ∙ ap (λ o. join_of (rows_of H) (row_among (map (row_of_place H) (places_of H)) code) o) (sym (count_among-places H code))
+    ∙ sym (λ i. join_of (rows_of H) (row_among-places H code i) (count_among-places H code i))
 
 -- Codes that are taken
 

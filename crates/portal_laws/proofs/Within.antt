@@ -1,28 +1,14 @@
 -- Moments and numbers are within their limits, in every row.
-use Rattle.std.proofs.Common.{◌≡◌, ℕ, ◌+◌, ◌<◌, ◌≤◌, ◌⊎◌, inl, inr, max, Bool, true, false, cond, not, List, [], ◌∷◌, length, Option, Some, None, get_or, pos, neg_ℤ, ◌≤ℤ◌, refl, arith, leb-false, subst, ap, sym, ◌∙◌}
-use Rattle.std.specs.Prelude.{bytes_eq, nat_eq, nat_lt, nat_le, option_map, IfSome, All}
-use Rattle.std.specs.Option.{option_to_list}
-use Rattle.std.proofs.lemmas.Int.{ints}
-use Rattle.std.proofs.lemmas.Bool.Decides.{nat_tests}
-use Rattle.std.proofs.lemmas.List.Elements.{All-nil, All-cons, All-append, All-head, All-tail, All-weaker, All-map}
-use Rattle.portal_model.specs.declared.command.Command.TheVariants.{Load, Issue, Sell, Redeem, Report, Refund, Close}
-use Rattle.portal_model.specs.declared.plan.Plan.{Plan}
-use Rattle.portal_model.specs.declared.refusal.Refusal.TheVariants.{NoExtend, ShapeDiffers, AllowanceFull, MomentRange, NumbersFull}
-use Rattle.portal_model.specs.declared.record.Voucher.{Voucher}
-use Rattle.portal_model.specs.declared.record.Session.{Session}
-use Rattle.portal_model.specs.declared.record.Head.{Head}
-use Rattle.portal_model.specs.History.{entry, History, Place, placed, Issued, Grant, Repaid, repaid_at, issued_of, sold_of, uses_of, refund_of, used_of, closed_of, plan_of, batch_of, batch_row, expiry, voucher_of, voucher_row, grants_of, greatest_session, members, oldest, session_of, session_row, last_session_of, kept_if, is_open_at, head_of, last_moment, limited}
-use Rattle.portal_model.specs.Change.{session_after, raised}
-use Rattle.portal_model.specs.Rows.{batches_of, places_of, row_of_place, count_of_place, openings, row_of_opening, session_opened, total_of_opening, remaining_of, row_of_grant, grant_rows}
-use Rattle.portal_model.specs.Verdict.{IsLegal, Check, any_held, greatest_moment, greatest_allowance, greatest_count, place_verdict, same_limits, is_past}
+use Rattle.portal_laws.proofs.Common.{◌≡◌, ℕ, ◌+◌, ◌<◌, ◌≤◌, ◌⊎◌, inl, inr, max, Bool, true, false, cond, not, List, [], ◌∷◌, length, Option, Some, None, get_or, pos, neg_ℤ, ◌≤ℤ◌, refl, arith, leb-false, subst, ap, sym, ◌∙◌, bytes_eq, nat_eq, nat_lt, nat_le, option_map, IfSome, All, option_to_list, ints, nat_tests, All-nil, All-cons, All-append, All-head, All-tail, All-weaker, All-map, Issue, Sell, Redeem, Report, Refund, Close, Plan, Voucher, Session, Head, entry, History, Place, placed, Issued, Grant, Repaid, repaid_at, issued_of, sold_of, uses_of, refund_of, used_of, closed_of, plan_of, batch_of, batch_row, expiry, voucher_of, voucher_row, grants_of, greatest_session, members, oldest, session_of, last_session_of, kept_if, is_open_at, head_of, last_moment, limited, session_after, raised, batches_of, places_of, row_of_place, count_of_place, openings, row_of_opening, session_opened, total_of_opening, remaining_of, row_of_grant, grant_rows, IsLegal, any_held, greatest_moment, greatest_allowance, greatest_count, place_verdict, same_limits, is_past}
 use Rattle.portal_laws.specs.Laws.{RowsAreWithin}
 use Rattle.portal_laws.specs.Limits.{greatest_report, IsMoment, IsNumber, HeadIsWithin, BatchIsWithin, VoucherIsWithin, SessionIsWithin, GrantIsWithin, CountIsWithin, TotalIsWithin}
-use Rattle.portal_laws.proofs.Basics.{some-of-map, some-same}
+use Rattle.portal_laws.proofs.Basics.{picked, some-same}
 use Rattle.portal_laws.proofs.Accepted.{passed, issuable, redeemable}
+use Rattle.portal_laws.proofs.Placing.{before_row}
 use Rattle.portal_laws.proofs.Uses.{UsesFit, uses_fit}
 use Rattle.portal_laws.proofs.Bounds.{RefundFits, refund_fits, sessions_fewer}
 use Rattle.portal_laws.proofs.Openings.{IsFirst, openings_first, session_at}
-use Rattle.portal_laws.proofs.Opens.{adds, picked}
+use Rattle.portal_laws.proofs.Opens.{adds}
 use Rattle.portal_laws.proofs.Placed.{ArePlaced, are_placed, IsJoining, joining-low, no-zero, All-openings}
 
 -- The head
@@ -43,20 +29,15 @@ not-above limit n e = grind (arith, nat_tests)
 
 placeable : (head : Head) (plan : Plan) (t : ℕ) (running : Option Session) → place_verdict head plan t running ≡ None → IsPlaceable head plan t running
 placeable head plan t None e =
-    let second : List Check = (nat_le greatest_count head.grants, NumbersFull) ∷ [] in
-    let timely = passed (nat_lt greatest_moment (t + plan.seconds)) MomentRange second e in
-    let counted = passed (nat_le greatest_count head.grants) NumbersFull [] timely.1 in
+    let timely = passed (nat_lt greatest_moment (t + plan.seconds)) _ _ e in
+    let counted = passed (nat_le greatest_count head.grants) _ _ timely.1 in
     record { count = leb-false greatest_count head.grants counted.0; ends = tt; allowance = tt; new_end = λ none. not-above greatest_moment (t + plan.seconds) timely.0 }
 placeable head plan t (Some s) e =
-    let fifth : List Check = (nat_le greatest_count head.grants, NumbersFull) ∷ [] in
-    let fourth : List Check = (is_past greatest_moment s.ends plan.seconds, MomentRange) ∷ fifth in
-    let third : List Check = (is_past greatest_allowance s.allowance plan.bytes, AllowanceFull) ∷ fourth in
-    let second : List Check = (not (same_limits s plan), ShapeDiffers) ∷ third in
-    let extends = passed (not s.extend) NoExtend second e in
-    let shaped = passed (not (same_limits s plan)) ShapeDiffers third extends.1 in
-    let granted = passed (is_past greatest_allowance s.allowance plan.bytes) AllowanceFull fourth shaped.1 in
-    let timely = passed (is_past greatest_moment s.ends plan.seconds) MomentRange fifth granted.1 in
-    let counted = passed (nat_le greatest_count head.grants) NumbersFull [] timely.1 in
+    let extends = passed (not s.extend) _ _ e in
+    let shaped = passed (not (same_limits s plan)) _ _ extends.1 in
+    let granted = passed (is_past greatest_allowance s.allowance plan.bytes) _ _ shaped.1 in
+    let timely = passed (is_past greatest_moment s.ends plan.seconds) _ _ granted.1 in
+    let counted = passed (nat_le greatest_count head.grants) _ _ timely.1 in
     record { count = leb-false greatest_count head.grants counted.0; ends = timely.0; allowance = granted.0; new_end = λ none. cc }
 
 redeem-placeable : (H : History) (t : ℕ) (d c : List ℕ) → IsLegal (entry t (Redeem d c) ∷ H) → (i : Issued) → issued_of H c ≡ Some i → IsPlaceable (head_of H) i.plan t (kept_if (is_open_at t) (last_session_of H d))
@@ -68,16 +49,11 @@ redeem-placeable H t d c legal i is =
 
 grants_within : (H : History) → IsLegal H → length (grants_of H) ≤ greatest_count
 grants_within [] legal = omega arith
-grants_within (entry t (Load plans) ∷ H) legal = grants_within H legal.1
-grants_within (entry t (Issue b p codes) ∷ H) legal = grants_within H legal.1
-grants_within (entry t (Sell c) ∷ H) legal = grants_within H legal.1
 grants_within (entry t (Redeem d c) ∷ H) legal =
     let new = adds H t d c legal in
     let low : length (grants_of H) < greatest_count = (redeem-placeable H t d c legal new.issued new.found).count in
     subst (λ (gs : List Grant). length gs ≤ greatest_count) (sym new.grants) (omega arith)
-grants_within (entry t (Report n bytes) ∷ H) legal = grants_within H legal.1
-grants_within (entry t (Refund c) ∷ H) legal = grants_within H legal.1
-grants_within (entry t (Close n) ∷ H) legal = grants_within H legal.1
+grants_within (_ ∷ H) legal = grants_within H legal.1
 
 head_within : (H : History) → IsLegal H → HeadIsWithin (head_of H)
 head_within H legal = record { last = last_within H legal; grants = grants_within H legal; sessions = sessions_fewer H }
@@ -91,17 +67,12 @@ batch_within t b size (Some plan) at least most timely =
 
 batches_within : (H : History) → IsLegal H → All BatchIsWithin (batches_of H)
 batches_within [] legal = All-nil BatchIsWithin
-batches_within (entry t (Load plans) ∷ H) legal = batches_within H legal.1
 batches_within (entry t (Issue b p codes) ∷ H) legal =
     let facts = issuable (plan_of H p) (batch_of H b) (any_held H codes) codes t legal.0.accepted in
     All-append BatchIsWithin (batches_of H) (option_to_list (option_map (batch_row t b (length codes)) (plan_of H p))) (batches_within H legal.1)
     (batch_within t b (length codes) (plan_of H p) legal.0.in_range legal.0.well_formed.0 legal.0.well_formed.1
     (λ plan e. let same : facts.plan_is ≡ plan = some-same facts.plan_is plan (sym facts.known ∙ e) in subst (λ (x : Plan). IsMoment (expiry t x)) same (not-above greatest_moment (expiry t facts.plan_is) facts.timely)))
-batches_within (entry t (Sell c) ∷ H) legal = batches_within H legal.1
-batches_within (entry t (Redeem d c) ∷ H) legal = batches_within H legal.1
-batches_within (entry t (Report n bytes) ∷ H) legal = batches_within H legal.1
-batches_within (entry t (Refund c) ∷ H) legal = batches_within H legal.1
-batches_within (entry t (Close n) ∷ H) legal = batches_within H legal.1
+batches_within (_ ∷ H) legal = batches_within H legal.1
 
 -- Vouchers and counts
 
@@ -113,16 +84,11 @@ below-all b n (code ∷ codes) =
 
 places_within : (H : History) → IsLegal H → All (λ k. k.place < 500) (places_of H)
 places_within [] legal = All-nil (λ (k : Place). k.place < 500)
-places_within (entry t (Load plans) ∷ H) legal = places_within H legal.1
 places_within (entry t (Issue b p codes) ∷ H) legal =
     let few : length codes ≤ 500 = legal.0.well_formed.1 in
     All-append (λ (k : Place). k.place < 500) (places_of H) (placed b 0 codes) (places_within H legal.1)
     (All-weaker (λ (k : Place). k.place < 0 + length codes) (λ (k : Place). k.place < 500) (λ k low. omega arith) (placed b 0 codes) (below-all b 0 codes))
-places_within (entry t (Sell c) ∷ H) legal = places_within H legal.1
-places_within (entry t (Redeem d c) ∷ H) legal = places_within H legal.1
-places_within (entry t (Report n bytes) ∷ H) legal = places_within H legal.1
-places_within (entry t (Refund c) ∷ H) legal = places_within H legal.1
-places_within (entry t (Close n) ∷ H) legal = places_within H legal.1
+places_within (_ ∷ H) legal = places_within H legal.1
 
 -- of two values within limits, the chosen one
 if-within : {A : Type 0} (P : A → Type 0) (b : Bool) (o p : Option A) → IfSome o P → IfSome p P → IfSome (cond b o p) P
@@ -131,13 +97,8 @@ if-within P false o p h k = k
 
 sold_within : (H : History) → IsLegal H → (code : List ℕ) → IfSome (sold_of H code) IsMoment
 sold_within [] legal code = tt
-sold_within (entry t (Load plans) ∷ H) legal code = sold_within H legal.1 code
-sold_within (entry t (Issue b p codes) ∷ H) legal code = sold_within H legal.1 code
 sold_within (entry t (Sell c) ∷ H) legal code = if-within IsMoment (bytes_eq c code) (Some t) (sold_of H code) legal.0.in_range (sold_within H legal.1 code)
-sold_within (entry t (Redeem d c) ∷ H) legal code = sold_within H legal.1 code
-sold_within (entry t (Report n bytes) ∷ H) legal code = sold_within H legal.1 code
-sold_within (entry t (Refund c) ∷ H) legal code = sold_within H legal.1 code
-sold_within (entry t (Close n) ∷ H) legal code = sold_within H legal.1 code
+sold_within (_ ∷ H) legal code = sold_within H legal.1 code
 
 repaid-moment : (o : Option Issued) (t n : ℕ) → IsMoment t → IfSome (option_map (repaid_at t n) o) (λ r. IsMoment r.at)
 repaid-moment None t n h = tt
@@ -145,15 +106,10 @@ repaid-moment (Some i) t n h = h
 
 refund_moment : (H : History) → IsLegal H → (code : List ℕ) → IfSome (refund_of H code) (λ r. IsMoment r.at)
 refund_moment [] legal code = tt
-refund_moment (entry t (Load plans) ∷ H) legal code = refund_moment H legal.1 code
-refund_moment (entry t (Issue b p codes) ∷ H) legal code = refund_moment H legal.1 code
-refund_moment (entry t (Sell c) ∷ H) legal code = refund_moment H legal.1 code
-refund_moment (entry t (Redeem d c) ∷ H) legal code = refund_moment H legal.1 code
-refund_moment (entry t (Report n bytes) ∷ H) legal code = refund_moment H legal.1 code
 refund_moment (entry t (Refund c) ∷ H) legal code =
     if-within (λ (r : Repaid). IsMoment r.at) (bytes_eq c code) (option_map (repaid_at t (uses_of H code)) (issued_of H code)) (refund_of H code)
     (repaid-moment (issued_of H code) t (uses_of H code) legal.0.in_range) (refund_moment H legal.1 code)
-refund_moment (entry t (Close n) ∷ H) legal code = refund_moment H legal.1 code
+refund_moment (_ ∷ H) legal code = refund_moment H legal.1 code
 
 amount-within : (o : Option Issued) (r : Option Repaid) → RefundFits o r → IfSome (option_map (λ x. x.amount) r) (λ amount. amount ≤ 100000000)
 amount-within None None h = tt
@@ -184,27 +140,17 @@ count_within H legal k = record { redeemed = uses-within (issued_of H k.code) (u
 
 used_within : (H : History) → IsLegal H → (n : ℕ) → used_of H n ≤ greatest_report
 used_within [] legal n = omega arith
-used_within (entry t (Load plans) ∷ H) legal n = used_within H legal.1 n
-used_within (entry t (Issue b p codes) ∷ H) legal n = used_within H legal.1 n
-used_within (entry t (Sell c) ∷ H) legal n = used_within H legal.1 n
-used_within (entry t (Redeem d c) ∷ H) legal n = used_within H legal.1 n
 used_within (entry t (Report m bytes) ∷ H) legal n = go (nat_eq m n) legal.0.well_formed (used_within H legal.1 n)
   where
     go : (b : Bool) → bytes ≤ greatest_report → used_of H n ≤ greatest_report → cond b (max bytes (used_of H n)) (used_of H n) ≤ greatest_report
     go true low rest = omega arith
     go false low rest = rest
-used_within (entry t (Refund c) ∷ H) legal n = used_within H legal.1 n
-used_within (entry t (Close m) ∷ H) legal n = used_within H legal.1 n
+used_within (_ ∷ H) legal n = used_within H legal.1 n
 
 closed_within : (H : History) → IsLegal H → (n : ℕ) → IfSome (closed_of H n) IsMoment
 closed_within [] legal n = tt
-closed_within (entry t (Load plans) ∷ H) legal n = closed_within H legal.1 n
-closed_within (entry t (Issue b p codes) ∷ H) legal n = closed_within H legal.1 n
-closed_within (entry t (Sell c) ∷ H) legal n = closed_within H legal.1 n
-closed_within (entry t (Redeem d c) ∷ H) legal n = closed_within H legal.1 n
-closed_within (entry t (Report m bytes) ∷ H) legal n = closed_within H legal.1 n
-closed_within (entry t (Refund c) ∷ H) legal n = closed_within H legal.1 n
 closed_within (entry t (Close m) ∷ H) legal n = if-within IsMoment (nat_eq m n) (Some t) (closed_of H n) legal.0.in_range (closed_within H legal.1 n)
+closed_within (_ ∷ H) legal n = closed_within H legal.1 n
 
 -- the end and the allowance of a session are within their limits
 pub record IsFitting (s : Session) : Type 0 where
@@ -232,28 +178,15 @@ fits-after head plan (Some s) d t placed = record {
 
 session_fits : (H : History) → IsLegal H → (n : ℕ) (s : Session) → session_of H n ≡ Some s → IsFitting s
 session_fits [] legal n s e = cc
-session_fits (entry t (Load plans) ∷ H) legal n s e = session_fits H legal.1 n s e
-session_fits (entry t (Issue b p codes) ∷ H) legal n s e = session_fits H legal.1 n s e
-session_fits (entry t (Sell c) ∷ H) legal n s e = session_fits H legal.1 n s e
 session_fits (entry t (Redeem d c) ∷ H) legal n s e =
     let running : Option Session = kept_if (is_open_at t) (last_session_of H d) in
     let new = adds H t d c legal in
     let after : Session = session_after (head_of H) new.issued.plan running d t in
-    go after (fits-after (head_of H) new.issued.plan running d t (redeem-placeable H t d c legal new.issued new.found)) (session_fits H legal.1 n s) (picked (nat_eq after.number n) after s (session_of H n) (sym (new.session n) ∙ e))
-  where
-    go : (after : Session) → IsFitting after → (session_of H n ≡ Some s → IsFitting s) → ((nat_eq after.number n ≡ true) × (after ≡ s)) ⊎ ((nat_eq after.number n ≡ false) × (session_of H n ≡ Some s)) → IsFitting s
-    go after fits rest (inl (at, is)) = subst IsFitting is fits
-    go after fits rest (inr (at, is)) = rest is
-session_fits (entry t (Report m bytes) ∷ H) legal n s e =
-    let ms : List Grant = members (grants_of H) n in
-    let found = some-of-map (session_row (entry t (Report m bytes) ∷ H) n ms) (oldest ms) s e in
-    let before = session_fits H legal.1 n (session_row H n ms found.0) (ap (option_map (session_row H n ms)) found.1) in
-    subst IsFitting found.2 (record { ends = before.ends; allowance = before.allowance })
-session_fits (entry t (Refund c) ∷ H) legal n s e = session_fits H legal.1 n s e
-session_fits (entry t (Close m) ∷ H) legal n s e =
-    let ms : List Grant = members (grants_of H) n in
-    let found = some-of-map (session_row (entry t (Close m) ∷ H) n ms) (oldest ms) s e in
-    let before = session_fits H legal.1 n (session_row H n ms found.0) (ap (option_map (session_row H n ms)) found.1) in
+    let fits = fits-after (head_of H) new.issued.plan running d t (redeem-placeable H t d c legal new.issued new.found) in
+    elim (picked (nat_eq after.number n) after s (session_of H n) (sym (new.session n) ∙ e)) [ inl is ↦ subst IsFitting is.1 fits | inr is ↦ session_fits H legal.1 n s is.1 ]
+session_fits (x ∷ H) legal n s e =
+    let found = before_row H (x ∷ H) n s e in
+    let before = session_fits H legal.1 n _ found.1 in
     subst IsFitting found.2 (record { ends = before.ends; allowance = before.allowance })
 
 -- Grants
@@ -273,15 +206,10 @@ low-sessions (g ∷ gs) placed =
 
 moments_within : (H : History) → IsLegal H → All (λ g. IsMoment g.at) (grants_of H)
 moments_within [] legal = All-nil (λ (g : Grant). IsMoment g.at)
-moments_within (entry t (Load plans) ∷ H) legal = moments_within H legal.1
-moments_within (entry t (Issue b p codes) ∷ H) legal = moments_within H legal.1
-moments_within (entry t (Sell c) ∷ H) legal = moments_within H legal.1
 moments_within (entry t (Redeem d c) ∷ H) legal =
     let new = adds H t d c legal in
     subst (All (λ (g : Grant). IsMoment g.at)) (sym new.grants) (All-cons (λ (g : Grant). IsMoment g.at) _ (grants_of H) legal.0.in_range (moments_within H legal.1))
-moments_within (entry t (Report n bytes) ∷ H) legal = moments_within H legal.1
-moments_within (entry t (Refund c) ∷ H) legal = moments_within H legal.1
-moments_within (entry t (Close n) ∷ H) legal = moments_within H legal.1
+moments_within (_ ∷ H) legal = moments_within H legal.1
 
 numbers_within : (H : History) → IsLegal H → All (λ g. IsNumber g.session) (grants_of H)
 numbers_within H legal =

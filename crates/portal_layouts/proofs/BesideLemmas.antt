@@ -1,34 +1,14 @@
 -- Tables made beside those of an older layout.
-use Rattle.std.proofs.Common.{◌≡◌, ◌⊎◌, inl, inr, ℕ, Bool, true, ◌+◌, ◌≤◌, ◌<◌, ◌==◌, ◌++◌, false, max, fold, find, List, [], ◌∷◌, Option, Some, None, IfSome, refl, sym, ap, subst, arith, ne_eqb, lit≤, lit<}
-use Rattle.std.specs.Prelude.{option_map, option_and_then}
+use Rattle.portal_layouts.proofs.Common.{◌≡◌, inl, inr, ℕ, Bool, true, ◌+◌, ◌≤◌, ◌<◌, ◌==◌, false, max, fold, find, List, [], ◌∷◌, Option, Some, None, IfSome, refl, sym, ap, subst, arith, ne_eqb, lit≤, lit<, option_map, option_and_then, cases_Bool, Schema, Table, Database, created, next_tree, Order, Index, Reference, place_has, Has, all_has, IsUnacted, IsUnactedBy, any_counts, Counts, HasMade, still_stands, both, counts_of, unacted_of, head, plans, batches, vouchers, sessions, grants, counts, totals, requests, counts_name, totals_name, requests_name, Contents, Place, IsAt, HoldsIn, HasSessionIndex, HasRoom, has_room, uncounted, unasked, moved}
 use Rattle.std.specs.Option.{option_or}
-use Rattle.std.proofs.lemmas.Bool.{cases_Bool}
 use Rattle.std.proofs.lemmas.List.Folds.{find-append}
-use Rattle.sqlite.specs.Schema.{Schema}
-use Rattle.sqlite.specs.Table.{Table}
-use Rattle.sqlite.specs.Effect.{Database}
-use Rattle.sqlite.specs.Change.{created, next_tree}
-use Rattle.sqlite_value.specs.declared.keys.Order.{Order}
-use Rattle.sqlite_schema.specs.declared.schema.Index.{Index}
-use Rattle.sqlite_schema.specs.declared.schema.Reference.{Reference}
 use Rattle.sqlite_schema.specs.Names.{same_name}
 use Rattle.sqlite_schema.specs.Rules.{key_in, key_places, declared_order, ParentKey}
 use Rattle.sqlite_catalog.specs.Change.{past_views}
-use Rattle.sqlite_catalog.proofs.AlterLemmas.{place_has}
 use Rattle.sqlite_catalog.proofs.ListFacts.{most_from, most_above}
-use Rattle.sqlite_rules.specs.Lists.{Has}
-use Rattle.sqlite_rules.proofs.ListLemmas.{all_has}
-use Rattle.portal_sql.specs.Stands.{IsUnacted, IsUnactedBy}
-use Rattle.portal_sql.specs.Harmless.{any_counts}
-use Rattle.portal_sql.specs.Made.{Counts, HasMade}
-use Rattle.portal_sql.proofs.StandsLemmas.{still_stands}
-use Rattle.portal_sql.proofs.HarmlessLemmas.{both, counts_of, unacted_of}
-use Rattle.portal_rows.specs.Layout.{head, plans, batches, vouchers, sessions, grants, counts, totals, requests, counts_name, totals_name, requests_name}
-use Rattle.portal_rows.specs.Contents.{Contents}
-use Rattle.portal_rows.specs.Holds.{Place, IsAt, HoldsIn, HasSessionIndex}
-use Rattle.portal_layouts.specs.Brings.{HasRoom, has_room, uncounted, unasked}
-use Rattle.portal_rows.proofs.HoldsLemmas.{moved}
 use Rattle.portal_layouts.proofs.CreateLemmas.{IsIdle, new_place, still_by, made_ready, still_ready, ready_at, stores_none}
+use Rattle.portal_sql.proofs.Named.{has_part}
+use Rattle.portal_layouts.proofs.OthersLemmas.{has_more}
 
 pub room_is : (schema : Schema) → has_room schema ≡ true → HasRoom schema
 room_is schema e =
@@ -38,11 +18,6 @@ room_is schema e =
     record { numbered = counts_of (any_counts schema) _ p0.0; counts = unacted_of schema _ p1.0; totals = unacted_of schema _ p2.0; requests = unacted_of schema _ p2.1 }
 
 -- ---- a table made beside one that stands
-
-has_part : {X : Type 0} (xs ys : List X) (x : X) → Has (xs ++ ys) x → Has xs x ⊎ Has ys x
-has_part [] ys x h = inr h
-has_part (y ∷ xs) ys x (inl e) = inl (inl e)
-has_part (y ∷ xs) ys x (inr h) = elim (has_part xs ys x h) [ inl a ↦ inl (inr a) | inr b ↦ inr b ]
 
 -- its tree is past those of the tables that are there
 past : (schema : Schema) (t : Table) → Has schema.tables t → t.tree < next_tree schema
@@ -105,12 +80,6 @@ still_at db after made table place tree idle h r =
 still_rows : (db after : Database) (made : Table) (table : ℕ → Table) (place : Place) → (table place.tree).tree ≡ place.tree → HasMade db made after → IsAt db.schema table place → after.trees place.tree ≡ db.trees place.tree
 still_rows db after made table place tree h r =
     subst (λ n. after.trees n ≡ db.trees n) tree (all_has _ db.schema.tables (table place.tree) h.others (place_has db.schema.tables place.at (table place.tree) r.stands.there))
-
--- the tables of a layout hold their rows where a table is made beside them
-has_more : {X : Type 0} (xs ys : List X) (x : X) → Has xs x → Has (xs ++ ys) x
-has_more [] ys x h = absurd h
-has_more (y ∷ xs) ys x (inl e) = inl e
-has_more (y ∷ xs) ys x (inr h) = inr (has_more xs ys x h)
 
 -- an index stays where a table is made
 still_index : (db after : Database) (made : Table) (tree : ℕ) → HasMade db made after → HasSessionIndex db.schema tree → HasSessionIndex after.schema tree

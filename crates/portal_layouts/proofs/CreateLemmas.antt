@@ -1,33 +1,17 @@
 -- The tables made in one transaction, and what they hold.
-use Rattle.std.proofs.Common.{◌≡◌, inl, inr, true≢false, true, false, IsTrue, ℕ, List, [], length, refl, sym, subst, ◌∙◌, arith}
-use Rattle.std.specs.List.{AllByRecursion}
-use Rattle.sqlite.specs.Store.{Ghosts}
-use Rattle.sqlite.specs.Order.{Row}
-use Rattle.sqlite.specs.Table.{Table}
-use Rattle.sqlite.specs.Held.{Held, state}
-use Rattle.sqlite.specs.Effect.{Database}
-use Rattle.sqlite.specs.State.{State, HasCleanDisk, Survives, Shows, KeepsCommit}
-use Rattle.sqlite.specs.Steps.{FailsToCommit}
-use Rattle.sqlite.specs.declared.error.Error.{Error}
-use Rattle.sqlite.specs.Change.{next_tree}
-use Rattle.sqlite.proofs.StateLemmas.{survives_then}
-use Rattle.sqlite.proofs.Callers.{survives_begin}
+use Rattle.portal_layouts.proofs.Common.{◌≡◌, Result, inl, inr, true≢false, true, false, IsTrue, ℕ, List, [], length, refl, sym, subst, ◌∙◌, arith, AllByRecursion, Ghosts, Row, Table, Held, state, Database, HasCleanDisk, Survives, Shows, KeepsCommit, FailsToCommit, Error, next_tree, survives_then, survives_begin, Reference, place_has, all_has, Stores, Stands, IsUnacted, IsUnactedBy, IsUndone, HasMade, inside_by, IsCreate, makes_inside, still_stands, now_stands, head, plans, batches, vouchers, sessions, grants, counts, totals, requests, Place, IsAt, HoldsIn, Holds, LeftHolds, this_layout, KeepsOthers, LeftOthers, IsFree, Makes, HasMadeFirst, HasMadeLast, no_rows, new_store, Builds, IsCreated, MayBuild}
+use Rattle.sqlite.specs.declared.transaction.Transaction.{Transaction}
 use Rattle.sqlite_schema.specs.Names.{same_name}
-use Rattle.sqlite_schema.specs.declared.schema.Reference.{Reference}
 use Rattle.sqlite_schema.specs.declared.schema.Action.TheVariants.{NoAction}
 use Rattle.sqlite_catalog.specs.Listing.{IsSound}
-use Rattle.sqlite_catalog.proofs.AlterLemmas.{place_has}
-use Rattle.sqlite_rules.proofs.ListLemmas.{all_has}
-use Rattle.portal_sql.specs.Stored.{Stores}
-use Rattle.portal_sql.specs.Stands.{Stands, IsUnacted, IsUnactedBy}
-use Rattle.portal_sql.specs.States.{IsUndone}
-use Rattle.portal_sql.specs.Made.{HasMade}
-use Rattle.portal_sql.proofs.StandsLemmas.{still_stands, now_stands}
+use Rattle.portal_sql.specs.Inside.{Inside, Runs}
 use Rattle.portal_sql.proofs.Named.{still_unacted, unacted_by}
-use Rattle.portal_rows.specs.Layout.{head, plans, batches, vouchers, sessions, grants, counts, totals, requests}
-use Rattle.portal_rows.specs.Holds.{Place, IsAt, HoldsIn, Holds, LeftHolds, this_layout}
-use Rattle.portal_rows.specs.Others.{KeepsOthers, LeftOthers}
-use Rattle.portal_layouts.specs.Creates.{IsFree, HasMadeFirst, HasMadeLast, no_rows, new_store, Builds, IsCommitted, MayBuild}
+
+-- a statement that makes a table, inside a transaction
+pub makes_by : {S : Type 0} (g : Ghosts S) {sql : List ℕ} {table : Table} {a b : Transaction S} {result : Result (Unit {0}) Error} → IsCreate sql table → table.is_counted ≡ false → Inside g (Runs sql []) a b result
+    → Inside g (Makes (λ db after. HasMade db table after)) a b result
+makes_by g {sql = sql} {table = table} it plain one =
+    inside_by g {First = Runs sql []} {Second = Makes (λ db after. HasMade db table after)} (λ p q ran numbered. makes_inside sql table p q ran.count it plain numbered ran.executes) one
 
 abbrev pub IsIdle : Table → Type 0
 IsIdle table = AllByRecursion (λ (ref : Reference). (ref.on_delete ≡ NoAction) × (ref.on_update ≡ NoAction)) table.references
@@ -131,11 +115,12 @@ module _ {S : Type 0} (g : Ghosts S) (old begun last end : Held S) (begins : beg
   built : HasCleanDisk (state g last) → IsFree (state g old).now.schema → Builds (state g (record old { in_transaction = true })) (state g last)
   built clean free = rw begins at (builds clean (rw begins refl) (rw begins free))
 
-  pub built_done : HasCleanDisk (state g last) → Shows (state g last) (state g end) (state g last).now (state g last).now false → IsFree (state g old).now.schema → Holds (state g end).now new_store
-  built_done clean shown free = subst (λ db. Holds db new_store) (sym shown.now_is) (built clean free).holds
-
-  pub built_others : HasCleanDisk (state g last) → Shows (state g last) (state g end) (state g last).now (state g last).now false → IsFree (state g old).now.schema → KeepsOthers (state g old).now (state g end).now
-  built_others clean shown free = subst (KeepsOthers (state g old).now) (sym shown.now_is) (built clean free).others
+  pub built_done : HasCleanDisk (state g last) → Shows (state g last) (state g end) (state g last).now (state g last).now false → IsCreated (state g old) (state g end)
+  built_done clean shown = record {
+    made = λ free. subst (λ db. Holds db new_store) (sym shown.now_is) (built clean free).holds;
+    others = λ free. subst (KeepsOthers (state g old).now) (sym shown.now_is) (built clean free).others;
+    committed = record { is_open = shown.is_open; ended = shown.mode; same = shown.committed_is ∙ sym shown.now_is };
+  }
 
   pub built_crash : Survives (state g begun) (state g last) (λ _. ⊥) → Survives (state g last) (state g end) (λ db. db ≡ (state g last).now.trees) → Survives (state g old) (state g end) (MayBuild (state g old))
   built_crash inside ending =
@@ -158,6 +143,3 @@ module _ {S : Type 0} (g : Ghosts S) (old begun last end : Held S) (begins : beg
         ended = ended;
       }
   built_undone e clean free kept (inr late) ended = absurd (true≢false (sym (built clean free).mode ∙ late.1))
-
-pub committed_by : (last end : State) → Shows last end last.now last.now false → IsCommitted end
-committed_by last end shown = record { is_open = shown.is_open; ended = shown.mode; same = shown.committed_is ∙ sym shown.now_is }

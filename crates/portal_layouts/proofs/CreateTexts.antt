@@ -1,8 +1,6 @@
 -- The texts that make the tables, under any schema.
-use Rattle.std.proofs.Common.{refl}
+use Rattle.portal_layouts.proofs.Common.{refl, IsCreate, head, plans, batches, vouchers, sessions, grants, counts, totals, requests, create_head, create_plans, create_batches, create_vouchers, create_sessions, create_grants, create_counts, create_totals, create_requests}
 use Rattle.sqlite_tied.specs.Compute.{everything}
-use Rattle.portal_sql.proofs.Makes.{IsCreate}
-use Rattle.portal_rows.specs.Layout.{head, plans, batches, vouchers, sessions, grants, counts, totals, requests, create_head, create_plans, create_batches, create_vouchers, create_sessions, create_grants, create_counts, create_totals, create_requests}
 
 pub makes_head : IsCreate create_head (head 0)
 unfolding everything

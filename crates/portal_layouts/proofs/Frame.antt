@@ -1,18 +1,5 @@
 -- One transaction that leads from the tables of a layout to those of this version.
-use Rattle.std.proofs.Common.{◌≡◌, inl, inr, ℕ, Bool, true≢false, true, false, IsTrue, refl, sym, subst, ◌∙◌, arith}
-use Rattle.sqlite.specs.Store.{Ghosts}
-use Rattle.sqlite.specs.Held.{Held, state}
-use Rattle.sqlite.specs.Schema.{Schema}
-use Rattle.sqlite.specs.State.{HasCleanDisk, Survives, Shows, KeepsCommit}
-use Rattle.sqlite.specs.Steps.{FailsToCommit}
-use Rattle.sqlite.specs.declared.error.Error.{Error}
-use Rattle.sqlite.proofs.StateLemmas.{survives_then}
-use Rattle.sqlite.proofs.Callers.{survives_begin}
-use Rattle.portal_sql.specs.States.{IsUndone}
-use Rattle.portal_rows.specs.Contents.{Contents}
-use Rattle.portal_rows.specs.Holds.{Holds, HoldsIn, LeftHolds, this_layout}
-use Rattle.portal_rows.specs.Others.{KeepsOthers, LeftOthers}
-use Rattle.portal_layouts.specs.Brings.{StepsFrom, LeadsFrom, MayLeadFrom}
+use Rattle.portal_layouts.proofs.Common.{◌≡◌, inl, inr, ℕ, Bool, true≢false, true, false, IsTrue, refl, sym, subst, ◌∙◌, arith, Ghosts, Held, state, Schema, HasCleanDisk, Survives, Shows, KeepsCommit, FailsToCommit, Error, survives_then, survives_begin, IsUndone, Contents, Holds, HoldsIn, LeftHolds, this_layout, KeepsOthers, LeftOthers, StepsFrom, LeadsFrom, MayLeadFrom}
 
 module _ {S : Type 0} (g : Ghosts S) (layout : ℕ) (had : Bool) (Room : Schema → Type 0) (f : Contents → Contents) (old begun last end : Held S) (begins : begun ≡ record old { in_transaction = true })
     (steps : HasCleanDisk (state g last) → IsTrue begun.in_transaction → Room (state g begun).now.schema → StepsFrom layout had this_layout true f (state g begun) (state g last)) where

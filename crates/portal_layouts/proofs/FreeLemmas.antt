@@ -1,9 +1,5 @@
 -- What the test of a schema tells.
-use Rattle.std.proofs.Common.{◌≡◌, true}
-use Rattle.sqlite.specs.Schema.{Schema}
-use Rattle.portal_sql.specs.Harmless.{any_counts}
-use Rattle.portal_sql.proofs.HarmlessLemmas.{both, counts_of, unacted_of}
-use Rattle.portal_layouts.specs.Creates.{IsFree, is_free}
+use Rattle.portal_layouts.proofs.Common.{◌≡◌, true, Schema, any_counts, both, counts_of, unacted_of, IsFree, is_free}
 
 pub free_is : (schema : Schema) → is_free schema ≡ true → IsFree schema
 free_is schema e =

@@ -1,44 +1,19 @@
 -- What the text that asks for the layout means, tells and leaves.
-use Rattle.std.proofs.Common.{◌≡◌, inl, inr, ◌≤◌, ℕ, pos, negsuc, true, false, List, [], ◌∷◌, map, length, codes, Option, Some, None, IsSome, Ok, Err, Result, IfOk, IfErr, OnErr, refl, sym, ap, subst, ◌∙◌, arith, cond, nat_le, slice_get, unwrap_or, ◌-◌, ◌^◌}
-use Rattle.std.specs.List.Sorted.{IsPermutation}
-use Rattle.std.proofs.lemmas.List.Sorted.{length_permutation, IsPermutation-sym}
-use Rattle.sqlite.specs.declared.types.Value.TheVariants.{Null, Int}
-use Rattle.sqlite.specs.declared.error.Error.{Error}
+use Rattle.portal_layouts.proofs.Common.{◌≡◌, inl, inr, ◌≤◌, ℕ, pos, negsuc, true, false, List, [], ◌∷◌, map, length, codes, Option, Some, None, IsSome, Ok, Err, Result, IfOk, IfErr, OnErr, refl, sym, ap, subst, ◌∙◌, arith, cond, nat_le, slice_get, unwrap_or, ◌-◌, ◌^◌, IsPermutation, length_permutation, IsPermutation-sym, Null, Int, Error, Row, column, lit, col, Schema, Select, Rows, overlay, IsAnswer, Database, RefusesToRead, understood, IsSourceOf, State, IsUnchanged, Survives, FailsToShow, store_error, IsPlain, command_of, survives_weaker, Compiled, CompileError, Has, Stands, IsUndone, Stores, number, drafted, over, unlimited, IsScan, scan_all, passes, shown_of, keys_of, select_of, select_means, IsText, Means, head, head_name, HeadRow, head_stored, layout_text, is_any_named, IsRefused, Answers, IsOneRow, TellsLayout}
 use Rattle.sqlite.specs.declared.error.Error.TheVariants.{SqlInputError}
 use Rattle.sqlite_trees.specs.declared.error.StoreError.{StoreError}
 use Rattle.sqlite_trees.specs.declared.error.StoreError.TheVariants.{OutOfMemory, Io, Corrupt, Full, Broken, Unstorable}
-use Rattle.sqlite.specs.Order.{Row, column}
-use Rattle.sqlite.specs.Term.{lit, col}
 use Rattle.sqlite.specs.Tree.{Trees}
-use Rattle.sqlite.specs.Schema.{Schema}
 use Rattle.sqlite.specs.Command.{Command}
-use Rattle.sqlite.specs.Command.TheVariants.{Select, Rows}
-use Rattle.sqlite.specs.Program.{overlay}
-use Rattle.sqlite.specs.Query.{IsAnswer}
-use Rattle.sqlite.specs.Effect.{Database, Reads, RefusesToRead}
-use Rattle.sqlite.specs.Listing.{understood, IsSourceOf}
-use Rattle.sqlite.specs.State.{State, IsUnchanged, Survives, Shown, FailsToQuery, FailsToShow, IsNotRun, store_error, CommitsShowing}
-use Rattle.sqlite.proofs.Callers.{IsPlain, command_of}
-use Rattle.sqlite.proofs.StateLemmas.{survives_weaker}
+use Rattle.sqlite.specs.Effect.{Reads}
+use Rattle.sqlite.specs.State.{Shown, FailsToQuery, IsNotRun, CommitsShowing}
 use Rattle.sqlite_tied.specs.Compute.{everything}
 use Rattle.sqlite_ast.specs.declared.Statement.TheVariants as written
 use Rattle.sqlite_resolve.specs.Compile.{timed, returning}
-use Rattle.sqlite_resolve.specs.declared.compiled.Compiled.{Compiled}
-use Rattle.sqlite_resolve.specs.declared.error.CompileError.{CompileError}
 use Rattle.sqlite_value.specs.declared.keys.Collation.TheVariants.{Binary}
-use Rattle.sqlite_rules.specs.Lists.{Has}
-use Rattle.portal_sql.specs.Stands.{Stands}
-use Rattle.portal_sql.specs.States.{IsUndone}
-use Rattle.portal_sql.specs.Stored.{Stores, whole, number}
+use Rattle.portal_sql.specs.Stored.{whole}
 use Rattle.portal_sql.proofs.FindLemmas.{has_along}
-use Rattle.portal_sql.proofs.Queries.{drafted, over, unlimited}
-use Rattle.portal_sql.proofs.Scan.{IsScan, scan_all, passes, shown_of, keys_of}
-use Rattle.portal_sql.proofs.Selects.{select_of, select_means}
-use Rattle.portal_sql.proofs.Texts.{IsText, Means}
-use Rattle.portal_rows.specs.Layout.{head, head_name}
-use Rattle.portal_rows.specs.Contents.{HeadRow, head_stored}
-use Rattle.portal_layouts.specs.Layouts.{layout_text, is_any_named, IsRefused, Answers, IsOneRow, TellsLayout}
-use Rattle.portal_layouts.proofs.NeverWrites.{IsIdle, understood_idle}
+use Rattle.portal_lists.proofs.Asking.{IsIdle, understood_idle}
 
 pub layout_is_text : IsText layout_text (written.Select (select_of head_name (codes "layout" ∷ []) None [] None)) 0
 unfolding everything

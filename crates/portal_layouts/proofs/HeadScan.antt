@@ -1,14 +1,9 @@
 -- The text that asks for the layout reads the rows of whatever table has the head's name, so its answer is one.
-use Rattle.std.proofs.Common.{◌≡◌, ◌⊎◌, inl, inr, ◌+◌, ℕ, pos, negsuc, List, [], ◌∷◌, codes, Bool, true, false, if◌then◌else◌, Option, Some, None, Ok, Err, refl, sym, subst, slice_get}
-use Rattle.sqlite.specs.declared.types.Value.TheVariants.{Int}
-use Rattle.sqlite.specs.Table.{Table}
-use Rattle.sqlite.specs.Schema.{Schema}
-use Rattle.sqlite.specs.Term.{Term, lit, col}
+use Rattle.portal_layouts.proofs.Common.{◌≡◌, ◌⊎◌, inl, inr, ◌+◌, ℕ, pos, negsuc, List, [], ◌∷◌, codes, Bool, true, false, if◌then◌else◌, Option, Some, None, Ok, Err, refl, sym, subst, slice_get, Int, Table, Schema, Term, lit, col, table_named, view_named, column_named, is_key, Select, misses_table, cases_Bool, CompileError, drafted, unlimited, select_of, core_of, from_table, IsPlainSelect, program_of, head_name}
 use Rattle.sqlite_schema.specs.declared.schema.Column.{Column}
-use Rattle.sqlite_schema.specs.Names.{same_name, table_named, view_named, column_named, is_key}
+use Rattle.sqlite_schema.specs.Names.{same_name}
 use Rattle.sqlite_tied.specs.Compute.{everything}
-use Rattle.sqlite.specs.Command.TheVariants.{Select}
-use Rattle.sqlite.specs.Listing.{misses_table, listing_schema}
+use Rattle.sqlite.specs.Listing.{listing_schema}
 use Rattle.sqlite_ast.specs.declared.Statement.{Statement}
 use Rattle.sqlite_ast.specs.declared.Statement.TheVariants as written
 use Rattle.sqlite_ast.specs.declared.Select as ast
@@ -23,14 +18,8 @@ use Rattle.sqlite_resolve.specs.Scope.{Name}
 use Rattle.sqlite_resolve.specs.Program.{query, query_to, level, with, whole, alone, single, sources, source, viewing, program}
 use Rattle.sqlite_resolve.specs.Compile.{command, read}
 use Rattle.sqlite_resolve.specs.Select.{named}
-use Rattle.std.proofs.lemmas.Bool.{cases_Bool}
 use Rattle.sqlite_resolve.specs.Lowering.{Checked, nothing}
-use Rattle.sqlite_resolve.specs.declared.error.CompileError.{CompileError}
 use Rattle.sqlite_resolve.specs.declared.error.CompileError.TheVariants.{NoSuchColumn, NoSuchTable, Mismatch}
-use Rattle.portal_sql.proofs.Queries.{drafted, unlimited}
-use Rattle.portal_sql.proofs.Selects.{select_of, core_of, from_table}
-use Rattle.portal_sql.proofs.Texts.{IsPlainSelect, program_of}
-use Rattle.portal_rows.specs.Layout.{head_name}
 
 abbrev page : Term × Term
 page = (lit (Int (negsuc 0)), lit (Int (pos 0)))

@@ -1,19 +1,6 @@
 -- What the test of the indexes tells.
-use Rattle.std.proofs.Common.{◌≡◌, ◌||◌, inl, inr, ℕ, Bool, true, false, List, [], ◌∷◌, Some, IsTrue, refl, sym, ap, ◌∙◌, true≢false, slice_get}
-use Rattle.std.specs.Prelude.{option_and_then}
-use Rattle.std.specs.List.{list_any}
-use Rattle.std.proofs.lemmas.Bool.{cases_Bool, eqb-true}
+use Rattle.portal_layouts.proofs.Common.{◌≡◌, ◌||◌, inl, inr, ℕ, Bool, true, false, List, [], ◌∷◌, Some, IsTrue, refl, sym, ap, ◌∙◌, true≢false, slice_get, option_and_then, list_any, cases_Bool, eqb-true, Schema, Database, Index, table_named, Has, both, sessions, sessions_name, Contents, Places, Stand, HoldsIn, HasSessionIndex, is_indexed, indexed_on, is_session_index}
 use Rattle.std.proofs.lemmas.Slice.Eq.{bytes_eq-Decides}
-use Rattle.sqlite.specs.Schema.{Schema}
-use Rattle.sqlite.specs.Effect.{Database}
-use Rattle.sqlite_schema.specs.declared.schema.Index.{Index}
-use Rattle.sqlite_schema.specs.Names.{table_named}
-use Rattle.sqlite_rules.specs.Lists.{Has}
-use Rattle.portal_sql.proofs.HarmlessLemmas.{both}
-use Rattle.portal_rows.specs.Layout.{sessions, sessions_name}
-use Rattle.portal_rows.specs.Contents.{Contents}
-use Rattle.portal_rows.specs.Holds.{Places, Stand, HoldsIn, HasSessionIndex}
-use Rattle.portal_layouts.specs.Layouts.{is_indexed, indexed_on, is_session_index}
 
 any_of : {X : Type 0} (p : X → Bool) (xs : List X) → list_any p xs ≡ true → (x : X) × Has xs x × (p x ≡ true)
 any_of p [] h = absurd (true≢false (sym h))

@@ -1,25 +1,12 @@
 -- CREATE INDEX leaves all that the tables hold, and the index stands.
-use Rattle.std.proofs.Common.{◌≡◌, ℕ, Bool, true, false, List, [], ◌∷◌, ◌++◌, codes, Ok, Result, inl, inr, refl, sym, ap, subst, ◌∙◌}
-use Rattle.sqlite.specs.Schema.{Schema}
-use Rattle.sqlite.specs.Table.{Table}
-use Rattle.sqlite.specs.Effect.{Database}
-use Rattle.sqlite.specs.State.{State, ExecutesInside}
-use Rattle.sqlite_schema.specs.declared.schema.Index.{Index}
-use Rattle.sqlite_value.specs.declared.keys.Order.{Order}
+use Rattle.portal_layouts.proofs.Common.{◌≡◌, ℕ, Bool, true, false, List, [], ◌∷◌, codes, Ok, refl, sym, ap, subst, ◌∙◌, Schema, Table, Database, State, ExecutesInside, Index, Order, next_tree, Has, all_has, head, plans, batches, vouchers, sessions, grants, counts, totals, requests, Contents, Place, IsAt, Stand, HoldsIn, HasSessionIndex, KeepsOthers, moved, StepsFrom}
 use Rattle.sqlite_schema.specs.Names.{same_name}
 use Rattle.sqlite_catalog.specs.Change.{with_index, indexed}
-use Rattle.sqlite.specs.Change.{next_tree}
 use Rattle.sqlite_resolve.specs.Compile.{index_defined_by}
-use Rattle.sqlite_rules.specs.Lists.{Has}
-use Rattle.sqlite_rules.proofs.ListLemmas.{all_has}
 use Rattle.sqlite_tied.specs.Compute.{everything}
 use Rattle.portal_sql.proofs.IndexLemmas.{IsIndex, HasIndexed, indexes, still_stands_indexed, rows_indexed}
-use Rattle.portal_rows.specs.Layout.{head, plans, batches, vouchers, sessions, grants, counts, totals, requests}
-use Rattle.portal_rows.specs.Contents.{Contents}
-use Rattle.portal_rows.specs.Holds.{Place, IsAt, Stand, HoldsIn, HasSessionIndex}
-use Rattle.portal_rows.specs.Others.{KeepsOthers}
-use Rattle.portal_rows.proofs.HoldsLemmas.{moved}
-use Rattle.portal_layouts.specs.Brings.{StepsFrom}
+use Rattle.portal_sql.proofs.StandsLemmas.{has_last}
+use Rattle.portal_sql.proofs.Texts.{same_value}
 
 still_at : (schema : Schema) (index : Index) (table : ℕ → Table) (place : Place) → IsAt schema table place → IsAt (with_index schema index) table place
 still_at schema index table place h = record { stands = still_stands_indexed schema index place.at (table place.tree) h.stands; unacted = h.unacted }
@@ -46,13 +33,6 @@ index_at tree order = record { name = codes "portal_sessions_by_device"; tree = 
 index_defined : (tree : ℕ) → (order : Order) × (index_defined_by (sessions tree) index_text ≡ Ok (index_at tree order))
 unfolding everything
 index_defined tree = (_, refl)
-
-same_value : {B E : Type 0} {a b : B} → ◌≡◌ {A = Result B E} (Ok a) (Ok b) → a ≡ b
-same_value e = cc
-
-has_last : {X : Type 0} (xs : List X) (x : X) → Has (xs ++ x ∷ []) x
-has_last [] x = inl refl
-has_last (y ∷ xs) x = inr (has_last xs x)
 
 -- the index stands
 now_indexed : (db : Database) (tree : ℕ) (after : Database) → HasIndexed db (sessions tree) index_text after → HasSessionIndex after.schema tree

@@ -1,3 +1,4 @@
+pub mod Common
 pub mod BesideLemmas
 pub mod CreateLemmas
 pub mod CreateTexts
@@ -8,7 +9,6 @@ pub mod HeadScan
 pub mod IndexedLemmas
 pub mod Indexing
 pub mod MigrateLemmas
-pub mod NeverWrites
 pub mod OthersLemmas
 pub mod TellsOnce
 pub mod UpgradeLemmas

@@ -1,25 +1,6 @@
 -- How the steps of a migration compose, and what they come to.
 use Rattle.std.proofs.lemmas.List.Sums.{fold-append}
-use Rattle.std.proofs.lemmas.Bool.Decides.{nat_tests}
-use Rattle.std.proofs.lemmas.Int.{ints}
-use Rattle.std.proofs.Common.{◌≡◌, Bool, true, IsTrue, ℕ, suc, ◌+◌, ◌<◌, ◌≤◌, map, fold, get_or, List, [], ◌∷◌, ◌++◌, refl, sym, ap, subst, ◌∙◌, arith, append_assoc, append-nil, Less}
-use Rattle.std.specs.List.{AllByRecursion}
-use Rattle.std.specs.List.Sorted.{IsStrictlyIncreasing}
-use Rattle.sqlite.specs.State.{State}
-use Rattle.sqlite.specs.Order.{value_cmp}
-use Rattle.sqlite_value.proofs.OrderLemmas.{value_cmp-Int}
-use Rattle.portal_sql.specs.Stored.{number, put_by}
-use Rattle.portal_model.specs.Rows.{CountRow, TotalRow}
-use Rattle.portal_rows.specs.Contents.{Contents}
-use Rattle.portal_rows.specs.Holds.{this_layout}
-use Rattle.portal_rows.specs.Steps.{Steps, with_count, with_counts, with_total, with_layout}
-use Rattle.portal_rows.specs.declared.rows.KeptCount.{KeptCount}
-use Rattle.portal_rows.specs.declared.signs.Total.{Total}
-use Rattle.portal_layouts.specs.declared.layouts.OldLayout.{OldLayout}
-use Rattle.portal_layouts.specs.declared.layouts.OldLayout.TheVariants.{First}
-use Rattle.portal_layouts.specs.Brings.{StepsFrom, Rise, with_totals, counts_read, totals_read, widened, brought}
-use Rattle.portal_rows.proofs.Compose.{steps_then, steps_none, steps_same}
-use Rattle.portal_rows.proofs.OthersLemmas.{others_then}
+use Rattle.portal_layouts.proofs.Common.{nat_tests, ints, ◌≡◌, Bool, true, IsTrue, ℕ, suc, ◌+◌, ◌<◌, ◌≤◌, map, fold, get_or, List, [], ◌∷◌, ◌++◌, refl, sym, ap, subst, ◌∙◌, arith, append_assoc, append-nil, Less, AllByRecursion, IsStrictlyIncreasing, State, value_cmp, value_cmp-Int, number, put_by, CountRow, TotalRow, Contents, this_layout, Steps, with_count, with_counts, with_total, with_layout, KeptCount, Total, OldLayout, First, StepsFrom, Rise, with_totals, counts_read, totals_read, widened, brought, steps_then, steps_none, steps_same, others_then}
 
 pub from_then : (k : ℕ) (a : Bool) (l : ℕ) (b : Bool) (m : ℕ) (d : Bool) (f g : Contents → Contents) (x y z : State) → StepsFrom k a l b f x y → StepsFrom l b m d g y z → StepsFrom k a m d (λ t. g (f t)) x z
 from_then k a l b m d f g x y z p q = record {

@@ -1,16 +1,7 @@
 -- A table and an index that are made keep the tables of others.
-use Rattle.std.proofs.Common.{inl, inr, List, ◌∷◌, [], ◌++◌, sym, subst}
-use Rattle.sqlite.specs.Schema.{Schema}
-use Rattle.sqlite.specs.Table.{Table}
-use Rattle.sqlite.specs.Effect.{Database}
-use Rattle.sqlite_rules.specs.Lists.{Has}
-use Rattle.sqlite_rules.proofs.ListLemmas.{all_has}
-use Rattle.portal_sql.specs.Made.{HasMade}
-use Rattle.portal_rows.specs.Others.{KeepsOthers}
-use Rattle.portal_rows.proofs.OthersLemmas.{others_then}
-use Rattle.portal_layouts.specs.Creates.{HasMadeFirst, HasMadeLast}
+use Rattle.portal_layouts.proofs.Common.{inl, inr, List, ◌∷◌, [], ◌++◌, sym, subst, Schema, Table, Database, Has, all_has, HasMade, KeepsOthers, others_then, HasMadeFirst, HasMadeLast}
 
-has_more : {X : Type 0} (xs ys : List X) (x : X) → Has xs x → Has (xs ++ ys) x
+pub has_more : {X : Type 0} (xs ys : List X) (x : X) → Has xs x → Has (xs ++ ys) x
 has_more [] ys x h = absurd h
 has_more (y ∷ xs) ys x (inl e) = inl e
 has_more (y ∷ xs) ys x (inr h) = inr (has_more xs ys x h)

@@ -1,28 +1,11 @@
 -- Where no view has the head's name, the head tells one thing.
-use Rattle.std.proofs.Common.{◌≡◌, ◌⊎◌, inl, inr, ◌+◌, ℕ, List, [], ◌∷◌, map, Option, Some, None, Ok, false, ◌<◌, length, arith, refl, sym, ap, subst, ◌∙◌, slice_get}
-use Rattle.std.specs.List.Sorted.{IsPermutation}
-use Rattle.std.proofs.lemmas.List.Sorted.{IsPermutation-map, IsPermutation-sym, IsPermutation-trans}
-use Rattle.sqlite.specs.declared.types.Value.TheVariants.{Null}
-use Rattle.sqlite.specs.Order.{Row, column}
-use Rattle.sqlite.specs.Table.{Table}
-use Rattle.sqlite.specs.Term.{Term}
-use Rattle.sqlite.specs.Command.TheVariants.{Select}
-use Rattle.sqlite.specs.Program.{overlay}
-use Rattle.sqlite.specs.Query.{IsAnswer}
-use Rattle.sqlite.specs.Effect.{Database, Reads}
-use Rattle.sqlite.specs.Listing.{understood, reads_listing, IsSourceOf}
-use Rattle.std.specs.List.{position_from}
+use Rattle.portal_layouts.proofs.Common.{◌≡◌, ◌⊎◌, inl, inr, ◌+◌, ℕ, List, [], ◌∷◌, map, Option, Some, None, Ok, false, ◌<◌, length, arith, refl, sym, ap, subst, ◌∙◌, slice_get, IsPermutation, IsPermutation-map, IsPermutation-sym, IsPermutation-trans, Null, Row, column, Table, Term, Select, overlay, IsAnswer, Database, understood, reads_listing, IsSourceOf, position_from, table_named, view_named, Compiled, number, drafted, over, unlimited, IsScan, scan_all, passes, shown_of, keys_of, program_of, head_name, layout_text, Answers, IsOneRow, TellsLayout}
+use Rattle.sqlite.specs.Effect.{Reads}
 use Rattle.std.proofs.lemmas.Option.{slice_get_cases}
 use Rattle.sqlite_rules.proofs.RowLemmas.{position_within}
-use Rattle.sqlite_schema.specs.Names.{same_name, table_named, view_named}
-use Rattle.sqlite_resolve.specs.declared.compiled.Compiled.{Compiled}
-use Rattle.portal_sql.specs.Stored.{number}
-use Rattle.portal_sql.proofs.Queries.{drafted, over, unlimited}
-use Rattle.portal_sql.proofs.Scan.{IsScan, scan_all, passes, shown_of, keys_of}
-use Rattle.portal_sql.proofs.Texts.{program_of}
-use Rattle.portal_rows.specs.Layout.{head_name}
-use Rattle.portal_layouts.specs.Layouts.{layout_text, Answers, IsOneRow, TellsLayout}
-use Rattle.portal_layouts.proofs.NeverWrites.{same_value, no_value, understood_as, refused_as, lacking}
+use Rattle.sqlite_schema.specs.Names.{same_name}
+use Rattle.portal_lists.proofs.Asking.{no_value, lacking}
+use Rattle.portal_sql.proofs.Texts.{same_value, understood_as, refused_as}
 use Rattle.portal_layouts.proofs.HeadLayout.{layout_is_text, untimed, unshown, one_along}
 use Rattle.portal_layouts.proofs.HeadScan.{layout_statement, IsScanOf, scans, finds_none, lists_none}
 
@@ -53,9 +36,9 @@ sure_of db at table there is = go (scans db.schema at table there is)
   where
     go : IsScanOf db.schema table → IsSure db
     go (inl it) =
-        let known = understood_as layout_text layout_statement 0 layout_is_text untimed unshown db.schema _ (it.2 _) in
+        let known = understood_as db.schema layout_text layout_statement 0 layout_is_text (untimed _) (unshown _) _ (it.2 _) in
         inr (same_rows db table it.0 it.1 (λ c is. ap (λ (x : Compiled). x.command) (same_value (sym is ∙ known.0))) known.1)
-    go (inr it) = inl (λ c is. no_value (sym (refused_as layout_text layout_statement 0 layout_is_text untimed unshown db.schema it.0 it.1 (it.2 _)) ∙ is))
+    go (inr it) = inl (λ c is. no_value (sym (refused_as db.schema layout_text layout_statement 0 layout_is_text (untimed _) (unshown _) it.0 it.1 (it.2 _)) ∙ is))
 
 none_there : (db : Database) → table_named db.schema head_name ≡ None → view_named db.schema head_name ≡ None → IsSure db
 unfolding IsSure

@@ -1,37 +1,13 @@
 -- How an upgrade goes from the rows that were read to the tables that it leaves.
-use Rattle.std.proofs.Common.{◌≡◌, false, IsTrue, ℕ, suc, zero, ◌+◌, ◌<◌, get_or, map, List, [], ◌∷◌, refl, sym, ap, subst, ◌∙◌, arith, Less, All, ◌^◌}
-use Rattle.std.proofs.lemmas.Bool.Decides.{nat_tests}
-use Rattle.std.proofs.lemmas.Int.{ints}
-use Rattle.std.specs.List.Sorted.{IsStrictlyIncreasing}
-use Rattle.sqlite.specs.Order.{value_cmp}
+use Rattle.portal_layouts.proofs.Common.{◌≡◌, false, IsTrue, ℕ, suc, zero, ◌+◌, ◌<◌, get_or, map, List, [], ◌∷◌, refl, sym, ap, subst, ◌∙◌, arith, Less, All, ◌^◌, nat_tests, ints, IsStrictlyIncreasing, value_cmp, Database, State, HasCleanDisk, Survives, survives_then, survives_weaker, IsUndone, reads_then, same_now, still_open, value_cmp-Int, number, SessionRow, TotalRow, count_from, total_from, CountRow, Total, Contents, session_stored, Anything, Holds, LeftHolds, this_layout, KeepsOthers, LeftOthers, with_layout, ends_row, KeptCount, voucher_read, session_read, count_read, OldLayout, First, Rise, LeadsFrom, MayLeadFrom, HasUpgraded, MayUpgrade, brought, upgraded, counts_read, totals_read, counts_summed, totals_summed, number_of, CountersFit, get_or-map, length-map}
 use Rattle.sqlite.specs.Tree.{IsTable}
-use Rattle.sqlite.specs.Effect.{Database}
-use Rattle.sqlite.specs.State.{State, HasCleanDisk, Survives}
-use Rattle.sqlite.proofs.StateLemmas.{survives_then, survives_weaker}
-use Rattle.portal_sql.specs.States.{IsUndone}
 use Rattle.portal_sql.specs.Looks.{Reads, Fails}
-use Rattle.portal_sql.proofs.LooksLemmas.{reads_then, same_now, still_open}
-use Rattle.sqlite_value.proofs.OrderLemmas.{value_cmp-Int}
-use Rattle.portal_sql.specs.Stored.{number}
 use Rattle.portal_model.specs.declared.plan.Plan.{Plan}
-use Rattle.portal_model.specs.Rows.{SessionRow, TotalRow, count_from, total_from, CountRow}
-use Rattle.portal_rows.specs.declared.signs.Total.{Total}
-use Rattle.portal_rows.specs.Contents.{Contents, session_stored}
 use Rattle.portal_lists.specs.Sums.{summed, grant_read}
-use Rattle.portal_lists.specs.Asks.{Anything}
 use Rattle.portal_rows.specs.First.{HoldsFirst}
-use Rattle.portal_rows.specs.Holds.{Holds, LeftHolds, this_layout}
-use Rattle.portal_rows.specs.Others.{KeepsOthers, LeftOthers}
-use Rattle.portal_rows.specs.Steps.{with_layout, ends_row}
-use Rattle.portal_rows.specs.declared.rows.KeptCount.{KeptCount}
 use Rattle.portal_rows.specs.declared.rows.KeptVoucher.{KeptVoucher}
 use Rattle.portal_rows.specs.declared.rows.KeptSession.{KeptSession}
 use Rattle.portal_lists.specs.declared.grants.KeptGrant.{KeptGrant}
-use Rattle.portal_rows.specs.Read.{voucher_read, session_read, count_read}
-use Rattle.portal_layouts.specs.declared.layouts.OldLayout.{OldLayout}
-use Rattle.portal_layouts.specs.declared.layouts.OldLayout.TheVariants.{First}
-use Rattle.portal_layouts.specs.Brings.{Rise, LeadsFrom, MayLeadFrom, HasUpgraded, MayUpgrade, brought, upgraded, counts_read, totals_read, counts_summed, totals_summed, number_of, CountersFit}
-use Rattle.std.proofs.lemmas.List.{get_or-map, length-map}
 use Rattle.portal_layouts.proofs.MigrateLemmas.{brought_first}
 
 -- ---- numbers that rise, since they are rowids

@@ -83,6 +83,12 @@ pub record IsCommitted (s : State) : Type 0 where
   pub ended : s.in_transaction ≡ false
   pub same : s.committed ≡ s.now
 
+-- a new store was made beside the tables of others, where there was room for it, and all is committed
+pub record IsCreated (old new : State) : Type 0 where
+  pub made : IsFree old.now.schema → Holds new.now new_store
+  pub others : IsFree old.now.schema → KeepsOthers old.now new.now
+  pub committed : IsCommitted new
+
 -- what a stop may leave beside what it could leave before
 abbrev pub MayBuild : State → Trees → Type 0
 MayBuild old trees = IsFree old.now.schema → LeftHolds trees new_store × LeftOthers old.now trees

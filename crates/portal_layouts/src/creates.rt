@@ -1,22 +1,19 @@
 //! New tables.
 
-ghost use Rattle.std.specs.Prelude.{◌≡◌, ℕ, Bool, OnOk, OnErr, true, false};
-ghost use Rattle.sqlite.specs.Held.{state};
-ghost use Rattle.sqlite.specs.State.{HasCleanDisk, Survives};
+ghost use Rattle.std.specs.Prelude.{◌≡◌, ℕ, Bool, true, false};
+ghost use Rattle.portal_sql.specs.Commits.{Commits};
 ghost use Rattle.portal_sql.specs.Inside.{Inside};
 ghost use Rattle.portal_sql.specs.Made.{HasMade};
 ghost use Rattle.portal_sql.specs.States.{IsUndone};
 ghost use Rattle.portal_rows.specs.Layout.{head, plans, batches, vouchers, sessions, grants, counts};
 ghost use Rattle.portal_rows.specs.Layout.{totals, requests};
-ghost use Rattle.portal_rows.specs.Holds.{Holds};
-ghost use Rattle.portal_rows.specs.Others.{KeepsOthers};
 ghost use Rattle.portal_layouts.specs.Brings.{StepsFrom};
 ghost use Rattle.portal_layouts.specs.Creates.{IsFree, HasMadeCounters, HasMadeFirst, HasMadeLast, Builds};
-ghost use Rattle.portal_layouts.specs.Creates.{IsCommitted};
-ghost use Rattle.portal_layouts.specs.Creates.{Makes, MayBuild, is_free, new_store};
+ghost use Rattle.portal_layouts.specs.Creates.{IsCreated, Makes, MayBuild, is_free};
 
 use crate::layouts::spares_our_tables;
 use portal_rows::inserts::insert_head;
+use portal_sql::query::write;
 use portal_sql::room::{counts, has_sequence};
 use sqlite::{Alter, Connection, Error, Transaction};
 use sqlite_schema::schema::Schema;
@@ -24,107 +21,107 @@ use sqlite_schema::schema::Schema;
 fn make_heads<S: Alter>(tx: &mut Transaction<'_, S>) -> Result<(), Error>
     ensures { Inside S.Store (Makes (λ db after. HasMade db (head 0) after)) tx.old tx.new result }
 {
-    tx.execute(
+    write(
+        tx,
         "CREATE TABLE portal_head (id INTEGER PRIMARY KEY, layout INTEGER NOT NULL, \
          last_moment INTEGER NOT NULL, grants INTEGER NOT NULL, sessions INTEGER NOT NULL) STRICT",
         &[],
-    )?;
-    Ok(())
+    )
 }
 
 fn make_plans<S: Alter>(tx: &mut Transaction<'_, S>) -> Result<(), Error>
     ensures { Inside S.Store (Makes (λ db after. HasMade db (plans 0) after)) tx.old tx.new result }
 {
-    tx.execute(
+    write(
+        tx,
         "CREATE TABLE portal_plans (id TEXT NOT NULL PRIMARY KEY, price INTEGER NOT NULL, \
          uses INTEGER NOT NULL, seconds INTEGER NOT NULL, bytes INTEGER NOT NULL, \
          shelf_days INTEGER NOT NULL, extend INTEGER NOT NULL) STRICT",
         &[],
-    )?;
-    Ok(())
+    )
 }
 
 fn make_batches<S: Alter>(tx: &mut Transaction<'_, S>) -> Result<(), Error>
     ensures { Inside S.Store (Makes (λ db after. HasMade db (batches 0) after)) tx.old tx.new result }
 {
-    tx.execute(
+    write(
+        tx,
         "CREATE TABLE portal_batches (id TEXT NOT NULL PRIMARY KEY, \
          plan_id TEXT NOT NULL REFERENCES portal_plans (id), issued INTEGER NOT NULL, \
          expires INTEGER NOT NULL, size INTEGER NOT NULL) STRICT",
         &[],
-    )?;
-    Ok(())
+    )
 }
 
 fn make_vouchers<S: Alter>(tx: &mut Transaction<'_, S>) -> Result<(), Error>
     ensures { Inside S.Store (Makes (λ db after. HasMade db (vouchers 0) after)) tx.old tx.new result }
 {
-    tx.execute(
+    write(
+        tx,
         "CREATE TABLE portal_vouchers (code TEXT NOT NULL PRIMARY KEY, \
          batch_id TEXT NOT NULL REFERENCES portal_batches (id), place INTEGER NOT NULL, sold INTEGER, \
          refunded INTEGER, amount INTEGER, UNIQUE (batch_id, place)) STRICT",
         &[],
-    )?;
-    Ok(())
+    )
 }
 
 fn make_sessions<S: Alter>(tx: &mut Transaction<'_, S>) -> Result<(), Error>
     ensures { Inside S.Store (Makes (λ db after. HasMade db (sessions 0) after)) tx.old tx.new result }
 {
-    tx.execute(
+    write(
+        tx,
         "CREATE TABLE portal_sessions (number INTEGER PRIMARY KEY, device TEXT NOT NULL, \
          plan_id TEXT NOT NULL REFERENCES portal_plans (id), opened INTEGER NOT NULL, \
          used INTEGER NOT NULL, closed INTEGER) STRICT",
         &[],
-    )?;
-    Ok(())
+    )
 }
 
 fn make_grants<S: Alter>(tx: &mut Transaction<'_, S>) -> Result<(), Error>
     ensures { Inside S.Store (Makes (λ db after. HasMade db (grants 0) after)) tx.old tx.new result }
 {
-    tx.execute(
+    write(
+        tx,
         "CREATE TABLE portal_grants (number INTEGER PRIMARY KEY, \
          code TEXT NOT NULL REFERENCES portal_vouchers (code), \
          session INTEGER NOT NULL REFERENCES portal_sessions (number), moment INTEGER NOT NULL, \
          seconds INTEGER NOT NULL, bytes INTEGER NOT NULL) STRICT",
         &[],
-    )?;
-    Ok(())
+    )
 }
 
 pub(crate) fn make_counts<S: Alter>(tx: &mut Transaction<'_, S>) -> Result<(), Error>
     ensures { Inside S.Store (Makes (λ db after. HasMade db (counts 0) after)) tx.old tx.new result }
 {
-    tx.execute(
+    write(
+        tx,
         "CREATE TABLE portal_counts (code TEXT NOT NULL PRIMARY KEY REFERENCES portal_vouchers (code), \
          redeemed INTEGER NOT NULL) STRICT",
         &[],
-    )?;
-    Ok(())
+    )
 }
 
 pub(crate) fn make_totals<S: Alter>(tx: &mut Transaction<'_, S>) -> Result<(), Error>
     ensures { Inside S.Store (Makes (λ db after. HasMade db (totals 0) after)) tx.old tx.new result }
 {
-    tx.execute(
+    write(
+        tx,
         "CREATE TABLE portal_totals (number INTEGER PRIMARY KEY REFERENCES portal_sessions (number), \
          ends INTEGER, remaining INTEGER) STRICT",
         &[],
-    )?;
-    Ok(())
+    )
 }
 
 pub(crate) fn make_requests<S: Alter>(tx: &mut Transaction<'_, S>) -> Result<(), Error>
     ensures { Inside S.Store (Makes (λ db after. HasMade db (requests 0) after)) tx.old tx.new result }
 {
-    tx.execute(
+    write(
+        tx,
         "CREATE TABLE portal_requests (caller TEXT NOT NULL, number TEXT NOT NULL, \
          method TEXT NOT NULL, path TEXT NOT NULL, body BLOB NOT NULL, kind INTEGER NOT NULL, \
          word TEXT, n1 INTEGER NOT NULL, n2 INTEGER, n3 INTEGER, PRIMARY KEY (caller, number)) STRICT",
         &[],
-    )?;
-    Ok(())
+    )
 }
 
 fn make_first<S: Alter>(tx: &mut Transaction<'_, S>) -> Result<(), Error>
@@ -162,11 +159,11 @@ pub(crate) fn make_index<S: Alter>(tx: &mut Transaction<'_, S>) -> Result<(), Er
         StepsFrom layout had layout true (λ t. t) old new)
         tx.old tx.new result }
 {
-    tx.execute(
+    write(
+        tx,
         "CREATE INDEX portal_sessions_by_device ON portal_sessions (device, number)",
         &[],
-    )?;
-    Ok(())
+    )
 }
 
 fn create_inside<S: Alter>(tx: &mut Transaction<'_, S>) -> Result<(), Error>
@@ -182,16 +179,8 @@ fn create_inside<S: Alter>(tx: &mut Transaction<'_, S>) -> Result<(), Error>
 /// Makes the tables of this version's layout, with the index, and the row of the head, in one transaction.
 pub fn create<S: Alter>(conn: &mut Connection<S>) -> Result<(), Error>
     requires { conn.old.in_transaction ≡ false }
-    ensures made { HasCleanDisk (state S.Store conn.new) → IsFree (state S.Store conn.old).now.schema
-        → OnOk result (Holds (state S.Store conn.new).now new_store) }
-    ensures others { HasCleanDisk (state S.Store conn.new) → IsFree (state S.Store conn.old).now.schema
-        → OnOk result (KeepsOthers (state S.Store conn.old).now (state S.Store conn.new).now) }
-    ensures committed { HasCleanDisk (state S.Store conn.new)
-        → OnOk result (IsCommitted (state S.Store conn.new)) }
-    ensures undone { HasCleanDisk (state S.Store conn.new) → IsFree (state S.Store conn.old).now.schema
-        → OnErr result (IsUndone (state S.Store conn.old) (state S.Store conn.new)) }
-    ensures crash { Survives (state S.Store conn.old) (state S.Store conn.new)
-        (MayBuild (state S.Store conn.old)) }
+    ensures { Commits S.Store IsCreated (λ old new. IsFree old.now.schema → IsUndone old new) MayBuild
+        conn.old conn.new result }
 {
     let mut tx = conn.transaction();
     create_inside(&mut tx)?;

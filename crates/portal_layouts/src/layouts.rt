@@ -18,7 +18,8 @@ use sqlite::{Alter, Connection, Error, Row};
 use sqlite_schema::names::same_name;
 use sqlite_schema::schema::{Index, Schema};
 
-/// A layout from which a store is brought to this version's. The fourth is this version's own, which may lack the index of the sessions.
+/// A layout from which a store is brought to this version's. The fourth is this version's own, which may
+/// lack the index of the sessions.
 #[derive(Clone, Copy, Debug, PartialEq, Eq)]
 pub enum OldLayout {
     First,
@@ -86,7 +87,8 @@ pub fn is_whole(schema: &Schema) -> bool
     has_our_tables(schema) && spares_our_tables(schema)
 }
 
-/// Whether the index is that by which the last session of a device is found: of its name, and on the devices and then the numbers of the sessions in this tree.
+/// Whether the index is that by which the last session of a device is found: of its name, and on the
+/// devices and then the numbers of the sessions in this tree.
 fn is_session_index(index: &Index, tree: u32) -> bool
     ensures { result ≡ is_session_index tree index.now }
 {
@@ -102,7 +104,8 @@ fn is_any_session_index(indexes: &[Index], tree: u32) -> bool
     indexes.iter().any(|index| is_session_index(index, tree))
 }
 
-/// Whether an index of the product's table of sessions is that by which the last session of a device is found.
+/// Whether an index of the product's table of sessions is that by which the last session of a device is
+/// found.
 fn has_session_index(schema: &Schema) -> bool
     ensures { result ≡ is_indexed schema.now }
 {
@@ -125,7 +128,8 @@ pub fn is_indexed(schema: &Schema) -> bool
     is_made
 }
 
-/// The rows of the head, whatever stands there under its name. An SQL fault is told only where nothing changed.
+/// The rows of the head, whatever stands there under its name. An SQL fault is told only where nothing
+/// changed.
 pub fn layout_rows<S: Alter>(conn: &mut Connection<S>) -> Result<Vec<Row>, Error>
     ensures answers { HasCleanDisk (state S.Store conn.new)
         → IfOk result (λ rows. Answers (state S.Store conn.old).now rows.items

@@ -1,8 +1,7 @@
 //! One transaction from the tables of an older layout to those of this version.
 
-ghost use Rattle.std.specs.Prelude.{◌≡◌, ◌<◌, ◌^◌, Bool, true, false, OnOk, OnErr, IsTrue, All};
-ghost use Rattle.sqlite.specs.Held.{state};
-ghost use Rattle.sqlite.specs.State.{HasCleanDisk, Survives};
+ghost use Rattle.std.specs.Prelude.{◌≡◌, ◌<◌, ◌^◌, Bool, true, false, IsTrue, All};
+ghost use Rattle.portal_sql.specs.Commits.{Commits};
 ghost use Rattle.portal_sql.specs.Inside.{Inside};
 ghost use Rattle.portal_sql.specs.States.{IsUndone};
 ghost use Rattle.portal_rows.specs.Holds.{this_layout};
@@ -149,8 +148,8 @@ fn bring_inside<S: Alter>(
     Ok(())
 }
 
-/// One transaction: the tables that the layout lacks, with these counters in this order, the index where `has_index` says
-/// that it is missing, and the number of this version's layout; or nothing.
+/// One transaction: the tables that the layout lacks, with these counters in this order, the index where
+/// `has_index` says that it is missing, and the number of this version's layout; or nothing.
 pub fn bring<S: Alter>(
     conn: &mut Connection<S>,
     from: OldLayout,
@@ -161,14 +160,11 @@ pub fn bring<S: Alter>(
     requires outside { conn.old.in_transaction ≡ false }
     requires counts_fit { All (λ k. k.redeemed < 2 ^ 63) kept.now }
     requires totals_fit { All (λ m. m.number < 2 ^ 63) totals.now }
-    ensures done { HasCleanDisk (state S.Store conn.new)
-        → OnOk result (LeadsFrom (number_of from) has_index HasRoom (brought from kept.now totals.now)
-        (state S.Store conn.old) (state S.Store conn.new)) }
-    ensures undone { HasCleanDisk (state S.Store conn.new) → HasRoom (state S.Store conn.old).now.schema
-        → OnErr result (IsUndone (state S.Store conn.old) (state S.Store conn.new)) }
-    ensures crash { Survives (state S.Store conn.old) (state S.Store conn.new)
-        (MayLeadFrom (number_of from) has_index HasRoom (brought from kept.now totals.now)
-        (state S.Store conn.old)) }
+    ensures { Commits S.Store
+        (LeadsFrom (number_of from) has_index HasRoom (brought from kept.now totals.now))
+        (λ old new. HasRoom old.now.schema → IsUndone old new)
+        (MayLeadFrom (number_of from) has_index HasRoom (brought from kept.now totals.now))
+        conn.old conn.new result }
 {
     let mut tx = conn.transaction();
     bring_inside(&mut tx, from, kept, totals, has_index)?;
@@ -186,7 +182,8 @@ fn has_room(schema: &Schema) -> bool
         && spares_name(schema, b"portal_requests")
 }
 
-/// Whether the schema has room for the tables that came after layout 1: no foreign key acts on a table of their names.
+/// Whether the schema has room for the tables that came after layout 1: no foreign key acts on a table of
+/// their names.
 pub fn is_room_for_later(schema: &Schema) -> bool
     ensures test { result ≡ has_room schema.now }
     ensures room { IsTrue result → HasRoom schema.now }

@@ -82,8 +82,8 @@ fn totals_fit(totals: &[Total]) -> bool
     totals.iter().all(|total| total.number < LIMIT)
 }
 
-/// Brings the store to this version's layout with these counters. A number that no column keeps is a foreign row, as is a foreign key of another
-/// table that acts on the names of the tables that come.
+/// Brings the store to this version's layout with these counters. A number that no column keeps is a
+/// foreign row, as is a foreign key of another table that acts on the names of the tables that come.
 fn gain<S: Alter>(
     conn: &mut Connection<S>,
     from: OldLayout,
@@ -133,7 +133,8 @@ fn upgrade_first<S: Alter>(conn: &mut Connection<S>) -> Result<(), Fault>
     Ok(())
 }
 
-/// Brings a store of an older layout to this version's, with the index of the sessions, in one transaction: all of it, or nothing.
+/// Brings a store of an older layout to this version's, with the index of the sessions, in one
+/// transaction: all of it, or nothing.
 pub fn upgrade<S: Alter>(conn: &mut Connection<S>, from: OldLayout) -> Result<(), Fault>
     ensures done { HasCleanDisk (state S.Store conn.new) → IsTrue (state S.Store conn.old).is_open
         → OnOk result (HasUpgraded from (state S.Store conn.old) (state S.Store conn.new)) }

@@ -1,15 +1,6 @@
 -- What was acknowledged is kept, and at most one command more.
-use Rattle.std.proofs.Common.{◌≡◌, ◌⊎◌, inl, inr, ℕ, ◌≤◌, List, [], ◌∷◌, ◌++◌, length, Option, Some, None, Result, Ok, Err, refl, ap, sym, subst, ◌∙◌, lit≤}
-use Rattle.portal_model.specs.declared.command.Command.{Command}
-use Rattle.portal_model.specs.declared.change.Answer.{Answer}
-use Rattle.portal_model.specs.Change.{answer_of}
-use Rattle.portal_ledger.specs.Mark.{Mark}
-use Rattle.portal_model.specs.declared.refusal.Refusal.{Refusal}
-use Rattle.portal_model.specs.Verdict.{verdict}
-use Rattle.portal_ledger.specs.Ledger.{Accepted, Ledger, history_of, repeat_in, taken_at, new_by}
-use Rattle.portal_ledger.specs.States.{State, running, stopped, MayStand}
+use Rattle.portal_ledger.proofs.Common.{◌≡◌, ◌⊎◌, inl, inr, ℕ, ◌≤◌, List, [], ◌∷◌, ◌++◌, length, Option, Some, None, Result, Ok, Err, refl, ap, sym, subst, ◌∙◌, lit≤, Command, Answer, answer_of, Mark, Refusal, verdict, Accepted, Ledger, history_of, repeat_in, taken_at, new_by, State, running, stopped, MayStand, Asked, asks, acts, Told, tells, refuses, no_memory, stops, Call, IsJudged, IsAnswered, IsReply, Stops, Step, Run, Life, acknowledged, kept_after, IsKept}
 use Rattle.portal_ledger.specs.Laws.{LifeIsKept}
-use Rattle.portal_ledger.specs.Runs.{Asked, asks, acts, Told, tells, refuses, no_memory, stops, Call, IsJudged, IsAnswered, IsReply, Stops, Step, Run, Life, acknowledged, kept_after, IsKept}
 
 -- a response that is no 200 to a command acknowledges none
 abbrev IsNoAnswer : Told → Type 0

@@ -1,22 +1,7 @@
 -- A whole life: what is answered under a key stays answered so.
-use Rattle.std.proofs.Common.{◌≡◌, inl, inr, ℕ, ◌≤◌, Bool, true, false, cond, List, [], ◌∷◌, ◌++◌, Option, Some, None, Result, Ok, Err, refl, ap, sym, subst, ◌∙◌, arith}
-use Rattle.std.specs.Prelude.{All}
-use Rattle.std.proofs.lemmas.List.Elements.{All-nil, All-cons, All-append}
-use Rattle.portal_model.specs.declared.command.Command.{Command}
-use Rattle.portal_model.specs.declared.change.Answer.{Answer}
-use Rattle.portal_model.specs.declared.change.Changes.{Changes}
-use Rattle.portal_model.specs.declared.refusal.Refusal.{Refusal}
-use Rattle.portal_model.specs.History.{last_moment, effective_moment}
-use Rattle.portal_model.specs.Verdict.{greatest_moment, verdict}
-use Rattle.portal_model.specs.Change.{changes_of, answer_of}
-use Rattle.portal_laws.proofs.Basics.{some-same}
-use Rattle.portal_ledger.specs.declared.request.KeptRequest.{KeptRequest}
+use Rattle.portal_ledger.proofs.Common.{◌≡◌, inl, inr, ℕ, ◌≤◌, Bool, true, false, cond, List, [], ◌∷◌, ◌++◌, Option, Some, None, Result, Ok, Err, refl, ap, sym, subst, ◌∙◌, arith, All, All-nil, All-cons, All-append, Command, Answer, Changes, Refusal, last_moment, effective_moment, greatest_moment, verdict, changes_of, answer_of, some-same, KeptRequest, Mark, same_key, same_request, Accepted, Ledger, history_of, kept_with, held_in, repeat_of, repeat_in, taken_at, MayFollow, IsSound, IsFree, State, running, stopped, MayStand, Asked, asks, acts, Told, tells, Call, IsJudged, IsAnswered, IsReply, Stops, Step, Run, Life, IsMarked, IsAsked, IsHandedIn, AreHandedIn, AllHandedIn, answers_of, is_asked_under, answers_here, answers_to, answers_over, AreOne}
 use Rattle.portal_model.specs.declared.refusal.Refusal.TheVariants.{IdReused}
-use Rattle.portal_ledger.specs.Mark.{Mark, same_key, same_request}
-use Rattle.portal_ledger.specs.Ledger.{Accepted, Ledger, history_of, kept_with, held_in, repeat_of, repeat_in, taken_at, MayFollow, IsSound, IsFree}
-use Rattle.portal_ledger.specs.States.{State, running, stopped, MayStand}
 use Rattle.portal_ledger.specs.Laws.{ActsOnce}
-use Rattle.portal_ledger.specs.Runs.{Asked, asks, acts, Told, tells, Call, IsJudged, IsAnswered, IsReply, Stops, Step, Run, Life, IsMarked, IsAsked, IsHandedIn, AreHandedIn, AllHandedIn, answers_of, is_asked_under, answers_here, answers_to, answers_over, AreOne}
 use Rattle.portal_ledger.proofs.Keys.{held-alike}
 use Rattle.portal_ledger.proofs.Ledgers.{the_marked_once, the_held_stays, held_now}
 
@@ -29,7 +14,7 @@ not_ok : (r : Refusal) → ◌≡◌ {A = Result (Option Answer) Refusal} (Err r
 not_ok r e = cc
 
 -- where nothing is answered the key is not held
-fresh : (L : Ledger) (own : Mark) → repeat_in L (Some own) ≡ Ok None → held_in L own ≡ None
+pub fresh : (L : Ledger) (own : Mark) → repeat_in L (Some own) ≡ Ok None → held_in L own ≡ None
 fresh L own e = go (held_in L own) refl e
   where
     go : (o : Option KeptRequest) → held_in L own ≡ o → repeat_of o own ≡ Ok None → held_in L own ≡ None

@@ -10,7 +10,9 @@ use std::alloc::Global;
 /// What an accepted command changes, and the mark that it is kept under, where its request had one.
 #[derive(Drop)]
 pub struct MarkedChanges {
+    /// What the command changes.
     pub changes: Changes,
+    /// The mark of its request.
     pub mark: Option<RequestMark>,
 }
 
@@ -36,13 +38,11 @@ impl MarkedChanges {
         ensures ok { IfOk result (λ marked. marked ≡ record { changes = changes; mark = Some mark.now }) }
         ensures err { IfErr result (λ r. r ≡ Refusal.NoMemory) }
     {
-        match mark.copied(alloc) {
-            Ok(mark) => Ok(MarkedChanges {
-                changes,
-                mark: Some(mark),
-            }),
-            Err(_) => Err(Refusal::NoMemory),
-        }
+        let mark = mark.copied(alloc)?;
+        Ok(MarkedChanges {
+            changes,
+            mark: Some(mark),
+        })
     }
 
     /// What the caller is told once they are kept. A mark changes no answer.

@@ -6,8 +6,8 @@ use crate::request::{KeptRequest, RequestMark};
 use portal_model::change::Answer;
 use portal_model::refusal::Refusal;
 
-/// What is answered under a key: the kept answer, where the key is held with the same method, path and body, and None
-/// where it is not held. Refused: `IdReused` where it is held with others.
+/// What is answered under a key: the kept answer, where the key is held with the same method, path and body,
+/// and None where it is not held. Refused: `IdReused` where it is held with others.
 pub fn decide_repeat(
     kept: Option<&KeptRequest>,
     mark: &RequestMark,

@@ -1,7 +1,7 @@
-//! Requests that act once. A caller who wants a command carried out once, however often the request has to be sent,
-//! gives the request a **number**. The caller and the number are its **key**; the key with what is asked (method,
-//! path and body) is its **mark**. A command that is accepted keeps its mark and what its caller was told, so that
-//! the same request is answered so again.
+//! Requests that act once. A caller who wants a command carried out once, however often the request has to be
+//! sent, gives the request a **number**. The caller and the number are its **key**; the key with what is
+//! asked (method, path and body) is its **mark**. A command that is accepted keeps its mark and what its
+//! caller was told, so that the same request is answered so again.
 ghost use Rattle.std.specs.Prelude.{◌≡◌, IfOk, IfErr, IfSome, None, bytes_eq, codes};
 ghost use Rattle.std.specs.List.{list_all};
 ghost use Rattle.portal_ledger.specs.Mark.{IsCaller, IsMark, IsNumberText, is_number_sign, same_caller, same_key, same_request};
@@ -79,7 +79,8 @@ fn is_sign(b: u8) -> bool
     b.is_ascii_uppercase() || b.is_ascii_lowercase() || b.is_ascii_digit() || b == b'-'
 }
 
-/// The mark of a request: its key (who sends it, under which number), and what it asks (method, path and body).
+/// The mark of a request: its key (who sends it, under which number), and what it asks (method, path and
+/// body).
 #[derive(Drop)]
 pub struct RequestMark {
     /// Who sends it.
@@ -100,7 +101,13 @@ impl Model for RequestMark {
 
     ghost Value = { Mark };
 
-    ghost view = { λ m. record { caller = m.caller; number = m.number; method = string_bytes m.method; path = string_bytes m.path; body = m.body.items } };
+    ghost view = { λ m. record {
+      caller = m.caller;
+      number = m.number;
+      method = string_bytes m.method;
+      path = string_bytes m.path;
+      body = m.body.items;
+    } };
 }
 
 impl RequestMark {
@@ -113,7 +120,13 @@ impl RequestMark {
         path: &str,
         body: &[u8],
     ) -> Result<RequestMark, AllocError>
-        ensures { IfOk result (λ m. m ≡ record { caller = caller; number = number; method = method.now; path = path.now; body = body.now }) }
+        ensures { IfOk result (λ m. m ≡ record {
+          caller = caller;
+          number = number;
+          method = method.now;
+          path = path.now;
+          body = body.now;
+        }) }
     {
         Ok(RequestMark {
             caller,
@@ -128,13 +141,14 @@ impl RequestMark {
     pub fn copied(&self, alloc: Global) -> Result<RequestMark, AllocError>
         ensures { IfOk result (λ m. m ≡ self.now) }
     {
-        Ok(RequestMark {
-            caller: self.caller,
-            number: self.number,
-            method: String::from_str(alloc, self.method.as_str())?,
-            path: String::from_str(alloc, self.path.as_str())?,
-            body: Vec::from_slice(alloc, self.body.as_slice())?,
-        })
+        RequestMark::new(
+            alloc,
+            self.caller,
+            self.number,
+            self.method.as_str(),
+            self.path.as_str(),
+            self.body.as_slice(),
+        )
     }
 
     /// The marks have one key: the same caller and the same number.
@@ -154,8 +168,8 @@ impl RequestMark {
     }
 }
 
-/// Every mark is typed: its number is the text of one, its method and path are UTF-8, and the device of a guest is
-/// one. It does nothing but look at the values that tell so.
+/// Every mark is typed: its number is the text of one, its method and path are UTF-8, and the device of a
+/// guest is one. It does nothing but look at the values that tell so.
 pub fn mark_is_typed(mark: &RequestMark)
     ensures { IsMark mark.now }
 {
@@ -191,6 +205,8 @@ fn is_same(a: &Caller, b: &Caller) -> bool
 /// A kept request: the mark of an accepted command, with what its caller was told.
 #[derive(Drop)]
 pub struct KeptRequest {
+    /// The mark of the request.
     pub mark: RequestMark,
+    /// What its caller was told.
     pub answer: Answer,
 }

@@ -1,17 +1,11 @@
 -- What a text that only asks leaves of a connection, and which texts do.
-use Rattle.std.proofs.Common.{◌≡◌, inl, inr, false, ℕ, List, codes, Result, Option, Some, None, Ok, Err, IfOk, IfErr, OnOk, IsSome, IsTrue, refl, sym, ◌∙◌}
-use Rattle.sqlite.specs.Order.{Row}
-use Rattle.sqlite.specs.declared.error.Error.{Error}
-use Rattle.sqlite.specs.State.{State, HasCleanDisk, IsUnchanged, Survives, Shown, FailsToQuery, IsNotRun, CommitsShowing}
-use Rattle.sqlite.proofs.StateLemmas.{survives_weaker}
+use Rattle.portal_lists.proofs.Common.{◌≡◌, inl, inr, false, ℕ, List, codes, Result, Option, Some, None, Ok, Err, IfOk, IfErr, OnOk, IsSome, IsTrue, refl, sym, ◌∙◌, IfOk-weaker, Row, Held, state, Error, State, HasCleanDisk, IsUnchanged, Survives, survives_weaker, Looks, looks_by, looks_weaker, select_of, up, Anything, Asks, OnlyAsks, Contents, HasFirst, HoldsFirst, plans_name, vouchers_name, sessions_name, grants_name, plan_columns, session_columns, voucher_columns}
+use Rattle.sqlite.specs.Store.{Ghosts}
+use Rattle.sqlite.specs.State.{Shown, FailsToQuery, IsNotRun, CommitsShowing}
 use Rattle.sqlite_tied.specs.Compute.{everything}
 use Rattle.sqlite_ast.specs.declared.Statement.TheVariants as written
 use Rattle.portal_sql.specs.States.{KeepsNow}
-use Rattle.portal_sql.specs.Looks.{Looks}
-use Rattle.portal_sql.proofs.LooksLemmas.{looks_by, looks_weaker}
-use Rattle.portal_sql.proofs.Selects.{select_of, up}
-use Rattle.portal_lists.specs.Asks.{Anything, Asks, OnlyAsks}
-use Rattle.portal_rows.specs.Layout.{plans_name, vouchers_name, sessions_name, grants_name}
+use Rattle.portal_lists.specs.Selects.{SelectsFirst}
 use Rattle.portal_lists.proofs.Asking.{understood_idle}
 use Rattle.portal_lists.proofs.WholeTexts as texts
 
@@ -60,19 +54,30 @@ module _ (sql : List ℕ) (params : Row) (old new : State) where
 pub plans_asked : OnlyAsks texts.all_plans_text
 unfolding everything
 plans_asked schema c is =
-    (understood_idle texts.all_plans_text (written.Select (select_of plans_name texts.all_plans_columns None (up (codes "rowid")) None)) 0 (record { parsed = _; read = refl; is = refl; timeless = refl; counted = refl }) (λ schema. refl) (λ schema base. refl) schema c is).0
+    (understood_idle texts.all_plans_text (written.Select (select_of plans_name plan_columns None (up (codes "rowid")) None)) 0 (record { parsed = _; read = refl; is = refl; timeless = refl; counted = refl }) (λ schema. refl) (λ schema base. refl) schema c is).0
 
 pub vouchers_asked : OnlyAsks texts.all_vouchers_text
 unfolding everything
 vouchers_asked schema c is =
-    (understood_idle texts.all_vouchers_text (written.Select (select_of vouchers_name texts.all_vouchers_columns None (up (codes "rowid")) None)) 0 (record { parsed = _; read = refl; is = refl; timeless = refl; counted = refl }) (λ schema. refl) (λ schema base. refl) schema c is).0
+    (understood_idle texts.all_vouchers_text (written.Select (select_of vouchers_name voucher_columns None (up (codes "rowid")) None)) 0 (record { parsed = _; read = refl; is = refl; timeless = refl; counted = refl }) (λ schema. refl) (λ schema base. refl) schema c is).0
 
 pub sessions_asked : OnlyAsks texts.all_sessions_text
 unfolding everything
 sessions_asked schema c is =
-    (understood_idle texts.all_sessions_text (written.Select (select_of sessions_name texts.all_sessions_columns None (up (codes "number")) None)) 0 (record { parsed = _; read = refl; is = refl; timeless = refl; counted = refl }) (λ schema. refl) (λ schema base. refl) schema c is).0
+    (understood_idle texts.all_sessions_text (written.Select (select_of sessions_name session_columns None (up (codes "number")) None)) 0 (record { parsed = _; read = refl; is = refl; timeless = refl; counted = refl }) (λ schema. refl) (λ schema base. refl) schema c is).0
 
 pub grants_asked : OnlyAsks texts.all_grants_text
 unfolding everything
 grants_asked schema c is =
     (understood_idle texts.all_grants_text (written.Select (select_of grants_name texts.all_grants_columns None (up (codes "number")) None)) 0 (record { parsed = _; read = refl; is = refl; timeless = refl; counted = refl }) (λ schema. refl) (λ schema base. refl) schema c is).0
+
+-- ---- what the query that asks such a text tells
+
+pub selects_first : {S A : Type 0} (g : Ghosts S) {a b : Held S} (sql : List ℕ) (params : Row) (result : Result A Error) (items : A → List Row) {Is : Contents → A → Type 0} → OnlyAsks sql
+    → ((x : A) → Shown sql params (state g a) (state g b) (items x) → (t : Contents) → HoldsFirst (state g a).now t → Is t x) → (HasCleanDisk (state g b) → IfOk result (λ x. Shown sql params (state g a) (state g b) (items x)))
+    → (OnlyAsks sql → Looks Anything result (state g a) (state g b)) → SelectsFirst g a b result Is
+selects_first g sql params result items asks are shown always = record {
+  rows = λ clean t h. IfOk-weaker result _ _ (λ x is. are x is t h) (shown clean);
+  looks = looks_weaker Anything HasFirst (λ schema has. tt) result _ _ (always asks);
+  always = always asks;
+}

@@ -1,45 +1,13 @@
 -- From tests row by row to an audit of the tables.
-use Rattle.std.proofs.Common.{◌≡◌, inl, inr, ℕ, ◌+◌, ◌<◌, Bool, true, false, cond, ◌&&◌, ◌||◌, ◌↔◌, IsTrue, List, [], ◌∷◌, map, take, length, get_or, Less, refl, sym, ap, ap₂, subst, ◌∙◌, bytes_eq, true≢false, lit≤}
-use Rattle.std.specs.List.{list_all, list_any}
-use Rattle.std.proofs.lemmas.Bool.{eqb-true, cases_Bool}
-use Rattle.std.proofs.lemmas.Bool.Decides.{Decides-eqb}
+use Rattle.portal_lists.proofs.Common.{◌≡◌, inl, inr, ℕ, ◌+◌, ◌<◌, Bool, true, false, cond, ◌&&◌, ◌||◌, ◌↔◌, IsTrue, List, [], ◌∷◌, map, take, length, get_or, Less, refl, sym, ap, ap₂, subst, ◌∙◌, bytes_eq, true≢false, lit≤, list_all, list_any, eqb-true, cases_Bool, Decides-eqb, list_any-append, bytes_eq-Decides, Row, column, value_cmp, Database, rowid, IsTable, value_cmp_total, Has, all_has, all_from, map-map, IsCode, text_of, Stores, whole, has_image, same_rows, length-map, SessionRow, CountRow, TotalRow, total_from, Total, ends_row, grant_read, summed, uses_in, KeptCount, Contents, HeadRow, head_stored, session_stored, total_stored, Holds, voucher_read, session_read, count_read, IsAudited, Agrees, AreRead, is_counted, has_count, total_in, exact_head, exact_session, exact_total, more_mapped, has_mapped, both}
 use Rattle.std.proofs.lemmas.Cmp.{tied_itself}
-use Rattle.std.proofs.lemmas.List.Folds.{list_any-append}
-use Rattle.std.proofs.lemmas.Slice.Eq.{bytes_eq-Decides}
-use Rattle.sqlite.specs.Order.{Row, column, value_cmp}
-use Rattle.sqlite.specs.Effect.{Database}
-use Rattle.sqlite.specs.Tree.{rowid, IsTable}
-use Rattle.sqlite_value.proofs.OrderLemmas.{value_cmp_total}
-use Rattle.sqlite_rules.specs.Lists.{Has}
-use Rattle.sqlite_rules.proofs.ListLemmas.{all_has, all_from}
 use Rattle.sqlite_rules.proofs.PlaceLemmas.{tied_same}
-use Rattle.sqlite_trees.proofs.ListLemmas.{map-map}
-use Rattle.portal_codes.specs.Code.{IsCode, text_of}
-use Rattle.portal_sql.specs.Stored.{Stores, whole, number as number_cell}
-use Rattle.portal_sql.proofs.FindLemmas.{has_image}
-use Rattle.portal_sql.proofs.RowLemmas.{same_rows}
-use Rattle.std.proofs.lemmas.List.{length-map}
-use Rattle.portal_model.specs.Rows.{SessionRow, CountRow, TotalRow, total_from}
+use Rattle.portal_sql.specs.Stored.{number as number_cell}
 use Rattle.portal_lists.specs.declared.counted.CountedRows.{CountedRows}
-use Rattle.portal_rows.specs.declared.signs.Total.{Total}
-use Rattle.portal_rows.specs.Steps.{ends_row}
-use Rattle.portal_lists.specs.Sums.{grant_read, summed, uses_in}
-use Rattle.portal_rows.specs.declared.rows.KeptCount.{KeptCount}
-use Rattle.portal_rows.specs.Contents.{Contents, HeadRow, head_stored, session_stored, total_stored}
-use Rattle.portal_rows.specs.Holds.{Holds}
-use Rattle.portal_rows.specs.Read.{voucher_read, session_read, count_read}
-use Rattle.portal_lists.specs.Audit.{IsAudited, Agrees, AreRead, is_counted, has_count, total_in}
-use Rattle.portal_rows.proofs.Cells.{exact_head, exact_session, exact_total}
-use Rattle.portal_rows.proofs.Compose.{more_mapped}
-use Rattle.portal_lists.proofs.OwnRows.{has_mapped}
 use Rattle.portal_lists.proofs.SameCode.{code_test}
 use Rattle.portal_lists.proofs.SumLemmas.{map_exact}
 
 -- ---- tests of all rows, and of any
-
-both : (a b : Bool) → (a && b) ≡ true → (a ≡ true) × (b ≡ true)
-both true b h = (refl, h)
-both false b h = absurd (true≢false (sym h))
 
 all_true : {X : Type 0} (p : X → Bool) (xs : List X) → list_all p xs ≡ true → (x : X) → Has xs x → p x ≡ true
 all_true p [] h x has = absurd has

@@ -1,3 +1,4 @@
+pub mod Common
 pub mod AskLemmas
 pub mod Asking
 pub mod AuditLemmas
@@ -12,3 +13,4 @@ pub mod SumLemmas
 pub mod WholeReading
 pub mod WholeTables
 pub mod WholeTexts
+pub mod WholeValues

@@ -1,30 +1,10 @@
 -- What each text that reads a list answers, by the rows that the tables hold.
-use Rattle.std.proofs.Common.{◌≡◌, ◌<◌, ℕ, List, [], ◌∷◌, ◌++◌, Bool, map, filter, length, true, false, refl, sym, ap, ap₂, subst, ◌∙◌, lit<, bytes_eq, Ordering, lit≤}
+use Rattle.portal_lists.proofs.Common.{◌≡◌, ◌<◌, ℕ, List, [], ◌∷◌, ◌++◌, Bool, map, filter, length, true, false, refl, sym, ap, ap₂, subst, ◌∙◌, lit<, bytes_eq, Ordering, lit≤, Key, then-Equal, value_cmp-Text, Text, Row, column, value_cmp, Schema, Table, Term, State, map-map, filter-map, number, has_key, by_column, fields, IsSelection, text_test, selected, field_at, orders_by, by, passes, keys_of, VoucherRow, TotalRow, vouchers, totals, Contents, voucher_cells, total_cells, Holds, HasTables, ListsAs, is_within, by_place, by_refund, by_sale, by_number, sale_shown, sale_cells, vouchers_in, totals_in, Asks, IsSimple, total_columns, voucher_columns}
 use Rattle.std.specs.Ordering.{ordering_then}
-use Rattle.sqlite_value.specs.declared.keys.Key.{Key}
-use Rattle.sqlite_value.proofs.OrderLemmas.{then-Equal, value_cmp-Text}
-use Rattle.sqlite.specs.declared.types.Value.TheVariants.{Text}
-use Rattle.sqlite.specs.Order.{Row, column, value_cmp}
 use Rattle.sqlite.specs.Query.{key_cmp}
-use Rattle.sqlite.specs.Schema.{Schema}
-use Rattle.sqlite.specs.Table.{Table}
-use Rattle.sqlite.specs.Term.{Term}
 use Rattle.sqlite.specs.Listing.{understood}
-use Rattle.sqlite.specs.State.{State, Shown}
-use Rattle.sqlite_trees.proofs.ListLemmas.{map-map, filter-map}
-use Rattle.portal_sql.specs.Stored.{number}
-use Rattle.portal_sql.specs.Finds.{has_key, by_column, fields, IsSelection}
-use Rattle.portal_sql.proofs.Keys.{text_test}
-use Rattle.portal_sql.proofs.Lookup.{selected, field_at, orders_by, by}
-use Rattle.portal_sql.proofs.Scan.{passes, keys_of}
-use Rattle.portal_model.specs.Rows.{VoucherRow, TotalRow}
-use Rattle.portal_rows.specs.Layout.{vouchers, totals}
-use Rattle.portal_rows.specs.Contents.{Contents, voucher_cells, total_cells}
-use Rattle.portal_rows.specs.Holds.{Holds, HasTables}
-use Rattle.portal_lists.specs.Lists.{ListsAs, is_within, by_place, by_refund, by_sale, by_number, sale_shown, sale_cells}
-use Rattle.portal_rows.proofs.Cells.{vouchers_in, totals_in}
+use Rattle.sqlite.specs.State.{Shown}
 use Rattle.portal_lists.proofs.Listing.{number_order, option_order, sql_within, within_is, cells_listed}
-use Rattle.portal_lists.specs.Asks.{Asks, IsSimple}
 use Rattle.portal_lists.proofs.Streaming.{means_simple, simple_asks}
 use Rattle.portal_lists.proofs.WholeTables.{some_columns}
 use Rattle.portal_lists.proofs.ListTexts as texts
@@ -65,7 +45,7 @@ pub totals_rows_are : (old new : State) (rows : List Row) → Shown texts.totals
 totals_rows_are old new rows shown t h =
     let place = h.places.totals in
     let table = totals place.tree in
-    let it = selected texts.totals_text table [] _ [] old new texts.totals_columns (λ _. true) (λ r. refl) (by_column 0) (orders_by table 0 [] (lit< tt)) (texts.totals_means old.now.schema place.at place.tree (h.stand.totals (lit≤ tt)).stands) rows shown in
+    let it = selected texts.totals_text table [] _ [] old new total_columns (λ _. true) (λ r. refl) (by_column 0) (orders_by table 0 [] (lit< tt)) (texts.totals_means old.now.schema place.at place.tree (h.stand.totals (lit≤ tt)).stands) rows shown in
     let all = subst (λ xs. IsSelection (λ _. true) (by_column 0) xs rows) (totals_in old.now.trees place.tree t.totals (h.store.totals (lit≤ tt))) it in
     cells_listed total_cells (λ (_ : TotalRow). true) by_number t.totals (λ _. true) (by_column 0) (λ m. refl) (λ a b. number_order a.number b.number) rows all
 
@@ -94,7 +74,7 @@ module _ (old new : State) (from to : ℕ) (rows : List Row) (t : Contents) (h :
   ordered_rows_are shown =
       let place = h.places.vouchers in
       let table = vouchers place.tree in
-      let it = selected texts.ordered_text table (texts.within_terms table 3) _ params old new texts.voucher_columns (λ r. sql_within (column r 3) (number from) (number to)) (within_tests table 3 from to (lit< tt)) (by_columns 3 0)
+      let it = selected texts.ordered_text table (texts.within_terms table 3) _ params old new voucher_columns (λ r. sql_within (column r 3) (number from) (number to)) (within_tests table 3 from to (lit< tt)) (by_columns 3 0)
       (orders_by_two table 3 0 params (lit< tt) (lit< tt)) (texts.ordered_means old.now.schema place.at place.tree h.stand.vouchers.stands) rows shown in
       let all = subst (λ xs. IsSelection (λ r. sql_within (column r 3) (number from) (number to)) (by_columns 3 0) xs rows) (vouchers_in old.now.trees place.tree t.vouchers h.store.vouchers) it in
       cells_listed voucher_cells (λ (v : VoucherRow). is_within from to v.sold) by_sale t.vouchers (λ r. sql_within (column r 3) (number from) (number to)) (by_columns 3 0) (λ v. within_is v.sold from to)
@@ -104,7 +84,7 @@ module _ (old new : State) (from to : ℕ) (rows : List Row) (t : Contents) (h :
   refunded_rows_are shown =
       let place = h.places.vouchers in
       let table = vouchers place.tree in
-      let it = selected texts.refunded_text table (texts.within_terms table 4) _ params old new texts.voucher_columns (λ r. sql_within (column r 4) (number from) (number to)) (within_tests table 4 from to (lit< tt)) (by_columns 4 0)
+      let it = selected texts.refunded_text table (texts.within_terms table 4) _ params old new voucher_columns (λ r. sql_within (column r 4) (number from) (number to)) (within_tests table 4 from to (lit< tt)) (by_columns 4 0)
       (orders_by_two table 4 0 params (lit< tt) (lit< tt)) (texts.refunded_means old.now.schema place.at place.tree h.stand.vouchers.stands) rows shown in
       let all = subst (λ xs. IsSelection (λ r. sql_within (column r 4) (number from) (number to)) (by_columns 4 0) xs rows) (vouchers_in old.now.trees place.tree t.vouchers h.store.vouchers) it in
       cells_listed voucher_cells (λ (v : VoucherRow). is_within from to v.refunded) by_refund t.vouchers (λ r. sql_within (column r 4) (number from) (number to)) (by_columns 4 0) (λ v. within_is v.refunded from to)

@@ -1,24 +1,10 @@
 -- What the texts that read lists mean, wherever the tables stand.
-use Rattle.std.proofs.Common.{ℕ, pos, negsuc, List, [], ◌∷◌, ◌++◌, codes, Option, Some, None, refl, false}
-use Rattle.sqlite.specs.declared.types.Value.TheVariants.{Int}
-use Rattle.sqlite.specs.Term.{Term, lit, col, op2}
-use Rattle.sqlite.specs.Schema.{Schema}
-use Rattle.sqlite.specs.Table.{Table}
+use Rattle.portal_lists.proofs.Common.{ℕ, pos, negsuc, List, [], ◌∷◌, ◌++◌, codes, Option, Some, None, refl, false, Int, Term, lit, col, op2, Schema, Table, place_of, Ge, Le, Binary, Stands, drafted, unlimited, IsSelect, all_columns, by, select_means, up, vouchers, totals, vouchers_name, totals_name, total_columns, voucher_columns}
 use Rattle.sqlite_tied.specs.Compute.{everything}
-use Rattle.sqlite_schema.specs.Names.{place_of}
-use Rattle.sqlite_ast.specs.declared.Statement.TheVariants as written
 use Rattle.sqlite_ast.specs.declared.Expr.{Expr}
 use Rattle.sqlite_ast.specs.declared.Expr.TheVariants as expr
 use Rattle.sqlite_ast.specs.declared.Binary.TheVariants as binary
 use Rattle.sqlite_sql.specs.declared.ops.BinaryOp.TheVariants as by_op
-use Rattle.sqlite_sql.specs.declared.ops.CompareOp.TheVariants.{Ge, Le}
-use Rattle.sqlite_value.specs.declared.keys.Collation.TheVariants.{Binary}
-use Rattle.portal_sql.specs.Stands.{Stands}
-use Rattle.portal_sql.proofs.Queries.{drafted, unlimited}
-use Rattle.portal_sql.proofs.Texts.{IsText}
-use Rattle.portal_sql.proofs.Lookup.{IsSelect, all_columns, by}
-use Rattle.portal_sql.proofs.Selects.{select_of, select_means, up}
-use Rattle.portal_rows.specs.Layout.{vouchers, totals, vouchers_name, totals_name}
 use Rattle.portal_lists.proofs.WholeTables.{by_rowid, has_rowids, IsSelectOf}
 
 -- ---- the ends of all sessions
@@ -26,18 +12,11 @@ use Rattle.portal_lists.proofs.WholeTables.{by_rowid, has_rowids, IsSelectOf}
 abbrev pub totals_text : List ℕ
 totals_text = codes "SELECT number, ends, remaining FROM portal_totals ORDER BY number"
 
-abbrev pub totals_columns : List (List ℕ)
-totals_columns = codes "number" ∷ codes "ends" ∷ codes "remaining" ∷ []
-
-totals_is_text : IsText totals_text (written.Select (select_of totals_name totals_columns None (up (codes "number")) None)) 0
-unfolding everything
-totals_is_text = record { parsed = _; read = refl; is = refl; timeless = refl; counted = refl }
-
-pub totals_means : (schema : Schema) (at tree : ℕ) → Stands schema at (totals tree) → IsSelect schema totals_text (totals tree) [] (by (totals tree) 0 false) unlimited totals_columns
+pub totals_means : (schema : Schema) (at tree : ℕ) → Stands schema at (totals tree) → IsSelect schema totals_text (totals tree) [] (by (totals tree) 0 false) unlimited total_columns
 unfolding everything
 totals_means schema at tree stands =
-    select_means schema totals_text totals_name totals_columns None (up (codes "number")) None 0 (lit (Int (negsuc 0)), lit (Int (pos 0)))
-    (drafted tree [] (all_columns (totals tree)) (by (totals tree) 0 false) unlimited) (None ∷ Some Binary ∷ Some Binary ∷ []) totals_is_text refl refl
+    select_means schema totals_text totals_name total_columns None (up (codes "number")) None 0 (lit (Int (negsuc 0)), lit (Int (pos 0)))
+    (drafted tree [] (all_columns (totals tree)) (by (totals tree) 0 false) unlimited) (None ∷ Some Binary ∷ Some Binary ∷ []) (record { parsed = _; read = refl; is = refl; timeless = refl; counted = refl }) refl refl
     (simp (stands.named, stands.there) refl) (simp (stands.low, stands.typed) refl) refl (λ base. refl)
 
 -- ---- vouchers with a moment within two
@@ -50,9 +29,6 @@ where_within name = Some (expr.Binary binary.And (expr.Binary binary.Ge (expr.Co
 abbrev pub within_terms : Table → ℕ → List Term
 within_terms table at = op2 (by_op.Compare Ge Binary) (col 1 (place_of table at)) (col 0 0) ∷ op2 (by_op.Compare Le Binary) (col 1 (place_of table at)) (col 0 1) ∷ []
 
-abbrev pub voucher_columns : List (List ℕ)
-voucher_columns = codes "code" ∷ codes "batch_id" ∷ codes "place" ∷ codes "sold" ∷ codes "refunded" ∷ codes "amount" ∷ []
-
 abbrev pub sold_text : List ℕ
 sold_text = codes "SELECT batch_id, sold FROM portal_vouchers WHERE sold >= ?1 AND sold <= ?2 ORDER BY rowid"
 
@@ -63,25 +39,17 @@ sold_columns = codes "batch_id" ∷ codes "sold" ∷ []
 abbrev pub sold_terms : Table → List Term
 sold_terms table = col 1 (place_of table 1) ∷ col 1 (place_of table 3) ∷ []
 
-sold_is_text : IsText sold_text (written.Select (select_of vouchers_name sold_columns (where_within (codes "sold")) (up (codes "rowid")) None)) 2
-unfolding everything
-sold_is_text = record { parsed = _; read = refl; is = refl; timeless = refl; counted = refl }
-
 pub sold_means : (schema : Schema) (at tree : ℕ) → Stands schema at (vouchers tree)
     → IsSelectOf schema sold_text (vouchers tree) (within_terms (vouchers tree) 3) (sold_terms (vouchers tree)) sold_columns
 unfolding everything
 sold_means schema at tree stands =
     select_means schema sold_text vouchers_name sold_columns (where_within (codes "sold")) (up (codes "rowid")) None 2 (lit (Int (negsuc 0)), lit (Int (pos 0)))
     (drafted tree (within_terms (vouchers tree) 3) (sold_terms (vouchers tree)) by_rowid unlimited)
-    (Some Binary ∷ Some Binary ∷ []) sold_is_text refl refl
+    (Some Binary ∷ Some Binary ∷ []) (record { parsed = _; read = refl; is = refl; timeless = refl; counted = refl }) refl refl
     (simp (stands.named, stands.there, has_rowids tree stands.low) refl) (simp (stands.low, stands.typed) refl) refl (λ base. refl)
 
 abbrev pub ordered_text : List ℕ
 ordered_text = codes "SELECT code, batch_id, place, sold, refunded, amount FROM portal_vouchers WHERE sold >= ?1 AND sold <= ?2 ORDER BY sold, code"
-
-ordered_is_text : IsText ordered_text (written.Select (select_of vouchers_name voucher_columns (where_within (codes "sold")) (up (codes "sold") ++ up (codes "code")) None)) 2
-unfolding everything
-ordered_is_text = record { parsed = _; read = refl; is = refl; timeless = refl; counted = refl }
 
 pub ordered_means : (schema : Schema) (at tree : ℕ) → Stands schema at (vouchers tree)
     → IsSelect schema ordered_text (vouchers tree) (within_terms (vouchers tree) 3) (by (vouchers tree) 3 false ++ by (vouchers tree) 0 false) unlimited voucher_columns
@@ -89,15 +57,11 @@ unfolding everything
 ordered_means schema at tree stands =
     select_means schema ordered_text vouchers_name voucher_columns (where_within (codes "sold")) (up (codes "sold") ++ up (codes "code")) None 2 (lit (Int (negsuc 0)), lit (Int (pos 0)))
     (drafted tree (within_terms (vouchers tree) 3) (all_columns (vouchers tree)) (by (vouchers tree) 3 false ++ by (vouchers tree) 0 false) unlimited)
-    (Some Binary ∷ Some Binary ∷ Some Binary ∷ Some Binary ∷ Some Binary ∷ Some Binary ∷ []) ordered_is_text refl refl
+    (Some Binary ∷ Some Binary ∷ Some Binary ∷ Some Binary ∷ Some Binary ∷ Some Binary ∷ []) (record { parsed = _; read = refl; is = refl; timeless = refl; counted = refl }) refl refl
     (simp (stands.named, stands.there) refl) (simp (stands.low, stands.typed) refl) refl (λ base. refl)
 
 abbrev pub refunded_text : List ℕ
 refunded_text = codes "SELECT code, batch_id, place, sold, refunded, amount FROM portal_vouchers WHERE refunded >= ?1 AND refunded <= ?2 ORDER BY refunded, code"
-
-refunded_is_text : IsText refunded_text (written.Select (select_of vouchers_name voucher_columns (where_within (codes "refunded")) (up (codes "refunded") ++ up (codes "code")) None)) 2
-unfolding everything
-refunded_is_text = record { parsed = _; read = refl; is = refl; timeless = refl; counted = refl }
 
 pub refunded_means : (schema : Schema) (at tree : ℕ) → Stands schema at (vouchers tree)
     → IsSelect schema refunded_text (vouchers tree) (within_terms (vouchers tree) 4) (by (vouchers tree) 4 false ++ by (vouchers tree) 0 false) unlimited voucher_columns
@@ -105,5 +69,5 @@ unfolding everything
 refunded_means schema at tree stands =
     select_means schema refunded_text vouchers_name voucher_columns (where_within (codes "refunded")) (up (codes "refunded") ++ up (codes "code")) None 2 (lit (Int (negsuc 0)), lit (Int (pos 0)))
     (drafted tree (within_terms (vouchers tree) 4) (all_columns (vouchers tree)) (by (vouchers tree) 4 false ++ by (vouchers tree) 0 false) unlimited)
-    (Some Binary ∷ Some Binary ∷ Some Binary ∷ Some Binary ∷ Some Binary ∷ Some Binary ∷ []) refunded_is_text refl refl
+    (Some Binary ∷ Some Binary ∷ Some Binary ∷ Some Binary ∷ Some Binary ∷ Some Binary ∷ []) (record { parsed = _; read = refl; is = refl; timeless = refl; counted = refl }) refl refl
     (simp (stands.named, stands.there) refl) (simp (stands.low, stands.typed) refl) refl (λ base. refl)

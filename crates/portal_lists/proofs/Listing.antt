@@ -1,27 +1,9 @@
 -- From the rows of an answer to the values that were read of them, in their order.
-use Rattle.std.proofs.Common.{◌≡◌, ◌+◌, ◌<◌, arith, ℕ, pos, List, [], ◌∷◌, ◌++◌, map, filter, take, length, get_or, cond, Bool, true, false, ◌&&◌, nat_le, Option, Some, None, refl, sym, ap, ap₂, subst, ◌∙◌, Ordering, nat_cmp, is_ge, is_le}
-use Rattle.std.specs.List.Sorted.{IsSorted}
+use Rattle.portal_lists.proofs.Common.{◌≡◌, ◌+◌, ◌<◌, arith, ℕ, pos, List, [], ◌∷◌, ◌++◌, map, filter, take, length, get_or, cond, Bool, true, false, ◌&&◌, nat_le, Option, Some, None, refl, sym, ap, ap₂, subst, ◌∙◌, Ordering, nat_cmp, is_ge, is_le, IsSorted, nat_tests, ints, get_or-map, length-map, map-append, take_more, filter-append, Null, Row, value_cmp, Ge, Le, Binary, value_cmp-Int, value_cmp-Null, value_cmp-apart, map-map, filter-map, pull_back, number, or_null, IsSelection, columns, TotalRow, Total, ends_row, more_mapped, Lists, ListsAs, IsReadAs, AreReadAs, is_within, may_be_open, numbers_open, sale_cells}
 use Rattle.std.specs.Option.{option_cmp}
-use Rattle.std.proofs.lemmas.Bool.Decides.{nat_tests}
-use Rattle.std.proofs.lemmas.Int.{ints}
-use Rattle.std.proofs.lemmas.List.{get_or-map, length-map, map-append, take_more}
-use Rattle.std.proofs.lemmas.List.Elements.{filter-append}
 use Rattle.sqlite.specs.declared.types.Value.{Value}
-use Rattle.sqlite.specs.declared.types.Value.TheVariants.{Null}
-use Rattle.sqlite.specs.Order.{Row, value_cmp}
 use Rattle.sqlite.specs.Ops.{binary, is_true, from_truth}
 use Rattle.sqlite_sql.specs.declared.ops.BinaryOp.TheVariants as by_op
-use Rattle.sqlite_sql.specs.declared.ops.CompareOp.TheVariants.{Ge, Le}
-use Rattle.sqlite_value.specs.declared.keys.Collation.TheVariants.{Binary}
-use Rattle.sqlite_value.proofs.OrderLemmas.{value_cmp-Int, value_cmp-Null, value_cmp-apart}
-use Rattle.sqlite_trees.proofs.ListLemmas.{map-map, filter-map, pull_back}
-use Rattle.portal_sql.specs.Stored.{number, or_null}
-use Rattle.portal_sql.specs.Finds.{IsSelection, columns}
-use Rattle.portal_model.specs.Rows.{TotalRow}
-use Rattle.portal_rows.specs.declared.signs.Total.{Total}
-use Rattle.portal_rows.specs.Steps.{ends_row}
-use Rattle.portal_rows.proofs.Compose.{more_mapped}
-use Rattle.portal_lists.specs.Lists.{Lists, ListsAs, IsReadAs, AreReadAs, is_within, may_be_open, numbers_open, sale_cells}
 
 -- ---- the order of SQL, at numbers, at texts, and where a number may be missing
 

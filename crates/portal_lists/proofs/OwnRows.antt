@@ -1,14 +1,5 @@
 -- Where a table holds rows that this product writes, so do the rows of an answer show.
-use Rattle.std.proofs.Common.{◌≡◌, inl, inr, ℕ, List, [], ◌∷◌, map, filter, Bool, true, Option, Some, None, IsSome, refl, sym, ap, subst, ◌∙◌, Ordering}
-use Rattle.std.proofs.lemmas.List.Sorted.{IsPermutation-sym}
-use Rattle.sqlite.specs.Order.{Row}
-use Rattle.sqlite_rules.specs.Lists.{Has}
-use Rattle.sqlite_rules.proofs.ListLemmas.{has_filtered}
-use Rattle.portal_sql.specs.Finds.{columns}
-use Rattle.portal_sql.proofs.FindLemmas.{has_image, has_along}
-use Rattle.portal_model.specs.Rows.{VoucherRow}
-use Rattle.portal_rows.specs.Foreign.{AreOwn, AreOfOwn, IsOwnVoucher}
-use Rattle.portal_lists.specs.Lists.{IsOwnSale, Lists, ListsAs, is_within, sale_shown}
+use Rattle.portal_lists.proofs.Common.{◌≡◌, ℕ, List, map, filter, Bool, true, Option, Some, None, IsSome, refl, sym, ap, subst, ◌∙◌, Ordering, IsPermutation-sym, Row, Has, has_filtered, columns, has_image, has_along, VoucherRow, AreOwn, AreOfOwn, IsOwnVoucher, IsOwnSale, Lists, ListsAs, is_within, sale_shown}
 
 module _ {P : Type 0} (cells : P → Row) (n : ℕ) (all : (p : P) → columns n (cells p) ≡ cells p) (IsOwn : P → Type 0) where
   -- the rows of a whole table
@@ -29,11 +20,6 @@ pub listed_own : {P : Type 0} (IsOwn : P → Type 0) (passes : P → Bool) (cmp 
 listed_own IsOwn passes cmp ps listed l own p has =
     let kept = has_filtered passes ps p (has_along p listed (filter passes ps) (IsPermutation-sym _ _ l.same) has) in
     own p kept.0 kept.1
-
-pub has_mapped : {X Y : Type 0} (f : X → Y) (xs : List X) (x : X) → Has xs x → Has (map f xs) (f x)
-has_mapped f [] x has = absurd has
-has_mapped f (y ∷ xs) x (inl e) = inl (ap f e)
-has_mapped f (y ∷ xs) x (inr later) = inr (has_mapped f xs x later)
 
 -- a moment within two is there
 pub within_some : (from to : ℕ) (o : Option ℕ) → is_within from to o ≡ true → IsSome o

@@ -1,9 +1,6 @@
 -- Codes are told by their printed texts.
-use Rattle.std.proofs.Common.{◌≡◌, ℕ, List, ap, subst, bytes_eq}
-use Rattle.std.proofs.lemmas.Slice.Eq.{bytes_eq-Decides}
-use Rattle.portal_codes.specs.Code.{IsCode, Spells, text_of}
+use Rattle.portal_lists.proofs.Common.{◌≡◌, ℕ, List, ap, subst, bytes_eq, bytes_eq-Decides, IsCode, Spells, text_of, agree}
 use Rattle.portal_codes.proofs.Spelling.{unique, printed_spells}
-use Rattle.portal_sql.proofs.Keys.{agree}
 
 pub same_code : (a b : List ℕ) → IsCode a → IsCode b → text_of a ≡ text_of b → a ≡ b
 same_code a b code other e = unique (text_of b) b a (printed_spells b other) (subst (λ text. Spells text a) e (printed_spells a code))

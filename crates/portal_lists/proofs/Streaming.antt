@@ -1,33 +1,14 @@
 -- What a query leaves of a connection, whose rows are read one at a time.
-use Rattle.std.proofs.Common.{◌≡◌, inl, inr, ℕ, List, [], ◌∷◌, ◌++◌, map, Result, Option, Some, None, Ok, Err, OnErr, IsTrue, refl, sym, ap, ap₂, subst, ◌∙◌, arith}
-use Rattle.std.proofs.lemmas.List.{map-append}
+use Rattle.portal_lists.proofs.Common.{◌≡◌, inl, inr, ℕ, List, [], ◌∷◌, ◌++◌, map, Result, Option, Some, None, Ok, Err, OnErr, IsTrue, refl, sym, ap, ap₂, subst, ◌∙◌, arith, map-append, Row, Schema, Database, reads_listing, IsSourceOf, Command, Select, Error, State, HasCleanDisk, IsUnchanged, Survives, ShowsRows, Begins, Held, state, survives_then, survives_weaker, unchanged, IsPlain, command_of, unchanged_then, given_begin, begins_shown, EndsIn, Compiled, CompileError, has_left, has_right, columns, Reads, Fails, Means, fails_then, AreOwn, Asks, IsDirect, IsSimple, AreShown}
 use Rattle.std.specs.Borrow.{Bor}
-use Rattle.sqlite.specs.Order.{Row}
-use Rattle.sqlite.specs.Schema.{Schema}
-use Rattle.sqlite.specs.Effect.{Database}
-use Rattle.sqlite.specs.Listing.{understood, reads_listing, IsSourceOf}
+use Rattle.sqlite.specs.Listing.{understood}
 use Rattle.sqlite.specs.Query.{Query}
-use Rattle.sqlite.specs.Command.{Command}
-use Rattle.sqlite.specs.Command.TheVariants.{Select}
 use Rattle.sqlite_trees.specs.declared.store.Store.{Ghosts}
-use Rattle.sqlite.specs.declared.error.Error.{Error}
 use Rattle.sqlite.specs.declared.rows.stream.Rows.{Rows}
-use Rattle.sqlite.specs.State.{State, HasCleanDisk, IsUnchanged, Survives, ShowsRows, Shown, Begins, CommitsShowing}
+use Rattle.sqlite.specs.State.{Shown, CommitsShowing}
 use Rattle.sqlite.specs.Clock.{timed}
-use Rattle.sqlite.specs.Held.{Held, state}
 use Rattle.sqlite.specs.Given.{HasGiven, HasBegun, Returns, IsRefused}
 use Rattle.sqlite.specs.Next.{HasMoved}
-use Rattle.sqlite.proofs.StateLemmas.{survives_then, survives_weaker, unchanged}
-use Rattle.sqlite.proofs.Callers.{IsPlain, command_of, unchanged_then, given_begin, begins_shown, EndsIn}
-use Rattle.sqlite_resolve.specs.declared.compiled.Compiled.{Compiled}
-use Rattle.sqlite_resolve.specs.declared.error.CompileError.{CompileError}
-use Rattle.sqlite_rules.proofs.ListLemmas.{has_left, has_right}
-use Rattle.portal_sql.specs.Finds.{columns}
-use Rattle.portal_sql.specs.Looks.{Reads, Fails}
-use Rattle.portal_sql.proofs.Texts.{Means}
-use Rattle.portal_sql.proofs.LooksLemmas.{fails_then}
-use Rattle.portal_rows.specs.Foreign.{AreOwn}
-use Rattle.portal_lists.specs.Asks.{Asks, IsDirect, IsSimple, AreShown}
 use Rattle.portal_lists.proofs.AskLemmas.{asks_looks, commits_nothing}
 
 -- ---- a text that asks

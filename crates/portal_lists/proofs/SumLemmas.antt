@@ -1,20 +1,6 @@
 -- Sums over the redemptions so far, with one redemption more.
-use Rattle.std.proofs.Common.{◌≡◌, inl, inr, ℕ, ◌+◌, ◌^◌, ◌<◌, ◌≤◌, length-take, Bool, true, false, cond, List, [], ◌∷◌, ◌++◌, map, filter, take, drop, length, get_or, Option, Some, unwrap_or, count_by, sum_by, refl, sym, ap, ap₂, ◌∙◌, arith, zero-add, add-zero}
-use Rattle.std.specs.Prelude.{bytes_eq, nat_eq}
-use Rattle.std.proofs.lemmas.Bool.{cases_Bool, eqb-true}
-use Rattle.std.proofs.lemmas.Bool.Decides.{Decides-eqb}
-use Rattle.std.proofs.lemmas.List.{length-map, map-append, take-append-drop}
+use Rattle.portal_lists.proofs.Common.{◌≡◌, inl, inr, ℕ, ◌+◌, ◌^◌, ◌<◌, ◌≤◌, length-take, Bool, true, false, cond, List, [], ◌∷◌, ◌++◌, map, filter, take, drop, length, get_or, Option, Some, unwrap_or, count_by, sum_by, refl, sym, ap, ap₂, ◌∙◌, arith, zero-add, add-zero, bytes_eq, nat_eq, cases_Bool, eqb-true, Decides-eqb, length-map, map-append, take-append-drop, filter-append, bytes_eq-Decides, Row, columns, IsCode, text_of, GrantRow, KeptGrant, IsKeptSum, grant_read, given_to, nothing_given, Given, more_mapped}
 use Rattle.std.proofs.lemmas.List.Sums.{sum_by_push, sum_by-append, count_by-le-length}
-use Rattle.std.proofs.lemmas.List.Elements.{filter-append}
-use Rattle.std.proofs.lemmas.Slice.Eq.{bytes_eq-Decides}
-use Rattle.sqlite.specs.Order.{Row}
-use Rattle.portal_sql.specs.Finds.{columns}
-use Rattle.portal_codes.specs.Code.{IsCode, text_of}
-use Rattle.portal_model.specs.Rows.{GrantRow}
-use Rattle.portal_lists.specs.declared.grants.KeptGrant.{KeptGrant}
-use Rattle.portal_lists.specs.Sums.{IsKeptSum, grant_read, given_to, nothing_given}
-use Rattle.portal_lists.specs.declared.sums.Given.{Given}
-use Rattle.portal_rows.proofs.Compose.{more_mapped}
 use Rattle.portal_lists.proofs.SameCode.{code_test}
 
 -- how many of the redemptions so far have the code

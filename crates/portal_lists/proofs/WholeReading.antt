@@ -1,16 +1,7 @@
 -- What each text that reads a whole table answers, by the rows that the tables hold.
-use Rattle.std.proofs.Common.{◌≡◌, ℕ, ◌<◌, ◌≤◌, Bool, true, false, List, [], map, sym, ◌∙◌, true≢false, arith, lit<, lit≤}
-use Rattle.sqlite.specs.Order.{Row}
-use Rattle.sqlite.specs.Schema.{Schema}
-use Rattle.sqlite.specs.Effect.{Database}
+use Rattle.portal_lists.proofs.Common.{◌≡◌, ℕ, ◌<◌, ◌≤◌, Bool, true, false, List, [], map, sym, ◌∙◌, true≢false, arith, lit<, lit≤, Row, Schema, Database, State, IsPlain, plans, batches, vouchers, sessions, grants, counts, totals, Contents, plan_cells, batch_cells, voucher_cells, session_cells, grant_cells, count_cells, total_cells, HoldsFirst, HasFirst, Places, Stand, HoldsIn, Holds, HasTables, this_layout, plans_in, batches_in, vouchers_in, sessions_in, grants_in, counts_in, totals_in, batch_columns, count_columns, plan_columns, session_columns, total_columns, voucher_columns}
 use Rattle.sqlite.specs.Listing.{understood}
-use Rattle.sqlite.specs.State.{State, Shown}
-use Rattle.sqlite.proofs.Callers.{IsPlain}
-use Rattle.portal_rows.specs.Layout.{plans, batches, vouchers, sessions, grants, counts, totals}
-use Rattle.portal_rows.specs.Contents.{Contents, plan_cells, batch_cells, voucher_cells, session_cells, grant_cells, count_cells, total_cells}
-use Rattle.portal_rows.specs.First.{HoldsFirst, HasFirst}
-use Rattle.portal_rows.specs.Holds.{Places, Stand, HoldsIn, Holds, HasTables, this_layout}
-use Rattle.portal_rows.proofs.Cells.{plans_in, batches_in, vouchers_in, sessions_in, grants_in, counts_in, totals_in}
+use Rattle.sqlite.specs.State.{Shown}
 use Rattle.portal_lists.proofs.WholeTables.{whole_table}
 use Rattle.portal_lists.proofs.WholeTexts as texts
 
@@ -56,13 +47,10 @@ first_there schema h = (h.0, first_stand this_layout true schema h.0 h.1)
 
 -- ---- each text
 
-pub all_plans_plain : (schema : Schema) → HasFirst schema → IsPlain (understood schema texts.all_plans_text)
-all_plans_plain schema h = let place = h.0.plans in (texts.all_plans_means schema place.at place.tree h.1.plans.stands).plain
-
 pub all_plans_are : (old new : State) (rows : List Row) → Shown texts.all_plans_text [] old new rows → (t : Contents) → HoldsFirst old.now t → rows ≡ map plan_cells t.plans
 all_plans_are old new rows shown t h =
     let place = h.places.plans in
-    whole_table texts.all_plans_text (plans place.tree) texts.all_plans_columns old new (texts.all_plans_means old.now.schema place.at place.tree h.stand.plans.stands) h.store.plans.are.rise rows shown
+    whole_table texts.all_plans_text (plans place.tree) plan_columns old new (texts.all_plans_means old.now.schema place.at place.tree h.stand.plans.stands) h.store.plans.are.rise rows shown
     ∙ plans_in old.now.trees place.tree t.plans h.store.plans
 
 pub all_batches_plain : (schema : Schema) → HasTables schema → IsPlain (understood schema texts.all_batches_text)
@@ -71,29 +59,20 @@ all_batches_plain schema h = let place = h.0.batches in (texts.all_batches_means
 pub all_batches_are : (old new : State) (rows : List Row) → Shown texts.all_batches_text [] old new rows → (t : Contents) → Holds old.now t → rows ≡ map batch_cells t.batches
 all_batches_are old new rows shown t h =
     let place = h.places.batches in
-    whole_table texts.all_batches_text (batches place.tree) texts.all_batches_columns old new (texts.all_batches_means old.now.schema place.at place.tree h.stand.batches.stands) h.store.batches.are.rise rows shown
+    whole_table texts.all_batches_text (batches place.tree) batch_columns old new (texts.all_batches_means old.now.schema place.at place.tree h.stand.batches.stands) h.store.batches.are.rise rows shown
     ∙ batches_in old.now.trees place.tree t.batches h.store.batches
-
-pub all_vouchers_plain : (schema : Schema) → HasFirst schema → IsPlain (understood schema texts.all_vouchers_text)
-all_vouchers_plain schema h = let place = h.0.vouchers in (texts.all_vouchers_means schema place.at place.tree h.1.vouchers.stands).plain
 
 pub all_vouchers_are : (old new : State) (rows : List Row) → Shown texts.all_vouchers_text [] old new rows → (t : Contents) → HoldsFirst old.now t → rows ≡ map voucher_cells t.vouchers
 all_vouchers_are old new rows shown t h =
     let place = h.places.vouchers in
-    whole_table texts.all_vouchers_text (vouchers place.tree) texts.all_vouchers_columns old new (texts.all_vouchers_means old.now.schema place.at place.tree h.stand.vouchers.stands) h.store.vouchers.are.rise rows shown
+    whole_table texts.all_vouchers_text (vouchers place.tree) voucher_columns old new (texts.all_vouchers_means old.now.schema place.at place.tree h.stand.vouchers.stands) h.store.vouchers.are.rise rows shown
     ∙ vouchers_in old.now.trees place.tree t.vouchers h.store.vouchers
-
-pub all_sessions_plain : (schema : Schema) → HasFirst schema → IsPlain (understood schema texts.all_sessions_text)
-all_sessions_plain schema h = let place = h.0.sessions in (texts.all_sessions_means schema place.at place.tree h.1.sessions.stands).plain
 
 pub all_sessions_are : (old new : State) (rows : List Row) → Shown texts.all_sessions_text [] old new rows → (t : Contents) → HoldsFirst old.now t → rows ≡ map session_cells t.sessions
 all_sessions_are old new rows shown t h =
     let place = h.places.sessions in
-    whole_table texts.all_sessions_text (sessions place.tree) texts.all_sessions_columns old new (texts.all_sessions_means old.now.schema place.at place.tree h.stand.sessions.stands) h.store.sessions.are.rise rows shown
+    whole_table texts.all_sessions_text (sessions place.tree) session_columns old new (texts.all_sessions_means old.now.schema place.at place.tree h.stand.sessions.stands) h.store.sessions.are.rise rows shown
     ∙ sessions_in old.now.trees place.tree t.sessions h.store.sessions
-
-pub all_grants_plain : (schema : Schema) → HasFirst schema → IsPlain (understood schema texts.all_grants_text)
-all_grants_plain schema h = let place = h.0.grants in (texts.all_grants_means schema place.at place.tree h.1.grants.stands).plain
 
 pub all_grants_are : (old new : State) (rows : List Row) → Shown texts.all_grants_text [] old new rows → (t : Contents) → HoldsFirst old.now t → rows ≡ map grant_cells t.grants
 all_grants_are old new rows shown t h =
@@ -107,7 +86,7 @@ all_counts_plain schema h = let place = h.0.counts in (texts.all_counts_means sc
 pub all_counts_are : (old new : State) (rows : List Row) → Shown texts.all_counts_text [] old new rows → (t : Contents) → Holds old.now t → rows ≡ map count_cells t.counts
 all_counts_are old new rows shown t h =
     let place = h.places.counts in
-    whole_table texts.all_counts_text (counts place.tree) texts.all_counts_columns old new (texts.all_counts_means old.now.schema place.at place.tree (h.stand.counts (lit≤ tt)).stands) (h.store.counts (lit≤ tt)).are.rise rows shown
+    whole_table texts.all_counts_text (counts place.tree) count_columns old new (texts.all_counts_means old.now.schema place.at place.tree (h.stand.counts (lit≤ tt)).stands) (h.store.counts (lit≤ tt)).are.rise rows shown
     ∙ counts_in old.now.trees place.tree t.counts (h.store.counts (lit≤ tt))
 
 pub all_totals_plain : (schema : Schema) → HasTables schema → IsPlain (understood schema texts.all_totals_text)
@@ -116,5 +95,5 @@ all_totals_plain schema h = let place = h.0.totals in (texts.all_totals_means sc
 pub all_totals_are : (old new : State) (rows : List Row) → Shown texts.all_totals_text [] old new rows → (t : Contents) → Holds old.now t → rows ≡ map total_cells t.totals
 all_totals_are old new rows shown t h =
     let place = h.places.totals in
-    whole_table texts.all_totals_text (totals place.tree) texts.all_totals_columns old new (texts.all_totals_means old.now.schema place.at place.tree (h.stand.totals (lit≤ tt)).stands) (h.store.totals (lit≤ tt)).are.rise rows shown
+    whole_table texts.all_totals_text (totals place.tree) total_columns old new (texts.all_totals_means old.now.schema place.at place.tree (h.stand.totals (lit≤ tt)).stands) (h.store.totals (lit≤ tt)).are.rise rows shown
     ∙ totals_in old.now.trees place.tree t.totals (h.store.totals (lit≤ tt))

@@ -1,36 +1,11 @@
 -- A query for all rows of a table answers them in the order of their rowids.
-use Rattle.std.proofs.Common.{◌≡◌, ℕ, List, [], ◌∷◌, map, filter, Bool, true, false, Ordering, Less, Equal, Greater, ◌+◌, refl, sym, ap, subst, ◌∙◌, arith, add-one, get_or, true≢false, nat_le, nat_lt, ◌^◌, ◌-◌, cond, unwrap_or, slice_get, None, length, is_lt, is_eq, inl, inr}
-use Rattle.std.specs.List.{IsDistinct, range_with_len}
-use Rattle.std.proofs.lemmas.Bool.{cases_Bool}
-use Rattle.std.proofs.lemmas.Bool.Decides.{nat_tests}
+use Rattle.portal_lists.proofs.Common.{◌≡◌, ℕ, List, [], ◌∷◌, map, filter, Bool, true, false, Ordering, Less, Equal, Greater, ◌+◌, refl, sym, ap, subst, ◌∙◌, arith, add-one, get_or, true≢false, nat_le, nat_lt, ◌^◌, ◌-◌, cond, unwrap_or, slice_get, None, length, is_lt, is_eq, inl, inr, range_with_len, cases_Bool, nat_tests, IsPermutation, IsSorted, IsPermutation-sym, sorted_far, ranks_by, Key, Binary, value_cmp_total, then-Equal, Null, Row, value_cmp, Table, Trees, rowid, IsTable, Term, col, eval, Select, Schema, State, reads_as, place_of, map-map, filter-map, all_has, all_from, contains_had, has_filtered, rows_in, fields, has_along, simple, unlimited, same_rows, env, passes, shown_of, scan_all, Means, IsSelect, all_columns, select_from}
+use Rattle.std.specs.List.{IsDistinct}
 use Rattle.std.specs.Ordering.{ordering_reverse}
-use Rattle.std.specs.List.Sorted.{IsPermutation, IsSorted}
-use Rattle.std.proofs.lemmas.List.Sorted.{IsPermutation-sym, sorted_far, ranks_by}
 use Rattle.std.proofs.lemmas.Map.Keys.{IsDistinct-IsPermutation}
-use Rattle.sqlite_value.specs.declared.keys.Key.{Key}
-use Rattle.sqlite_value.specs.declared.keys.Collation.TheVariants.{Binary}
-use Rattle.sqlite_value.proofs.OrderLemmas.{value_cmp_total, then-Equal}
-use Rattle.sqlite.specs.declared.types.Value.TheVariants.{Null}
-use Rattle.sqlite.specs.Order.{Row, value_cmp}
-use Rattle.sqlite.specs.Table.{Table}
-use Rattle.sqlite.specs.Tree.{Trees, rowid, IsTable}
-use Rattle.sqlite.specs.Term.{Term, col, eval}
 use Rattle.sqlite.specs.Program.{overlay}
 use Rattle.sqlite.specs.Query.{IsAnswer, inner, end}
-use Rattle.sqlite.specs.Command.TheVariants.{Select}
-use Rattle.sqlite.specs.Schema.{Schema}
-use Rattle.sqlite.specs.State.{State, Shown}
-use Rattle.sqlite.proofs.Callers.{reads_as}
-use Rattle.sqlite_schema.specs.Names.{place_of}
-use Rattle.sqlite_trees.proofs.ListLemmas.{map-map, filter-map}
-use Rattle.sqlite_rules.proofs.ListLemmas.{all_has, all_from, contains_had, has_filtered}
-use Rattle.portal_sql.specs.Finds.{rows_in, fields}
-use Rattle.portal_sql.proofs.FindLemmas.{has_along}
-use Rattle.portal_sql.proofs.Queries.{simple, unlimited}
-use Rattle.portal_sql.proofs.RowLemmas.{same_rows}
-use Rattle.portal_sql.proofs.Scan.{env, passes, shown_of, scan_all}
-use Rattle.portal_sql.proofs.Texts.{Means}
-use Rattle.portal_sql.proofs.Lookup.{IsSelect, all_columns, select_from}
+use Rattle.sqlite.specs.State.{Shown}
 
 -- ORDER BY the rowid
 abbrev pub by_rowid : List (Term × Key)

@@ -9,7 +9,6 @@ use Rattle.portal_model.specs.Rows.{VoucherRow, SessionRow, GrantRow, CountRow, 
 use Rattle.portal_lists.specs.declared.counted.CountedRows.{CountedRows}
 use Rattle.portal_rows.specs.Contents.{Contents, HeadRow}
 use Rattle.portal_rows.specs.First.{HoldsFirst}
-use Rattle.portal_rows.specs.Holds.{Holds}
 use Rattle.portal_rows.specs.Read.{voucher_read, session_read}
 use Rattle.portal_lists.specs.Sums.{grant_read, summed, uses_in}
 
@@ -61,10 +60,6 @@ pub record AreRead (rows : CountedRows) (t : Contents) : Type 0 where
   pub sessions : map session_read rows.sessions.items ≡ t.sessions
   pub grants : map grant_read rows.grants.items ≡ t.grants
 
--- what is so of the rows that the open connection held
-abbrev pub OfHeld : State → State → (Contents → Type 0) → Type 0
-OfHeld old new Is = HasCleanDisk new → IsTrue old.is_open → (t : Contents) → Holds old.now t → Is t
-
--- the same in the six tables of layout 1
+-- what is so of the rows that the open connection held in the six tables of layout 1
 abbrev pub OfFirst : State → State → (Contents → Type 0) → Type 0
 OfFirst old new Is = HasCleanDisk new → IsTrue old.is_open → (t : Contents) → HoldsFirst old.now t → Is t

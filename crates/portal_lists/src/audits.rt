@@ -2,17 +2,16 @@
 
 ghost use Rattle.std.specs.Prelude.{◌≡◌, ◌↔◌, List, map, length, IfOk, IsTrue};
 ghost use Rattle.std.specs.List.{list_all};
-ghost use Rattle.sqlite.specs.Held.{state};
 ghost use Rattle.portal_model.specs.Rows.{CountRow, GrantRow};
-ghost use Rattle.portal_sql.specs.Looks.{Looks};
 ghost use Rattle.portal_rows.specs.Contents.{Contents};
 ghost use Rattle.portal_rows.specs.Foreign.{AreOwnRows, NotForeign};
-ghost use Rattle.portal_rows.specs.Holds.{HasTables};
+ghost use Rattle.portal_rows.specs.Holds.{HasTables, Holds};
 ghost use Rattle.portal_rows.specs.Steps.{ends_row};
 ghost use Rattle.portal_rows.specs.Read.{head_read, voucher_read, count_read};
 ghost use Rattle.portal_lists.specs.Sums.{AreUses, SumsFit, grant_read};
-ghost use Rattle.portal_lists.specs.Audit.{Agrees, AreCounted, AreRead, IsAudited, OfHeld, is_counted};
+ghost use Rattle.portal_lists.specs.Audit.{Agrees, AreCounted, AreRead, IsAudited, is_counted};
 ghost use Rattle.portal_lists.specs.Audit.{has_count};
+ghost use Rattle.portal_lists.specs.Selects.{ReadsOpen};
 
 use crate::counted::{CountedRows, read_counted};
 use crate::grants::KeptGrant;
@@ -141,14 +140,14 @@ fn agree(
     Ok(are_same(totals, &sums))
 }
 
-/// Whether the counters of the store agree with its other rows: each count is the number of the redemptions with its code, each end and remainder is what the sums over the redemptions give of its session, each voucher and each session has its counters, and the head has the numbers of redemptions and sessions.
-/// A row that this product does not write, and a sum that no row keeps, is a foreign row.
+/// Whether the counters of the store agree with its other rows: each count is the number of the
+/// redemptions with its code, each end and remainder is what the sums over the redemptions give of its
+/// session, each voucher and each session has its counters, and the head has the numbers of redemptions
+/// and sessions. A row that this product does not write, and a sum that no row keeps, is a foreign row.
 pub fn audit<S: Alter>(conn: &mut Connection<S>) -> Result<bool, Fault>
-    ensures audited { OfHeld (state S.Store conn.old) (state S.Store conn.new)
-        (λ t. IfOk result (λ audited. IsTrue audited ↔ IsAudited t)) }
-    ensures looks { Looks HasTables result (state S.Store conn.old) (state S.Store conn.new) }
-    ensures foreign { OfHeld (state S.Store conn.old) (state S.Store conn.new)
-        (λ t. AreOwnRows t → SumsFit t.plans t.sessions t.grants → NotForeign result) }
+    ensures { ReadsOpen S.Store HasTables Holds conn.old conn.new result
+        (λ t audited. IsTrue audited ↔ IsAudited t)
+        (λ t. AreOwnRows t × SumsFit t.plans t.sessions t.grants) }
 {
     let Some(head) = find_head(conn)? else {
         return Ok(false);
@@ -156,5 +155,5 @@ pub fn audit<S: Alter>(conn: &mut Connection<S>) -> Result<bool, Fault>
     let rows = read_counted(conn)?;
     let counts = all_counts(conn)?;
     let totals = all_totals(conn)?;
-    Ok(agree(&head, &rows, &counts, &totals)?)
+    agree(&head, &rows, &counts, &totals)
 }

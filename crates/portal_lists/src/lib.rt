@@ -1,4 +1,5 @@
-//! Lists of rows and whole tables, the counters that they come to, and whether a store's counters agree with its rows.
+//! Lists of rows and whole tables, the counters that they come to, and whether a store's counters agree
+//! with its rows.
 #![tactic(auto)]
 
 mod asks;

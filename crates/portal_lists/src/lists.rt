@@ -19,8 +19,9 @@ use crate::reads::read_values;
 use portal_codes::Code;
 use portal_model::moment::Moment;
 use portal_model::name::Id;
+use portal_rows::from_row::FromRow;
 use portal_rows::queries::batch_vouchers_rows;
-use portal_rows::rows::{Fault, KeptVoucher, voucher_of};
+use portal_rows::rows::{Fault, KeptVoucher};
 use portal_rows::signs::Total;
 use sqlite::{Alter, Connection, Row, params};
 use std::alloc::Global;
@@ -38,7 +39,7 @@ fn code_of(row: &Row) -> Result<Code, Fault>
     ensures code { IfOk result IsCode }
     ensures own { SparesOwn voucher_cells IsOwnVoucher (columns 6 row.now) result }
 {
-    let voucher = voucher_of(row)?;
+    let voucher = KeptVoucher::from_row(row)?;
     // Its text tells that it is a code.
     let _ = voucher.code.text();
     Ok(voucher.code)
@@ -65,7 +66,8 @@ fn may_be_open(total: &Total, at: Moment) -> bool
     total.ends.is_none_or(|ends| at < ends) && total.remaining.is_none_or(|left| left > 0)
 }
 
-/// The numbers of the sessions that may be open at `at`, of these and in their order. The errors are want of memory.
+/// The numbers of the sessions that may be open at `at`, of these and in their order. The errors are want
+/// of memory.
 fn numbers_in(alloc: Global, totals: &[Total], at: Moment) -> Result<Vec<u64>, Fault>
     ensures numbers { IfOk result (λ numbers. numbers.items ≡ numbers_open at (map ends_row totals.now)) }
     ensures memory { NotForeign result }
@@ -146,7 +148,8 @@ pub fn list_codes<S: Alter>(
     Ok(codes_in(alloc, &rows)?)
 }
 
-/// The numbers of the sessions that may be open at `at`, in rising order: a session that is not among them has ended by then, or has nothing left.
+/// The numbers of the sessions that may be open at `at`, in rising order: a session that is not among
+/// them has ended by then, or has nothing left.
 pub fn list_numbers<S: Alter>(
     alloc: Global,
     conn: &mut Connection<S>,
@@ -186,7 +189,8 @@ pub fn list_sales<S: Alter>(
     )
 }
 
-/// The sales within the two moments, both included: the earlier first, and of two at one moment the one of the voucher with the lesser printed code.
+/// The sales within the two moments, both included: the earlier first, and of two at one moment the one
+/// of the voucher with the lesser printed code.
 pub fn list_ordered_sales<S: Alter>(
     alloc: Global,
     conn: &mut Connection<S>,
@@ -208,7 +212,8 @@ pub fn list_ordered_sales<S: Alter>(
     Ok(sales_in(alloc, &vouchers)?)
 }
 
-/// The refunds within the two moments, both included, each with its moment and its amount in hundredths: the earlier first, and of two at one moment the one of the voucher with the lesser printed code.
+/// The refunds within the two moments, both included, each with its moment and its amount in hundredths:
+/// the earlier first, and of two at one moment the one of the voucher with the lesser printed code.
 pub fn list_refunds<S: Alter>(
     alloc: Global,
     conn: &mut Connection<S>,

@@ -131,7 +131,8 @@ pub fn plan_among<'a>(plans: &'a [Plan], id: &Id) -> Option<&'a Plan>
     plans.iter().find(|plan| plan.id.is(id))
 }
 
-/// The end of a session that was opened then and given so many seconds: none where its plan does not limit them. An end past the greatest moment is a foreign row.
+/// The end of a session that was opened then and given so many seconds: none where its plan does not
+/// limit them. An end past the greatest moment is a foreign row.
 fn end_of(plan: &Plan, opened: Moment, seconds: u64) -> Result<Option<Moment>, Fault>
     ensures end { IfOk result (λ ends. ends ≡ limited plan.now.seconds (opened + seconds)) }
     ensures kept { IsMomentIfSome (limited plan.now.seconds (opened + seconds)) → NotForeign result }
@@ -148,7 +149,8 @@ fn end_of(plan: &Plan, opened: Moment, seconds: u64) -> Result<Option<Moment>, F
     }
 }
 
-/// What remains of so many bytes: none where the plan does not limit them. A number that no column of integers keeps is a foreign row.
+/// What remains of so many bytes: none where the plan does not limit them. A number that no column of
+/// integers keeps is a foreign row.
 fn remainder_of(plan: &Plan, used: u64, bytes: u64) -> Result<Option<i64>, Fault>
     ensures rest { IfOk result (λ remaining. remaining ≡ remaining_of used (limited plan.now.bytes bytes)) }
     ensures kept { bytes < 2 ^ 63 → used < 2 ^ 63 → NotForeign result }

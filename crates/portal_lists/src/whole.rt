@@ -29,7 +29,7 @@ pub fn all_plans<S: Alter>(conn: &mut Connection<S>) -> Result<Vec<Plan>, Fault>
         (λ t. AreOwn IsOwnPlan t.plans) }
 {
     let rows = all_plan_rows(conn)?;
-    Ok(read_each(*rows.allocator(), &rows)?)
+    read_each(*rows.allocator(), &rows)
 }
 
 /// All batches.
@@ -39,7 +39,7 @@ pub fn all_batches<S: Alter>(conn: &mut Connection<S>) -> Result<Vec<Batch>, Fau
         (λ t. AreOwn IsOwnBatch t.batches) }
 {
     let rows = all_batch_rows(conn)?;
-    Ok(read_each(*rows.allocator(), &rows)?)
+    read_each(*rows.allocator(), &rows)
 }
 
 /// The rows of all vouchers.
@@ -49,7 +49,7 @@ pub fn all_vouchers<S: Alter>(conn: &mut Connection<S>) -> Result<Vec<KeptVouche
         (λ t. AreOwn IsOwnVoucher t.vouchers) }
 {
     let rows = all_voucher_rows(conn)?;
-    Ok(read_each(*rows.allocator(), &rows)?)
+    read_each(*rows.allocator(), &rows)
 }
 
 /// The rows of all sessions.
@@ -59,7 +59,7 @@ pub fn all_sessions<S: Alter>(conn: &mut Connection<S>) -> Result<Vec<KeptSessio
         (λ t. AreOwn IsOwnSession t.sessions) }
 {
     let rows = all_session_rows(conn)?;
-    Ok(read_each(*rows.allocator(), &rows)?)
+    read_each(*rows.allocator(), &rows)
 }
 
 /// The rows of all redemptions.
@@ -69,7 +69,7 @@ pub fn all_grants<S: Alter>(conn: &mut Connection<S>) -> Result<Vec<KeptGrant>, 
         (λ t. AreOwn IsOwnGrant t.grants) }
 {
     let rows = all_grant_rows(conn)?;
-    Ok(read_each(*rows.allocator(), &rows)?)
+    read_each(*rows.allocator(), &rows)
 }
 
 /// The counts of all vouchers.
@@ -79,7 +79,7 @@ pub fn all_counts<S: Alter>(conn: &mut Connection<S>) -> Result<Vec<KeptCount>, 
         (λ t. AreOwn IsOwnCount t.counts) }
 {
     let rows = all_count_rows(conn)?;
-    Ok(read_each(*rows.allocator(), &rows)?)
+    read_each(*rows.allocator(), &rows)
 }
 
 /// The ends of all sessions, and what remains of their allowances.
@@ -89,5 +89,5 @@ pub fn all_totals<S: Alter>(conn: &mut Connection<S>) -> Result<Vec<Total>, Faul
         (λ t. AreOwn IsOwnTotal t.totals) }
 {
     let rows = all_total_rows(conn)?;
-    Ok(read_each(*rows.allocator(), &rows)?)
+    read_each(*rows.allocator(), &rows)
 }

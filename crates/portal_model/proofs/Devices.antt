@@ -1,10 +1,14 @@
 -- Devices and their texts.
 use Rattle.std.proofs.Common.{◌≡◌, ◌≢◌, ℕ, zero, suc, ◌+◌, ◌*◌, ◌/◌, ◌%◌, ◌<◌, ◌⊎◌, inl, inr, List, [], ◌∷◌, length, get_or, replicate, arith, refl, ap, sym, ◌∙◌, subst}
-use Rattle.std.specs.Prelude.{All}
+use Rattle.std.specs.Prelude.{All, Result, IfErr, IsErrAnd}
 use Rattle.std.specs.Char.{to_ascii_lowercase}
 use Rattle.std.specs.Str.{str_to_ascii_lowercase}
 use Rattle.std.proofs.Math.ListN.{get_or-map, length-map}
 use Rattle.std.proofs.lemmas.Bool.Decides.{nat_tests}
+use Rattle.std.proofs.lemmas.List.Elements.{All-from_recursion}
+use Rattle.std.proofs.lemmas.Result.{err_from_is_err_and}
+use Rattle.portal_model.specs.declared.refusal.Refusal.{Refusal}
+use Rattle.portal_model.specs.declared.refusal.Refusal.TheVariants.{BadDevice}
 use Rattle.std.proofs.lemmas.Slice.Eq.{text_from_reads}
 use Rattle.portal_model.specs.Device.{IsDevice, SpellsDevice, DeviceTextReadsBack, hex_sign, octet_text, text_with, text_of_device}
 
@@ -16,14 +20,11 @@ between text = get_or text 2 0 ∷ get_or text 5 0 ∷ get_or text 8 0 ∷ get_o
 abbrev pub Stands : List ℕ → ℕ → ℕ → Type 0
 Stands text k octet = octet_text octet ≡ to_ascii_lowercase (get_or text (3 * k) 0) ∷ to_ascii_lowercase (get_or text (3 * k + 1) 0) ∷ []
 
-all-six : (a b c d e f : ℕ) → a < 256 → b < 256 → c < 256 → d < 256 → e < 256 → f < 256 → All (λ x. x < 256) (a ∷ b ∷ c ∷ d ∷ e ∷ f ∷ [])
-all-six a b c d e f la lb lc ld le lf zero y h = la
-all-six a b c d e f la lb lc ld le lf (suc zero) y h = lb
-all-six a b c d e f la lb lc ld le lf (suc (suc zero)) y h = lc
-all-six a b c d e f la lb lc ld le lf (suc (suc (suc zero))) y h = ld
-all-six a b c d e f la lb lc ld le lf (suc (suc (suc (suc zero)))) y h = le
-all-six a b c d e f la lb lc ld le lf (suc (suc (suc (suc (suc zero))))) y h = lf
-all-six a b c d e f la lb lc ld le lf (suc (suc (suc (suc (suc (suc k)))))) y h = absurd (omega arith)
+abbrev six : ℕ → ℕ → ℕ → ℕ → ℕ → ℕ → List ℕ
+six a b c d e f = a ∷ b ∷ c ∷ d ∷ e ∷ f ∷ []
+
+all-six : (a b c d e f : ℕ) → a < 256 → b < 256 → c < 256 → d < 256 → e < 256 → f < 256 → All (λ x. x < 256) (six a b c d e f)
+all-six a b c d e f la lb lc ld le lf = All-from_recursion (λ (x : ℕ). x < 256) (six a b c d e f) (la, (lb, (lc, (ld, (le, (lf, tt))))))
 
 -- what a text that spells a device looks like
 pub record Layout (text : List ℕ) (a b c d e f : ℕ) : Type 0 where
@@ -39,89 +40,52 @@ pub record Layout (text : List ℕ) (a b c d e f : ℕ) : Type 0 where
 read-at : (text L : List ℕ) → str_to_ascii_lowercase text ≡ L → (k : ℕ) → to_ascii_lowercase (get_or text k 0) ≡ get_or L k 0
 read-at text L e k = sym (get_or-map to_ascii_lowercase text k 0) ∙ ap (λ (l : List ℕ). get_or l k 0) e
 
+-- the text, where a sign that no letter is written as stands between the octets
+layout-with : (sep : ℕ) → ((c : ℕ) → to_ascii_lowercase c ≡ sep → c ≡ sep)
+    → ((text : List ℕ) → between text ≡ replicate 5 sep → (between text ≡ replicate 5 58) ⊎ (between text ≡ replicate 5 45))
+    → (text : List ℕ) (a b c d e f : ℕ) → str_to_ascii_lowercase text ≡ text_with sep (six a b c d e f) → Layout text a b c d e f
+layout-with sep plain alike text a b c d e f h =
+    let at : (k : ℕ) → to_ascii_lowercase (get_or text k 0) ≡ get_or (text_with sep (six a b c d e f)) k 0 = read-at text (text_with sep (six a b c d e f)) h in
+    let s0 = plain (get_or text 2 0) (at 2) in let s1 = plain (get_or text 5 0) (at 5) in let s2 = plain (get_or text 8 0) (at 8) in
+    let s3 = plain (get_or text 11 0) (at 11) in let s4 = plain (get_or text 14 0) (at 14) in
+    let h0 = at 0 in let l0 = at 1 in
+    let h1 = at 3 in let l1 = at 4 in
+    let h2 = at 6 in let l2 = at 7 in
+    let h3 = at 9 in let l3 = at 10 in
+    let h4 = at 12 in let l4 = at 13 in
+    let h5 = at 15 in let l5 = at 16 in
+    record {
+      len = sym (length-map text to_ascii_lowercase) ∙ ap length h;
+      first = cc;
+      second = cc;
+      third = cc;
+      fourth = cc;
+      fifth = cc;
+      sixth = cc;
+      signs = alike text (cc);
+    }
+
 same-colon : (c : ℕ) → to_ascii_lowercase c ≡ 58 → c ≡ 58
 same-colon c h = grind (arith, nat_tests)
 
 same-hyphen : (c : ℕ) → to_ascii_lowercase c ≡ 45 → c ≡ 45
 same-hyphen c h = grind (arith, nat_tests)
 
-abbrev six : ℕ → ℕ → ℕ → ℕ → ℕ → ℕ → List ℕ
-six a b c d e f = a ∷ b ∷ c ∷ d ∷ e ∷ f ∷ []
-
-layout-colons : (text : List ℕ) (a b c d e f : ℕ) → str_to_ascii_lowercase text ≡ text_with 58 (six a b c d e f) → Layout text a b c d e f
-layout-colons text a b c d e f h =
-    let at : (k : ℕ) → to_ascii_lowercase (get_or text k 0) ≡ get_or (text_with 58 (six a b c d e f)) k 0 = read-at text (text_with 58 (six a b c d e f)) h in
-    let s0 : get_or text 2 0 ≡ 58 = same-colon _ (at 2) in
-    let s1 : get_or text 5 0 ≡ 58 = same-colon _ (at 5) in
-    let s2 : get_or text 8 0 ≡ 58 = same-colon _ (at 8) in
-    let s3 : get_or text 11 0 ≡ 58 = same-colon _ (at 11) in
-    let s4 : get_or text 14 0 ≡ 58 = same-colon _ (at 14) in
-    let h0 = at 0 in let l0 = at 1 in
-    let h1 = at 3 in let l1 = at 4 in
-    let h2 = at 6 in let l2 = at 7 in
-    let h3 = at 9 in let l3 = at 10 in
-    let h4 = at 12 in let l4 = at 13 in
-    let h5 = at 15 in let l5 = at 16 in
-    record {
-      len = sym (length-map text to_ascii_lowercase) ∙ ap length h;
-      first = cc;
-      second = cc;
-      third = cc;
-      fourth = cc;
-      fifth = cc;
-      sixth = cc;
-      signs = inl (cc);
-    }
-
-layout-hyphens : (text : List ℕ) (a b c d e f : ℕ) → str_to_ascii_lowercase text ≡ text_with 45 (six a b c d e f) → Layout text a b c d e f
-layout-hyphens text a b c d e f h =
-    let at : (k : ℕ) → to_ascii_lowercase (get_or text k 0) ≡ get_or (text_with 45 (six a b c d e f)) k 0 = read-at text (text_with 45 (six a b c d e f)) h in
-    let s0 : get_or text 2 0 ≡ 45 = same-hyphen _ (at 2) in
-    let s1 : get_or text 5 0 ≡ 45 = same-hyphen _ (at 5) in
-    let s2 : get_or text 8 0 ≡ 45 = same-hyphen _ (at 8) in
-    let s3 : get_or text 11 0 ≡ 45 = same-hyphen _ (at 11) in
-    let s4 : get_or text 14 0 ≡ 45 = same-hyphen _ (at 14) in
-    let h0 = at 0 in let l0 = at 1 in
-    let h1 = at 3 in let l1 = at 4 in
-    let h2 = at 6 in let l2 = at 7 in
-    let h3 = at 9 in let l3 = at 10 in
-    let h4 = at 12 in let l4 = at 13 in
-    let h5 = at 15 in let l5 = at 16 in
-    record {
-      len = sym (length-map text to_ascii_lowercase) ∙ ap length h;
-      first = cc;
-      second = cc;
-      third = cc;
-      fourth = cc;
-      fifth = cc;
-      sixth = cc;
-      signs = inr (cc);
-    }
-
 pub layout : (text : List ℕ) (a b c d e f : ℕ) → SpellsDevice text (six a b c d e f) → Layout text a b c d e f
 layout text a b c d e f h =
-    elim h.written as (λ _. Layout text a b c d e f) [ inl w ↦ layout-colons text a b c d e f w | inr w ↦ layout-hyphens text a b c d e f w ]
+    elim h.written as (λ _. Layout text a b c d e f) [
+      | inl w ↦ layout-with 58 same-colon (λ t e. inl e) text a b c d e f w
+      | inr w ↦ layout-with 45 same-hyphen (λ t e. inr e) text a b c d e f w
+    ]
 
 pub six-octets : (xs : List ℕ) → length xs ≡ 6 → get_or xs 0 0 < 256 → get_or xs 1 0 < 256 → get_or xs 2 0 < 256 → get_or xs 3 0 < 256 → get_or xs 4 0 < 256 → get_or xs 5 0 < 256 → IsDevice xs
 six-octets (a ∷ b ∷ c ∷ d ∷ e ∷ f ∷ []) h la lb lc ld le lf = record { six = refl; below = all-six a b c d e f la lb lc ld le lf }
-six-octets [] h la lb lc ld le lf = absurd (omega arith)
-six-octets (a ∷ []) h la lb lc ld le lf = absurd (omega arith)
-six-octets (a ∷ b ∷ []) h la lb lc ld le lf = absurd (omega arith)
-six-octets (a ∷ b ∷ c ∷ []) h la lb lc ld le lf = absurd (omega arith)
-six-octets (a ∷ b ∷ c ∷ d ∷ []) h la lb lc ld le lf = absurd (omega arith)
-six-octets (a ∷ b ∷ c ∷ d ∷ e ∷ []) h la lb lc ld le lf = absurd (omega arith)
-six-octets (a ∷ b ∷ c ∷ d ∷ e ∷ f ∷ g ∷ xs) h la lb lc ld le lf = absurd (omega arith)
+six-octets _ h la lb lc ld le lf = absurd (omega arith)
 
 -- any device is six octets
 pub as-six : (P : List ℕ → Type 0) → ((a b c d e f : ℕ) → IsDevice (six a b c d e f) → P (six a b c d e f)) → (device : List ℕ) → IsDevice device → P device
 as-six P go (a ∷ b ∷ c ∷ d ∷ e ∷ f ∷ []) is = go a b c d e f is
-as-six P go [] is = let h = is.six in absurd (omega arith)
-as-six P go (a ∷ []) is = let h = is.six in absurd (omega arith)
-as-six P go (a ∷ b ∷ []) is = let h = is.six in absurd (omega arith)
-as-six P go (a ∷ b ∷ c ∷ []) is = let h = is.six in absurd (omega arith)
-as-six P go (a ∷ b ∷ c ∷ d ∷ []) is = let h = is.six in absurd (omega arith)
-as-six P go (a ∷ b ∷ c ∷ d ∷ e ∷ []) is = let h = is.six in absurd (omega arith)
-as-six P go (a ∷ b ∷ c ∷ d ∷ e ∷ f ∷ g ∷ xs) is = let h = is.six in absurd (omega arith)
+as-six P go _ is = let h = is.six in absurd (omega arith)
 
 -- what is told of a text with that layout is told of the device that it spells
 pub spells : (text : List ℕ) (a b c d e f : ℕ) → IsDevice (six a b c d e f) → Layout text a b c d e f → SpellsDevice text (six a b c d e f)
@@ -133,11 +97,7 @@ spells text a b c d e f is h =
     let h3 = h.fourth in let x3 = at 9 in let y3 = at 10 in
     let h4 = h.fifth in let x4 = at 12 in let y4 = at 13 in
     let h5 = h.sixth in let x5 = at 15 in let y5 = at 16 in
-    let s0 = at 2 in
-    let s1 = at 5 in
-    let s2 = at 8 in
-    let s3 = at 11 in
-    let s4 = at 14 in
+    let s0 = at 2 in let s1 = at 5 in let s2 = at 8 in let s3 = at 11 in let s4 = at 14 in
     record {
       is_device = is;
       written = elim h.signs as (λ _. (str_to_ascii_lowercase text ≡ text_with 58 (six a b c d e f)) ⊎ (str_to_ascii_lowercase text ≡ text_with 45 (six a b c d e f))) [
@@ -208,6 +168,13 @@ unread-spells-none text k small h device s = as-six (λ d. SpellsDevice text d �
     go (suc (suc (suc (suc zero)))) _ none a b c d e f is l = none e (is.below 4 0 (omega arith)) l.fifth
     go (suc (suc (suc (suc (suc zero))))) _ none a b c d e f is l = none f (is.below 5 0 (omega arith)) l.sixth
     go (suc (suc (suc (suc (suc (suc n)))))) small none a b c d e f is l = absurd (omega arith)
+
+-- what the reader answers where an octet was not read
+pub unread : {A : Type 0} (text signs : List ℕ) → signs ≡ text → (k : ℕ) → k < 6 → (e : Refusal) → (e ≡ BadDevice) × NoOctet signs k → (result : Result A Refusal) → IsErrAnd result (λ x. x ≡ e)
+    → IfErr result (λ r. (r ≡ BadDevice) × ((device : List ℕ) → ¬ SpellsDevice text device))
+unread text signs same k small e refused result is =
+    let p = err_from_is_err_and result is in
+    rw (p.1, p.2) (refused.0, subst (λ t. (device : List ℕ) → ¬ SpellsDevice t device) same (unread-spells-none signs k small refused.1))
 
 -- what the reader returns is spelled
 pub read-spells : (text other : List ℕ) → text ≡ other → (a b c d e f : ℕ) → a < 256 → b < 256 → c < 256 → d < 256 → e < 256 → f < 256 → Layout text a b c d e f → SpellsDevice other (six a b c d e f)

@@ -1,46 +1,38 @@
--- A buffer that begins with an id's bytes, and an id's text.
-use Rattle.std.proofs.Common.{◌≡◌, ℕ, ◌-◌, ◌<◌, ◌≤◌, Bool, true, false, List, [], ◌∷◌, ◌++◌, length, take, drop, ap, sym, ◌∙◌, subst, refl, arith}
-use Rattle.std.specs.Prelude.{replicate, ◌&&◌, Result, Ok, Err, IsOk, MatchResult}
+-- A buffer that begins with a text's bytes, and texts of ASCII signs.
+use Rattle.std.proofs.Common.{◌≡◌, ℕ, ◌-◌, ◌<◌, ◌≤◌, Bool, true, List, ◌++◌, length, get_or, take, drop, ap, sym, ◌∙◌, subst, refl, arith}
+use Rattle.std.specs.Prelude.{replicate, Result, Ok, Err, IsOk, MatchResult}
 use Rattle.std.specs.List.{list_all}
-use Rattle.std.specs.Str.{IsAscii, IsUtf8}
+use Rattle.std.specs.Str.{IsUtf8}
 use Rattle.std.proofs.Math.Seq.{take-append_seam}
 use Rattle.std.proofs.lemmas.List.{drop-replicate}
+use Rattle.std.proofs.lemmas.List.Sums.{AllPass-from_list_all}
 use Rattle.std.proofs.lemmas.Bool.Decides.{nat_tests}
 use Rattle.std.proofs.lemmas.Str.{IsUtf8-from_ascii}
-use Rattle.std.proofs.lemmas.Str.Ascii.{IsAscii-nil, IsAscii-cons}
+use Rattle.std.proofs.lemmas.Str.Ascii.{IsAscii-from_all}
 use Rattle.portal_model.specs.IdText.{IsIdText, is_id_sign}
 use Rattle.portal_model.specs.Names.{IsPadded, padded}
-
-abbrev zeros : List ℕ
-zeros = replicate 32 0
 
 pub take-front : (xs ys : List ℕ) (n : ℕ) → n ≡ length xs → take n (xs ++ ys) ≡ xs
 take-front xs ys n e = ap (λ m. take m (xs ++ ys)) e ∙ take-append_seam xs ys
 
-pub padded-front : (xs : List ℕ) (n : ℕ) → n ≡ length xs → n ≤ 32 → IsIdText xs → IsPadded n (xs ++ drop n zeros)
+-- a text, before what is left of a buffer of zeros
+pub zeros-after : (limit : ℕ) (xs : List ℕ) (n : ℕ) → n ≡ length xs → xs ++ replicate (limit - length xs) 0 ≡ xs ++ drop n (replicate limit 0)
+zeros-after limit xs n e = let none : ℕ = 0 in ap (λ m. xs ++ replicate (limit - m) none) (sym e) ∙ ap (λ ys. xs ++ ys) (sym (drop-replicate n limit none))
+
+pub padded-front : (xs : List ℕ) (n : ℕ) → n ≡ length xs → n ≤ 32 → IsIdText xs → IsPadded n (xs ++ drop n (replicate 32 0))
 padded-front xs n e h is =
-    let front : take n (xs ++ drop n zeros) ≡ xs = take-front xs (drop n zeros) n e in
-    let none : ℕ = 0 in
-    record {
-      fits = h;
-      shown = ap length front ∙ sym e;
-      zeros = ap padded front ∙ ap (λ m. xs ++ replicate (32 - m) none) (sym e) ∙ ap (λ ys. xs ++ ys) (sym (drop-replicate n 32 none));
-      text = subst IsIdText (sym front) is;
-    }
+    let front : take n (xs ++ drop n (replicate 32 0)) ≡ xs = take-front xs (drop n (replicate 32 0)) n e in
+    record { fits = h; shown = ap length front ∙ sym e; zeros = ap padded front ∙ zeros-after 32 xs n e; text = subst IsIdText (sym front) is }
+
+-- a text of signs below 128 is UTF-8
+pub signs-utf8 : (is_sign : ℕ → Bool) → ((b : ℕ) → is_sign b ≡ true → b < 128) → (text : List ℕ) → list_all is_sign text ≡ true → IsUtf8 text
+signs-utf8 is_sign low text h = IsUtf8-from_ascii text (IsAscii-from_all text (λ i d k. low (get_or text i d) (AllPass-from_list_all is_sign text h i d k)))
 
 id_sign-ascii : (b : ℕ) → is_id_sign b ≡ true → b < 128
 id_sign-ascii b h = grind (arith, nat_tests)
 
-signs-ascii : (text : List ℕ) → list_all is_id_sign text ≡ true → IsAscii text
-signs-ascii [] h = IsAscii-nil
-signs-ascii (b ∷ bs) h = go (signs-ascii bs) (is_id_sign b) refl h
-  where
-    go : (list_all is_id_sign bs ≡ true → IsAscii bs) → (t : Bool) → is_id_sign b ≡ t → t && list_all is_id_sign bs ≡ true → IsAscii (b ∷ bs)
-    go rest true e r = IsAscii-cons b bs (id_sign-ascii b e) (rest r)
-    go rest false e r = cc
-
 pub id-utf8 : (text : List ℕ) → IsIdText text → IsUtf8 text
-id-utf8 text h = IsUtf8-from_ascii text (signs-ascii text h.signs)
+id-utf8 text h = signs-utf8 is_id_sign id_sign-ascii text h.signs
 
 pub ok-where : (A B : Type 0) (P : A → Type 0) (Q : B → Type 0) (U : Type 0) (r : Result A B) → MatchResult r P (λ e. ¬ U × Q e) → U → IsOk r
 ok-where A B P Q U (Ok x) h u = refl

@@ -1,3 +1,5 @@
+//! What a device and the gateway are told of sessions.
+
 use crate::name::Device;
 
 /// What a guest's device is told (RFC 8908 section 5). A captive device is told nothing more.

@@ -1,3 +1,5 @@
+//! What an accepted command changes, and its answer.
+
 ghost use Rattle.std.specs.Prelude.{◌≡◌};
 ghost use Rattle.portal_model.specs.Change.{answer_of};
 
@@ -42,7 +44,8 @@ pub struct Sale {
     pub voucher: Voucher,
 }
 
-/// A redemption: the head and the voucher before it, the open session that it extends, and the session after it.
+/// A redemption: the head and the voucher before it, the open session that it extends, and the session
+/// after it.
 #[derive(Clone, Copy, Debug, PartialEq, Eq)]
 pub struct Redemption {
     pub at: Moment,

@@ -1,3 +1,5 @@
+//! The commands of the desk.
+
 ghost use Rattle.portal_model.specs.Verdict.{IsTyped};
 
 use crate::lists::{Codes, Plans};
@@ -6,7 +8,8 @@ use portal_codes::Code;
 
 /// A command, as it was handed in.
 ///
-/// It is well formed where a load lists 1 to 500 plans with no id twice, an issue 1 to 500 codes, and a report at most 9,223,372,036,854,775,807 bytes.
+/// It is well formed where a load lists 1 to 500 plans with no id twice, an issue 1 to 500 codes, and a
+/// report at most 9,223,372,036,854,775,807 bytes.
 #[derive(Drop)]
 pub enum Command {
     Load { plans: Plans },
@@ -18,7 +21,8 @@ pub enum Command {
     Close { session: u64 },
 }
 
-/// Every command is typed: its ids are id texts, its codes are codes, and its device is six octets. It does nothing but look at the values that tell so.
+/// Every command is typed: its ids are id texts, its codes are codes, and its device is six octets. It
+/// does nothing but look at the values that tell so.
 pub fn command_is_typed(command: &Command)
     ensures { IsTyped command.now }
 {

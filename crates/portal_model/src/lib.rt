@@ -5,6 +5,7 @@ pub mod captive;
 pub mod change;
 pub mod command;
 pub mod lists;
+mod memory;
 pub mod moment;
 pub mod name;
 pub mod plan;

@@ -1,3 +1,5 @@
+//! Lists of plans and of codes.
+
 ghost use Rattle.std.specs.Prelude.{◌≡◌, ◌++◌, ◌∷◌, [], IfOk, IfErr, All};
 ghost use Rattle.portal_codes.specs.Code.{IsCode};
 

@@ -1,3 +1,5 @@
+//! Ids of plans and batches, and hardware addresses of devices.
+
 ghost use Rattle.std.specs.Prelude.{◌≡◌, ◌≢◌, ◌<◌, ◌≤◌, ℕ, List, [], ◌∷◌, IfOk, IfErr, IfSome, IfNone, None, IsTrue, ◌↔◌, ◌⊎◌, replicate, bytes_eq};
 ghost use Rattle.std.specs.List.{list_all};
 ghost use Rattle.std.specs.Char.{to_ascii_lowercase};
@@ -93,10 +95,12 @@ impl Model for Device {
 const HEX_SIGNS: [u8; 16] = *b"0123456789abcdef";
 
 impl Device {
-    /// The device that a text spells: six groups of two hexadecimal digits of either case, with a colon between each two groups, or with a hyphen between each two. Any other text is refused (`BadDevice`).
+    /// The device that a text spells: six groups of two hexadecimal digits of either case, with a colon
+    /// between each two groups, or with a hyphen between each two. Any other text is refused (`BadDevice`).
     pub fn read(text: &str) -> Result<Device, Refusal>
         ensures ok { IfOk result (SpellsDevice text.now) }
-        ensures err { IfErr result (λ r. (r ≡ Refusal.BadDevice) × ((device : List ℕ) → ¬ SpellsDevice text.now device)) }
+        ensures err { IfErr result (λ r. (r ≡ Refusal.BadDevice)
+            × ((device : List ℕ) → ¬ SpellsDevice text.now device)) }
     {
         let signs = text.as_bytes();
         if signs.len() != 17 {
@@ -175,7 +179,8 @@ fn digit(sign: u8) -> Option<u8>
 /// The octet that two hexadecimal digits write.
 fn octet(high: u8, low: u8) -> Result<u8, Refusal>
     ensures ok { IfOk result (λ n. octet_text n ≡ to_ascii_lowercase high ∷ to_ascii_lowercase low ∷ []) }
-    ensures err { IfErr result (λ r. (r ≡ Refusal.BadDevice) × ((n : ℕ) → n < 256 → octet_text n ≢ to_ascii_lowercase high ∷ to_ascii_lowercase low ∷ [])) }
+    ensures err { IfErr result (λ r. (r ≡ Refusal.BadDevice)
+        × ((n : ℕ) → n < 256 → octet_text n ≢ to_ascii_lowercase high ∷ to_ascii_lowercase low ∷ [])) }
 {
     match (digit(high), digit(low)) {
         (Some(high), Some(low)) => Ok(16 * high + low),

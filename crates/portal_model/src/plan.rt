@@ -1,3 +1,5 @@
+//! The plans of vouchers.
+
 ghost use Rattle.std.specs.Prelude.{◌≡◌, ◌+◌, ◌<◌, ◌≤◌, IfOk, IfErr};
 ghost use Rattle.portal_model.specs.IdText.{IsIdText};
 
@@ -14,7 +16,8 @@ pub struct Plan {
     pub uses: u32,
     /// The seconds that a redemption gives, at most 31,622,400; 0 where time is not limited.
     pub seconds: u32,
-    /// The bytes that a redemption gives, at most 1,000,000,000,000,000; 0 where bytes are not limited. Seconds and bytes are not both 0.
+    /// The bytes that a redemption gives, at most 1,000,000,000,000,000; 0 where bytes are not limited.
+    /// Seconds and bytes are not both 0.
     pub bytes: u64,
     /// The days from its issue until a voucher expires, 1 to 3,660.
     pub shelf_days: u32,
@@ -34,7 +37,8 @@ pub struct Plan {
 impl Plan {
     ghost use Rattle.portal_model.specs.Terms.{AreTerms, IsPlanOf};
 
-    /// The plan of these terms. Refused (`BadPlans`) exactly where a term is out of its limits, or where seconds and bytes are both 0.
+    /// The plan of these terms. Refused (`BadPlans`) exactly where a term is out of its limits, or where
+    /// seconds and bytes are both 0.
     pub fn new(
         id: Id,
         price: u64,
@@ -46,7 +50,8 @@ impl Plan {
     ) -> Result<Plan, Refusal>
         ensures ok { IfOk result (IsPlanOf id price uses seconds bytes shelf_days extend) }
         ensures terms { IfOk result (λ _. AreTerms price uses seconds bytes shelf_days) }
-        ensures err { IfErr result (λ r. (r ≡ Refusal.BadPlans) × ¬ AreTerms price uses seconds bytes shelf_days) }
+        ensures err { IfErr result (λ r. (r ≡ Refusal.BadPlans)
+            × ¬ AreTerms price uses seconds bytes shelf_days) }
     {
         // An id's text tells that it is one, which the plan keeps.
         let _ = id.text();

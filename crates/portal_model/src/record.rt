@@ -1,3 +1,5 @@
+//! The records that the desk keeps.
+
 ghost use Rattle.std.specs.Prelude.{◌≡◌};
 ghost use Rattle.portal_model.specs.History.{is_open_at};
 
@@ -45,12 +47,14 @@ pub struct Session {
     pub ends: Option<Moment>,
     /// The bytes that it was granted in all, where it is limited in bytes.
     pub allowance: Option<u64>,
-    /// The greatest number of bytes that the gateway reported: those of the IP layer, sent and received, headers included (RFC 8908 section 5).
+    /// The greatest number of bytes that the gateway reported: those of the IP layer, sent and received,
+    /// headers included (RFC 8908 section 5).
     pub used: u64,
     pub closed: Option<Moment>,
 }
 
-/// What the desk keeps once: the moment of the last accepted command, and the numbers of redemptions and of sessions.
+/// What the desk keeps once: the moment of the last accepted command, and the numbers of redemptions and
+/// of sessions.
 #[derive(Clone, Copy, Debug, PartialEq, Eq)]
 pub struct Head {
     pub last: Moment,

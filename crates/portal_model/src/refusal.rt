@@ -1,3 +1,5 @@
+//! Why requests are refused.
+
 ghost use Rattle.std.specs.Prelude.{◌≡◌};
 ghost use Rattle.portal_model.specs.Refusal.{number_of, word_of, status_of};
 

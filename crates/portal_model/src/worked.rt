@@ -1,8 +1,10 @@
-//! Worked histories, as statements on the definitions: what some commands are answered, and what a device is told then. The function does nothing: its contract is what is worked out.
+//! Worked histories, as statements on the definitions: what some commands are answered, and what a device
+//! is told then. The function does nothing: its contract is what is worked out.
 ghost use Rattle.portal_model.specs.Worked.{IssueSellRedeem, ClockSetBack, UsedUpOnce, ExtendedBeforeEnd, NewSessionAtEnd, BytesCounted, ShapeAndExtendRefused, RefundOfUnusedUses, NotSoldThenExpired, CloseSession, AllowanceIsFull};
 ghost use Rattle.portal_model.specs.Judged.{LoadsAreJudged, IssuesAreJudged, SalesAreJudged, VouchersAreJudged, OpeningsAreJudged, ExtensionsAreJudged, NumbersAreFull, RefundsAreJudged, SessionsAreJudged, DeskRefusals, LimitedInBoth, FirstPlanExtends};
 
-/// Worked histories: eleven from the desk's day, and for each command what is judged of it where two refusals hold at once and at its limits.
+/// Worked histories: eleven from the desk's day, and for each command what is judged of it where two
+/// refusals hold at once and at its limits.
 pub fn worked_histories()
     ensures issue_sell_redeem { IssueSellRedeem }
     ensures clock_set_back { ClockSetBack }

@@ -1,26 +1,8 @@
 -- What an accepted command makes of the sessions of a history.
-use Rattle.std.proofs.Common.{◌≡◌, ℕ, ◌+◌, ◌≤◌, Bool, true, false, cond, List, [], ◌∷◌, ◌++◌, map, length, Option, Some, None, refl, arith, subst, ap, sym, ◌∙◌}
-use Rattle.std.specs.Prelude.{nat_eq, nat_lt, option_map, unwrap_or}
+use Rattle.portal_open.proofs.Common.{◌≡◌, ℕ, ◌+◌, ◌≤◌, Bool, true, false, cond, List, [], ◌∷◌, ◌++◌, map, Option, Some, None, refl, arith, subst, ap, sym, ◌∙◌, nat_eq, nat_lt, option_map, unwrap_or, All-weaker, nat_tests, Command, Load, Issue, Sell, Redeem, Report, Refund, Close, Changes, Closing, Session, Voucher, all_sessions, load_change, redemption, reported, session_after, entry, History, Grant, Issued, grants_of, grant_at, greatest_session, head_of, is_open_at, issued_of, kept_if, last_number, last_session_of, plan_of, session_of, voucher_of, voucher_row, openings, session_opened, IsLegal, Follows, cond-false, cond-true, map-changed_all, map-same, nat_eq-other, nat_eq-refl, some-of-map, some-same, IsFirst, still-first, new-first, openings_first, session_at, report_session, kept-some, number-of, number-le, granted, redeem_leads, changed_to, led, redeemed}
 use Rattle.std.proofs.lemmas.List.{map-append, append-nil}
-use Rattle.std.proofs.lemmas.List.Elements.{All-weaker}
-use Rattle.std.proofs.lemmas.Bool.Decides.{nat_tests}
-use Rattle.portal_model.specs.declared.command.Command.TheVariants.{Load, Issue, Sell, Redeem, Report, Refund, Close}
-use Rattle.portal_model.specs.declared.change.Changes.{Changes}
-use Rattle.portal_model.specs.declared.change.Changes.TheVariants.{Issuance, Sale, Usage, Repayment, Closing}
-use Rattle.portal_model.specs.declared.plan.Plan.{Plan}
-use Rattle.portal_model.specs.declared.record.Session.{Session}
-use Rattle.portal_model.specs.declared.record.Voucher.{Voucher}
-use Rattle.portal_model.specs.Captive.{all_sessions}
-use Rattle.portal_model.specs.Change.{changes_of, load_change, redemption, reported, session_after}
-use Rattle.portal_model.specs.History.{entry, History, Grant, Issued, amount_left, batch_row, grants_of, grant_at, greatest_session, head_of, is_open_at, issued_of, kept_if, last_number, last_session_of, plan_of, session_of, voucher_of, voucher_row}
-use Rattle.portal_model.specs.Rows.{openings, session_opened}
-use Rattle.portal_model.specs.Verdict.{IsLegal, Follows}
-use Rattle.portal_laws.proofs.Basics.{cond-false, cond-true, map-changed_all, map-same, nat_eq-other, nat_eq-refl, some-of-map, some-same}
 use Rattle.portal_laws.proofs.Changing.{records_lead}
-use Rattle.portal_laws.proofs.Openings.{IsFirst, still-first, new-first, openings_first, session_at, report_session}
-use Rattle.portal_laws.proofs.Placing.{kept-some, number-of, number-le, granted, redeem_leads}
 use Rattle.portal_open.specs.Laws.{SessionsLead}
-use Rattle.portal_open.specs.Open.{changed_to, led, redeemed}
 
 -- where one session is changed, a listed one is as it is now
 session-changed : (H after : History) (s : Session) (g : Grant) → IsFirst (grants_of H) g → IsFirst (grants_of after) g
@@ -89,73 +71,44 @@ all-redeemed H legal t d c i (Some r) is one leaves =
     ap openings one ∙ ap (λ (b : Bool). openings gs ++ cond b (g ∷ []) []) not_above ∙ append-nil (openings gs) in
     all-changed H after s opened (λ x first. subst (λ (xs : List Grant). IsFirst xs x) (sym one) (still-first g gs x first)) leaves
 
-redeem_leads_all : (H : History) → IsLegal H → (t : ℕ) (d c : List ℕ) (ch : Changes) → changes_of H (Redeem d c) t ≡ Some ch
-    → all_sessions (entry t (Redeem d c) ∷ H) ≡ led ch (all_sessions H)
-redeem_leads_all H legal t d c ch e =
+-- the changes are made of what was found
+pub made_of : {A : Type 0} {make : A → Changes} {found : Option A} {changes : Changes} → option_map make found ≡ Some changes
+    → (Is : Changes → Type 0) → ((a : A) → found ≡ Some a → Is (make a)) → Is changes
+made_of {make = make} {found = found} {changes = changes} e Is holds =
+    let it = some-of-map make found changes e in subst Is it.2 (holds it.0 it.1)
+
+-- the changes lead the sessions to those after the command
+abbrev Lead : History → Command → ℕ → Changes → Type 0
+Lead H command t changes = all_sessions (entry t command ∷ H) ≡ led changes (all_sessions H)
+
+redeem_leads_all : (H : History) → IsLegal H → (t : ℕ) (d c : List ℕ) (v : Voucher) → voucher_of H c ≡ Some v
+    → Lead H (Redeem d c) t (redemption (head_of H) (kept_if (is_open_at t) (last_session_of H d)) d t v)
+redeem_leads_all H legal t d c v found =
     let gs : List Grant = grants_of H in
-    let after : History = entry t (Redeem d c) ∷ H in
     let running : Option Session = kept_if (is_open_at t) (last_session_of H d) in
-    let found = some-of-map (redemption (head_of H) running d t) (voucher_of H c) ch e in
-    let issued = some-of-map (voucher_row H c) (issued_of H c) found.0 found.1 in
+    let issued = some-of-map (voucher_row H c) (issued_of H c) v found in
     let i : Issued = issued.0 in
-    let v : Voucher = voucher_row H c i in
-    let one : grants_of after ≡ granted gs running d c i t ∷ gs = ap (λ o. unwrap_or (option_map (grant_at t d c gs running) o) gs) issued.1 in
-    let leaves = redeem_leads H legal d c t v (ap (option_map (voucher_row H c)) issued.1) in
-    subst (λ (x : Changes). all_sessions after ≡ led x (all_sessions H)) found.2
-    (subst (λ (w : Voucher). all_sessions after ≡ led (redemption (head_of H) running d t w) (all_sessions H)) issued.2
-    (all-redeemed H legal t d c i running refl one leaves.session))
+    let one : grants_of (entry t (Redeem d c) ∷ H) ≡ granted gs running d c i t ∷ gs = ap (λ o. unwrap_or (option_map (grant_at t d c gs running) o) gs) issued.1 in
+    let leaves = redeem_leads H legal d c t (voucher_row H c i) (ap (option_map (voucher_row H c)) issued.1) in
+    subst (λ (w : Voucher). Lead H (Redeem d c) t (redemption (head_of H) running d t w)) issued.2
+    (all-redeemed H legal t d c i running refl one leaves.session)
 
--- Report and close
-
-report_leads_all : (H : History) (t n bytes : ℕ) (ch : Changes) → changes_of H (Report n bytes) t ≡ Some ch
-    → all_sessions (entry t (Report n bytes) ∷ H) ≡ led ch (all_sessions H)
-report_leads_all H t n bytes ch e =
-    let after : History = entry t (Report n bytes) ∷ H in
-    let found = some-of-map (λ (s : Session). Usage (record { at = t; session = s; bytes = bytes })) (session_of H n) ch e in
-    subst (λ (x : Changes). all_sessions after ≡ led x (all_sessions H)) found.2
-    (all-changed H after (reported bytes found.0) refl (λ g first. first) (report_session H t n bytes found.0 found.1))
-
-close_leads_all : (H : History) → IsLegal H → (t n : ℕ) → Follows H t (Close n) → (ch : Changes) → changes_of H (Close n) t ≡ Some ch
-    → all_sessions (entry t (Close n) ∷ H) ≡ led ch (all_sessions H)
-close_leads_all H legal t n follows ch e =
-    let after : History = entry t (Close n) ∷ H in
-    let closing : Session → Changes = λ (s : Session). Closing (record { at = t; session = s }) in
-    let found = some-of-map closing (session_of H n) ch e in
-    let leaves = records_lead H legal (Close n) t follows (closing found.0) (ap (option_map closing) found.1) in
-    subst (λ (x : Changes). all_sessions after ≡ led x (all_sessions H)) found.2
-    (all-changed H after (record found.0 { closed = Some t }) refl (λ g first. first) leaves.sessions)
-
--- The others change no session
-
-load_leads_all : (H : History) (t : ℕ) (plans : List Plan) (ch : Changes) → changes_of H (Load plans) t ≡ Some ch
-    → all_sessions (entry t (Load plans) ∷ H) ≡ led ch (all_sessions H)
-load_leads_all H t plans ch e =
-    let is : load_change (plan_of H) plans t ≡ ch = cc in
-    subst (λ (c : Changes). all_sessions H ≡ led c (all_sessions H)) is refl
-
-issue_leads_all : (H : History) (t : ℕ) (b p : List ℕ) (codes : List (List ℕ)) (ch : Changes) → changes_of H (Issue b p codes) t ≡ Some ch
-    → all_sessions (entry t (Issue b p codes) ∷ H) ≡ led ch (all_sessions H)
-issue_leads_all H t b p codes ch e =
-    let found = some-of-map (λ (plan : Plan). Issuance (record { at = t; batch = batch_row t b (length codes) plan; codes = codes })) (plan_of H p) ch e in
-    subst (λ (c : Changes). all_sessions H ≡ led c (all_sessions H)) found.2 refl
-
-sell_leads_all : (H : History) (t : ℕ) (c : List ℕ) (ch : Changes) → changes_of H (Sell c) t ≡ Some ch
-    → all_sessions (entry t (Sell c) ∷ H) ≡ led ch (all_sessions H)
-sell_leads_all H t c ch e =
-    let found = some-of-map (λ (v : Voucher). Sale (record { at = t; voucher = v })) (voucher_of H c) ch e in
-    subst (λ (x : Changes). all_sessions H ≡ led x (all_sessions H)) found.2 refl
-
-refund_leads_all : (H : History) (t : ℕ) (c : List ℕ) (ch : Changes) → changes_of H (Refund c) t ≡ Some ch
-    → all_sessions (entry t (Refund c) ∷ H) ≡ led ch (all_sessions H)
-refund_leads_all H t c ch e =
-    let found = some-of-map (λ (v : Voucher). Repayment (record { at = t; voucher = v; amount = amount_left v.plan v.redeemed })) (voucher_of H c) ch e in
-    subst (λ (x : Changes). all_sessions H ≡ led x (all_sessions H)) found.2 refl
+-- a close changes the session
+close_leads_all : (H : History) → IsLegal H → (t n : ℕ) → Follows H t (Close n) → (s : Session) → session_of H n ≡ Some s
+    → Lead H (Close n) t (Closing (record { at = t; session = s }))
+close_leads_all H legal t n follows s found =
+    let closing : Session → Changes = λ (x : Session). Closing (record { at = t; session = x }) in
+    let leaves = records_lead H legal (Close n) t follows (closing s) (ap (option_map closing) found) in
+    all-changed H (entry t (Close n) ∷ H) (record s { closed = Some t }) refl (λ g first. first) leaves.sessions
 
 pub sessions_lead : SessionsLead
-sessions_lead H legal (Load plans) t follows ch e = load_leads_all H t plans ch e
-sessions_lead H legal (Issue b p codes) t follows ch e = issue_leads_all H t b p codes ch e
-sessions_lead H legal (Sell c) t follows ch e = sell_leads_all H t c ch e
-sessions_lead H legal (Redeem d c) t follows ch e = redeem_leads_all H legal t d c ch e
-sessions_lead H legal (Report n bytes) t follows ch e = report_leads_all H t n bytes ch e
-sessions_lead H legal (Refund c) t follows ch e = refund_leads_all H t c ch e
-sessions_lead H legal (Close n) t follows ch e = close_leads_all H legal t n follows ch e
+sessions_lead H legal (Load plans) t follows ch e =
+    let is : load_change (plan_of H) plans t ≡ ch = cc in subst (Lead H (Load plans) t) is refl
+sessions_lead H legal (Issue b p codes) t follows ch e = made_of e (Lead H (Issue b p codes) t) (λ plan found. refl)
+sessions_lead H legal (Sell c) t follows ch e = made_of e (Lead H (Sell c) t) (λ v found. refl)
+sessions_lead H legal (Redeem d c) t follows ch e = made_of e (Lead H (Redeem d c) t) (λ v found. redeem_leads_all H legal t d c v found)
+sessions_lead H legal (Report n bytes) t follows ch e =
+    made_of e (Lead H (Report n bytes) t)
+    (λ s found. all-changed H (entry t (Report n bytes) ∷ H) (reported bytes s) refl (λ g first. first) (report_session H t n bytes s found))
+sessions_lead H legal (Refund c) t follows ch e = made_of e (Lead H (Refund c) t) (λ v found. refl)
+sessions_lead H legal (Close n) t follows ch e = made_of e (Lead H (Close n) t) (λ s found. close_leads_all H legal t n follows s found)

@@ -1,26 +1,7 @@
 -- A session that is not open stays so: what is open after an accepted command comes of what was open before it.
-use Rattle.std.proofs.Common.{◌≡◌, ℕ, ◌≤◌, max, Bool, true, false, cond, List, [], ◌∷◌, ◌++◌, map, length, Option, Some, None, refl, arith, subst, ap, sym, ◌∙◌}
-use Rattle.std.specs.Prelude.{nat_eq, is_none, ◌&&◌, filter, All}
-use Rattle.std.proofs.lemmas.List.Elements.{All-head, All-tail, All-map, All-weaker, filter-append}
-use Rattle.std.proofs.lemmas.Bool.Decides.{nat_tests}
-use Rattle.portal_model.specs.declared.command.Command.{Command}
-use Rattle.portal_model.specs.declared.command.Command.TheVariants.{Load, Issue, Sell, Redeem, Report, Refund, Close}
-use Rattle.portal_model.specs.declared.change.Changes.{Changes}
-use Rattle.portal_model.specs.declared.change.Changes.TheVariants.{Issuance, Sale, Usage, Repayment, Closing}
-use Rattle.portal_model.specs.declared.plan.Plan.{Plan}
-use Rattle.portal_model.specs.declared.record.Session.{Session}
-use Rattle.portal_model.specs.declared.record.Voucher.{Voucher}
-use Rattle.portal_model.specs.Captive.{all_sessions, open_session, open_sessions_of}
-use Rattle.portal_model.specs.Change.{changes_of, load_change, redemption, reported, session_after}
-use Rattle.portal_model.specs.History.{entry, History, amount_left, batch_row, effective_moment, grants_of, head_of, is_below, is_open_at, kept_if, last_moment, last_number, last_session_of, plan_of, session_of, voucher_of}
-use Rattle.portal_model.specs.Rows.{openings, session_opened}
-use Rattle.portal_model.specs.Verdict.{Follows, IsLegal}
-use Rattle.portal_laws.proofs.Basics.{and-true, true-and, false_if, not_both, nat_eq-same, some-of-map, some-same}
-use Rattle.portal_laws.proofs.Openings.{IsFirst, openings_first, session_at}
-use Rattle.portal_laws.proofs.Placing.{kept-some, number-of}
+use Rattle.portal_open.proofs.Common.{◌≡◌, ℕ, ◌≤◌, max, Bool, true, false, cond, List, [], ◌∷◌, ◌++◌, map, Option, Some, None, refl, arith, subst, ap, sym, ◌∙◌, nat_eq, is_none, ◌&&◌, filter, All, All-head, All-tail, All-map, All-weaker, filter-append, nat_tests, Command, Load, Issue, Sell, Redeem, Report, Refund, Close, Changes, Usage, Closing, Session, Voucher, all_sessions, open_session, open_sessions_of, changes_of, load_change, redemption, reported, session_after, entry, History, effective_moment, grants_of, head_of, is_below, is_open_at, kept_if, last_moment, last_number, last_session_of, plan_of, session_of, openings, session_opened, Follows, IsLegal, and-true, true-and, false_if, not_both, nat_eq-same, some-same, IsFirst, openings_first, session_at, kept-some, number-of, OpenAt, changed_to, led, moment_of, open_at_last}
 use Rattle.portal_open.specs.Laws.{OpenFollows, OpenWasOpen}
-use Rattle.portal_open.specs.Open.{OpenAt, changed_to, led, moment_of, open_at_last}
-use Rattle.portal_open.proofs.Leading.{sessions_lead}
+use Rattle.portal_open.proofs.Leading.{made_of, sessions_lead}
 
 -- Filters
 
@@ -143,27 +124,14 @@ close-alike H t n s later e =
 
 alike : (H : History) (command : Command) (t : ℕ) → last_moment H ≤ t → (ch : Changes) → changes_of H command t ≡ Some ch → OpenAlike H t ch
 alike H (Load plans) t later ch e =
-    let is : load_change (plan_of H) plans t ≡ ch = cc in
-    subst (OpenAlike H t) is (open_was_open H t later)
-alike H (Issue b p codes) t later ch e =
-    let found = some-of-map (λ (plan : Plan). Issuance (record { at = t; batch = batch_row t b (length codes) plan; codes = codes })) (plan_of H p) ch e in
-    subst (OpenAlike H t) found.2 (open_was_open H t later)
-alike H (Sell c) t later ch e =
-    let found = some-of-map (λ (v : Voucher). Sale (record { at = t; voucher = v })) (voucher_of H c) ch e in
-    subst (OpenAlike H t) found.2 (open_was_open H t later)
+    let is : load_change (plan_of H) plans t ≡ ch = cc in subst (OpenAlike H t) is (open_was_open H t later)
+alike H (Issue b p codes) t later ch e = made_of e (OpenAlike H t) (λ plan found. open_was_open H t later)
+alike H (Sell c) t later ch e = made_of e (OpenAlike H t) (λ v found. open_was_open H t later)
 alike H (Redeem d c) t later ch e =
-    let running : Option Session = kept_if (is_open_at t) (last_session_of H d) in
-    let found = some-of-map (redemption (head_of H) running d t) (voucher_of H c) ch e in
-    subst (OpenAlike H t) found.2 (redeem-alike H t d found.0 running later refl)
-alike H (Report n bytes) t later ch e =
-    let found = some-of-map (λ (s : Session). Usage (record { at = t; session = s; bytes = bytes })) (session_of H n) ch e in
-    subst (OpenAlike H t) found.2 (report-alike H t bytes n found.0 later found.1)
-alike H (Refund c) t later ch e =
-    let found = some-of-map (λ (v : Voucher). Repayment (record { at = t; voucher = v; amount = amount_left v.plan v.redeemed })) (voucher_of H c) ch e in
-    subst (OpenAlike H t) found.2 (open_was_open H t later)
-alike H (Close n) t later ch e =
-    let found = some-of-map (λ (s : Session). Closing (record { at = t; session = s })) (session_of H n) ch e in
-    subst (OpenAlike H t) found.2 (close-alike H t n found.0 later found.1)
+    made_of e (OpenAlike H t) (λ v found. redeem-alike H t d v (kept_if (is_open_at t) (last_session_of H d)) later refl)
+alike H (Report n bytes) t later ch e = made_of e (OpenAlike H t) (λ s found. report-alike H t bytes n s later found)
+alike H (Refund c) t later ch e = made_of e (OpenAlike H t) (λ v found. open_was_open H t later)
+alike H (Close n) t later ch e = made_of e (OpenAlike H t) (λ s found. close-alike H t n s later found)
 
 pub open_follows : OpenFollows
 open_follows H legal command t follows ch e =
@@ -172,26 +140,13 @@ open_follows H legal command t follows ch e =
 -- the changes have the moment of their command
 pub moment_is : (H : History) (command : Command) (t : ℕ) (ch : Changes) → changes_of H command t ≡ Some ch → moment_of ch ≡ t
 moment_is H (Load plans) t ch e =
-    let is : load_change (plan_of H) plans t ≡ ch = cc in
-    sym (ap moment_of is)
-moment_is H (Issue b p codes) t ch e =
-    let found = some-of-map (λ (plan : Plan). Issuance (record { at = t; batch = batch_row t b (length codes) plan; codes = codes })) (plan_of H p) ch e in
-    sym (ap moment_of found.2)
-moment_is H (Sell c) t ch e =
-    let found = some-of-map (λ (v : Voucher). Sale (record { at = t; voucher = v })) (voucher_of H c) ch e in
-    sym (ap moment_of found.2)
-moment_is H (Redeem d c) t ch e =
-    let found = some-of-map (redemption (head_of H) (kept_if (is_open_at t) (last_session_of H d)) d t) (voucher_of H c) ch e in
-    sym (ap moment_of found.2)
-moment_is H (Report n bytes) t ch e =
-    let found = some-of-map (λ (s : Session). Usage (record { at = t; session = s; bytes = bytes })) (session_of H n) ch e in
-    sym (ap moment_of found.2)
-moment_is H (Refund c) t ch e =
-    let found = some-of-map (λ (v : Voucher). Repayment (record { at = t; voucher = v; amount = amount_left v.plan v.redeemed })) (voucher_of H c) ch e in
-    sym (ap moment_of found.2)
-moment_is H (Close n) t ch e =
-    let found = some-of-map (λ (s : Session). Closing (record { at = t; session = s })) (session_of H n) ch e in
-    sym (ap moment_of found.2)
+    let is : load_change (plan_of H) plans t ≡ ch = cc in sym (ap moment_of is)
+moment_is H (Issue b p codes) t ch e = made_of e (λ x. moment_of x ≡ t) (λ plan found. refl)
+moment_is H (Sell c) t ch e = made_of e (λ x. moment_of x ≡ t) (λ v found. refl)
+moment_is H (Redeem d c) t ch e = made_of e (λ x. moment_of x ≡ t) (λ v found. refl)
+moment_is H (Report n bytes) t ch e = made_of e (λ x. moment_of x ≡ t) (λ s found. refl)
+moment_is H (Refund c) t ch e = made_of e (λ x. moment_of x ≡ t) (λ v found. refl)
+moment_is H (Close n) t ch e = made_of e (λ x. moment_of x ≡ t) (λ s found. refl)
 
 -- What the calls of the list come to
 

@@ -42,8 +42,8 @@ fn put(sessions: &mut [Session], now: &Session)
     }
 }
 
-/// The sessions with what the command changes: one put at the end, or one changed in its place. Only want of memory is
-/// an error.
+/// The sessions with what the command changes: one put at the end, or one changed in its place. Only want of
+/// memory is an error.
 pub(crate) fn lead(sessions: &mut Vec<Session>, changes: &Changes) -> Result<(), AllocError>
     ensures { IfOk result (λ _. sessions.new.items ≡ led changes.now sessions.old.items) }
 {

@@ -1,5 +1,6 @@
-//! The sessions that are open at the last moment of a history: what is kept of them from one accepted command to the
-//! next, and told of them later. A session that is not open at a moment is never open again, so none but these matters.
+//! The sessions that are open at the last moment of a history: what is kept of them from one accepted command
+//! to the next, and told of them later. A session that is not open at a moment is never open again, so none
+//! but these matters.
 #![tactic(auto)]
 
 ghost use Rattle.std.specs.Prelude.{◌≡◌, ◌∷◌, ℕ, IfOk, Some};
@@ -45,10 +46,11 @@ impl OpenSessions {
         OpenSessions { moment, sessions }
     }
 
-    /// What the gateway is told where that is the moment handed in (RFC 8952 section 2.4), in seconds and bytes. A
-    /// moment before the last one counts as the last. Only want of memory is an error.
+    /// What the gateway is told where that is the moment handed in (RFC 8952 section 2.4), in seconds and
+    /// bytes. A moment before the last one counts as the last. Only want of memory is an error.
     pub fn told(&self, alloc: Global, moment: Moment) -> Result<Vec<OpenSession>, AllocError>
-        ensures { (H : History) → self.now ≡ open_at_last H → IfOk result (λ told. told.items ≡ open_sessions_of H moment) }
+        ensures { (H : History) → self.now ≡ open_at_last H
+            → IfOk result (λ told. told.items ≡ open_sessions_of H moment) }
     {
         let t = effective(moment, self.moment);
         let mut told = Vec::new(alloc);
@@ -60,8 +62,8 @@ impl OpenSessions {
         Ok(told)
     }
 
-    /// The sessions that are open after an accepted command, by what it changes. Only want of memory is an error: they
-    /// are dropped then.
+    /// The sessions that are open after an accepted command, by what it changes. Only want of memory is an
+    /// error: they are dropped then.
     pub fn followed(self, changes: &Changes) -> Result<OpenSessions, AllocError>
         ensures { (H : History) → IsLegal H → (command : Command) (t : ℕ) → Follows H t command
             → changes_of H command t ≡ Some changes.now → self ≡ open_at_last H
@@ -80,17 +82,21 @@ impl OpenSessions {
 
 // The laws behind it. The functions do nothing.
 
-/// An accepted command makes of the sessions what its changes say: one is put at the end, or one is changed in its place.
+/// An accepted command makes of the sessions what its changes say: one is put at the end, or one is changed
+/// in its place.
+#[tactic(auto, using(crate::proofs::Leading::sessions_lead))]
 pub fn sessions_lead()
     ensures { SessionsLead }
 {}
 
 /// A session that is open later, with nothing accepted meanwhile, was open at the last moment.
+#[tactic(auto, using(crate::proofs::Opening::open_was_open))]
 pub fn open_was_open()
     ensures { OpenWasOpen }
 {}
 
 /// What is open after an accepted command is what it makes of the sessions that were open before it.
+#[tactic(auto, using(crate::proofs::Opening::open_follows))]
 pub fn open_follows()
     ensures { OpenFollows }
 {}

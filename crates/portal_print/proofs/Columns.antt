@@ -1,12 +1,9 @@
 -- Numbers in columns, as a format string writes them.
-use Rattle.std.proofs.Common.{◌≡◌, ℕ, ◌+◌, ◌-◌, ◌/◌, ◌%◌, ◌<◌, ◌≤◌, zero, suc, false, List, [], ◌∷◌, ◌++◌, length, replicate, refl, ap, ◌∙◌, arith, inl, inr, append_assoc, append-nil, length-append}
-use Rattle.std.specs.Prelude.{decimal}
-use Rattle.std.specs.List.{repeat}
-use Rattle.std.specs.Fmt.{char_count, padded_integral, format_spec}
+use Rattle.portal_print.proofs.Common.{◌≡◌, ℕ, ◌+◌, ◌-◌, ◌/◌, ◌%◌, ◌<◌, ◌≤◌, zero, suc, false, List, [], ◌∷◌, ◌++◌, length, replicate, refl, ap, ◌∙◌, arith, inl, inr, append_assoc, append-nil, length-append, decimal, repeat, format_spec, two_digits, amount_text, right_in}
+use Rattle.std.specs.Fmt.{char_count, padded_integral}
 use Rattle.std.proofs.lemmas.Bool.{cases_lt}
 use Rattle.std.proofs.lemmas.Fmt.{decimal_digit, decimal_step}
 use lib.Utf8.{encode}
-use Rattle.portal_print.specs.Amount.{two_digits, amount_text, right_in}
 
 abbrev space : List ℕ
 space = 32 ∷ []

@@ -1,21 +1,15 @@
 -- Fields that CSV writes as they stand, and the lines of a print file.
-use Rattle.std.proofs.Common.{◌≡◌, ℕ, suc, ℤ, pos, negsuc, ◌+◌, ◌/◌, ◌%◌, ◌^◌, ◌<◌, ◌≤◌, true, false, nat_le, List, [], ◌∷◌, ◌++◌, map, refl, ◌∙◌, arith, append-nil}
-use Rattle.std.specs.Prelude.{decimal, All, ◌==◌}
+use Rattle.portal_print.proofs.Common.{Bool, ◌≡◌, ℕ, suc, ℤ, pos, negsuc, ◌+◌, ◌/◌, ◌%◌, ◌^◌, ◌<◌, ◌≤◌, true, false, nat_le, List, [], ◌∷◌, ◌++◌, map, refl, ◌∙◌, arith, append-nil, decimal, All, ◌==◌, list_all, sign_of, text_of, IsCode, Date, DateTime, date_text, two_digits, amount_text, minute_text, line_of, limit_text}
 use Rattle.std.proofs.lemmas.Bool.Decides.{nat_tests}
-use Rattle.std.specs.List.{list_any, list_all}
-use Rattle.std.proofs.lemmas.Bool.{and_parts, or_parts, or_from, cond_both, cond-false, leb-true, agree_below_at}
+use Rattle.std.proofs.lemmas.Bool.{cond_both, cond-false, leb-true, agree_below_at}
 use Rattle.std.proofs.lemmas.Fmt.{decimal_by_steps}
-use Rattle.std.proofs.lemmas.List.Elements.{All-head, All-tail}
 use Rattle.csv.specs.Writing.{default_writer, needs_byte, field_text, fields_text, is_blank, row_text, needs_quotes, quoted}
-use Rattle.portal_codes.specs.Code.{sign_of, grouped, text_of, IsCode}
 use Rattle.portal_model.specs.IdText.{IsIdText, is_id_sign}
-use Rattle.jiff_core.specs.declared.civil.date.Date.{Date}
-use Rattle.jiff_core.specs.declared.civil.datetime.DateTime.{DateTime}
 use Rattle.jiff_fmt.specs.Text.{pad2, year_text}
-use Rattle.jiff.specs.Words.{date_text}
-use Rattle.portal_print.specs.Amount.{two_digits, amount_text}
-use Rattle.portal_print.specs.Minute.{minute_text}
-use Rattle.portal_print.specs.PrintFile.{line_of, limit_text}
+use Rattle.std.proofs.lemmas.List.Elements.{All-nil, All-cons, All-append, All-map, All-weaker}
+use Rattle.std.proofs.lemmas.List.Folds.{list_any_none}
+use Rattle.std.proofs.lemmas.List.Sums.{AllPass-from_list_all}
+use Rattle.portal_codes.proofs.Spelling.{All-grouped}
 
 -- a byte that needs no quotes
 abbrev IsPlainByte : ℕ → Type 0
@@ -23,28 +17,28 @@ IsPlainByte b = needs_byte default_writer b ≡ false
 
 -- a field that needs none
 pub record IsPlain (field : List ℕ) : Type 0 where
-  pub none : list_any (needs_byte default_writer) field ≡ false
+  pub each : All IsPlainByte field
 
 -- the bytes from the hyphen on are plain: comma, quote and line ends come before it
 plain-byte : (b : ℕ) → 45 ≤ b → IsPlainByte b
 plain-byte b h = grind (arith, nat_tests)
 
+-- a field whose bytes pass a test that plain bytes alone pass
+tested : (test : ℕ → Bool) → ((b : ℕ) → test b ≡ true → IsPlainByte b) → (field : List ℕ) → list_all test field ≡ true → IsPlain field
+tested test plain field e = record { each = All-weaker (λ b. test b ≡ true) IsPlainByte plain field (AllPass-from_list_all test field e) }
+
+-- a word of letters
+pub plain-word : (field : List ℕ) → list_all (λ b. nat_le 45 b) field ≡ true → IsPlain field
+plain-word = tested (λ b. nat_le 45 b) (λ b h. plain-byte b (leb-true 45 b h))
+
 empty : IsPlain []
-empty = record { none = refl }
+empty = record { each = All-nil IsPlainByte }
 
 cons : (b : ℕ) (field : List ℕ) → IsPlainByte b → IsPlain field → IsPlain (b ∷ field)
-cons b field first rest = record { none = or_from _ _ first rest.none }
-
-head : (b : ℕ) (field : List ℕ) → IsPlain (b ∷ field) → IsPlainByte b
-head b field h = (or_parts (needs_byte default_writer b) (list_any (needs_byte default_writer) field) h.none).0
-
-tail : (b : ℕ) (field : List ℕ) → IsPlain (b ∷ field) → IsPlain field
-tail b field h = record { none = (or_parts (needs_byte default_writer b) (list_any (needs_byte default_writer) field) h.none).1 }
+cons b field first rest = record { each = All-cons IsPlainByte b field first rest.each }
 
 append : (a b : List ℕ) → IsPlain a → IsPlain b → IsPlain (a ++ b)
-append [] b first rest = rest
-append (x ∷ a) b first rest =
-    cons x (a ++ b) (head x a first) (append a b (tail x a first) rest)
+append a b first rest = record { each = All-append IsPlainByte a b first.each rest.each }
 
 plain-decimal : (n : ℕ) → n < 2 ^ 64 → IsPlain (decimal n)
 plain-decimal = decimal_by_steps (λ n ds. IsPlain ds)
@@ -57,41 +51,17 @@ plain-two n rest h = cons (48 + n / 10) ((48 + n % 10) ∷ rest) (plain-byte (48
 id-sign : (b : ℕ) → is_id_sign b ≡ true → 45 ≤ b
 id-sign b h = grind (arith, nat_tests)
 
-plain-sign : (b : ℕ) → is_id_sign b ≡ true → IsPlainByte b
-plain-sign b h = plain-byte b (id-sign b h)
-
-plain-id_signs : (text : List ℕ) → list_all is_id_sign text ≡ true → IsPlain text
-plain-id_signs [] h = empty
-plain-id_signs (b ∷ text) h =
-    let p = and_parts (is_id_sign b) (list_all is_id_sign text) h in
-    cons b text (plain-sign b p.0) (plain-id_signs text p.1)
-
 pub plain-id : (text : List ℕ) → IsIdText text → IsPlain text
-plain-id text is = plain-id_signs text is.signs
+plain-id text is = tested is_id_sign (λ b h. plain-byte b (id-sign b h)) text is.signs
 
 -- the signs of codes
 plain-code_sign : (v : ℕ) → v < 31 → IsPlainByte (sign_of v)
 plain-code_sign v h = plain-byte (sign_of v) (leb-true 45 (sign_of v) (agree_below_at (λ v. nat_le 45 (sign_of v)) (λ _. true) 31 v refl h))
 
-plain-signs : (code : List ℕ) → All (λ v. v < 31) code → IsPlain (map sign_of code)
-plain-signs [] h = empty
-plain-signs (v ∷ code) h = cons (sign_of v) (map sign_of code) (plain-code_sign v (All-head (λ v. v < 31) v code h)) (plain-signs code (All-tail (λ v. v < 31) v code h))
-
-plain-grouped : (signs : List ℕ) → IsPlain signs → IsPlain (grouped signs)
-plain-grouped [] h = h
-plain-grouped (a ∷ []) h = h
-plain-grouped (a ∷ b ∷ []) h = h
-plain-grouped (a ∷ b ∷ c ∷ []) h = h
-plain-grouped (a ∷ b ∷ c ∷ d ∷ []) h = h
-plain-grouped (a ∷ b ∷ c ∷ d ∷ e ∷ rest) h =
-    let second = tail a (b ∷ c ∷ d ∷ e ∷ rest) h in
-    let third = tail b (c ∷ d ∷ e ∷ rest) second in
-    let fourth = tail c (d ∷ e ∷ rest) third in
-    let after = plain-grouped (e ∷ rest) (tail d (e ∷ rest) fourth) in
-    cons a _ (head a _ h) (cons b _ (head b _ second) (cons c _ (head c _ third) (cons d _ (head d _ fourth) (cons 45 (grouped (e ∷ rest)) refl after))))
-
 pub plain-code : (code : List ℕ) → IsCode code → IsPlain (text_of code)
-plain-code code is = plain-grouped (map sign_of code) (plain-signs code is.below)
+plain-code code is =
+    let signs : All IsPlainByte (map sign_of code) = All-map IsPlainByte sign_of code (All-weaker (λ v. v < 31) (λ v. IsPlainByte (sign_of v)) plain-code_sign code is.below) in
+    record { each = All-grouped IsPlainByte (map sign_of code) refl signs }
 
 pub plain-limit : (n : ℕ) → n < 2 ^ 64 → IsPlain (limit_text n)
 plain-limit n h = cond_both (n == 0) [] (decimal n) (λ text. IsPlain text) (λ _. empty) (λ _. plain-decimal n h)
@@ -117,17 +87,14 @@ plain-minute at =
 
 -- a plain field stands as it is
 field-plain : (f : List ℕ) → IsPlain f → field_text default_writer f ≡ f
-field-plain f h = cond-false (needs_quotes default_writer f) (quoted default_writer f) f h.none
+field-plain f h = cond-false (needs_quotes default_writer f) (quoted default_writer f) f (list_any_none (needs_byte default_writer) f h.each)
 
 -- a row of six plain fields is a line with commas
 pub plain-row : (a b c d e f : List ℕ) → IsPlain a → IsPlain b → IsPlain c → IsPlain d → IsPlain e → IsPlain f
     → row_text default_writer (a ∷ b ∷ c ∷ d ∷ e ∷ f ∷ []) ≡ line_of (a ∷ b ∷ c ∷ d ∷ e ∷ f ∷ [])
 unfolding fields_text is_blank
 plain-row a b c d e f pa pb pc pd pe pf =
-    let a_is = field-plain a pa in
-    let b_is = field-plain b pb in
-    let c_is = field-plain c pc in
-    let d_is = field-plain d pd in
-    let e_is = field-plain e pe in
+    let a_is = field-plain a pa in let b_is = field-plain b pb in let c_is = field-plain c pc in
+    let d_is = field-plain d pd in let e_is = field-plain e pe in
     let f_is : field_text default_writer f ++ [] ≡ f = append-nil _ ∙ field-plain f pf in
     λ i. (a_is i ++ 44 ∷ (b_is i ++ 44 ∷ (c_is i ++ 44 ∷ (d_is i ++ 44 ∷ (e_is i ++ 44 ∷ f_is i))))) ++ 10 ∷ []

@@ -1,25 +1,17 @@
 -- The rows of a print file are its lines.
-use Rattle.std.proofs.Common.{◌≡◌, ℕ, List, [], ◌∷◌, ◌++◌, refl, sym, subst, ◌∙◌, arith, codes, Result, Ok, Err, IfOk}
-use Rattle.std.specs.Prelude.{All}
-use Rattle.std.specs.List.{flat_map}
+use Rattle.portal_print.proofs.Common.{◌≡◌, ℕ, List, [], ◌∷◌, ◌++◌, refl, sym, subst, ◌∙◌, arith, codes, Result, Ok, Err, IfOk, All, flat_map, All-head, All-tail, IsCode, text_of, amount_text, IsMinuteText, line_of, limit_text, header, code_fields, IsPrintFile, Shared, shared_of, header_row, code_row}
 use Rattle.std.specs.Result.{result_or}
-use Rattle.std.proofs.lemmas.List.Elements.{All-head, All-tail}
 use Rattle.jiff_tz.specs.declared.timezone.TimeZone.{TimeZone}
-use Rattle.portal_codes.specs.Code.{IsCode, text_of}
 use Rattle.portal_model.specs.declared.plan.Plan.{Plan}
 use Rattle.portal_files.specs.declared.sheet.BatchSheet.{BatchSheet}
-use Rattle.portal_print.specs.Amount.{amount_text}
-use Rattle.portal_print.specs.Minute.{IsMinuteText}
-use Rattle.portal_print.specs.PrintFile.{line_of, limit_text, header, code_fields, IsPrintFile}
-use Rattle.portal_print.specs.Private.Written.{Shared, shared_of, header_row, code_row}
-use Rattle.portal_print.proofs.PlainFields.{IsPlain, plain-row, plain-code, plain-id, plain-limit, plain-amount, plain-minute}
+use Rattle.portal_print.proofs.PlainFields.{IsPlain, plain-word, plain-row, plain-code, plain-id, plain-limit, plain-amount, plain-minute}
 
 -- what the lines of a batch share
 abbrev pub shared : Plan → List ℕ → Shared
 shared plan expires = shared_of plan.id (limit_text plan.seconds) (limit_text plan.bytes) (amount_text plan.price) expires
 
 header-line : header_row ≡ line_of header
-header-line = plain-row (codes "code") (codes "plan") (codes "seconds") (codes "bytes") (codes "price") (codes "expires") (record { none = refl }) (record { none = refl }) (record { none = refl }) (record { none = refl }) (record { none = refl }) (record { none = refl })
+header-line = plain-row (codes "code") (codes "plan") (codes "seconds") (codes "bytes") (codes "price") (codes "expires") (plain-word _ refl) (plain-word _ refl) (plain-word _ refl) (plain-word _ refl) (plain-word _ refl) (plain-word _ refl)
 
 code-line : (plan : Plan) (expires code : List ℕ) → IsPlain expires → IsCode code → code_row (shared plan expires) code ≡ line_of (code_fields plan expires code)
 code-line plan expires code shown is =

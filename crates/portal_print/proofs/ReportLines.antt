@@ -1,10 +1,7 @@
 -- The lines of a takings report.
-use Rattle.std.proofs.Common.{◌≡◌, ℕ, ◌+◌, ◌-◌, ◌<◌, List, [], ◌∷◌, ◌++◌, length, get_or, take, subst, replicate, codes, refl, ap, sym, ◌∙◌, arith, append_assoc, append-nil}
-use Rattle.std.specs.Prelude.{decimal}
+use Rattle.portal_print.proofs.Common.{◌≡◌, ℕ, ◌+◌, ◌-◌, ◌<◌, List, [], ◌∷◌, ◌++◌, length, get_or, take, subst, replicate, ap, sym, ◌∙◌, arith, append_assoc, append-nil, decimal, concat, AllZip, DayTakings, amount_text, right_in, left_in}
 use Rattle.std.proofs.lemmas.List.{take_more}
-use Rattle.std.specs.List.{concat, AllZip}
-use Rattle.portal_days.specs.declared.takings.DayTakings.{DayTakings}
-use Rattle.portal_print.specs.Amount.{amount_text, right_in, left_in}
+use Rattle.std.proofs.lemmas.Slice.Zip.{all_zipped_more}
 use Rattle.portal_print.specs.Report.{header_line, number_line, IsDayLine, total_line, net_line, IsReport}
 
 -- a label of ten places stands as it is
@@ -24,24 +21,11 @@ number-line label first sales second refunds sold sum refunded back h p q r s =
     let l = wide label h in
     line-end label first sales second refunds ∙ λ i. (l i ++ 32 ∷ (p i ++ 32 ∷ (q i ++ 32 ∷ (r i ++ 32 ∷ s i)))) ++ 10 ∷ []
 
--- the label of the totals, with its spaces
-pub total-label : (sold sales refunded refunds : ℕ) → number_line (codes "total     ") sold sales refunded refunds ≡ number_line (codes "total") sold sales refunded refunds
-total-label sold sales refunded refunds = refl
-
 -- the report, as far as the days so far
 pub record IsSoFar (days : List DayTakings) (text : List ℕ) : Type 0 where
   pub lines : List (List ℕ)
   pub day_lines : AllZip IsDayLine days lines
   pub text_is : text ≡ header_line ++ concat lines
-
-pub none-so_far : (text : List ℕ) → text ≡ header_line → IsSoFar [] text
-none-so_far text e = record { lines = []; day_lines = tt; text_is = e ∙ sym (append-nil header_line) }
-
-zip-push : {A B : Type 0} (R : A → B → Type 0) (xs : List A) (ys : List B) (x : A) (y : B) → AllZip R xs ys → R x y → AllZip R (xs ++ x ∷ []) (ys ++ y ∷ [])
-zip-push R [] [] x y all one = (one, tt)
-zip-push R [] (w ∷ ys) x y all one = absurd all
-zip-push R (v ∷ xs) [] x y all one = absurd all
-zip-push R (v ∷ xs) (w ∷ ys) x y all one = (all.0, zip-push R xs ys x y all.1 one)
 
 concat-push : (lines : List (List ℕ)) (line : List ℕ) → concat (lines ++ line ∷ []) ≡ concat lines ++ line
 concat-push [] line = append-nil line
@@ -54,7 +38,7 @@ more-so_far days i day text line after h item is one e =
     let last : take i days ++ day ∷ [] ≡ take (i + 1) days = ap (λ d. take i days ++ d ∷ []) item ∙ sym (take_more days i day h) in
     record {
       lines = is.lines ++ line ∷ [];
-      day_lines = subst (λ ds. AllZip IsDayLine ds (is.lines ++ line ∷ [])) last (zip-push IsDayLine (take i days) is.lines day line is.day_lines one);
+      day_lines = subst (λ ds. AllZip IsDayLine ds (is.lines ++ line ∷ [])) last (all_zipped_more IsDayLine (take i days) is.lines day line is.day_lines one);
       text_is = e ∙ ap (λ t. t ++ line) is.text_is ∙ append_assoc header_line (concat is.lines) line ∙ ap (λ t. header_line ++ t) (sym (concat-push is.lines line));
     }
 

@@ -1,13 +1,7 @@
 -- The text of a civil time.
-use Rattle.std.proofs.Common.{◌≡◌, ℕ, List, [], ◌∷◌, ◌++◌, ◌∙◌, arith}
-use Rattle.std.specs.Prelude.{decimal, false}
-use Rattle.std.specs.Fmt.{padded_integral, format_spec}
-use Rattle.jiff_core.specs.declared.civil.date.Date.{Date}
+use Rattle.portal_print.proofs.Common.{◌≡◌, ℕ, List, [], ◌∷◌, ◌++◌, ◌∙◌, arith, decimal, false, format_spec, Date, DateTime, date_text, two_digits, minute_text}
+use Rattle.std.specs.Fmt.{padded_integral}
 use Rattle.jiff_core.specs.declared.civil.time.Time.{Time}
-use Rattle.jiff_core.specs.declared.civil.datetime.DateTime.{DateTime}
-use Rattle.jiff.specs.Words.{date_text}
-use Rattle.portal_print.specs.Amount.{two_digits}
-use Rattle.portal_print.specs.Minute.{minute_text}
 use Rattle.portal_print.proofs.Columns.{two-places}
 
 abbrev places : ℕ → List ℕ

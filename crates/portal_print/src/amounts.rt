@@ -1,3 +1,5 @@
+//! Amounts of money as text.
+
 ghost use Rattle.std.specs.Prelude.{◌≡◌, IfOk, string_bytes};
 ghost use Rattle.portal_print.specs.Amount.{amount_text, right_in};
 

@@ -1,3 +1,5 @@
+//! Minutes as a clock shows them.
+
 ghost use Rattle.std.specs.Prelude.{◌≡◌, IfOk, string_bytes};
 ghost use Rattle.portal_print.specs.Minute.{minute_text, IsMinuteText};
 

@@ -1,3 +1,5 @@
+//! The print file of a batch.
+
 ghost use Rattle.std.specs.Prelude.{◌≡◌, ◌++◌, IfOk, IfErr, OnOk, string_bytes};
 ghost use Rattle.std.specs.List.{flat_map};
 ghost use Rattle.portal_print.specs.PrintFile.{limit_text, IsPrintFile};
@@ -32,10 +34,10 @@ fn write_line<'a>(
 ) -> Result<(), Error>
     requires { IsReady writer.old }
     ensures ready { OnOk result (IsReady writer.new) }
-    ensures text { OnOk result (written writer.new ≡ written writer.old ++ row (shared_of plan.now seconds.now bytes.now price.now expires.now) first.now) }
+    ensures text { OnOk result (written writer.new ≡ written writer.old
+        ++ row (shared_of plan.now seconds.now bytes.now price.now expires.now) first.now) }
 {
-    writer.write_fields(&[first, plan, seconds, bytes, price, expires])?;
-    Ok(())
+    writer.write_fields(&[first, plan, seconds, bytes, price, expires])
 }
 
 /// Writes the words over the columns.
@@ -46,8 +48,7 @@ fn write_header(writer: &mut Writer<Vec<u8>>) -> Result<(), Error>
 {
     write_line(
         writer, b"code", b"plan", b"seconds", b"bytes", b"price", b"expires",
-    )?;
-    Ok(())
+    )
 }
 
 /// The lines of the codes, under the words over the columns.
@@ -60,7 +61,8 @@ fn write_lines(
     price: &[u8],
     expires: &[u8],
 ) -> Result<Vec<u8>, Error>
-    ensures { IfOk result (λ v. v.items ≡ header_row ++ flat_map (code_row (shared_of plan.now seconds.now bytes.now price.now expires.now)) codes.now) }
+    ensures { IfOk result (λ v. v.items ≡ header_row
+        ++ flat_map (code_row (shared_of plan.now seconds.now bytes.now price.now expires.now)) codes.now) }
 {
     let mut writer = Writer::from_writer(Vec::new(alloc));
     write_header(&mut writer)?;
@@ -76,10 +78,7 @@ fn write_lines(
             expires,
         )?;
     }
-    match writer.into_inner() {
-        Ok(text) => Ok(text),
-        Err(e) => Err(e.into_error()),
-    }
+    writer.into_inner().map_err(|e| e.into_error())
 }
 
 /// The print file of a batch, as CSV (RFC 4180, with a line feed alone at the end of each line): the

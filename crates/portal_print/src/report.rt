@@ -1,3 +1,5 @@
+//! The takings report.
+
 ghost use Rattle.std.specs.Prelude.{◌≡◌, ◌++◌, ◌∷◌, [], codes, IfOk, IfErr, length, string_bytes, sum_by};
 ghost use Rattle.portal_days.specs.Takings.{TotalsFit};
 ghost use Rattle.portal_print.specs.Report.{number_line, IsDayLine, total_line, net_text, net_line, IsReport};

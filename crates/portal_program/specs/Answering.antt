@@ -49,7 +49,8 @@ abbrev pub EndsStatus : Result ℕ Fault → Option (List ℕ) → Option (List 
 EndsStatus (Ok given) errors errors_after status = (status ≡ given) × Keeps errors errors_after
 EndsStatus (Err fault) errors errors_after status = (status ≡ status_of fault) × Prints errors errors_after (line_of fault)
 
--- the file keeps the request from being answered: nothing is read then, and nothing goes out but what is told of it
+-- the file keeps the request from being answered: nothing is read then, and nothing goes out but what is told
+-- of it
 abbrev pub IsKeptOff : Wire → Option (List ℕ) → Option (List ℕ) → Trouble → ℕ → Type 0
 IsKeptOff wire errors errors_after trouble status =
     AreLeftAlone wire × (status ≡ status_of trouble.fault) × Reports trouble errors errors_after

@@ -34,8 +34,13 @@ IsOfDesk (Ok told) = ⊤
 IsOfDesk (Err (Refused r)) = ⊤
 IsOfDesk (Err _) = ⊥
 
--- Asked of the desk over the files of a place: they keep it from the desk; or the desk tells it with the settings that were read, from
--- the ledger that the file shows, between a line that tells of a new database and what is told of the close.
+-- what is told is such a thing, and it is printed
+abbrev pub PrintsTold : (Result Told Fault → Type 0) → Outlets → ℕ → Type 0
+PrintsTold Is o status = (told : Result Told Fault) × Is told × EndsWith told o status
+
+-- Asked of the desk over the files of a place: they keep it from the desk; or the desk tells it with the
+-- settings that were read, from the ledger that the file shows, between a line that tells of a new database
+-- and what is told of the close.
 abbrev pub AsksOver : PlaceValue → Files → (SettingsValue → State → Result Told Fault → State → Type 0) → Outlets → ℕ → Type 0
 AsksOver place files Tells o status =
     ((trouble : Trouble) × KeepsOff place.reads place.fails_to_read place.refuses files trouble × EndsTrouble trouble o status)
@@ -110,8 +115,9 @@ IsRight (Batch id) audits told = ⊤
 IsRight (Takings range) audits told = ⊤
 IsRight Counters audits told = TellsRightly audits told
 
--- Whatever the file at the path holds: the settings or the file keep a question from the desk, or what is told is right about the desk as
--- it was opened, which stands at the ledger that the file shows, if it shows one. The desk is closed then.
+-- Whatever the file at the path holds: the settings or the file keep a question from the desk, or what is
+-- told is right about the desk as it was opened, which stands at the ledger that the file shows, if it shows
+-- one. The desk is closed then.
 abbrev pub AsksRightly : PlaceValue → Files → Question → Outlets → ℕ → Type 0
 AsksRightly place files question o status =
     ((trouble : Trouble) × KeepsOff place.reads place.fails_to_read place.refuses files trouble × EndsTrouble trouble o status)

@@ -3,4 +3,5 @@ pub mod Places
 pub mod Asking
 pub mod Answering
 pub mod Serving
+pub mod Bounds
 pub mod Program

@@ -32,11 +32,12 @@ AreRead reads settings = (bytes : List ℕ) × reads bytes × IsSettingsFile byt
 abbrev pub AreNone : (List ℕ → Type 0) → Type 0
 AreNone reads = (bytes : List ℕ) × reads bytes × ((settings : SettingsValue) → ¬ IsSettingsFile bytes settings)
 
--- What is supposed of a place: what may be read of the file at a path, which ledger the file at a path shows, and whether it holds no
--- database; which desk was opened over it, with its log copied before or not; and what the place answers where it does not read the file, or
--- does not open it. Of its desks: whether the store of one returned what was written to it, what it stands at, which answer of an audit is
--- right, which tables a stop may leave of one and which ledger those show, what is left of one that is closed, and what the place answers
--- where it does not close one. And why no store was made in memory.
+-- What is supposed of a place: what may be read of the file at a path, which ledger the file at a path shows,
+-- and whether it holds no database; which desk was opened over it, with its log copied before or not; and
+-- what the place answers where it does not read the file, or does not open it. Of its desks: whether the
+-- store of one returned what was written to it, what it stands at, which answer of an audit is right, which
+-- tables a stop may leave of one and which ledger those show, what is left of one that is closed, and what
+-- the place answers where it does not close one. And why no store was made in memory.
 pub record PlaceValue : Type 1 where
   pub Desk : Type 0
   pub Tables : Type 0
@@ -55,42 +56,23 @@ pub record PlaceValue : Type 1 where
   pub fails_to_close : Desk → List ℕ → Trouble → Type 0
   pub fails_to_make : Fault → Type 0
 
-abbrev pub place_of : {Desk Tables : Type 0} → (Desk → Type 0) → (Desk → State → Type 0) → (Desk → Bool → Type 0) → (Desk → Tables → Type 0)
-    → (Tables → Ledger → Type 0) → (List ℕ → List ℕ → Type 0) → (List ℕ → Ledger → Type 0) → (List ℕ → Bool → Type 0) → (List ℕ → Bool → Desk → Type 0) → (Desk → Type 0)
-    → (List ℕ → Trouble → Type 0) → (List ℕ → Trouble → Type 0) → (Desk → List ℕ → Trouble → Type 0) → (Fault → Type 0) → PlaceValue
-place_of is_honest stands audits may_leave tables_show reads shows finds opens closes fails_to_read refuses fails_to_close fails_to_make = record {
-  Desk = _;
-  Tables = _;
-  is_honest = is_honest;
-  stands = stands;
-  audits = audits;
-  may_leave = may_leave;
-  tables_show = tables_show;
-  reads = reads;
-  shows = shows;
-  finds = finds;
-  opens = opens;
-  closes = closes;
-  fails_to_read = fails_to_read;
-  refuses = refuses;
-  fails_to_close = fails_to_close;
-  fails_to_make = fails_to_make;
-}
-
--- A desk over the file at a path is closed, and what is left of it is known; or it is not, and what the place answers is told.
+-- A desk over the file at a path is closed, and what is left of it is known; or it is not, and what the place
+-- answers is told.
 abbrev pub Closes : {Desk : Type 0} → (Desk → Type 0) → (Desk → List ℕ → Trouble → Type 0) → Desk → List ℕ → Option (List ℕ) → Option (List ℕ) → Type 0
 Closes closes fails desk path printed printed_after =
     (closes desk × Keeps printed printed_after)
     ⊎ ((trouble : Trouble) × (IsOfFile trouble.fault × IsAt path trouble) × fails desk path trouble × Reports trouble printed printed_after)
 
--- Each set of tables that a stop at this moment may leave of a desk shows a ledger that its state allows, and that is sound.
+-- Each set of tables that a stop at this moment may leave of a desk shows a ledger that its state allows, and
+-- that is sound.
 abbrev pub LeavesBy : (place : PlaceValue) → place.Desk → State → Type 0
 LeavesBy place desk new =
     (tables : place.Tables) → place.may_leave desk tables → (found : Ledger) × MayStand new found × place.tables_show tables found × IsSound found
 
--- Done by the desk that was opened over the file at a path, with the log copied before or not, and that is closed then: it ends in one of
--- the ways that there are, and what it does goes, as long as its store returned what was written to it, from the ledger that the file shows
--- to what the desk then stands at, which is what a stop leaves. Both speak of standard error before the close.
+-- Done by the desk that was opened over the file at a path, with the log copied before or not, and that is
+-- closed then: it ends in one of the ways that there are, and what it does goes, as long as its store
+-- returned what was written to it, from the ledger that the file shows to what the desk then stands at, which
+-- is what a stop leaves. Both speak of standard error before the close.
 abbrev pub ByDesk : PlaceValue → List ℕ → Bool → Bool → Option (List ℕ) → (Option (List ℕ) → Type 0) → (Option (List ℕ) → State → State → Type 0) → Type 0
 ByDesk place path copies is_new printed_after Ends Does =
     (opened desk : place.Desk) × (printed : Option (List ℕ)) × place.opens path copies opened
@@ -99,15 +81,15 @@ ByDesk place path copies is_new printed_after Ends Does =
     × ((L : Ledger) → place.shows path L → place.stands opened (running L)
     × ((new : State) × place.stands desk new × LeavesBy place desk new × Does printed (running L) new)))
 
--- No settings came of the file at a path: the place does not read it; or bytes may be read there that are no settings; or there was no
--- memory to tell.
+-- No settings came of the file at a path: the place does not read it; or bytes may be read there that are no
+-- settings; or there was no memory to tell.
 abbrev pub AreMissed : (List ℕ → Type 0) → (Trouble → Type 0) → Trouble → Type 0
 AreMissed reads fails trouble =
     (IsOfFile trouble.fault × fails trouble)
     ⊎ (((trouble.fault ≡ Settings) × AreNone reads) ⊎ ((trouble.fault ≡ NoMemory) × ((bytes : List ℕ) × reads bytes)))
 
--- The settings or the database file keep a command from the desk: there are no settings; or there are, and the place does not open the
--- database.
+-- The settings or the database file keep a command from the desk: there are no settings; or there are, and
+-- the place does not open the database.
 abbrev pub KeepsOff : (List ℕ → List ℕ → Type 0) → (List ℕ → Trouble → Type 0) → (List ℕ → Trouble → Type 0) → Files → Trouble → Type 0
 KeepsOff reads fails_to_read refuses files trouble =
     (IsAt files.settings.now trouble × AreMissed (reads files.settings.now) (fails_to_read files.settings.now) trouble)

@@ -22,7 +22,8 @@ use Rattle.portal_program.specs.declared.asking.Question.TheVariants.{Counters}
 use Rattle.portal_program.specs.Places.{PlaceValue}
 use Rattle.portal_program.specs.Serving.{NetworkValue, ServesOver}
 
--- why the words of the command line could not be copied: what the user wrote is not UTF-8, or there was no memory
+-- why the words of the command line could not be copied: what the user wrote is not UTF-8, or there was no
+-- memory
 abbrev pub fault_of_words : ErrorKind → Fault
 fault_of_words InvalidData = Usage
 fault_of_words _ = NoMemory

@@ -27,9 +27,6 @@ pub record NetworkValue : Type 1 where
   pub host : HostValue
   pub listens : ℕ → host.Host → Type 0
 
-abbrev pub network_of : (host : HostValue) → (ℕ → host.Host → Type 0) → NetworkValue
-network_of host listens = record { host = host; listens = listens }
-
 -- The port was had, and turns are taken of the host there; or it was not, and nothing comes of it.
 abbrev pub ServesAt : NetworkValue → Listening → SettingsValue → Outlets → ℕ → State → State → Type 0
 ServesAt network at settings o status old new =
@@ -37,8 +34,9 @@ ServesAt network at settings o status old new =
     ⊎ ((before : network.host.Host) × (after : network.host.Host) × (ended : Result (Unit {0}) Fault)
     × network.listens at.port before × (status ≡ status_at ended) × TellsTurns network.host settings at.port at.count o before old ended after new)
 
--- Served by the desk over the files of a place: they keep it from the desk; or it is served with the settings that were read, from the
--- ledger that the file shows, by a desk that was opened after what the log held was copied into the file.
+-- Served by the desk over the files of a place: they keep it from the desk; or it is served with the settings
+-- that were read, from the ledger that the file shows, by a desk that was opened after what the log held was
+-- copied into the file.
 abbrev pub ServesOver : PlaceValue → Files → NetworkValue → Listening → Outlets → ℕ → Type 0
 ServesOver place files network at o status =
     ((trouble : Trouble) × KeepsOff place.reads place.fails_to_read place.refuses files trouble × EndsTrouble trouble o status)

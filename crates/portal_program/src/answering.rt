@@ -3,13 +3,15 @@ ghost use Rattle.std.specs.Prelude.{◌≡◌, ⊤, ℕ, List, Bool, IfErr, IfOk
 ghost use Rattle.std.specs.Borrow.{Bor};
 ghost use Rattle.hex.specs.Hex.{decode_of};
 ghost use Rattle.portal_ledger.specs.Ledger.{Ledger};
-ghost use Rattle.portal_ledger.specs.States.{State, running};
+ghost use Rattle.portal_ledger.specs.States.{running};
 ghost use Rattle.portal_desk.specs.Calls.{is_over};
 ghost use Rattle.portal_files.specs.Sample.{IsSample};
-ghost use Rattle.portal_http.specs.Exchanges.{between};
 ghost use Rattle.portal_http.specs.Headline.{Survives};
 ghost use Rattle.portal_http.specs.Runs.{Served};
-ghost use Rattle.portal_program.specs.Places.{AreRead, place_of};
+ghost use Rattle.portal_serve.specs.Asks.{KeepsSettings, LeadsDesk};
+ghost use Rattle.portal_serve.specs.Turns.{wire_of};
+ghost use Rattle.portal_program.specs.Places.{AreRead};
+ghost use Rattle.portal_program.specs.Bounds.{place_of};
 ghost use Rattle.portal_program.specs.Answering.{status_for, EndsAnswering, EndsStatus, IsInRange, IsOfNamed, AnswersFresh, AnswersStored, IsAnswered, EndsAnswer};
 
 use crate::place::{Opened, Place, close_desk, settings_at};
@@ -37,8 +39,8 @@ pub struct Request<'a> {
     pub seed: &'a str,
 }
 
-/// The status with which the program ends after a response: 0 after 200, 3 after the 503 of a desk that has stopped, 1 after
-/// any other.
+/// The status with which the program ends after a response: 0 after 200, 3 after the 503 of a desk that has
+/// stopped, 1 after any other.
 fn status_for(status: u16, is_stopped: bool) -> u8
     ensures { result ≡ status_for status is_stopped }
 {
@@ -51,8 +53,9 @@ fn status_for(status: u16, is_stopped: bool) -> u8
     }
 }
 
-/// Answers the request on `input` with a response on `output`, as `exchange` does, and gives the status with which the program
-/// ends: 0 after a response of status 200, 3 after a 503 where the desk has then stopped, 1 after any other. Fault: `Cut`.
+/// Answers the request on `input` with a response on `output`, as `exchange` does, and gives the status with
+/// which the program ends: 0 after a response of status 200, 3 after a 503 where the desk has then stopped, 1
+/// after any other. Fault: `Cut`.
 pub fn answer_at<D: Desk, R: Read, W: Write>(
     alloc: Global,
     desk: &mut D,
@@ -62,16 +65,20 @@ pub fn answer_at<D: Desk, R: Read, W: Write>(
     input: &mut R,
     output: &mut W,
 ) -> Result<u8, Fault>
-    ensures told { D.settings desk.new ≡ D.settings desk.old }
-    ensures honest { D.is_honest desk.new → D.is_honest desk.old }
-    ensures wire { (is_stopped : Bool) × EndsAnswering (between (R.remaining input.old) (R.remaining input.new) (W.contents output.old) (W.contents output.new))
+    ensures settings { KeepsSettings D.Desk desk.old desk.new }
+    ensures wire { (is_stopped : Bool)
+        × EndsAnswering (wire_of R.Read W.Write input.old input.new output.old output.new)
         moment seed (λ arrivals responses. ⊤) is_stopped result }
-    ensures served { D.is_honest desk.new → (old : State) → D.stands desk.old old → (new : State) × D.stands desk.new new
-        × EndsAnswering (between (R.remaining input.old) (R.remaining input.new) (W.contents output.old) (W.contents output.new))
-        moment seed (λ arrivals responses. Served (D.settings desk.old) old arrivals responses new) (is_over new) result }
-    ensures survives { D.is_honest desk.new → (L : Ledger) → D.stands desk.old (running L) → (is_stopped : Bool)
-        × EndsAnswering (between (R.remaining input.old) (R.remaining input.new) (W.contents output.old) (W.contents output.new))
-        moment seed (λ arrivals responses. Survives D.Files (D.may_leave desk.new) D.shows (D.settings desk.old) L arrivals responses) is_stopped result }
+    ensures served { LeadsDesk D.Desk desk.old desk.new (λ old new.
+        EndsAnswering (wire_of R.Read W.Write input.old input.new output.old output.new) moment seed
+        (λ arrivals responses. Served (D.settings desk.old) old arrivals responses new)
+        (is_over new) result) }
+    ensures survives { D.is_honest desk.new → (L : Ledger) → D.stands desk.old (running L)
+        → (is_stopped : Bool)
+        × EndsAnswering (wire_of R.Read W.Write input.old input.new output.old output.new) moment seed
+        (λ arrivals responses.
+        Survives D.Files (D.may_leave desk.new) D.shows (D.settings desk.old) L arrivals responses)
+        is_stopped result }
 {
     match exchange(alloc, desk, routes, moment, seed, input, output) {
         Ok(done) => Ok(status_for(done.status, desk.is_stopped())),
@@ -94,18 +101,17 @@ fn read_values(now: u64, seed: &str) -> Result<(Moment, [u8; 32]), Fault>
     }
 }
 
-/// The settings in the file at a path, or the sample settings where none is named. Faults: those of `settings_at`.
+/// The settings in the file at a path, or the sample settings where none is named. Faults: those of
+/// `settings_at`.
 fn settings_of<P: Place>(alloc: Global, place: &P, path: Option<&str>) -> Result<Settings, Trouble>
     ensures sample { IfOk result (λ settings. path.entry ≡ None → IsSample settings) }
-    ensures read { IfOk result (λ settings. (file : Bor (List ℕ)) → path.entry ≡ Some file → AreRead (P.reads place.now file.now) settings) }
+    ensures read { IfOk result (λ settings.
+        (file : Bor (List ℕ)) → path.entry ≡ Some file → AreRead (P.reads place.now file.now) settings) }
     ensures why { IfErr result (IsOfNamed (P.reads place.now) (P.fails_to_read place.now) path.entry) }
 {
     match path {
         Some(path) => settings_at(alloc, place, path),
-        None => match sample_settings(alloc) {
-            Ok(settings) => Ok(settings),
-            Err(_) => Err(Trouble::plain(Fault::NoMemory)),
-        },
+        None => sample_settings(alloc).map_err(|_| Trouble::plain(Fault::NoMemory)),
     }
 }
 
@@ -119,7 +125,8 @@ fn end_answer<E: Write>(answered: Result<u8, Fault>, errors: &mut E) -> u8
     }
 }
 
-/// The answer of a desk over an empty store in memory. Faults: those of the store before anything is read, and `Cut`.
+/// The answer of a desk over an empty store in memory. Faults: those of the store before anything is read,
+/// and `Cut`.
 fn answer_fresh<P: Place, R: Read, W: Write, E: Write>(
     alloc: Global,
     settings: Settings,
@@ -130,7 +137,8 @@ fn answer_fresh<P: Place, R: Read, W: Write, E: Write>(
     output: &mut W,
     errors: &mut E,
 ) -> u8
-    ensures { AnswersFresh P.fails_to_make (between (R.remaining input.old) (R.remaining input.new) (W.contents output.old) (W.contents output.new))
+    ensures { AnswersFresh P.fails_to_make
+        (wire_of R.Read W.Write input.old input.new output.old output.new)
         (E.contents errors.old) (E.contents errors.new) moment seed settings result }
 {
     match P::open_fresh(alloc, settings) {
@@ -143,8 +151,8 @@ fn answer_fresh<P: Place, R: Read, W: Write, E: Write>(
     }
 }
 
-/// The answer of a desk over a file, which is closed then. Faults: those of the file before anything is read, and `Cut`; a
-/// fault of closing is told after it, and the status stays.
+/// The answer of a desk over a file, which is closed then. Faults: those of the file before anything is read,
+/// and `Cut`; a fault of closing is told after it, and the status stays.
 fn answer_stored<P: Place, R: Read, W: Write, E: Write>(
     alloc: Global,
     place: P,
@@ -157,8 +165,9 @@ fn answer_stored<P: Place, R: Read, W: Write, E: Write>(
     output: &mut W,
     errors: &mut E,
 ) -> u8
-    ensures { AnswersStored (place_of P.Stored.is_honest P.Stored.stands P.Stored.audits P.Stored.may_leave P.Stored.shows (P.reads place) (P.shows place) (P.finds place) (P.opens place) P.closes (P.fails_to_read place) (P.refuses place) P.fails_to_close P.fails_to_make) path.entry.now
-        (between (R.remaining input.old) (R.remaining input.new) (W.contents output.old) (W.contents output.new)) (E.contents errors.old) (E.contents errors.new) moment seed settings result }
+    ensures { AnswersStored (place_of P.Place P.Stored.Desk place) path.entry.now
+        (wire_of R.Read W.Write input.old input.new output.old output.new)
+        (E.contents errors.old) (E.contents errors.new) moment seed settings result }
 {
     match place.open(alloc, path, settings, false) {
         Err(trouble) => trouble.report(errors),
@@ -187,8 +196,9 @@ fn answer_by<P: Place, R: Read, W: Write, E: Write>(
     output: &mut W,
     errors: &mut E,
 ) -> u8
-    ensures { IsAnswered (place_of P.Stored.is_honest P.Stored.stands P.Stored.audits P.Stored.may_leave P.Stored.shows (P.reads place) (P.shows place) (P.finds place) (P.opens place) P.closes (P.fails_to_read place) (P.refuses place) P.fails_to_close P.fails_to_make)
-        (between (R.remaining input.old) (R.remaining input.new) (W.contents output.old) (W.contents output.new)) (E.contents errors.old) (E.contents errors.new) moment seed db.entry settings result }
+    ensures { IsAnswered (place_of P.Place P.Stored.Desk place)
+        (wire_of R.Read W.Write input.old input.new output.old output.new)
+        (E.contents errors.old) (E.contents errors.new) moment seed db.entry settings result }
 {
     let Ok(routes) = Routes::new(alloc) else {
         return Fault::NoMemory.report(errors);
@@ -203,14 +213,16 @@ fn answer_by<P: Place, R: Read, W: Write, E: Write>(
     }
 }
 
-/// Answers the request on `input` with a response on `output`, and gives the status with which the program ends: 0 where the
-/// response's status is 200, 3 where it is 503 and the desk has then stopped, 1 at any other.
+/// Answers the request on `input` with a response on `output`, and gives the status with which the program
+/// ends: 0 where the response's status is 200, 3 where it is 503 and the desk has then stopped, 1 at any
+/// other.
 ///
-/// A fault is printed on `errors`. The faults are found in this order, all but the last before anything is read: `usage`,
-/// status 2, where `now` is past the greatest moment, 253,370,764,799, or `seed` is not 64 hexadecimal digits; those of the
-/// settings file (`file`, `no_memory`, `settings`); those of the database file (`file`, `no_memory`, `not_ours`, `newer`);
-/// `cut`, where a read or a write fails or there is no memory for the request or for any response; each status 3. A database
-/// file is closed then: a fault of that is told last, and the status stays.
+/// A fault is printed on `errors`. The faults are found in this order, all but the last before anything is
+/// read: `usage`, status 2, where `now` is past the greatest moment, 253,370,764,799, or `seed` is not 64
+/// hexadecimal digits; those of the settings file (`file`, `no_memory`, `settings`); those of the database
+/// file (`file`, `no_memory`, `not_ours`, `newer`); `cut`, where a read or a write fails or there is no
+/// memory for the request or for any response; each status 3. A database file is closed then: a fault of that
+/// is told last, and the status stays.
 pub fn answer<P: Place, R: Read, W: Write, E: Write>(
     alloc: Global,
     place: P,
@@ -219,8 +231,8 @@ pub fn answer<P: Place, R: Read, W: Write, E: Write>(
     output: &mut W,
     errors: &mut E,
 ) -> u8
-    ensures { EndsAnswer (place_of P.Stored.is_honest P.Stored.stands P.Stored.audits P.Stored.may_leave P.Stored.shows (P.reads place) (P.shows place) (P.finds place) (P.opens place) P.closes (P.fails_to_read place) (P.refuses place) P.fails_to_close P.fails_to_make)
-        (between (R.remaining input.old) (R.remaining input.new) (W.contents output.old) (W.contents output.new))
+    ensures { EndsAnswer (place_of P.Place P.Stored.Desk place)
+        (wire_of R.Read W.Write input.old input.new output.old output.new)
         (E.contents errors.old) (E.contents errors.new) request.entry.now result }
 {
     let (moment, seed) = match read_values(request.now, request.seed) {

@@ -1,11 +1,8 @@
 //! What the commands share that only ask the desk: `print`, `takings` and `check`.
-ghost use Rattle.std.specs.Prelude.{◌≡◌, Result};
-ghost use Rattle.portal_ledger.specs.States.{State};
-ghost use Rattle.portal_ends.specs.declared.fault.Fault.{Fault as Said};
-ghost use Rattle.portal_ends.specs.declared.ending.Told.{Told as Answered};
-ghost use Rattle.portal_ends.specs.Ends.{EndsWith};
-ghost use Rattle.portal_program.specs.Asking.{AsksOver, AsksRightly, IsOfDesk, IsRight, TellsOf};
-ghost use Rattle.portal_program.specs.Places.{place_of};
+ghost use Rattle.portal_ends.specs.Streams.{outlets};
+ghost use Rattle.portal_serve.specs.Asks.{KeepsSettings, LeadsDesk};
+ghost use Rattle.portal_program.specs.Asking.{AsksOver, AsksRightly, IsOfDesk, IsRight, PrintsTold, TellsOf};
+ghost use Rattle.portal_program.specs.Bounds.{place_of};
 
 use crate::checking::check_at;
 use crate::place::{Files, Opened, Place, close_desk, open_desk};
@@ -28,8 +25,8 @@ pub enum Question<'a> {
     Counters,
 }
 
-/// Asks the desk, prints what it tells, and gives the status with which the program ends, as `print_at`, `takings_at` and
-/// `check_at` say.
+/// Asks the desk, prints what it tells, and gives the status with which the program ends, as `print_at`,
+/// `takings_at` and `check_at` say.
 pub fn ask_at<D: Desk, W: Write, E: Write>(
     alloc: Global,
     desk: &mut D,
@@ -37,14 +34,15 @@ pub fn ask_at<D: Desk, W: Write, E: Write>(
     output: &mut W,
     errors: &mut E,
 ) -> u8
-    ensures told { D.settings desk.new ≡ D.settings desk.old }
-    ensures honest { D.is_honest desk.new → D.is_honest desk.old }
-    ensures ends { (told : Result Answered Said) × IsOfDesk told × EndsWith told (record { output = W.contents output.old; output_after = W.contents output.new; errors = E.contents errors.old; errors_after = E.contents errors.new }) result }
-    ensures asked { D.is_honest desk.new → (old : State) → D.stands desk.old old → (new : State) × D.stands desk.new new
-        × ((told : Result Answered Said) × TellsOf question.entry.now (D.settings desk.old) old told new
-        × EndsWith told (record { output = W.contents output.old; output_after = W.contents output.new; errors = E.contents errors.old; errors_after = E.contents errors.new }) result) }
-    ensures exact { (told : Result Answered Said) × EndsWith told (record { output = W.contents output.old; output_after = W.contents output.new; errors = E.contents errors.old; errors_after = E.contents errors.new }) result
-        × (D.is_honest desk.new → IsRight question.entry.now (D.audits desk.old) told) }
+    ensures settings { KeepsSettings D.Desk desk.old desk.new }
+    ensures ends { PrintsTold IsOfDesk
+        (outlets W.Write E.Write output.old output.new errors.old errors.new) result }
+    ensures asked { LeadsDesk D.Desk desk.old desk.new (λ old new.
+        PrintsTold (λ told. TellsOf question.entry.now (D.settings desk.old) old told new)
+        (outlets W.Write E.Write output.old output.new errors.old errors.new) result) }
+    ensures exact { PrintsTold
+        (λ told. D.is_honest desk.new → IsRight question.entry.now (D.audits desk.old) told)
+        (outlets W.Write E.Write output.old output.new errors.old errors.new) result }
 {
     match *question {
         Question::Batch(batch) => print_at(alloc, desk, batch, output, errors),
@@ -53,11 +51,13 @@ pub fn ask_at<D: Desk, W: Write, E: Write>(
     }
 }
 
-/// Asks the desk over a file, prints what it tells, closes the desk, and gives the status with which the program ends.
+/// Asks the desk over a file, prints what it tells, closes the desk, and gives the status with which the
+/// program ends.
 ///
-/// The faults are found in this order: those of the settings file (`file`, `no_memory`, `settings`), those of the database file
-/// (`file`, `no_memory`, `not_ours`, `newer`), each status 3, and then those of `ask_at`. A database that is made, since none stood
-/// there, is told on `errors` in one line first, and a fault of closing last; the status stays.
+/// The faults are found in this order: those of the settings file (`file`, `no_memory`, `settings`), those of
+/// the database file (`file`, `no_memory`, `not_ours`, `newer`), each status 3, and then those of `ask_at`. A
+/// database that is made, since none stood there, is told on `errors` in one line first, and a fault of
+/// closing last; the status stays.
 pub fn ask<P: Place, W: Write, E: Write>(
     alloc: Global,
     place: P,
@@ -66,10 +66,10 @@ pub fn ask<P: Place, W: Write, E: Write>(
     output: &mut W,
     errors: &mut E,
 ) -> u8
-    ensures over { AsksOver (place_of P.Stored.is_honest P.Stored.stands P.Stored.audits P.Stored.may_leave P.Stored.shows (P.reads place) (P.shows place) (P.finds place) (P.opens place) P.closes (P.fails_to_read place) (P.refuses place) P.fails_to_close P.fails_to_make) files.entry
-        (TellsOf question.entry.now) (record { output = W.contents output.old; output_after = W.contents output.new; errors = E.contents errors.old; errors_after = E.contents errors.new }) result }
-    ensures exact { AsksRightly (place_of P.Stored.is_honest P.Stored.stands P.Stored.audits P.Stored.may_leave P.Stored.shows (P.reads place) (P.shows place) (P.finds place) (P.opens place) P.closes (P.fails_to_read place) (P.refuses place) P.fails_to_close P.fails_to_make) files.entry question.entry.now
-        (record { output = W.contents output.old; output_after = W.contents output.new; errors = E.contents errors.old; errors_after = E.contents errors.new }) result }
+    ensures over { AsksOver (place_of P.Place P.Stored.Desk place) files.entry (TellsOf question.entry.now)
+        (outlets W.Write E.Write output.old output.new errors.old errors.new) result }
+    ensures exact { AsksRightly (place_of P.Place P.Stored.Desk place) files.entry question.entry.now
+        (outlets W.Write E.Write output.old output.new errors.old errors.new) result }
 {
     match open_desk(alloc, place, files, false) {
         Err(trouble) => trouble.report(errors),

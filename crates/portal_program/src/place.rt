@@ -39,7 +39,8 @@ pub trait Place: Drop {
     /// Whether the file at a path is supposed to hold no database.
     ghost finds: { Self → List ℕ → Bool → Type 0 };
 
-    /// The file at a path was opened to a desk; where it is true, what its log held was copied into the file before.
+    /// The file at a path was opened to a desk; where it is true, what its log held was copied into the file
+    /// before.
     ghost opens: { Self → List ℕ → Bool → Self.Stored → Type 0 };
 
     /// What is left of a desk over a file once it is closed.
@@ -63,9 +64,9 @@ pub trait Place: Drop {
         ensures refused { IfErr result (λ trouble. fails_to_read self.now path.now trouble) }
         ensures bytes { IfOk result (λ bytes. reads self.now path.now bytes.items) };
 
-    /// The desk over the file at a path, which is made where it is missing. Where it `copies`, what its log holds stands in the
-    /// file itself then. Faults: `File`, `NoMemory`, `NotOurs` where tables of another program stand there, and `Newer` where a
-    /// later version wrote it.
+    /// The desk over the file at a path, which is made where it is missing. Where it `copies`, what its log
+    /// holds stands in the file itself then. Faults: `File`, `NoMemory`, `NotOurs` where tables of another
+    /// program stand there, and `Newer` where a later version wrote it.
     fn open(
         self,
         alloc: Global,
@@ -78,11 +79,13 @@ pub trait Place: Drop {
         ensures told { IfOk result (λ opened. Self.Stored.settings opened.desk ≡ settings) }
         ensures opened { IfOk result (λ opened. opens self path.now copies opened.desk) }
         ensures stands { (L : Ledger) → shows self path.now L
-            → IfOk result (λ opened. Self.Stored.is_honest opened.desk → Self.Stored.stands opened.desk (running L)) }
-        ensures found { IfOk result (λ opened. Self.Stored.is_honest opened.desk → finds self path.now opened.is_new) };
+            → IfOk result (λ opened.
+            Self.Stored.is_honest opened.desk → Self.Stored.stands opened.desk (running L)) }
+        ensures found { IfOk result (λ opened.
+            Self.Stored.is_honest opened.desk → finds self path.now opened.is_new) };
 
-    /// Closes a desk over the file at a path: what its log holds is copied into the file, which then holds everything. Faults:
-    /// `File`, and `NoMemory`; the file and its log together hold everything then.
+    /// Closes a desk over the file at a path: what its log holds is copied into the file, which then holds
+    /// everything. Faults: `File`, and `NoMemory`; the file and its log together hold everything then.
     fn close(alloc: Global, path: &str, desk: Self::Stored) -> Result<(), Trouble>
         ensures why { IfErr result (λ trouble. IsOfFile trouble.fault × IsAt path.now trouble) }
         ensures refused { IfErr result (λ trouble. fails_to_close desk path.now trouble) }
@@ -114,40 +117,39 @@ pub struct Files<'a> {
 pub fn settings_at<P: Place>(alloc: Global, place: &P, path: &str) -> Result<Settings, Trouble>
     ensures why { IfErr result (λ trouble. IsOfSettings trouble.fault × IsAt path.now trouble) }
     ensures read { IfOk result (AreRead (P.reads place.now path.now)) }
-    ensures none { IfErr result (λ trouble. trouble.fault ≡ Fault.Settings → AreNone (P.reads place.now path.now)) }
-    ensures missed { IfErr result (AreMissed (P.reads place.now path.now) (P.fails_to_read place.now path.now)) }
+    ensures none { IfErr result (λ trouble.
+        trouble.fault ≡ Fault.Settings → AreNone (P.reads place.now path.now)) }
+    ensures missed { IfErr result
+        (AreMissed (P.reads place.now path.now) (P.fails_to_read place.now path.now)) }
 {
-    match place.read(alloc, path) {
-        Err(trouble) => Err(trouble),
-        Ok(bytes) => match read_settings(alloc, bytes.as_slice()) {
-            Ok(settings) => Ok(settings),
-            Err(FileFault::Bad) => Err(Trouble::plain(Fault::Settings)),
-            Err(FileFault::Memory) => Err(Trouble::plain(Fault::NoMemory)),
-        },
+    let bytes = place.read(alloc, path)?;
+    match read_settings(alloc, bytes.as_slice()) {
+        Ok(settings) => Ok(settings),
+        Err(FileFault::Bad) => Err(Trouble::plain(Fault::Settings)),
+        Err(FileFault::Memory) => Err(Trouble::plain(Fault::NoMemory)),
     }
 }
 
-/// The desk over the files that a command names. Faults: those of `settings_at`, and then those of `Place::open`.
+/// The desk over the files that a command names. Faults: those of `settings_at`, and then those of
+/// `Place::open`.
 pub fn open_desk<P: Place>(
     alloc: Global,
     place: P,
     files: Files<'_>,
     copies: bool,
 ) -> Result<Opened<P::Stored>, Trouble>
-    ensures why { IfErr result (KeepsOff (P.reads place) (P.fails_to_read place) (P.refuses place) files.entry) }
-    ensures told { IfOk result (λ opened. AreRead (P.reads place files.entry.settings.now) (P.Stored.settings opened.desk)) }
+    ensures why { IfErr result
+        (KeepsOff (P.reads place) (P.fails_to_read place) (P.refuses place) files.entry) }
+    ensures told { IfOk result (λ opened.
+        AreRead (P.reads place files.entry.settings.now) (P.Stored.settings opened.desk)) }
     ensures opened { IfOk result (λ opened. P.opens place files.entry.db.now copies opened.desk) }
     ensures stands { (L : Ledger) → P.shows place files.entry.db.now L
         → IfOk result (λ opened. P.Stored.is_honest opened.desk → P.Stored.stands opened.desk (running L)) }
-    ensures found { IfOk result (λ opened. P.Stored.is_honest opened.desk → P.finds place files.entry.db.now opened.is_new) }
+    ensures found { IfOk result (λ opened.
+        P.Stored.is_honest opened.desk → P.finds place files.entry.db.now opened.is_new) }
 {
-    match settings_at(alloc, &place, files.settings) {
-        Err(trouble) => Err(trouble),
-        Ok(settings) => match place.open(alloc, files.db, settings, copies) {
-            Ok(opened) => Ok(opened),
-            Err(trouble) => Err(trouble),
-        },
-    }
+    let settings = settings_at(alloc, &place, files.settings)?;
+    place.open(alloc, files.db, settings, copies)
 }
 
 /// Closes a desk over the file at a path. Where that fails, its fault is told on `errors`.

@@ -1,11 +1,9 @@
 //! The whole program, over its words, a place that holds its files, a reader and two writers.
 ghost use Rattle.std.specs.Prelude.{◌≡◌, map};
-ghost use Rattle.portal_http.specs.Exchanges.{between};
-ghost use Rattle.portal_program.specs.Places.{place_of};
-ghost use Rattle.portal_program.specs.Serving.{network_of};
-ghost use Rattle.portal_serve.specs.Turns.{host_of};
+ghost use Rattle.portal_program.specs.Bounds.{network_of, place_of};
+ghost use Rattle.portal_serve.specs.Turns.{wire_of};
 ghost use Rattle.portal_program.specs.Program.{EndsTelling, EndsOrder, EndsProgram, EndsServing};
-ghost use Rattle.portal_ends.specs.Streams.{Prints};
+ghost use Rattle.portal_ends.specs.Streams.{outlets, Prints};
 
 use crate::answering::{Request, answer};
 use crate::checking::check;
@@ -14,8 +12,7 @@ use crate::printing::print;
 use crate::serving::{Listening, Network, serve};
 use crate::takings::takings;
 use portal_cli::{NoOrder, Order, read_words, version_line};
-use portal_ends::{Fault, print_all};
-use portal_head::write_response;
+use portal_ends::{Fault, print_all, print_front};
 use std::alloc::Global;
 use std::convert::AsStr;
 use std::io::{Read, Write};
@@ -24,7 +21,8 @@ use std::io::{Read, Write};
 /// which go to `output`, 2 at a fault in the words, which goes to `errors`, and 3 where memory ran out
 /// or the text for `output` cannot be printed.
 fn tell<W: Write, E: Write>(told: &NoOrder, output: &mut W, errors: &mut E) -> u8
-    ensures { EndsTelling told.now (record { output = W.contents output.old; output_after = W.contents output.new; errors = E.contents errors.old; errors_after = E.contents errors.new }) result }
+    ensures { EndsTelling told.now
+        (outlets W.Write E.Write output.old output.new errors.old errors.new) result }
 {
     match told {
         NoOrder::Help(text) => print_all(text.as_bytes(), 0, output, errors),
@@ -39,13 +37,12 @@ fn tell_fault<E: Write>(text: &[u8], errors: &mut E) -> u8
     ensures status { result ≡ 2 }
     ensures printed { Prints (E.contents errors.old) (E.contents errors.new) text.now }
 {
-    match write_response(errors, text) {
-        Ok(()) => 2,
-        Err(_) => 2,
-    }
+    print_front(text, errors);
+    2
 }
 
-/// Serves at a port, and gives the status with which the program ends. Fault: `usage`, where the port is past 65,535.
+/// Serves at a port, and gives the status with which the program ends. Fault: `usage`, where the port is past
+/// 65,535.
 fn serve_order<P: Place, N: Network, W: Write, E: Write>(
     alloc: Global,
     place: P,
@@ -56,8 +53,9 @@ fn serve_order<P: Place, N: Network, W: Write, E: Write>(
     output: &mut W,
     errors: &mut E,
 ) -> u8
-    ensures { EndsServing (place_of P.Stored.is_honest P.Stored.stands P.Stored.audits P.Stored.may_leave P.Stored.shows (P.reads place) (P.shows place) (P.finds place) (P.opens place) P.closes (P.fails_to_read place) (P.refuses place) P.fails_to_close P.fails_to_make) files.entry
-        (network_of (host_of N.Bound.accepts N.Bound.stamps N.Bound.closes N.Bound.pauses N.Bound.Reader.remaining N.Bound.Writer.contents) (N.listens network.now)) port count (record { output = W.contents output.old; output_after = W.contents output.new; errors = E.contents errors.old; errors_after = E.contents errors.new }) result }
+    ensures { EndsServing (place_of P.Place P.Stored.Desk place) files.entry
+        (network_of N.Network N.Bound.Host N.Bound.Reader.Read N.Bound.Writer.Write network.now) port count
+        (outlets W.Write E.Write output.old output.new errors.old errors.new) result }
 {
     if port > 65_535 {
         return Fault::Usage.report(errors);
@@ -79,9 +77,10 @@ fn run_order<P: Place, N: Network, R: Read, W: Write, E: Write>(
     output: &mut W,
     errors: &mut E,
 ) -> u8
-    ensures { EndsOrder (place_of P.Stored.is_honest P.Stored.stands P.Stored.audits P.Stored.may_leave P.Stored.shows (P.reads place) (P.shows place) (P.finds place) (P.opens place) P.closes (P.fails_to_read place) (P.refuses place) P.fails_to_close P.fails_to_make)
-        (network_of (host_of N.Bound.accepts N.Bound.stamps N.Bound.closes N.Bound.pauses N.Bound.Reader.remaining N.Bound.Writer.contents) (N.listens network.now))
-        (between (R.remaining input.old) (R.remaining input.new) (W.contents output.old) (W.contents output.new)) (E.contents errors.old) (E.contents errors.new) order.entry result }
+    ensures { EndsOrder (place_of P.Place P.Stored.Desk place)
+        (network_of N.Network N.Bound.Host N.Bound.Reader.Read N.Bound.Writer.Write network.now)
+        (wire_of R.Read W.Write input.old input.new output.old output.new)
+        (E.contents errors.old) (E.contents errors.new) order.entry result }
 {
     match order {
         Order::Serve {
@@ -157,9 +156,10 @@ pub fn run_program<P: Place, N: Network, S: AsStr, R: Read, W: Write, E: Write>(
     output: &mut W,
     errors: &mut E,
 ) -> u8
-    ensures { EndsProgram (place_of P.Stored.is_honest P.Stored.stands P.Stored.audits P.Stored.may_leave P.Stored.shows (P.reads place) (P.shows place) (P.finds place) (P.opens place) P.closes (P.fails_to_read place) (P.refuses place) P.fails_to_close P.fails_to_make)
-        (network_of (host_of N.Bound.accepts N.Bound.stamps N.Bound.closes N.Bound.pauses N.Bound.Reader.remaining N.Bound.Writer.contents) (N.listens network.now))
-        (between (R.remaining input.old) (R.remaining input.new) (W.contents output.old) (W.contents output.new)) (E.contents errors.old) (E.contents errors.new) (map S.text words.now) result }
+    ensures { EndsProgram (place_of P.Place P.Stored.Desk place)
+        (network_of N.Network N.Bound.Host N.Bound.Reader.Read N.Bound.Writer.Write network.now)
+        (wire_of R.Read W.Write input.old input.new output.old output.new)
+        (E.contents errors.old) (E.contents errors.new) (map S.text words.now) result }
 {
     match read_words(alloc, words) {
         Ok(order) => run_order(alloc, place, network, order, input, output, errors),

@@ -1,14 +1,12 @@
 //! The command `takings`.
-ghost use Rattle.std.specs.Prelude.{◌≡◌, MatchResult, MatchOption, Result};
+ghost use Rattle.std.specs.Prelude.{MatchResult, MatchOption};
 ghost use Rattle.portal_days.specs.Span.{Span};
 ghost use Rattle.portal_ledger.specs.Calls.{ReadsThat};
-ghost use Rattle.portal_ledger.specs.States.{State};
 ghost use Rattle.portal_desk.specs.Calls.{CannotAnswer};
-ghost use Rattle.portal_ends.specs.declared.fault.Fault.{Fault as Said};
-ghost use Rattle.portal_ends.specs.declared.ending.Told.{Told as Answered};
-ghost use Rattle.portal_ends.specs.Ends.{EndsWith};
-ghost use Rattle.portal_program.specs.Asking.{IsOfDesk, IsReportOver, IsRangeText, TakesOver, TakesFrom};
-ghost use Rattle.portal_program.specs.Places.{place_of};
+ghost use Rattle.portal_ends.specs.Streams.{outlets};
+ghost use Rattle.portal_serve.specs.Asks.{KeepsSettings, LeadsDesk};
+ghost use Rattle.portal_program.specs.Asking.{IsOfDesk, IsReportOver, IsRangeText, PrintsTold, TakesOver, TakesFrom};
+ghost use Rattle.portal_program.specs.Bounds.{place_of};
 
 use crate::asking::{Question, ask};
 use crate::place::{Files, Place};
@@ -21,36 +19,27 @@ use portal_print::takings_text;
 use std::alloc::Global;
 use std::io::Write;
 
-/// The days that two texts name, the first and the last. None where one is no day as `YYYY-MM-DD` of the years 1969 to 9999,
-/// or they are no range of at most 366 days.
+/// The days that two texts name, the first and the last. None where one is no day as `YYYY-MM-DD` of the
+/// years 1969 to 9999, or they are no range of at most 366 days.
 pub fn read_range(from: &str, to: &str) -> Option<DayRange>
-    ensures { MatchOption result ((range : Span) → ¬ (IsRangeText from.now to.now range)) (IsRangeText from.now to.now) }
+    ensures { MatchOption result
+        ((range : Span) → ¬ (IsRangeText from.now to.now range))
+        (IsRangeText from.now to.now) }
 {
     text_names_day();
-    match read_day(from) {
-        None => None,
-        Some(first) => match read_day(to) {
-            None => None,
-            Some(last) => match DayRange::new(first, last) {
-                None => None,
-                Some(range) => Some(range),
-            },
-        },
-    }
+    let first = read_day(from)?;
+    let last = read_day(to)?;
+    DayRange::new(first, last)
 }
 
 /// The takings report over the days. Refusals: `NoMemory`, `Stopped`.
 fn report_over<D: Desk>(alloc: Global, desk: &mut D, range: DayRange) -> Result<Vec<u8>, Refusal>
-    ensures told { D.settings desk.new ≡ D.settings desk.old }
-    ensures honest { D.is_honest desk.new → D.is_honest desk.old }
-    ensures report { D.is_honest desk.new → (old : State) → D.stands desk.old old → (new : State) × D.stands desk.new new
-        × MatchResult result (λ text. ReadsThat old (λ H. IsReportOver (D.settings desk.old).zone range H text.items) new)
-        (λ r. CannotAnswer old r new) }
+    ensures settings { KeepsSettings D.Desk desk.old desk.new }
+    ensures report { LeadsDesk D.Desk desk.old desk.new (λ old new. MatchResult result
+        (λ text. ReadsThat old (λ H. IsReportOver (D.settings desk.old).zone range H text.items) new)
+        (λ r. CannotAnswer old r new)) }
 {
-    let days = match desk.takings(alloc, range) {
-        Ok(days) => days,
-        Err(r) => return Err(r),
-    };
+    let days = desk.takings(alloc, range)?;
     match takings_text(alloc, days.as_slice()) {
         Ok(text) => Ok(text.into_bytes()),
         Err(_) => Err(Refusal::NoMemory),
@@ -60,10 +49,9 @@ fn report_over<D: Desk>(alloc: Global, desk: &mut D, range: DayRange) -> Result<
 /// What `takings` tells.
 fn takings_told<D: Desk>(alloc: Global, desk: &mut D, range: DayRange) -> Result<Told, Fault>
     ensures desk { IsOfDesk result }
-    ensures told { D.settings desk.new ≡ D.settings desk.old }
-    ensures honest { D.is_honest desk.new → D.is_honest desk.old }
-    ensures takings { D.is_honest desk.new → (old : State) → D.stands desk.old old → (new : State) × D.stands desk.new new
-        × TakesOver (D.settings desk.old).zone range old result new }
+    ensures settings { KeepsSettings D.Desk desk.old desk.new }
+    ensures takings { LeadsDesk D.Desk desk.old desk.new (λ old new.
+        TakesOver (D.settings desk.old).zone range old result new) }
 {
     match report_over(alloc, desk, range) {
         Ok(text) => Ok(Told::Text(text)),
@@ -71,8 +59,9 @@ fn takings_told<D: Desk>(alloc: Global, desk: &mut D, range: DayRange) -> Result
     }
 }
 
-/// Prints the takings report over the days on `output`, and gives the status with which the program ends: 0; or 1 where there
-/// is no memory; or 3 where the desk has stopped or the report goes out in part alone. A fault's line is printed on `errors`.
+/// Prints the takings report over the days on `output`, and gives the status with which the program ends: 0;
+/// or 1 where there is no memory; or 3 where the desk has stopped or the report goes out in part alone. A
+/// fault's line is printed on `errors`.
 pub fn takings_at<D: Desk, W: Write, E: Write>(
     alloc: Global,
     desk: &mut D,
@@ -80,21 +69,22 @@ pub fn takings_at<D: Desk, W: Write, E: Write>(
     output: &mut W,
     errors: &mut E,
 ) -> u8
-    ensures told { D.settings desk.new ≡ D.settings desk.old }
-    ensures honest { D.is_honest desk.new → D.is_honest desk.old }
-    ensures ends { (told : Result Answered Said) × IsOfDesk told × EndsWith told (record { output = W.contents output.old; output_after = W.contents output.new; errors = E.contents errors.old; errors_after = E.contents errors.new }) result }
-    ensures takings { D.is_honest desk.new → (old : State) → D.stands desk.old old → (new : State) × D.stands desk.new new
-        × ((told : Result Answered Said) × TakesOver (D.settings desk.old).zone range old told new
-        × EndsWith told (record { output = W.contents output.old; output_after = W.contents output.new; errors = E.contents errors.old; errors_after = E.contents errors.new }) result) }
+    ensures settings { KeepsSettings D.Desk desk.old desk.new }
+    ensures ends { PrintsTold IsOfDesk
+        (outlets W.Write E.Write output.old output.new errors.old errors.new) result }
+    ensures takings { LeadsDesk D.Desk desk.old desk.new (λ old new.
+        PrintsTold (λ told. TakesOver (D.settings desk.old).zone range old told new)
+        (outlets W.Write E.Write output.old output.new errors.old errors.new) result) }
 {
     let told = takings_told(alloc, desk, range);
     end(&told, output, errors)
 }
 
-/// Prints the takings report of the desk over a file on `output`, over the days from `from` to `to`, and gives the status with
-/// which the program ends.
+/// Prints the takings report of the desk over a file on `output`, over the days from `from` to `to`, and
+/// gives the status with which the program ends.
 ///
-/// The faults are found in this order: `usage`, status 2, where `read_range` gives None; and then in that of `ask`.
+/// The faults are found in this order: `usage`, status 2, where `read_range` gives None; and then in that of
+/// `ask`.
 pub fn takings<P: Place, W: Write, E: Write>(
     alloc: Global,
     place: P,
@@ -104,8 +94,8 @@ pub fn takings<P: Place, W: Write, E: Write>(
     output: &mut W,
     errors: &mut E,
 ) -> u8
-    ensures { TakesFrom (place_of P.Stored.is_honest P.Stored.stands P.Stored.audits P.Stored.may_leave P.Stored.shows (P.reads place) (P.shows place) (P.finds place) (P.opens place) P.closes (P.fails_to_read place) (P.refuses place) P.fails_to_close P.fails_to_make) files.entry
-        from.now to.now (record { output = W.contents output.old; output_after = W.contents output.new; errors = E.contents errors.old; errors_after = E.contents errors.new }) result }
+    ensures { TakesFrom (place_of P.Place P.Stored.Desk place) files.entry from.now to.now
+        (outlets W.Write E.Write output.old output.new errors.old errors.new) result }
 {
     match read_range(from, to) {
         None => Fault::Usage.report(errors),

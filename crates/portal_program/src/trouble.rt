@@ -6,8 +6,7 @@ ghost use Rattle.portal_ends.specs.Faults.{status_of};
 ghost use Rattle.portal_ends.specs.Streams.{Prints};
 ghost use Rattle.portal_program.specs.Troubles.{second_line, new_line, IsOneLine, IsAt, Announces, Reports};
 
-use portal_ends::Fault;
-use portal_head::write_response;
+use portal_ends::{Fault, print_front};
 use std::alloc::{AllocError, Global};
 use std::io::Write;
 
@@ -16,8 +15,8 @@ use std::io::Write;
 pub struct Trouble {
     /// What it is called.
     pub fault: Fault,
-    /// The line that is printed after that of `file`: two spaces, the path, and what the system says. None where that is not
-    /// known, or there is no memory for it.
+    /// The line that is printed after that of `file`: two spaces, the path, and what the system says. None
+    /// where that is not known, or there is no memory for it.
     pub line: Option<String>,
 }
 
@@ -30,7 +29,8 @@ impl Trouble {
         Trouble { fault, line: None }
     }
 
-    /// `file`, with what the system says of the file at a path. A second line is left out where it would be more than one.
+    /// `file`, with what the system says of the file at a path. A second line is left out where it would be
+    /// more than one.
     pub fn of_file(alloc: Global, path: &str, text: &str) -> Trouble
         ensures fault { result.fault ≡ File }
         ensures at { IsAt path.now result }
@@ -38,12 +38,9 @@ impl Trouble {
         if !is_one_line(path) || !is_one_line(text) {
             return Trouble::plain(Fault::File);
         }
-        match second_line(alloc, path, text) {
-            Ok(line) => Trouble {
-                fault: Fault::File,
-                line: Some(line),
-            },
-            Err(_) => Trouble::plain(Fault::File),
+        Trouble {
+            fault: Fault::File,
+            line: second_line(alloc, path, text).ok(),
         }
     }
 
@@ -78,18 +75,8 @@ fn print_more<E: Write>(line: &Option<String>, errors: &mut E)
         (λ line. Prints (E.contents errors.old) (E.contents errors.new) (string_bytes line)) }
 {
     match line {
-        Some(line) => print_text(line.as_bytes(), errors),
+        Some(line) => print_front(line.as_bytes(), errors),
         None => {}
-    }
-}
-
-/// Prints a text, as far as it goes out.
-fn print_text<E: Write>(text: &[u8], errors: &mut E)
-    ensures { Prints (E.contents errors.old) (E.contents errors.new) text.now }
-{
-    match write_response(errors, text) {
-        Ok(()) => {}
-        Err(_) => {}
     }
 }
 
@@ -100,7 +87,8 @@ fn new_line(alloc: Global, path: &str) -> Result<String, AllocError>
     format!(in alloc; "portal: new database {path}\n")
 }
 
-/// Tells that the database at a path is new, where it is: none stood there. Nothing is told where there is no memory.
+/// Tells that the database at a path is new, where it is: none stood there. Nothing is told where there is no
+/// memory.
 pub fn announce<E: Write>(alloc: Global, path: &str, is_new: bool, errors: &mut E)
     ensures { Announces path.now is_new (E.contents errors.old) (E.contents errors.new) }
 {
@@ -114,7 +102,7 @@ fn announce_new<E: Write>(alloc: Global, path: &str, errors: &mut E)
     ensures { Prints (E.contents errors.old) (E.contents errors.new) (new_line path.now) }
 {
     match new_line(alloc, path) {
-        Ok(line) => print_text(line.as_bytes(), errors),
+        Ok(line) => print_front(line.as_bytes(), errors),
         Err(_) => {}
     }
 }

@@ -1,3 +1,4 @@
+pub mod Common
 pub mod HandedBack
 pub mod LifeLemmas
 pub mod RoundLemmas

@@ -1,17 +1,8 @@
 -- A whole life over two files keeps what was acknowledged.
-use Rattle.std.proofs.Common.{◌≡◌, ◌⊎◌, inl, inr, ℕ, List, [], ◌∷◌, length, take, refl, sym, subst}
-use Rattle.std.proofs.Math.Logic.{∥∥₁_elim, ∥∥₁_map}
-use Rattle.sqlite_wal.specs.Recovery.{Image}
+use Rattle.portal_rounds.proofs.Common.{◌≡◌, ◌⊎◌, inl, inr, ℕ, List, [], ◌∷◌, length, take, refl, sym, subst, ∥∥₁_elim, ∥∥₁_map, Image, Accepted, Ledger, history_of, IsSound, State, MayStand, SettingsValue, ImageShows, Arrived, Leads, IsInDoubt, Round, missed, ran, IsKept}
 use Rattle.portal_laws.proofs.Granted.{grants_bounded}
-use Rattle.portal_ledger.specs.Ledger.{Accepted, Ledger, history_of, IsSound}
-use Rattle.portal_ledger.specs.States.{State, MayStand}
 use Rattle.portal_ledger.proofs.Ledgers.{the_marked_once, the_sound_is_legal}
-use Rattle.portal_files.specs.SettingsFile.{SettingsValue}
-use Rattle.portal_tables.specs.Images.{ImageShows}
 use Rattle.portal_tables.proofs.StandingLemmas.{files_sound}
-use Rattle.portal_http.specs.Arrived.{Arrived}
-use Rattle.portal_http.specs.Headline.{Leads, IsInDoubt}
-use Rattle.portal_http.specs.Lives.{Round, missed, ran, IsKept}
 use Rattle.portal_http.proofs.HeadlineLemmas.{Ends, works, halts, doubts, ends}
 use Rattle.portal_rounds.specs.Life.{Life, LifeIsKept, IsFoundAfter}
 use Rattle.portal_rounds.proofs.ToldLemmas.{life_told}

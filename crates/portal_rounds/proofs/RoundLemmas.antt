@@ -1,33 +1,17 @@
 -- From what each step of a round leaves to what the round does.
-use Rattle.std.proofs.Common.{◌≡◌, ◌∙◌, inl, inr, ℕ, List, ◌++◌, sym, subst}
-use Rattle.std.specs.Prelude.{◌<◌, length, Result, MatchResult, Vec}
+use Rattle.portal_rounds.proofs.Common.{◌≡◌, ◌∙◌, inl, inr, ℕ, List, ◌++◌, sym, subst, ap, ◌<◌, length, Result, Ok, Err, IsErrAnd, MatchResult, Vec, ∥∥₁_map, Ghosts, Image, FileStore, Held, HasCleanDisk, HoldsDatabase, file_state, over_files, Ledger, State, MayStand, running, SettingsValue, ImageShows, DeskAt, DeskMayLeave, Arrived, ran, Served, bytes_of, Refusal}
 use Rattle.std.proofs.lemmas.List.{length-map}
 use Rattle.std.specs.declared.alloc.Global.{Global}
 use Rattle.std.proofs.lemmas.List.{append_cancel_left}
-use Rattle.std.proofs.Math.Logic.{∥∥₁_map}
-use Rattle.sqlite_disk.specs.declared.Disk.{Ghosts}
-use Rattle.sqlite_wal.specs.Recovery.{Image}
-use Rattle.sqlite_store.specs.declared.store.FileStore.{FileStore}
-use Rattle.sqlite.specs.Held.{Held}
-use Rattle.sqlite.specs.State.{HasCleanDisk}
-use Rattle.sqlite.specs.Files.{HoldsDatabase, file_state, over_files}
 use Rattle.sqlite.specs.Tree.{Trees}
-use Rattle.portal_ledger.specs.Ledger.{Ledger}
-use Rattle.portal_ledger.specs.States.{State, MayStand, running}
-use Rattle.portal_files.specs.SettingsFile.{SettingsValue}
 use Rattle.portal_tables.specs.Adopting.{FailsToAdopt}
 use Rattle.portal_tables.specs.declared.adopt.Refused.{Refused}
-use Rattle.portal_tables.specs.Images.{ImageHolds, ImageShows}
+use Rattle.portal_tables.specs.Images.{ImageHolds}
 use Rattle.portal_tables.specs.TablesAt.{ConnIsHonest, ConnLeaves, ConnMayLeave, FilesShow, Files as Tables}
 use Rattle.portal_tables.proofs.StandingLemmas.{conn_leaves}
 use Rattle.sqlite_trees.specs.declared.store.Store as stores
 use Rattle.portal_store.specs.declared.desks.StoreDesk.{StoreDesk}
-use Rattle.portal_store.specs.DeskAt.{DeskAt, DeskMayLeave}
 use Rattle.portal_store.specs.Laws.{left_by}
-use Rattle.portal_http.specs.Arrived.{Arrived}
-use Rattle.portal_http.specs.Lives.{ran}
-use Rattle.portal_http.specs.Runs.{Served, bytes_of}
-use Rattle.portal_model.specs.declared.refusal.Refusal.{Refusal}
 use Rattle.portal_rounds.specs.Life.{Allows}
 use Rattle.portal_rounds.specs.Rounds.{AreAnswered}
 
@@ -71,6 +55,11 @@ state_left s image MayLeave leaves held =
     ∥∥₁_map held (λ it.
     let left = leaves it.0 it.1 in
     let r : (found : Ledger) × MayStand s found × ImageShows image found = (left.0, left.1, inl (it.0, it.2, left.2)) in r)
+
+-- a result that is an error, by what the error is
+pub is_err : {A E : Type 0} (result : Result A E) (e : E) → IsErrAnd result (λ it. it ≡ e) → result ≡ Err e
+is_err (Ok a) e is = absurd is
+is_err (Err it) e is = ap (λ (x : _). Err x) is
 
 -- the bytes of the responses are as many as they
 pub answered : {U A : Type 0} (arrivals : List A) (responses : List (Vec ℕ Global)) (served : Result U Refusal) → AreAnswered arrivals responses served

@@ -1,28 +1,21 @@
 -- What was told of requests that act once is what is held at the end.
-use Rattle.std.proofs.Common.{◌≡◌, ◌⊎◌, inl, inr, ℕ, List, [], ◌∷◌, ◌++◌, length, take, Bool, true, false, cond, Option, Some, None, refl, sym, ap, subst, ◌∙◌}
-use Rattle.std.specs.Prelude.{Result, Ok, Err}
+use Rattle.portal_rounds.proofs.Common.{◌≡◌, ◌⊎◌, inl, inr, ℕ, List, [], ◌∷◌, ◌++◌, length, take, Bool, true, false, cond, Option, Some, None, refl, sym, ap, subst, ◌∙◌, Result, Ok, Err, Refusal, Accepted, Ledger, history_of, held_in, kept_with, repeat_of, repeat_in, taken_at, new_by, SettingsValue, Arrived, is_ok, with_command, Acknowledges, Replies, Leads, IsInDoubt, Round, missed, ran, IsKept}
 use Rattle.std.specs.Bool.{MatchBool}
 use Rattle.portal_model.specs.declared.command.Command.{Command}
 use Rattle.portal_model.specs.declared.change.Answer.{Answer}
-use Rattle.portal_model.specs.declared.refusal.Refusal.{Refusal}
 use Rattle.portal_model.specs.declared.refusal.Refusal.TheVariants.{IdReused, NoMemory, Stopped}
 use Rattle.portal_model.specs.Change.{answer_of}
 use Rattle.portal_model.specs.Verdict.{verdict}
 use Rattle.portal_ledger.specs.declared.request.KeptRequest.{KeptRequest}
 use Rattle.portal_ledger.specs.Mark.{Mark, same_request}
-use Rattle.portal_ledger.specs.Ledger.{Accepted, Ledger, history_of, held_in, kept_with, repeat_of, repeat_in, taken_at, new_by}
 use Rattle.portal_ledger.proofs.Ledgers.{held_now, the_held_stays}
 use Rattle.portal_ledger.proofs.Lives.{answered_held}
-use Rattle.portal_files.specs.SettingsFile.{SettingsValue}
 use Rattle.portal_checks.specs.declared.wanted.Wanted.{Wanted}
 use Rattle.portal_checks.specs.declared.wanted.Wanted.TheVariants.{State as Asks, Sheet, Voucher, Takings, OpenSessions, Act}
 use Rattle.portal_checks.specs.declared.denials.Denied.{Denied}
 use Rattle.portal_checks.specs.Checks.{IsChecked}
 use Rattle.portal_checks.proofs.CheckedOnce.{checked_once}
-use Rattle.portal_http.specs.Arrived.{Arrived}
 use Rattle.portal_http.specs.Replies.{IsRefusal, IsAnswer, IsVerdict, IsCommand, IsReply}
-use Rattle.portal_http.specs.Headline.{is_ok, with_command, Acknowledges, Replies, Leads, IsInDoubt}
-use Rattle.portal_http.specs.Lives.{Round, missed, ran, IsKept}
 use Rattle.portal_http.proofs.Lines.{refused_off}
 use Rattle.portal_rounds.specs.Told.{AreAsHeld, AllAsHeld}
 

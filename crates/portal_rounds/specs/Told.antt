@@ -1,4 +1,5 @@
--- What was told of requests that act once: each 200 to one has the answer that is kept under its caller and number.
+-- What was told of requests that act once: each 200 to one has the answer that is kept under its caller and
+-- number.
 use Rattle.std.specs.Prelude.{◌≡◌, ℕ, true, List, [], ◌∷◌, Some, Ok}
 use Rattle.portal_model.specs.declared.command.Command.{Command}
 use Rattle.portal_ledger.specs.Mark.{Mark}
@@ -12,7 +13,8 @@ use Rattle.portal_http.specs.Headline.{is_ok}
 use Rattle.portal_http.specs.Lives.{Round, missed, ran}
 use Rattle.portal_http.specs.Replies.{IsAnswer}
 
--- the response to a request with a number, where it is a 200, has the answer that the ledger holds under its caller and number
+-- the response to a request with a number, where it is a 200, has the answer that the ledger holds under its
+-- caller and number
 abbrev pub IsAsHeld : SettingsValue → Ledger → Arrived → List ℕ → Type 0
 IsAsHeld settings L a response = is_ok response ≡ true → (command : Command) (mark : Mark) → IsChecked settings a.seed a.bytes (Ok (Act command (Some mark)))
     → (kept : KeptRequest) × (held_in L mark ≡ Some kept) × IsAnswer kept.answer a.moment response

@@ -1,4 +1,5 @@
-//! Rounds of a desk over two files: they are opened, a desk takes them over, serves, and lets them go. And their life.
+//! Rounds of a desk over two files: they are opened, a desk takes them over, serves, and lets them go. And
+//! their life.
 #![tactic(auto)]
 
 mod desks;

@@ -2,16 +2,14 @@
 ghost use Rattle.std.specs.Prelude.{◌≡◌, ◌++◌, ℕ, IfErr, IfOk, IsTrue, List};
 ghost use Rattle.std.specs.Prelude.{Vec as Items};
 ghost use Rattle.std.specs.declared.alloc.Global.{Global as Heap};
-ghost use Rattle.sqlite_wal.specs.Recovery.{Image};
-ghost use Rattle.sqlite_wal.specs.Files.{outcomes};
 ghost use Rattle.sqlite_wal.specs.Reads.{AreClean};
 ghost use Rattle.sqlite.specs.Files.{image_of, over_files};
 ghost use Rattle.portal_ledger.specs.Ledger.{Ledger};
-ghost use Rattle.portal_ledger.specs.States.{State, MayStand, running};
+ghost use Rattle.portal_ledger.specs.States.{State, running};
 ghost use Rattle.portal_tables.specs.Images.{ImageShows};
 ghost use Rattle.portal_store.specs.DeskAt.{DeskAt, DeskIsHonest, settings_of};
 ghost use Rattle.portal_http.specs.Runs.{Served, bytes_of};
-ghost use Rattle.portal_rounds.specs.Rounds.{AreAnswered, Ends, IsHonest};
+ghost use Rattle.portal_rounds.specs.Rounds.{AreAnswered, EachImage, Ends, IsHonest, ShowsOneOf};
 
 use crate::desks::{Missed, let_go, open_desk};
 use portal_files::Settings;
@@ -23,14 +21,14 @@ use sqlite::{FileStore, Options};
 use sqlite_disk::{Disk, Files};
 use std::alloc::Global;
 
-/// Opens two files, takes their store over, serves the requests in order, appends one response for each to `out`, and
-/// lets the files go. Gives them back with the result of the run, which is `NoMemory` where no response could be made
-/// to a request.
+/// Opens two files, takes their store over, serves the requests in order, appends one response for each to
+/// `out`, and lets the files go. Gives them back with the result of the run, which is `NoMemory` where no
+/// response could be made to a request.
 ///
-/// Each image that a stop may then leave of the files shows what a round of a life allows, with just the responses that
-/// were handed out; of files that were not opened a stop leaves what `open_desk` says, and nothing was handed out. A stop
-/// within the round is covered by that: a disk that has stopped fails each later call and changes no more, so that the
-/// round ends with what the stop left.
+/// Each image that a stop may then leave of the files shows what a round of a life allows, with just the
+/// responses that were handed out; of files that were not opened a stop leaves what `open_desk` says, and
+/// nothing was handed out. A stop within the round is covered by that: a disk that has stopped fails each
+/// later call and changes no more, so that the round ends with what the stop left.
 pub fn round<D: Disk + Drop>(
     alloc: Global,
     files: Files<D>,
@@ -47,10 +45,8 @@ pub fn round<D: Disk + Drop>(
         → (responses : List (Items ℕ Heap)) × (out.new.items ≡ out.old.items ++ responses)
         × Ends settings files arrivals.now (bytes_of responses) result }
 {
-    match open_desk(alloc, files, options, settings) {
-        Ok(desk) => Ok(serve_round(alloc, desk, routes, arrivals, out)),
-        Err(missed) => Err(missed),
-    }
+    let desk = open_desk(alloc, files, options, settings)?;
+    Ok(serve_round(alloc, desk, routes, arrivals, out))
 }
 
 /// Serves the requests and lets the desk go.
@@ -63,12 +59,12 @@ fn serve_round<D: Disk + Drop>(
 ) -> (Result<(), Refusal>, Files<D>)
     ensures err { IfErr result.0 (λ r. r ≡ Refusal.NoMemory) }
     ensures honest { AreClean D.Disk result.1.log result.1.db → DeskIsHonest over_files desk }
-    ensures served { AreClean D.Disk result.1.log result.1.db → (L : Ledger) → DeskAt over_files desk (running L)
+    ensures served { AreClean D.Disk result.1.log result.1.db
+        → (L : Ledger) → DeskAt over_files desk (running L)
         → (new : State) × (responses : List (Items ℕ Heap)) × (out.new.items ≡ out.old.items ++ responses)
         × Served (settings_of desk) (running L) arrivals.now (bytes_of responses) new
         × AreAnswered arrivals.now responses result.0
-        × ((image : Image) → outcomes D.Disk result.1.log result.1.db image
-        → ∥ ((found : Ledger) × MayStand new found × ImageShows image found) ∥₁) }
+        × EachImage D.Disk result.1 (ShowsOneOf new) }
 {
     let mut desk = desk;
     let served = run(alloc, &mut desk, routes, arrivals, out);

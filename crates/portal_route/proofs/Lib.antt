@@ -1,3 +1,4 @@
+pub mod Common
 pub mod SeekLemmas
 pub mod TargetLemmas
 pub mod SoundLemmas

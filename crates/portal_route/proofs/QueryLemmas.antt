@@ -1,10 +1,7 @@
 -- The values of a key, field by field.
-use Rattle.std.proofs.Common.{◌≡◌, ℕ, ◌+◌, ◌<◌, Bool, true, false, cond, ◌==◌, List, [], ◌∷◌, ◌++◌, length, map, filter, Option, Some, None, refl, sym, ap, ◌∙◌, arith}
-use Rattle.std.specs.Prelude.{bytes_eq, is_some, option_map, unwrap_or}
-use Rattle.std.specs.Borrow.{Bor}
-use Rattle.std.proofs.lemmas.Bool.{false≢true}
+use Rattle.portal_route.proofs.Common.{◌≡◌, ℕ, ◌+◌, ◌<◌, Bool, true, false, cond, ◌==◌, List, [], ◌∷◌, ◌++◌, length, map, filter, Option, Some, None, refl, sym, ap, ◌∙◌, arith, bytes_eq, is_some, option_map, unwrap_or, Bor, false≢true, ampersand, equals_sign, put_first, key_of, value_of, only_of}
 use Rattle.portal_route.specs.Targets.{before, after}
-use Rattle.portal_route.specs.Queries.{ampersand, equals_sign, put_first, fields_of, key_of, value_of, values_of, only_of}
+use Rattle.portal_route.specs.Queries.{fields_of, values_of}
 
 -- the fields behind the first
 rest_fields : Option (List ℕ) → List (List ℕ)

@@ -1,12 +1,7 @@
 -- A path's route, step by step.
-use Rattle.std.proofs.Common.{◌≡◌, ℕ, zero, suc, ◌-◌, Bool, true, false, cond, eqb, ltb, nat_eq, ◌&&◌, drop, codes, List, [], ◌∷◌, ◌++◌, length, Option, Some, None, refl, ap, ◌∙◌, arith, append-nil}
-use Rattle.std.proofs.lemmas.Bool.{ne_eqb, lt-ltb}
-use Rattle.std.proofs.lemmas.List.{length_push, drop_at}
-use Rattle.std.specs.List.{ends_with}
+use Rattle.portal_route.proofs.Common.{◌≡◌, ℕ, zero, suc, ◌-◌, Bool, true, false, cond, eqb, ltb, nat_eq, ◌&&◌, drop, codes, List, [], ◌∷◌, ◌++◌, length, Option, Some, None, refl, ap, ◌∙◌, arith, append-nil, ne_eqb, lt-ltb, length_push, drop_at, ends_with, RowsOf, step, segment, has_slash, or_else, cuts, IsPlain}
 use Rattle.std.specs.Cmp.Lexicographic.{pointwise}
-use Rattle.matchit.specs.Rows.{RowsOf}
-use Rattle.matchit.specs.Seek.{seek, param_step, step, segment, has_slash, or_else, cuts}
-use Rattle.portal_route.specs.Laws.{IsPlain}
+use Rattle.matchit.specs.Seek.{seek, param_step}
 
 abbrev no_rows : {K : Type 0} → Bool → ℕ → ℕ × RowsOf K
 no_rows slashed n = cond slashed (0, []) (n, [])

@@ -1,14 +1,7 @@
 -- A router finds only routes whose pattern the path has.
-use Rattle.std.proofs.Common.{◌≡◌, ℕ, zero, suc, ◌-◌, ◌<◌, ◌≤◌, ◌⊎◌, inl, inr, Bool, true, false, cond, ltb, ◌==◌, nat_eq, ◌&&◌, take, drop, List, [], ◌∷◌, ◌++◌, length, Option, Some, None, refl, sym, ap, ◌∙◌, subst, arith}
-use Rattle.std.specs.Prelude.{nat_lt, All}
-use Rattle.std.specs.List.{list_all, ends_with}
-use Rattle.std.proofs.lemmas.Bool.{eqb-true, ltb-true}
-use Rattle.std.proofs.lemmas.Bool.Decides.{eqb_tells}
-use Rattle.std.proofs.lemmas.List.{take-append-drop, take_all}
+use Rattle.portal_route.proofs.Common.{◌≡◌, ℕ, zero, suc, ◌-◌, ◌<◌, ◌≤◌, ◌⊎◌, inl, inr, Bool, true, false, cond, ltb, ◌==◌, nat_eq, ◌&&◌, take, drop, List, [], ◌∷◌, ◌++◌, length, Option, Some, None, refl, sym, ap, ◌∙◌, subst, arith, nat_lt, All, list_all, ends_with, eqb-true, ltb-true, eqb_tells, take-append-drop, take_all, RowsOf, own, step, segment, has_slash, or_else, better, cuts, longest_from, longest_suffix, with_suffix, same_text, IsPlain, IsSegment}
 use Rattle.std.proofs.lemmas.List.Elements.{All-head, All-tail}
-use Rattle.matchit.specs.Rows.{RowsOf}
-use Rattle.matchit.specs.Seek.{seek, own, param_step, step, segment, has_slash, or_else, better, cuts, longest_from, longest_suffix, with_suffix, same_text}
-use Rattle.portal_route.specs.Laws.{IsPlain, IsSegment}
+use Rattle.matchit.specs.Seek.{seek, param_step}
 use Rattle.portal_route.proofs.SeekLemmas.{seek-nil}
 
 -- the path has the pattern: bytes for bytes, and a segment for a parameter

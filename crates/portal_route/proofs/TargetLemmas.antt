@@ -1,9 +1,6 @@
 -- Signs of a path, one after another.
-use Rattle.std.proofs.Common.{◌≡◌, ℕ, ◌+◌, ◌<◌, ◌≤◌, Bool, true, false, cond, not, ◌&&◌, ◌==◌, List, [], ◌∷◌, ◌++◌, length, get_or, take, drop, Some, None, refl, sym, ap, ◌∙◌, append_assoc, append-nil}
-use Rattle.std.proofs.lemmas.List.{at_drop_more, at_drop_all, take_more, take_all}
-use Rattle.std.proofs.lemmas.Bool.{ne_eqb}
+use Rattle.portal_route.proofs.Common.{◌≡◌, ℕ, ◌+◌, ◌<◌, ◌≤◌, Bool, true, false, cond, not, ◌&&◌, ◌==◌, List, [], ◌∷◌, ◌++◌, length, get_or, take, drop, Some, None, refl, sym, ap, ◌∙◌, append_assoc, append-nil, at_drop_more, at_drop_all, take_more, take_all, ne_eqb, IsPlain}
 use Rattle.portal_route.specs.Targets.{before, after, is_full}
-use Rattle.portal_route.specs.Laws.{IsPlain}
 
 before_step : (sign x : ℕ) (rest : List ℕ) → before sign (x ∷ rest) ≡ cond (x == sign) [] (x ∷ before sign rest)
 unfolding before

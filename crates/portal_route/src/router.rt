@@ -7,7 +7,6 @@ use crate::targets::is_path;
 use matchit::{InsertError, Router};
 use std::alloc::{AllocError, Global};
 use std::marker::Model;
-use std::str;
 
 /// The table of the routes, ready to be searched. A contract sees it as the router's rows, which
 /// are always the whole table.
@@ -61,10 +60,8 @@ impl Routes {
     pub fn new(alloc: Global) -> Result<Routes, AllocError>
         ensures { IfOk result (λ routes. routes ≡ table) }
     {
-        match whole_router(alloc) {
-            Ok(router) => Ok(Routes { router }),
-            Err(_) => Err(AllocError),
-        }
+        let router = whole_router(alloc).map_err(|_| AllocError)?;
+        Ok(Routes { router })
     }
 
     fn at(&self, path: &str) -> Option<Route>
@@ -76,15 +73,16 @@ impl Routes {
         }
     }
 
-    /// The route of a target's path: none where the path is no UTF-8, does not begin with a
-    /// slash, has an empty segment, or names no route. A segment in the place of `{id}` or
-    /// `{code}` is taken as it stands, with nothing decoded.
-    pub fn find(&self, path: &[u8]) -> Option<Route>
+    /// The route of a target's path: none where the path does not begin with a slash, has an
+    /// empty segment, or names no route. A segment in the place of `{id}` or `{code}` is taken as
+    /// it stands, with nothing decoded. A path that is no text has no route.
+    pub fn find(&self, path: &str) -> Option<Route>
         ensures { FindsRoute path.now result }
     {
-        match str::from_utf8(path) {
-            Err(_) => None,
-            Ok(text) => if is_path(path) { self.at(text) } else { None },
+        if is_path(path.as_bytes()) {
+            self.at(path)
+        } else {
+            None
         }
     }
 }

@@ -1,19 +1,7 @@
 -- The rows of each table, as SELECT shows them, are the cells of its values, and these tell the values.
-use Rattle.std.proofs.Common.{◌≡◌, ℕ, Bool, true, false, List, ◌∷◌, map, refl, ap}
-use Rattle.sqlite.specs.declared.types.Value.{Value}
-use Rattle.sqlite.specs.declared.types.Value.TheVariants.{Int}
-use Rattle.sqlite.specs.Order.{column}
-use Rattle.sqlite.specs.Tree.{Trees}
-use Rattle.portal_sql.specs.Stored.{Stores, whole, unnumbered}
-use Rattle.portal_sql.specs.Finds.{fields, rows_in}
-use Rattle.portal_sql.proofs.Storing.{opens_keyed, opens_numbered}
-use Rattle.portal_sql.proofs.Keys.{rows_shown, exact_null, exact_signed}
-use Rattle.portal_model.specs.declared.plan.Plan.{Plan}
+use Rattle.portal_rows.proofs.Common.{◌≡◌, ℕ, Bool, true, false, List, ◌∷◌, map, refl, ap, Value, Int, column, Trees, Stores, whole, unnumbered, fields, rows_in, opens_keyed, opens_numbered, rows_shown, exact_null, exact_signed, Plan, VoucherRow, SessionRow, GrantRow, CountRow, TotalRow, head, plans, batches, vouchers, sessions, grants, counts, totals, HeadRow, flag, batch_cells, count_cells, grant_cells, grant_stored, head_cells, head_stored, plan_cells, session_cells, session_stored, total_cells, total_stored, voucher_cells}
 use Rattle.portal_model.specs.declared.record.Batch.{Batch}
-use Rattle.portal_model.specs.Rows.{VoucherRow, SessionRow, GrantRow, CountRow, TotalRow}
-use Rattle.portal_rows.proofs.SamePlan.{same-plan}
-use Rattle.portal_rows.specs.Layout.{head, plans, batches, vouchers, sessions, grants, counts, totals}
-use Rattle.portal_rows.specs.Contents.{HeadRow, flag, batch_cells, count_cells, grant_cells, grant_stored, head_cells, head_stored, plan_cells, session_cells, session_stored, total_cells, total_stored, voucher_cells}
+use Rattle.portal_model.proofs.SamePlan.{same-plan}
 
 pub heads_in : (db : Trees) (tree : ℕ) (ps : List HeadRow) → Stores whole head_stored (db tree) ps → rows_in (head tree) db ≡ map head_cells ps
 heads_in db tree ps h = rows_shown whole head_stored head_cells (λ n p. head_stored p) (opens_numbered head_stored) (fields (head tree)) (λ n p. refl) (db tree) ps h.are.keyed h.is

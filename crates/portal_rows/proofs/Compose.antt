@@ -1,22 +1,7 @@
 -- How the statements of a transaction compose.
-use Rattle.std.proofs.lemmas.List.{take_more, map-append}
-use Rattle.std.proofs.Common.{◌≡◌, true, false, IsTrue, ℕ, ◌+◌, ◌<◌, map, take, get_or, List, [], ◌∷◌, ◌++◌, length, refl, sym, ap, subst, subst₂, ◌∙◌, arith, add-zero, zero-add, add_assoc, add-suc, one-add, append_assoc, append-nil}
-use Rattle.sqlite.specs.Store.{Ghosts}
-use Rattle.sqlite.specs.Held.{Held, state}
-use Rattle.sqlite.specs.State.{State, HasCleanDisk, Shows, Survives}
+use Rattle.portal_rows.proofs.Common.{take_more, map-append, ◌≡◌, true, false, IsTrue, ℕ, ◌+◌, ◌<◌, map, take, get_or, List, [], ◌∷◌, ◌++◌, length, refl, sym, ap, subst, subst₂, ◌∙◌, arith, add-zero, zero-add, add_assoc, add-suc, one-add, append_assoc, append-nil, Ghosts, Held, state, State, HasCleanDisk, Shows, Survives, survives_begin, Plan, new_vouchers, new_counts, Contents, LeftHolds, KeepsOthers, LeftOthers, Steps, Leads, MayLead, new_voucher, count_row, with_plan, with_plans, with_voucher, with_vouchers, with_count, with_counts}
 use Rattle.sqlite.proofs.StateLemmas.{survives_then}
-use Rattle.sqlite.proofs.Callers.{survives_begin}
-use Rattle.portal_model.specs.declared.plan.Plan.{Plan}
-use Rattle.portal_model.specs.Rows.{new_vouchers, new_counts}
-use Rattle.portal_rows.specs.Contents.{Contents}
-use Rattle.portal_rows.specs.Holds.{Holds, LeftHolds}
-use Rattle.portal_rows.specs.Others.{KeepsOthers, LeftOthers}
 use Rattle.portal_rows.proofs.OthersLemmas.{others_none, others_then}
-use Rattle.portal_rows.specs.Steps.{Steps, Leads, MayLead, new_voucher, count_row, with_plan, with_plans, with_voucher, with_vouchers, with_count, with_counts}
-
--- what a statement on one of our tables comes to
-pub steps_by : (f : Contents → Contents) (old new : State) → ((t : Contents) → Holds old.now t → Holds new.now (f t) × KeepsOthers old.now new.now) → new.committed ≡ old.committed → new.in_transaction ≡ true → Steps f old new
-steps_by f old new leads committed mode = record { holds = λ t h. (leads t h).0; others = λ t h. (leads t h).1; committed = committed; mode = mode }
 
 pub steps_then : (f g : Contents → Contents) (a b c : State) → Steps f a b → Steps g b c → Steps (λ t. g (f t)) a c
 steps_then f g a b c p q = record {

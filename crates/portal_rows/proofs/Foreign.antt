@@ -1,11 +1,5 @@
 -- Of the rows that this product writes none is told as foreign.
-use Rattle.std.proofs.Common.{◌≡◌, ℕ, List, map, filter, take, slice_get, Bool, Some, sym, ap, ◌∙◌}
-use Rattle.std.specs.List.Sorted.{IsPermutation}
-use Rattle.sqlite.specs.Order.{Row}
-use Rattle.sqlite_rules.specs.Lists.{Has}
-use Rattle.portal_sql.specs.Finds.{columns, by_column, IsSelection}
-use Rattle.portal_sql.proofs.FindLemmas.{found_some, has_image, first_of_one}
-use Rattle.portal_rows.specs.Foreign.{AreOwn}
+use Rattle.portal_rows.proofs.Common.{◌≡◌, ℕ, List, map, filter, take, slice_get, Bool, Some, sym, ap, ◌∙◌, IsPermutation, Row, Has, columns, by_column, IsSelection, found_some, has_image, first_of_one, AreOwn}
 
 module _ {P : Type 0} (cells : P → Row) (n : ℕ) (all : (p : P) → columns n (cells p) ≡ cells p) (IsOwn : P → Type 0) (ps : List P) (own : AreOwn IsOwn ps) where
   -- what is so of a row that shows a value which this product writes is so of a row that shows one of these

@@ -1,24 +1,10 @@
 -- A statement on one table leaves the others.
-use Rattle.std.proofs.Common.{◌≡◌, ◌==◌, ℕ, Bool, List, false, refl, sym, ap, subst, ◌∙◌, true≢false, slice_index_or, eq-eqb}
-use Rattle.sqlite.specs.Schema.{Schema}
-use Rattle.sqlite.specs.Table.{Table}
-use Rattle.sqlite.specs.Order.{Row}
-use Rattle.sqlite.specs.Effect.{Database, IsDatabase}
-use Rattle.sqlite.specs.State.{State}
+use Rattle.portal_rows.proofs.Common.{◌≡◌, ◌==◌, ◌≤◌, ℕ, Bool, List, false, refl, sym, ap, subst, ◌∙◌, true≢false, slice_index_or, eq-eqb, Schema, Table, Row, Database, IsDatabase, State, Has, Stands, Stores, whole, unnumbered, Plan, VoucherRow, SessionRow, GrantRow, CountRow, TotalRow, head, plans, batches, vouchers, sessions, grants, counts, totals, requests, Contents, HeadRow, head_stored, plan_cells, batch_cells, voucher_cells, session_stored, grant_stored, count_cells, total_stored, request_cells, RequestRow, HoldsIn, Stand, Store}
 use Rattle.sqlite_rules.specs.Edit.{Edit}
-use Rattle.sqlite_rules.specs.Lists.{Has}
 use Rattle.sqlite_rules.proofs.ListLemmas.{all_has}
 use Rattle.sqlite_catalog.proofs.AlterLemmas.{place_has}
-use Rattle.portal_sql.specs.Stands.{Stands}
-use Rattle.portal_sql.specs.Stored.{Stores, whole, unnumbered}
 use Rattle.portal_sql.proofs.Writes.{Edits}
-use Rattle.portal_model.specs.declared.plan.Plan.{Plan}
 use Rattle.portal_model.specs.declared.record.Batch.{Batch}
-use Rattle.portal_model.specs.Rows.{VoucherRow, SessionRow, GrantRow, CountRow, TotalRow}
-use Rattle.portal_rows.specs.Layout.{head, plans, batches, vouchers, sessions, grants, counts, totals, requests}
-use Rattle.portal_rows.specs.Contents.{Contents, HeadRow, head_stored, plan_cells, batch_cells, voucher_cells, session_stored, grant_stored, count_cells, total_stored, request_cells}
-use Rattle.portal_ledger.specs.RequestRow.{RequestRow}
-use Rattle.portal_rows.specs.Holds.{HoldsIn, Stand}
 
 -- the names of the tables differ after `portal_`
 abbrev pub initial : Table → ℕ
@@ -47,165 +33,81 @@ touches {old = old} {edit = edit} b here e = record {
 pub moved : {P : Type 0} {cut : Row → Row} {stored : P → Row} {rows now : List Row} {ps : List P} → now ≡ rows → Stores cut stored rows ps → Stores cut stored now ps
 moved {cut = cut} {stored = stored} {ps = ps} same h = subst (λ r. Stores cut stored r ps) (sym same) h
 
-module _ (layout : ℕ) (indexed : Bool) (db after : Database) (t : Contents) (h : HoldsIn layout indexed db t) where
+-- ---- each table but the one that was touched stores the rows that it stored
+
+module _ {layout : ℕ} {indexed : Bool} {db after : Database} {t : Contents} (h : HoldsIn layout indexed db t) {touched : Table} (k : Touches db touched after) where
+  abbrev IsOther : Table → Type 0
+  IsOther x = (initial x == initial touched) ≡ false
+
+  stays : {P : Type 0} {cut : Row → Row} {stored : P → Row} {ps : List P} (x : Table) {at : ℕ} → Stands db.schema at x → IsOther x → Stores cut stored (db.trees x.tree) ps → Stores cut stored (after.trees x.tree) ps
+  stays x {at = at} stands off stored = moved (k.others at x stands off) stored
+
+  heads_stay : IsOther (head h.places.heads.tree) → Stores whole head_stored (after.trees h.places.heads.tree) t.heads
+  heads_stay off = stays (head h.places.heads.tree) h.stand.heads.stands off h.store.heads
+
+  plans_stay : IsOther (plans h.places.plans.tree) → Stores unnumbered plan_cells (after.trees h.places.plans.tree) t.plans
+  plans_stay off = stays (plans h.places.plans.tree) h.stand.plans.stands off h.store.plans
+
+  batches_stay : IsOther (batches h.places.batches.tree) → Stores unnumbered batch_cells (after.trees h.places.batches.tree) t.batches
+  batches_stay off = stays (batches h.places.batches.tree) h.stand.batches.stands off h.store.batches
+
+  vouchers_stay : IsOther (vouchers h.places.vouchers.tree) → Stores unnumbered voucher_cells (after.trees h.places.vouchers.tree) t.vouchers
+  vouchers_stay off = stays (vouchers h.places.vouchers.tree) h.stand.vouchers.stands off h.store.vouchers
+
+  sessions_stay : IsOther (sessions h.places.sessions.tree) → Stores whole session_stored (after.trees h.places.sessions.tree) t.sessions
+  sessions_stay off = stays (sessions h.places.sessions.tree) h.stand.sessions.stands off h.store.sessions
+
+  grants_stay : IsOther (grants h.places.grants.tree) → Stores whole grant_stored (after.trees h.places.grants.tree) t.grants
+  grants_stay off = stays (grants h.places.grants.tree) h.stand.grants.stands off h.store.grants
+
+  counts_stay : IsOther (counts h.places.counts.tree) → 2 ≤ layout → Stores unnumbered count_cells (after.trees h.places.counts.tree) t.counts
+  counts_stay off on = stays (counts h.places.counts.tree) (h.stand.counts on).stands off (h.store.counts on)
+
+  totals_stay : IsOther (totals h.places.totals.tree) → 2 ≤ layout → Stores whole total_stored (after.trees h.places.totals.tree) t.totals
+  totals_stay off on = stays (totals h.places.totals.tree) (h.stand.totals on).stands off (h.store.totals on)
+
+  requests_stay : IsOther (requests h.places.requests.tree) → 3 ≤ layout → Stores unnumbered request_cells (after.trees h.places.requests.tree) t.requests
+  requests_stay off on = stays (requests h.places.requests.tree) (h.stand.requests on).stands off (h.store.requests on)
+
+  -- all stand where they stood
+  now_holds : (now : Contents) → Store layout h.places after.trees now → HoldsIn layout indexed after now
+  now_holds now store = record { places = h.places; stand = subst (λ s. Stand layout indexed s h.places) (sym k.schema) h.stand; store = store; sound = k.sound }
+
+-- ---- the touched table stores these rows now
+
+module _ {layout : ℕ} {indexed : Bool} {db after : Database} {t : Contents} (h : HoldsIn layout indexed db t) where
   pub heads_now : (now : List HeadRow) → Touches db (head h.places.heads.tree) after → Stores whole head_stored (after.trees h.places.heads.tree) now → HoldsIn layout indexed after (record t { heads = now })
-  heads_now now k stored = record {
-    places = h.places;
-    stand = subst (λ s. Stand layout indexed s h.places) (sym k.schema) h.stand;
-    store = record {
-      heads = stored;
-      plans = moved (k.others h.places.plans.at (plans h.places.plans.tree) h.stand.plans.stands refl) h.store.plans;
-      batches = moved (k.others h.places.batches.at (batches h.places.batches.tree) h.stand.batches.stands refl) h.store.batches;
-      vouchers = moved (k.others h.places.vouchers.at (vouchers h.places.vouchers.tree) h.stand.vouchers.stands refl) h.store.vouchers;
-      sessions = moved (k.others h.places.sessions.at (sessions h.places.sessions.tree) h.stand.sessions.stands refl) h.store.sessions;
-      grants = moved (k.others h.places.grants.at (grants h.places.grants.tree) h.stand.grants.stands refl) h.store.grants;
-      counts = λ on. moved (k.others h.places.counts.at (counts h.places.counts.tree) (h.stand.counts on).stands refl) (h.store.counts on);
-      totals = λ on. moved (k.others h.places.totals.at (totals h.places.totals.tree) (h.stand.totals on).stands refl) (h.store.totals on);
-      requests = λ on. moved (k.others h.places.requests.at (requests h.places.requests.tree) (h.stand.requests on).stands refl) (h.store.requests on);
-    };
-    sound = k.sound;
-  }
+  heads_now now k stored =
+      now_holds h k _ (record { heads = stored; plans = plans_stay h k refl; batches = batches_stay h k refl; vouchers = vouchers_stay h k refl; sessions = sessions_stay h k refl; grants = grants_stay h k refl; counts = counts_stay h k refl; totals = totals_stay h k refl; requests = requests_stay h k refl })
 
   pub plans_now : (now : List Plan) → Touches db (plans h.places.plans.tree) after → Stores unnumbered plan_cells (after.trees h.places.plans.tree) now → HoldsIn layout indexed after (record t { plans = now })
-  plans_now now k stored = record {
-    places = h.places;
-    stand = subst (λ s. Stand layout indexed s h.places) (sym k.schema) h.stand;
-    store = record {
-      heads = moved (k.others h.places.heads.at (head h.places.heads.tree) h.stand.heads.stands refl) h.store.heads;
-      plans = stored;
-      batches = moved (k.others h.places.batches.at (batches h.places.batches.tree) h.stand.batches.stands refl) h.store.batches;
-      vouchers = moved (k.others h.places.vouchers.at (vouchers h.places.vouchers.tree) h.stand.vouchers.stands refl) h.store.vouchers;
-      sessions = moved (k.others h.places.sessions.at (sessions h.places.sessions.tree) h.stand.sessions.stands refl) h.store.sessions;
-      grants = moved (k.others h.places.grants.at (grants h.places.grants.tree) h.stand.grants.stands refl) h.store.grants;
-      counts = λ on. moved (k.others h.places.counts.at (counts h.places.counts.tree) (h.stand.counts on).stands refl) (h.store.counts on);
-      totals = λ on. moved (k.others h.places.totals.at (totals h.places.totals.tree) (h.stand.totals on).stands refl) (h.store.totals on);
-      requests = λ on. moved (k.others h.places.requests.at (requests h.places.requests.tree) (h.stand.requests on).stands refl) (h.store.requests on);
-    };
-    sound = k.sound;
-  }
+  plans_now now k stored =
+      now_holds h k _ (record { heads = heads_stay h k refl; plans = stored; batches = batches_stay h k refl; vouchers = vouchers_stay h k refl; sessions = sessions_stay h k refl; grants = grants_stay h k refl; counts = counts_stay h k refl; totals = totals_stay h k refl; requests = requests_stay h k refl })
 
   pub batches_now : (now : List Batch) → Touches db (batches h.places.batches.tree) after → Stores unnumbered batch_cells (after.trees h.places.batches.tree) now → HoldsIn layout indexed after (record t { batches = now })
-  batches_now now k stored = record {
-    places = h.places;
-    stand = subst (λ s. Stand layout indexed s h.places) (sym k.schema) h.stand;
-    store = record {
-      heads = moved (k.others h.places.heads.at (head h.places.heads.tree) h.stand.heads.stands refl) h.store.heads;
-      plans = moved (k.others h.places.plans.at (plans h.places.plans.tree) h.stand.plans.stands refl) h.store.plans;
-      batches = stored;
-      vouchers = moved (k.others h.places.vouchers.at (vouchers h.places.vouchers.tree) h.stand.vouchers.stands refl) h.store.vouchers;
-      sessions = moved (k.others h.places.sessions.at (sessions h.places.sessions.tree) h.stand.sessions.stands refl) h.store.sessions;
-      grants = moved (k.others h.places.grants.at (grants h.places.grants.tree) h.stand.grants.stands refl) h.store.grants;
-      counts = λ on. moved (k.others h.places.counts.at (counts h.places.counts.tree) (h.stand.counts on).stands refl) (h.store.counts on);
-      totals = λ on. moved (k.others h.places.totals.at (totals h.places.totals.tree) (h.stand.totals on).stands refl) (h.store.totals on);
-      requests = λ on. moved (k.others h.places.requests.at (requests h.places.requests.tree) (h.stand.requests on).stands refl) (h.store.requests on);
-    };
-    sound = k.sound;
-  }
+  batches_now now k stored =
+      now_holds h k _ (record { heads = heads_stay h k refl; plans = plans_stay h k refl; batches = stored; vouchers = vouchers_stay h k refl; sessions = sessions_stay h k refl; grants = grants_stay h k refl; counts = counts_stay h k refl; totals = totals_stay h k refl; requests = requests_stay h k refl })
 
   pub vouchers_now : (now : List VoucherRow) → Touches db (vouchers h.places.vouchers.tree) after → Stores unnumbered voucher_cells (after.trees h.places.vouchers.tree) now → HoldsIn layout indexed after (record t { vouchers = now })
-  vouchers_now now k stored = record {
-    places = h.places;
-    stand = subst (λ s. Stand layout indexed s h.places) (sym k.schema) h.stand;
-    store = record {
-      heads = moved (k.others h.places.heads.at (head h.places.heads.tree) h.stand.heads.stands refl) h.store.heads;
-      plans = moved (k.others h.places.plans.at (plans h.places.plans.tree) h.stand.plans.stands refl) h.store.plans;
-      batches = moved (k.others h.places.batches.at (batches h.places.batches.tree) h.stand.batches.stands refl) h.store.batches;
-      vouchers = stored;
-      sessions = moved (k.others h.places.sessions.at (sessions h.places.sessions.tree) h.stand.sessions.stands refl) h.store.sessions;
-      grants = moved (k.others h.places.grants.at (grants h.places.grants.tree) h.stand.grants.stands refl) h.store.grants;
-      counts = λ on. moved (k.others h.places.counts.at (counts h.places.counts.tree) (h.stand.counts on).stands refl) (h.store.counts on);
-      totals = λ on. moved (k.others h.places.totals.at (totals h.places.totals.tree) (h.stand.totals on).stands refl) (h.store.totals on);
-      requests = λ on. moved (k.others h.places.requests.at (requests h.places.requests.tree) (h.stand.requests on).stands refl) (h.store.requests on);
-    };
-    sound = k.sound;
-  }
+  vouchers_now now k stored =
+      now_holds h k _ (record { heads = heads_stay h k refl; plans = plans_stay h k refl; batches = batches_stay h k refl; vouchers = stored; sessions = sessions_stay h k refl; grants = grants_stay h k refl; counts = counts_stay h k refl; totals = totals_stay h k refl; requests = requests_stay h k refl })
 
   pub sessions_now : (now : List SessionRow) → Touches db (sessions h.places.sessions.tree) after → Stores whole session_stored (after.trees h.places.sessions.tree) now → HoldsIn layout indexed after (record t { sessions = now })
-  sessions_now now k stored = record {
-    places = h.places;
-    stand = subst (λ s. Stand layout indexed s h.places) (sym k.schema) h.stand;
-    store = record {
-      heads = moved (k.others h.places.heads.at (head h.places.heads.tree) h.stand.heads.stands refl) h.store.heads;
-      plans = moved (k.others h.places.plans.at (plans h.places.plans.tree) h.stand.plans.stands refl) h.store.plans;
-      batches = moved (k.others h.places.batches.at (batches h.places.batches.tree) h.stand.batches.stands refl) h.store.batches;
-      vouchers = moved (k.others h.places.vouchers.at (vouchers h.places.vouchers.tree) h.stand.vouchers.stands refl) h.store.vouchers;
-      sessions = stored;
-      grants = moved (k.others h.places.grants.at (grants h.places.grants.tree) h.stand.grants.stands refl) h.store.grants;
-      counts = λ on. moved (k.others h.places.counts.at (counts h.places.counts.tree) (h.stand.counts on).stands refl) (h.store.counts on);
-      totals = λ on. moved (k.others h.places.totals.at (totals h.places.totals.tree) (h.stand.totals on).stands refl) (h.store.totals on);
-      requests = λ on. moved (k.others h.places.requests.at (requests h.places.requests.tree) (h.stand.requests on).stands refl) (h.store.requests on);
-    };
-    sound = k.sound;
-  }
+  sessions_now now k stored =
+      now_holds h k _ (record { heads = heads_stay h k refl; plans = plans_stay h k refl; batches = batches_stay h k refl; vouchers = vouchers_stay h k refl; sessions = stored; grants = grants_stay h k refl; counts = counts_stay h k refl; totals = totals_stay h k refl; requests = requests_stay h k refl })
 
   pub grants_now : (now : List GrantRow) → Touches db (grants h.places.grants.tree) after → Stores whole grant_stored (after.trees h.places.grants.tree) now → HoldsIn layout indexed after (record t { grants = now })
-  grants_now now k stored = record {
-    places = h.places;
-    stand = subst (λ s. Stand layout indexed s h.places) (sym k.schema) h.stand;
-    store = record {
-      heads = moved (k.others h.places.heads.at (head h.places.heads.tree) h.stand.heads.stands refl) h.store.heads;
-      plans = moved (k.others h.places.plans.at (plans h.places.plans.tree) h.stand.plans.stands refl) h.store.plans;
-      batches = moved (k.others h.places.batches.at (batches h.places.batches.tree) h.stand.batches.stands refl) h.store.batches;
-      vouchers = moved (k.others h.places.vouchers.at (vouchers h.places.vouchers.tree) h.stand.vouchers.stands refl) h.store.vouchers;
-      sessions = moved (k.others h.places.sessions.at (sessions h.places.sessions.tree) h.stand.sessions.stands refl) h.store.sessions;
-      grants = stored;
-      counts = λ on. moved (k.others h.places.counts.at (counts h.places.counts.tree) (h.stand.counts on).stands refl) (h.store.counts on);
-      totals = λ on. moved (k.others h.places.totals.at (totals h.places.totals.tree) (h.stand.totals on).stands refl) (h.store.totals on);
-      requests = λ on. moved (k.others h.places.requests.at (requests h.places.requests.tree) (h.stand.requests on).stands refl) (h.store.requests on);
-    };
-    sound = k.sound;
-  }
+  grants_now now k stored =
+      now_holds h k _ (record { heads = heads_stay h k refl; plans = plans_stay h k refl; batches = batches_stay h k refl; vouchers = vouchers_stay h k refl; sessions = sessions_stay h k refl; grants = stored; counts = counts_stay h k refl; totals = totals_stay h k refl; requests = requests_stay h k refl })
 
   pub counts_now : (now : List CountRow) → Touches db (counts h.places.counts.tree) after → Stores unnumbered count_cells (after.trees h.places.counts.tree) now → HoldsIn layout indexed after (record t { counts = now })
-  counts_now now k stored = record {
-    places = h.places;
-    stand = subst (λ s. Stand layout indexed s h.places) (sym k.schema) h.stand;
-    store = record {
-      heads = moved (k.others h.places.heads.at (head h.places.heads.tree) h.stand.heads.stands refl) h.store.heads;
-      plans = moved (k.others h.places.plans.at (plans h.places.plans.tree) h.stand.plans.stands refl) h.store.plans;
-      batches = moved (k.others h.places.batches.at (batches h.places.batches.tree) h.stand.batches.stands refl) h.store.batches;
-      vouchers = moved (k.others h.places.vouchers.at (vouchers h.places.vouchers.tree) h.stand.vouchers.stands refl) h.store.vouchers;
-      sessions = moved (k.others h.places.sessions.at (sessions h.places.sessions.tree) h.stand.sessions.stands refl) h.store.sessions;
-      grants = moved (k.others h.places.grants.at (grants h.places.grants.tree) h.stand.grants.stands refl) h.store.grants;
-      counts = λ on. stored;
-      totals = λ on. moved (k.others h.places.totals.at (totals h.places.totals.tree) (h.stand.totals on).stands refl) (h.store.totals on);
-      requests = λ on. moved (k.others h.places.requests.at (requests h.places.requests.tree) (h.stand.requests on).stands refl) (h.store.requests on);
-    };
-    sound = k.sound;
-  }
+  counts_now now k stored =
+      now_holds h k _ (record { heads = heads_stay h k refl; plans = plans_stay h k refl; batches = batches_stay h k refl; vouchers = vouchers_stay h k refl; sessions = sessions_stay h k refl; grants = grants_stay h k refl; counts = λ on. stored; totals = totals_stay h k refl; requests = requests_stay h k refl })
 
   pub totals_now : (now : List TotalRow) → Touches db (totals h.places.totals.tree) after → Stores whole total_stored (after.trees h.places.totals.tree) now → HoldsIn layout indexed after (record t { totals = now })
-  totals_now now k stored = record {
-    places = h.places;
-    stand = subst (λ s. Stand layout indexed s h.places) (sym k.schema) h.stand;
-    store = record {
-      heads = moved (k.others h.places.heads.at (head h.places.heads.tree) h.stand.heads.stands refl) h.store.heads;
-      plans = moved (k.others h.places.plans.at (plans h.places.plans.tree) h.stand.plans.stands refl) h.store.plans;
-      batches = moved (k.others h.places.batches.at (batches h.places.batches.tree) h.stand.batches.stands refl) h.store.batches;
-      vouchers = moved (k.others h.places.vouchers.at (vouchers h.places.vouchers.tree) h.stand.vouchers.stands refl) h.store.vouchers;
-      sessions = moved (k.others h.places.sessions.at (sessions h.places.sessions.tree) h.stand.sessions.stands refl) h.store.sessions;
-      grants = moved (k.others h.places.grants.at (grants h.places.grants.tree) h.stand.grants.stands refl) h.store.grants;
-      counts = λ on. moved (k.others h.places.counts.at (counts h.places.counts.tree) (h.stand.counts on).stands refl) (h.store.counts on);
-      totals = λ on. stored;
-      requests = λ on. moved (k.others h.places.requests.at (requests h.places.requests.tree) (h.stand.requests on).stands refl) (h.store.requests on);
-    };
-    sound = k.sound;
-  }
+  totals_now now k stored =
+      now_holds h k _ (record { heads = heads_stay h k refl; plans = plans_stay h k refl; batches = batches_stay h k refl; vouchers = vouchers_stay h k refl; sessions = sessions_stay h k refl; grants = grants_stay h k refl; counts = counts_stay h k refl; totals = λ on. stored; requests = requests_stay h k refl })
 
   pub requests_now : (now : List RequestRow) → Touches db (requests h.places.requests.tree) after → Stores unnumbered request_cells (after.trees h.places.requests.tree) now → HoldsIn layout indexed after (record t { requests = now })
-  requests_now now k stored = record {
-    places = h.places;
-    stand = subst (λ s. Stand layout indexed s h.places) (sym k.schema) h.stand;
-    store = record {
-      heads = moved (k.others h.places.heads.at (head h.places.heads.tree) h.stand.heads.stands refl) h.store.heads;
-      plans = moved (k.others h.places.plans.at (plans h.places.plans.tree) h.stand.plans.stands refl) h.store.plans;
-      batches = moved (k.others h.places.batches.at (batches h.places.batches.tree) h.stand.batches.stands refl) h.store.batches;
-      vouchers = moved (k.others h.places.vouchers.at (vouchers h.places.vouchers.tree) h.stand.vouchers.stands refl) h.store.vouchers;
-      sessions = moved (k.others h.places.sessions.at (sessions h.places.sessions.tree) h.stand.sessions.stands refl) h.store.sessions;
-      grants = moved (k.others h.places.grants.at (grants h.places.grants.tree) h.stand.grants.stands refl) h.store.grants;
-      counts = λ on. moved (k.others h.places.counts.at (counts h.places.counts.tree) (h.stand.counts on).stands refl) (h.store.counts on);
-      totals = λ on. moved (k.others h.places.totals.at (totals h.places.totals.tree) (h.stand.totals on).stands refl) (h.store.totals on);
-      requests = λ on. stored;
-    };
-    sound = k.sound;
-  }
+  requests_now now k stored =
+      now_holds h k _ (record { heads = heads_stay h k refl; plans = plans_stay h k refl; batches = batches_stay h k refl; vouchers = vouchers_stay h k refl; sessions = sessions_stay h k refl; grants = grants_stay h k refl; counts = counts_stay h k refl; totals = totals_stay h k refl; requests = λ on. stored })

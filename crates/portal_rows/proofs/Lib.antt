@@ -1,5 +1,7 @@
+pub mod Common
 pub mod Cells
 pub mod Compose
+pub mod Finding
 pub mod Foreign
 pub mod HoldsLemmas
 pub mod InsertSteps
@@ -12,8 +14,9 @@ pub mod RequestCells
 pub mod RequestReading
 pub mod RequestSteps
 pub mod RequestTexts
-pub mod SamePlan
 pub mod SelectTexts
+pub mod SelectsLemmas
+pub mod TableSteps
 pub mod UpdateSteps
 pub mod UpdateTexts
 pub mod WritesLemmas

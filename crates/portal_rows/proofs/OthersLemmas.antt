@@ -1,12 +1,6 @@
 -- Statements on our tables keep the rows of the tables of others.
-use Rattle.std.proofs.Common.{◌≡◌, true, true≢false, refl, sym, ap, subst, ◌∙◌}
-use Rattle.sqlite.specs.Schema.{Schema}
-use Rattle.sqlite.specs.Table.{Table}
-use Rattle.sqlite.specs.Effect.{Database}
+use Rattle.portal_rows.proofs.Common.{◌≡◌, true, true≢false, refl, sym, ap, subst, ◌∙◌, Schema, Table, Database, Has, head_name, plans_name, batches_name, vouchers_name, sessions_name, grants_name, counts_name, totals_name, requests_name, is_own, KeepsOthers}
 use Rattle.sqlite_schema.specs.Names.{same_name}
-use Rattle.sqlite_rules.specs.Lists.{Has}
-use Rattle.portal_rows.specs.Layout.{head_name, plans_name, batches_name, vouchers_name, sessions_name, grants_name, counts_name, totals_name, requests_name}
-use Rattle.portal_rows.specs.Others.{is_own, KeepsOthers}
 use Rattle.portal_rows.proofs.HoldsLemmas.{Touches}
 
 -- ---- our names

@@ -1,19 +1,7 @@
 -- Finding by any test that tells the key, and a test of two columns.
-use Rattle.std.proofs.Common.{◌≡◌, ℕ, ◌<◌, List, [], ◌∷◌, ◌&&◌, map, filter, slice_get, length, Bool, true, false, Some, None, refl, sym, ap, ap₂, subst, ◌∙◌, is_eq, true≢false}
-use Rattle.std.specs.List.Sorted.{IsPermutation}
-use Rattle.sqlite.specs.declared.types.Value.{Value}
-use Rattle.sqlite.specs.declared.types.Value.TheVariants.{Text}
+use Rattle.portal_rows.proofs.Common.{◌≡◌, ℕ, ◌<◌, List, [], ◌∷◌, ◌&&◌, map, filter, slice_get, length, Bool, true, false, Some, None, refl, sym, ap, ap₂, subst, ◌∙◌, is_eq, true≢false, IsPermutation, Value, Text, Row, column, value_cmp, Table, col, Has, Finds, columns, fields, has_keys, found_some, found_none, has_image, equal_is, where_key, has_mapped, same_text, text_itself, column_is, field_at}
 use Rattle.sqlite.specs.Ops.{is_null}
-use Rattle.sqlite.specs.Order.{Row, column, value_cmp}
-use Rattle.sqlite.specs.Table.{Table}
-use Rattle.sqlite.specs.Term.{col}
 use Rattle.sqlite_schema.specs.Names.{place_of}
-use Rattle.sqlite_rules.specs.Lists.{Has}
-use Rattle.portal_sql.specs.Finds.{Finds, columns, fields}
-use Rattle.portal_rows.specs.Keyed.{has_keys}
-use Rattle.portal_sql.proofs.FindLemmas.{found_some, found_none, has_image, equal_is, where_key}
-use Rattle.portal_sql.proofs.Keys.{has_mapped, same_text, text_itself}
-use Rattle.portal_sql.proofs.Lookup.{column_is, field_at}
 use Rattle.portal_sql.proofs.Scan.{passes}
 
 module _ {P K : Type 0} (cells : P → Row) (key : P → K) (k : K) (test : Row → Bool) (only : (p : P) → test (cells p) ≡ true → key p ≡ k) (meets : (p : P) → key p ≡ k → test (cells p) ≡ true)

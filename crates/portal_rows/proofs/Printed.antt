@@ -1,10 +1,7 @@
 -- What stands as it is printed is read, and is printed alike again.
-use Rattle.std.proofs.Common.{◌≡◌, ℕ, List, ap, sym, subst, ◌∙◌}
-use Rattle.portal_codes.specs.Code.{Spells, text_of}
+use Rattle.portal_rows.proofs.Common.{◌≡◌, ℕ, List, ap, sym, subst, ◌∙◌, Spells, text_of, SpellsDevice, text_of_device, IsPrintedCode, IsPrintedDevice}
 use Rattle.portal_codes.proofs.Spelling.{unique, printed_spells}
-use Rattle.portal_model.specs.Device.{SpellsDevice, text_of_device}
 use Rattle.portal_model.proofs.Devices.{reads-back}
-use Rattle.portal_rows.specs.Foreign.{IsPrintedCode, IsPrintedDevice}
 
 pub code_reads : (text : List ℕ) → IsPrintedCode text → (code : List ℕ) × Spells text code
 code_reads text own = (own.0, subst (λ t. Spells t own.0) own.2 (printed_spells own.0 own.1))

@@ -1,18 +1,5 @@
 -- What each reading text answers, by the rows that the tables hold.
-use Rattle.std.proofs.Common.{◌≡◌, ℕ, List, [], ◌∷◌, map, filter, take, refl, subst, Equal, lit<, lit≤}
-use Rattle.std.specs.List.Sorted.{IsPermutation}
-use Rattle.sqlite.specs.declared.types.Value.TheVariants.{Text}
-use Rattle.sqlite.specs.Order.{Row}
-use Rattle.sqlite.specs.Schema.{Schema}
-use Rattle.sqlite.specs.Listing.{understood}
-use Rattle.sqlite.specs.State.{State, Shown}
-use Rattle.sqlite.proofs.Callers.{IsPlain}
-use Rattle.portal_sql.specs.Stored.{number}
-use Rattle.portal_sql.specs.Finds.{has_key, by_column, IsSelection}
-use Rattle.portal_sql.proofs.Lookup.{selected, first_selected, key_tests, literal_tests, orders_by, orders_down}
-use Rattle.portal_rows.specs.Layout.{head, plans, batches, vouchers, sessions, counts, totals}
-use Rattle.portal_rows.specs.Contents.{Contents, head_cells, plan_cells, batch_cells, voucher_cells, session_cells, count_cells, total_cells}
-use Rattle.portal_rows.specs.Holds.{Holds, HasTables}
+use Rattle.portal_rows.proofs.Common.{◌≡◌, ℕ, List, [], ◌∷◌, map, filter, take, refl, subst, Equal, lit<, lit≤, IsPermutation, Text, Row, Schema, understood, State, Shown, IsPlain, number, has_key, by_column, IsSelection, selected, first_selected, key_tests, literal_tests, orders_by, orders_down, head, plans, batches, vouchers, sessions, counts, totals, Contents, head_cells, plan_cells, batch_cells, voucher_cells, session_cells, count_cells, total_cells, Holds, HasTables}
 use Rattle.portal_rows.proofs.Cells.{heads_in, plans_in, batches_in, vouchers_in, sessions_in, counts_in, totals_in}
 use Rattle.portal_rows.proofs.SelectTexts as texts
 
@@ -94,7 +81,7 @@ pub last_session_rows_are : (old new : State) (device : List ℕ) (rows : List R
 last_session_rows_are old new device rows shown t h =
     let place = h.places.sessions in
     let table = sessions place.tree in
-    let it = first_selected texts.last_session_text table _ _ (Text device ∷ []) old new texts.last_session_columns (has_key 1 (Text device)) (key_tests table 1 (Text device) [] (lit< tt) refl) (λ a b. by_column 0 b a)
+    let it = first_selected texts.last_session_text table _ _ (Text device ∷ []) old new texts.session_columns (has_key 1 (Text device)) (key_tests table 1 (Text device) [] (lit< tt) refl) (λ a b. by_column 0 b a)
     (orders_down table 0 (Text device ∷ []) (lit< tt)) (texts.last_session_means old.now.schema place.at place.tree h.stand.sessions.stands) rows shown in
     (it.0, subst (λ xs. IsSelection (has_key 1 (Text device)) (λ a b. by_column 0 b a) xs it.0) (sessions_in old.now.trees place.tree t.sessions h.store.sessions) it.1, it.2)
 
@@ -106,6 +93,6 @@ pub batch_vouchers_rows_are : (old new : State) (batch : List ℕ) (rows : List 
 batch_vouchers_rows_are old new batch rows shown t h =
     let place = h.places.vouchers in
     let table = vouchers place.tree in
-    let it = selected texts.batch_vouchers_text table _ _ (Text batch ∷ []) old new texts.batch_vouchers_columns (has_key 1 (Text batch)) (key_tests table 1 (Text batch) [] (lit< tt) refl) (by_column 2)
+    let it = selected texts.batch_vouchers_text table _ _ (Text batch ∷ []) old new texts.voucher_columns (has_key 1 (Text batch)) (key_tests table 1 (Text batch) [] (lit< tt) refl) (by_column 2)
     (orders_by table 2 (Text batch ∷ []) (lit< tt)) (texts.batch_vouchers_means old.now.schema place.at place.tree h.stand.vouchers.stands) rows shown in
     subst (λ xs. IsSelection (has_key 1 (Text batch)) (by_column 2) xs rows) (vouchers_in old.now.trees place.tree t.vouchers h.store.vouchers) it

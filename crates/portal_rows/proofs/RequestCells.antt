@@ -1,21 +1,11 @@
 -- The rows of portal_requests, as SELECT shows them, are the cells of its values, and these tell the values.
-use Rattle.std.proofs.Common.{◌≡◌, ℕ, List, ◌∷◌, map, Option, Some, None, option_map, refl, ap}
-use Rattle.sqlite.specs.Values.{or_null as nullable, bound_value}
-use Rattle.sqlite.specs.declared.types.Value.TheVariants.{Int, Text}
+use Rattle.portal_rows.proofs.Common.{◌≡◌, ℕ, List, ◌∷◌, map, Option, Some, None, refl, ap, Int, Text, column, Trees, Stores, unnumbered, fields, rows_in, opens_keyed, rows_shown, exact_null, RequestRow, requests, request_cells, text_or_null}
+use Rattle.sqlite.specs.Values.{bound_value}
 use Rattle.sqlite.specs.Cast.{cast}
 use Rattle.sqlite.specs.Kind.TheVariants as kind
-use Rattle.sqlite.specs.Order.{column}
-use Rattle.sqlite.specs.Tree.{Trees}
-use Rattle.portal_sql.specs.Stored.{Stores, unnumbered}
-use Rattle.portal_sql.specs.Finds.{fields, rows_in}
-use Rattle.portal_sql.proofs.Storing.{opens_keyed}
-use Rattle.portal_sql.proofs.Keys.{rows_shown, exact_null}
-use Rattle.portal_ledger.specs.RequestRow.{RequestRow}
 use Rattle.portal_rows.specs.Words.{word_cell, word_in}
 use Rattle.portal_rows.specs.declared.answers.Word.{Word}
 use Rattle.portal_rows.specs.declared.answers.Word.TheVariants.{Nothing, Batch, Code}
-use Rattle.portal_rows.specs.Layout.{requests}
-use Rattle.portal_rows.specs.Contents.{request_cells, text_or_null}
 
 pub requests_in : (db : Trees) (tree : ℕ) (ps : List RequestRow) → Stores unnumbered request_cells (db tree) ps → rows_in (requests tree) db ≡ map request_cells ps
 requests_in db tree ps h = rows_shown unnumbered request_cells request_cells (λ n p. Int n ∷ request_cells p) (opens_keyed request_cells) (fields (requests tree)) (λ n p. refl) (db tree) ps h.are.keyed h.is
@@ -43,11 +33,6 @@ exact_request a b e =
     let n2_is = exact_null a.answer.n2 b.answer.n2 (ap (λ r. column r 8) e) in
     let n3_is = exact_null a.answer.n3 b.answer.n3 (ap (λ r. column r 9) e) in
     λ i. record { caller = caller_is i; number = number_is i; method = method_is i; path = path_is i; body = body_is i; answer = record { kind = kind_is i; word = word_is i; n1 = n1_is i; n2 = n2_is i; n3 = n3_is i } }
-
--- a text that may be NULL, as it is bound
-pub bound_text : {X : Type 0} (f : X → List ℕ) (o : Option X) → bound_value (nullable (λ s. Text (f s)) o) ≡ text_or_null (option_map f o)
-bound_text f None = refl
-bound_text f (Some s) = refl
 
 pub bound_word : (w : Word) → bound_value (word_cell w) ≡ text_or_null (word_in w)
 bound_word Nothing = refl

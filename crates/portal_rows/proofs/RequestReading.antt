@@ -1,18 +1,6 @@
 -- What the reading text answers, by the rows that the table holds.
-use Rattle.std.proofs.Common.{ℕ, List, [], ◌∷◌, map, filter, refl, subst, Equal, lit<, lit≤}
-use Rattle.std.specs.List.Sorted.{IsPermutation}
-use Rattle.sqlite.specs.declared.types.Value.TheVariants.{Text}
-use Rattle.sqlite.specs.Order.{Row}
-use Rattle.sqlite.specs.Schema.{Schema}
-use Rattle.sqlite.specs.Listing.{understood}
-use Rattle.sqlite.specs.State.{State, Shown}
-use Rattle.sqlite.proofs.Callers.{IsPlain}
-use Rattle.portal_sql.proofs.Lookup.{selected}
-use Rattle.portal_rows.specs.Layout.{requests}
-use Rattle.portal_rows.specs.Contents.{Contents, request_cells}
-use Rattle.portal_rows.specs.Holds.{Holds, HasTables}
+use Rattle.portal_rows.proofs.Common.{ℕ, List, [], ◌∷◌, map, filter, refl, subst, Equal, lit<, lit≤, IsPermutation, Text, Row, Schema, understood, State, Shown, IsPlain, selected, requests, Contents, request_cells, Holds, HasTables, has_keys}
 use Rattle.portal_rows.proofs.RequestTexts as texts
-use Rattle.portal_rows.specs.Keyed.{has_keys}
 use Rattle.portal_rows.proofs.RequestCells.{requests_in}
 use Rattle.portal_rows.proofs.Pairs.{pair_tests}
 

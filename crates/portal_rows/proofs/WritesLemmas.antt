@@ -1,13 +1,10 @@
 -- How calls compose that write on one transaction.
-use Rattle.std.proofs.Common.{IsTrue, Result, Ok}
-use Rattle.sqlite.specs.Store.{Ghosts}
-use Rattle.sqlite.specs.State.{State}
-use Rattle.sqlite.specs.declared.error.Error.{Error}
+use Rattle.portal_rows.proofs.Common.{ℕ, List, IsTrue, Result, Ok, Row, Ghosts, State, Error, Contents, Steps, Writes}
 use Rattle.sqlite.specs.declared.transaction.Transaction.{Transaction}
-use Rattle.portal_sql.proofs.InsideLemmas.{inside_none, inside_then}
-use Rattle.portal_rows.specs.Contents.{Contents}
-use Rattle.portal_rows.specs.Steps.{Steps, Writes}
+use Rattle.portal_sql.specs.Inside.{Inside, Runs}
+use Rattle.portal_sql.proofs.InsideLemmas.{inside_by, inside_none, inside_then}
 use Rattle.portal_rows.proofs.Compose.{steps_then}
+use Rattle.portal_rows.proofs.TableSteps.{LeadsTo}
 
 pub writes_none : {S : Type 0} (g : Ghosts S) {f : Contents → Contents} (at : Transaction S) → ((s : State) → IsTrue s.in_transaction → Steps f s s) → Writes g f at at (Ok tt)
 writes_none g {f = f} at still = inside_none g {Does = Steps f} at still
@@ -21,3 +18,13 @@ writes_by g {f = f} {k = k} h join one two = inside_then g {First = Steps f} {Se
 pub writes_then : {S : Type 0} (g : Ghosts S) {f k : Contents → Contents} {a b c : Transaction S} {result : Result (Unit {0}) Error}
     → Writes g f a b (Ok tt) → Writes g k b c result → Writes g (λ t. k (f t)) a c result
 writes_then g {f = f} {k = k} one two = writes_by g (λ t. k (f t)) (steps_then f k) one two
+
+-- one statement on a table of ours
+pub writes_run : {S : Type 0} (g : Ghosts S) {f : Contents → Contents} {sql : List ℕ} {params : Row} {a b : Transaction S} {result : Result (Unit {0}) Error}
+    → LeadsTo sql params f → Inside g (Runs sql params) a b result → Writes g f a b result
+writes_run g {f = f} {sql = sql} {params = params} leads one = inside_by g {First = Runs sql params} {Second = Steps f} (λ p q ran. record {
+  holds = λ t h. (leads p q ran.count ran.executes.0 t h).0;
+  others = λ t h. (leads p q ran.count ran.executes.0 t h).1;
+  committed = ran.executes.1.committed_is;
+  mode = ran.executes.1.mode;
+}) one

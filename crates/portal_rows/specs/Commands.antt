@@ -71,9 +71,13 @@ abbrev pub with_mark : Option Mark → Answer → Contents → Contents
 with_mark None answer t = t
 with_mark (Some mark) answer t = with_request (row_of_request (kept_with mark answer)) t
 
--- what a command and its mark make of the rows
+-- what a command and its mark make of the rows, with this answer
+abbrev pub kept_with_answer : MarkedChanges → Answer → Contents → Contents
+kept_with_answer m answer t = with_mark m.mark answer (kept m.changes t)
+
+-- with the answer that the caller of the command is told
 abbrev pub kept_marked : MarkedChanges → Contents → Contents
-kept_marked m t = with_mark m.mark (answer_of m.changes) (kept m.changes t)
+kept_marked m = kept_with_answer m (answer_of m.changes)
 
 -- ---- numbers that a column of integers can keep
 
@@ -123,6 +127,6 @@ FitsMark None answer = Unit {0}
 FitsMark (Some mark) answer = FitsAnswer answer
 
 -- each number of the changes can be kept, and of what is kept with their mark
-pub record FitsMarked (m : MarkedChanges) : Type 0 where
+pub record FitsWithAnswer (m : MarkedChanges) (answer : Answer) : Type 0 where
   pub changes : Fits m.changes
-  pub mark : FitsMark m.mark (answer_of m.changes)
+  pub mark : FitsMark m.mark answer

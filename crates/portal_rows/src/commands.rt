@@ -1,15 +1,16 @@
-ghost use Rattle.std.specs.Prelude.{◌≡◌, ◌<◌, ◌^◌, OnOk, OnErr, length, map, false};
-ghost use Rattle.sqlite.specs.Held.{state};
-ghost use Rattle.sqlite.specs.State.{HasCleanDisk, Survives};
+//! The rows that a command changes, kept in one transaction.
+
+ghost use Rattle.std.specs.Prelude.{◌≡◌, ◌<◌, ◌^◌, length, map, false};
 ghost use Rattle.portal_codes.specs.Code.{text_of};
 ghost use Rattle.portal_model.specs.Rows.{new_vouchers, new_counts, total_row};
+ghost use Rattle.portal_sql.specs.Commits.{Commits};
 ghost use Rattle.portal_sql.specs.States.{IsUndone};
 ghost use Rattle.portal_rows.specs.Steps.{Writes, Leads, MayLead, with_plans, with_vouchers, with_counts};
 ghost use Rattle.portal_rows.specs.Steps.{ends_row};
 ghost use Rattle.portal_rows.specs.Commands.{loaded, issued, sold, placed_in, granted, redeemed, left_of};
 ghost use Rattle.portal_rows.specs.Commands.{used, repaid, closed, kept, FitsSession, FitsIssuance};
-ghost use Rattle.portal_rows.specs.Commands.{FitsRedemption, FitsUsage, Fits, FitsMark, FitsMarked};
-ghost use Rattle.portal_rows.specs.Commands.{with_mark, kept_marked};
+ghost use Rattle.portal_rows.specs.Commands.{FitsRedemption, FitsUsage, Fits, FitsMark, FitsWithAnswer};
+ghost use Rattle.portal_rows.specs.Commands.{kept_with_answer, with_mark};
 
 use crate::inserts::{
     insert_batch, insert_count, insert_grant, insert_plan, insert_session, insert_total,
@@ -225,29 +226,33 @@ fn keep_request<S: Alter>(
     }
 }
 
-/// Keeps what a command changes, and its request where it has a mark, inside a transaction.
-fn apply_marked<S: Alter>(tx: &mut Transaction<'_, S>, marked: &MarkedChanges) -> Result<(), Error>
-    requires { FitsMarked marked.now }
-    ensures { Writes S.Store (kept_marked marked.now) tx.old tx.new result }
+/// Keeps what a command changes, and its request with the answer where it has a mark, inside a transaction.
+fn apply_marked<S: Alter>(
+    tx: &mut Transaction<'_, S>,
+    marked: &MarkedChanges,
+    answer: &Answer,
+) -> Result<(), Error>
+    requires { FitsWithAnswer marked.now answer.now }
+    ensures { Writes S.Store (kept_with_answer marked.now answer.now) tx.old tx.new result }
 {
     apply(tx, &marked.changes)?;
-    let answer = marked.answer();
-    keep_request(tx, &marked.mark, &answer)
+    keep_request(tx, &marked.mark, answer)
 }
 
-/// One transaction: all that the command changes, and its request where it has a mark, or nothing.
-pub fn keep<S: Alter>(conn: &mut Connection<S>, marked: &MarkedChanges) -> Result<(), Error>
+/// One transaction: all that the command changes, and its request with the answer where it has a mark, or
+/// nothing.
+pub fn keep<S: Alter>(
+    conn: &mut Connection<S>,
+    marked: &MarkedChanges,
+    answer: &Answer,
+) -> Result<(), Error>
     requires outside { conn.old.in_transaction ≡ false }
-    requires fits { FitsMarked marked.now }
-    ensures done { HasCleanDisk (state S.Store conn.new) →
-        OnOk result (Leads (kept_marked marked.now) (state S.Store conn.old) (state S.Store conn.new)) }
-    ensures undone { HasCleanDisk (state S.Store conn.new) →
-        OnErr result (IsUndone (state S.Store conn.old) (state S.Store conn.new)) }
-    ensures crash { Survives (state S.Store conn.old) (state S.Store conn.new)
-        (MayLead (kept_marked marked.now) (state S.Store conn.old)) }
+    requires fits { FitsWithAnswer marked.now answer.now }
+    ensures { Commits S.Store (Leads (kept_with_answer marked.now answer.now)) IsUndone
+        (MayLead (kept_with_answer marked.now answer.now)) conn.old conn.new result }
 {
     let mut tx = conn.transaction();
-    apply_marked(&mut tx, marked)?;
+    apply_marked(&mut tx, marked, answer)?;
     tx.commit()?;
     Ok(())
 }

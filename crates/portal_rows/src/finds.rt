@@ -12,14 +12,12 @@ ghost use Rattle.portal_rows.specs.Steps.{ends_row};
 ghost use Rattle.portal_rows.specs.Read.{head_read, voucher_read, session_read, count_read};
 ghost use Rattle.portal_rows.specs.Selects.{ReadsRow};
 
+use crate::from_row::first_of;
 use crate::queries::{
     batch_rows, count_rows, head_rows, last_session_rows, plan_rows, session_rows, total_rows,
     voucher_rows,
 };
-use crate::rows::{
-    Fault, KeptCount, KeptHead, KeptSession, KeptVoucher, batch_of, count_of, head_of, plan_of,
-    session_of, total_of, voucher_of,
-};
+use crate::rows::{Fault, KeptCount, KeptHead, KeptSession, KeptVoucher};
 use crate::signs::Total;
 use portal_codes::Code;
 use portal_model::name::{Device, Id};
@@ -34,10 +32,7 @@ pub fn find_head<S: Alter>(conn: &mut Connection<S>) -> Result<Option<KeptHead>,
         (λ t. AreOwn IsOwnHead t.heads) }
 {
     let rows = head_rows(conn)?;
-    match rows.first() {
-        Some(row) => Ok(Some(head_of(row)?)),
-        None => Ok(None),
-    }
+    first_of(&rows)
 }
 
 /// The plan with the id.
@@ -47,10 +42,7 @@ pub fn find_plan<S: Alter>(conn: &mut Connection<S>, id: &Id) -> Result<Option<P
         (λ t. AreOwn IsOwnPlan t.plans) }
 {
     let rows = plan_rows(conn, id)?;
-    match rows.first() {
-        Some(row) => Ok(Some(plan_of(row)?)),
-        None => Ok(None),
-    }
+    first_of(&rows)
 }
 
 /// The batch with the id.
@@ -60,10 +52,7 @@ pub fn find_batch<S: Alter>(conn: &mut Connection<S>, id: &Id) -> Result<Option<
         (λ t. AreOwn IsOwnBatch t.batches) }
 {
     let rows = batch_rows(conn, id)?;
-    match rows.first() {
-        Some(row) => Ok(Some(batch_of(row)?)),
-        None => Ok(None),
-    }
+    first_of(&rows)
 }
 
 /// The row of the voucher with the code.
@@ -78,10 +67,7 @@ pub fn find_voucher<S: Alter>(
         (λ t. AreOwn IsOwnVoucher t.vouchers) }
 {
     let rows = voucher_rows(conn, code)?;
-    match rows.first() {
-        Some(row) => Ok(Some(voucher_of(row)?)),
-        None => Ok(None),
-    }
+    first_of(&rows)
 }
 
 /// The row of the session with the number.
@@ -96,10 +82,7 @@ pub fn find_session<S: Alter>(
         (λ t. AreOwn IsOwnSession t.sessions) }
 {
     let rows = session_rows(conn, number)?;
-    match rows.first() {
-        Some(row) => Ok(Some(session_of(row)?)),
-        None => Ok(None),
-    }
+    first_of(&rows)
 }
 
 /// The count of the voucher with the code.
@@ -113,10 +96,7 @@ pub fn find_count<S: Alter>(
         (λ t. AreOwn IsOwnCount t.counts) }
 {
     let rows = count_rows(conn, code)?;
-    match rows.first() {
-        Some(row) => Ok(Some(count_of(row)?)),
-        None => Ok(None),
-    }
+    first_of(&rows)
 }
 
 /// The end of the session with the number.
@@ -127,10 +107,7 @@ pub fn find_total<S: Alter>(conn: &mut Connection<S>, number: u64) -> Result<Opt
         (λ t. AreOwn IsOwnTotal t.totals) }
 {
     let rows = total_rows(conn, number)?;
-    match rows.first() {
-        Some(row) => Ok(Some(total_of(row)?)),
-        None => Ok(None),
-    }
+    first_of(&rows)
 }
 
 /// The row of the session of the device with the greatest number.
@@ -146,8 +123,5 @@ pub fn find_last_session<S: Alter>(
         (λ t. AreOwn IsOwnSession t.sessions) }
 {
     let rows = last_session_rows(conn, device)?;
-    match rows.first() {
-        Some(row) => Ok(Some(session_of(row)?)),
-        None => Ok(None),
-    }
+    first_of(&rows)
 }

@@ -1,3 +1,5 @@
+//! The statements that add a row, one each.
+
 ghost use Rattle.std.specs.Prelude.{◌<◌, ◌^◌};
 ghost use Rattle.portal_codes.specs.Code.{text_of};
 ghost use Rattle.portal_rows.specs.Steps.{Writes, count_row, ends_row, first_head, granted_row, new_voucher};
@@ -10,13 +12,15 @@ use portal_model::moment::Moment;
 use portal_model::name::Id;
 use portal_model::plan::Plan;
 use portal_model::record::{Batch, Session};
+use portal_sql::query::write;
 use sqlite::{Alter, Error, Transaction, params};
 
 /// Adds a plan.
 pub(crate) fn insert_plan<S: Alter>(tx: &mut Transaction<'_, S>, plan: &Plan) -> Result<(), Error>
     ensures { Writes S.Store (with_plan plan.now) tx.old tx.new result }
 {
-    tx.execute(
+    write(
+        tx,
         "INSERT INTO portal_plans (id, price, uses, seconds, bytes, shelf_days, extend) \
          VALUES (?1, ?2, ?3, ?4, ?5, ?6, ?7)",
         params![
@@ -28,8 +32,7 @@ pub(crate) fn insert_plan<S: Alter>(tx: &mut Transaction<'_, S>, plan: &Plan) ->
             plan.shelf_days,
             plan.extend
         ],
-    )?;
-    Ok(())
+    )
 }
 
 /// Adds a batch.
@@ -40,7 +43,8 @@ pub(crate) fn insert_batch<S: Alter>(
     requires { batch.now.size < 2 ^ 63 }
     ensures { Writes S.Store (with_batch batch.now) tx.old tx.new result }
 {
-    tx.execute(
+    write(
+        tx,
         "INSERT INTO portal_batches (id, plan_id, issued, expires, size) VALUES (?1, ?2, ?3, ?4, ?5)",
         params![
             batch.id.text(),
@@ -49,8 +53,7 @@ pub(crate) fn insert_batch<S: Alter>(
             batch.expires.get() as i64,
             batch.size as i64
         ],
-    )?;
-    Ok(())
+    )
 }
 
 /// Adds a voucher in its place in the batch.
@@ -65,7 +68,8 @@ pub(crate) fn insert_voucher<S: Alter>(
         tx.old tx.new result }
 {
     let text = code.text();
-    tx.execute(
+    write(
+        tx,
         "INSERT INTO portal_vouchers (code, batch_id, place) VALUES (?1, ?2, ?3)",
         params![
             Signs {
@@ -74,8 +78,7 @@ pub(crate) fn insert_voucher<S: Alter>(
             batch.text(),
             place as i64
         ],
-    )?;
-    Ok(())
+    )
 }
 
 /// Adds a session that is opened on the plan.
@@ -88,7 +91,8 @@ pub(crate) fn insert_session<S: Alter>(
     ensures { Writes S.Store (with_session (opened_row session.now plan.now)) tx.old tx.new result }
 {
     let text = session.device.text();
-    tx.execute(
+    write(
+        tx,
         "INSERT INTO portal_sessions (number, device, plan_id, opened, used) VALUES (?1, ?2, ?3, ?4, 0)",
         params![
             session.number as i64,
@@ -96,8 +100,7 @@ pub(crate) fn insert_session<S: Alter>(
             plan.text(),
             session.opened.get() as i64
         ],
-    )?;
-    Ok(())
+    )
 }
 
 /// Adds a redemption of the code, on the terms of the plan.
@@ -115,7 +118,8 @@ pub(crate) fn insert_grant<S: Alter>(
         tx.old tx.new result }
 {
     let text = code.text();
-    tx.execute(
+    write(
+        tx,
         "INSERT INTO portal_grants (number, code, session, moment, seconds, bytes) \
          VALUES (?1, ?2, ?3, ?4, ?5, ?6)",
         params![
@@ -128,8 +132,7 @@ pub(crate) fn insert_grant<S: Alter>(
             plan.seconds,
             plan.bytes as i64
         ],
-    )?;
-    Ok(())
+    )
 }
 
 /// Adds the count of a voucher.
@@ -142,7 +145,8 @@ pub fn insert_count<S: Alter>(
     ensures { Writes S.Store (with_count (count_row (text_of code.now) redeemed)) tx.old tx.new result }
 {
     let text = code.text();
-    tx.execute(
+    write(
+        tx,
         "INSERT INTO portal_counts (code, redeemed) VALUES (?1, ?2)",
         params![
             Signs {
@@ -150,8 +154,7 @@ pub fn insert_count<S: Alter>(
             },
             redeemed as i64
         ],
-    )?;
-    Ok(())
+    )
 }
 
 /// Adds the end of a session, and what remains of its allowance.
@@ -160,11 +163,11 @@ pub fn insert_total<S: Alter>(tx: &mut Transaction<'_, S>, total: &Total) -> Res
     ensures { Writes S.Store (with_total (ends_row total.now)) tx.old tx.new result }
 {
     let ends = seconds(total.ends);
-    tx.execute(
+    write(
+        tx,
         "INSERT INTO portal_totals (number, ends, remaining) VALUES (?1, ?2, ?3)",
         params![total.number as i64, ends, total.remaining],
-    )?;
-    Ok(())
+    )
 }
 
 /// Adds the row of the head: no row of the other tables, and nothing accepted.
@@ -172,9 +175,9 @@ pub fn insert_head<S: Alter>(tx: &mut Transaction<'_, S>, layout: u64) -> Result
     requires { layout < 2 ^ 63 }
     ensures { Writes S.Store (with_head (first_head layout)) tx.old tx.new result }
 {
-    tx.execute(
+    write(
+        tx,
         "INSERT INTO portal_head (id, layout, last_moment, grants, sessions) VALUES (1, ?1, 0, 0, 0)",
         params![layout as i64],
-    )?;
-    Ok(())
+    )
 }

@@ -5,6 +5,7 @@
 pub mod answers;
 pub mod commands;
 pub mod finds;
+pub mod from_row;
 pub mod inserts;
 pub mod kept;
 pub mod queries;

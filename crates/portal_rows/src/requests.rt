@@ -21,7 +21,7 @@ use crate::signs::Signs;
 use portal_ledger::caller::Caller;
 use portal_ledger::request::{KeptRequest, RequestMark, RequestNumber};
 use portal_model::change::Answer;
-use portal_sql::query::read_all;
+use portal_sql::query::{read_all, write};
 use sqlite::{Alter, Connection, Error, Row, Transaction, params};
 use std::alloc::Global;
 
@@ -50,7 +50,8 @@ pub fn insert_kept<S: Alter>(
     let row = answer_row(answer);
     let n2 = signed(row.n2);
     let n3 = signed(row.n3);
-    tx.execute(
+    write(
+        tx,
         "INSERT INTO portal_requests (caller, number, method, path, body, kind, word, n1, n2, n3) \
          VALUES (?1, ?2, ?3, ?4, ?5, ?6, ?7, ?8, ?9, ?10)",
         params![
@@ -67,8 +68,7 @@ pub fn insert_kept<S: Alter>(
             n2,
             n3
         ],
-    )?;
-    Ok(())
+    )
 }
 
 /// The rows of the request.

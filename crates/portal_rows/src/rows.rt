@@ -6,25 +6,16 @@ ghost use Rattle.sqlite.specs.declared.types.Value.TheVariants.{Text};
 ghost use Rattle.portal_codes.specs.Code.{text_of};
 ghost use Rattle.portal_model.specs.Device.{IsDevice, text_of_device};
 ghost use Rattle.portal_sql.specs.Stored.{number, or_null};
-ghost use Rattle.portal_sql.specs.Finds.{columns};
-ghost use Rattle.portal_rows.specs.Contents.{flag, head_cells, plan_cells, batch_cells, voucher_cells};
-ghost use Rattle.portal_rows.specs.Contents.{session_cells, count_cells, total_cells};
+ghost use Rattle.portal_rows.specs.Contents.{flag};
 ghost use Rattle.sqlite.specs.declared.error.Error.TheVariants.{SqliteFailure};
 ghost use Rattle.sqlite.specs.declared.error.ErrorCode.TheVariants.{OutOfMemory};
 ghost use Rattle.portal_model.specs.IdText.{IsIdText};
 ghost use Rattle.portal_rows.specs.declared.rows.Fault.TheVariants.{Sql};
-ghost use Rattle.portal_rows.specs.Foreign.{IsMoment, IsMomentIfSome, IsOwnBatch, IsOwnCount, IsOwnHead};
-ghost use Rattle.portal_rows.specs.Foreign.{IsOwnPlan, IsOwnSession, IsOwnTotal, IsOwnVoucher, IsPrintedCode};
-ghost use Rattle.portal_rows.specs.Foreign.{IsPrintedDevice, SparesOwn};
-ghost use Rattle.portal_rows.specs.Steps.{ends_row};
-ghost use Rattle.portal_rows.specs.Read.{head_read, voucher_read, session_read, count_read};
+ghost use Rattle.portal_rows.specs.Foreign.{IsMoment, IsMomentIfSome, IsPrintedCode, IsPrintedDevice, SparesOwn};
 
-use crate::signs::Total;
 use portal_codes::Code;
 use portal_model::moment::Moment;
 use portal_model::name::{Device, Id};
-use portal_model::plan::Plan;
-use portal_model::record::Batch;
 use sqlite::{Error, Row};
 use std::alloc::{AllocError, AllocFailed};
 
@@ -126,7 +117,7 @@ pub fn code_in(row: &Row, at: usize) -> Result<Code, Fault>
 }
 
 /// The device in a column, where it stands as it is printed.
-fn device_in(row: &Row, at: usize) -> Result<Device, Fault>
+pub(crate) fn device_in(row: &Row, at: usize) -> Result<Device, Fault>
     ensures column { IfOk result (λ device. column row.now at ≡ Text (text_of_device device)) }
     ensures device { IfOk result IsDevice }
     ensures own { SparesOwn Text IsPrintedDevice (column row.now at) result }
@@ -153,7 +144,7 @@ pub fn moment_in(row: &Row, at: usize) -> Result<Moment, Fault>
 }
 
 /// The moment in a column, where there is one.
-fn moment_or_null_in(row: &Row, at: usize) -> Result<Option<Moment>, Fault>
+pub(crate) fn moment_or_null_in(row: &Row, at: usize) -> Result<Option<Moment>, Fault>
     ensures column { IfOk result (λ moment. column row.now at ≡ or_null moment) }
     ensures own { SparesOwn or_null IsMomentIfSome (column row.now at) result }
 {
@@ -165,7 +156,7 @@ fn moment_or_null_in(row: &Row, at: usize) -> Result<Option<Moment>, Fault>
 }
 
 /// The flag in a column: 0 or 1.
-fn flag_in(row: &Row, at: usize) -> Result<bool, Fault>
+pub(crate) fn flag_in(row: &Row, at: usize) -> Result<bool, Fault>
     ensures column { IfOk result (λ b. column row.now at ≡ flag b) }
     ensures own { SparesOwn flag (λ _. Unit {0}) (column row.now at) result }
 {
@@ -175,97 +166,4 @@ fn flag_in(row: &Row, at: usize) -> Result<bool, Fault>
         1 => Ok(true),
         _ => Err(Fault::ForeignRow),
     }
-}
-
-pub(crate) fn head_of(row: &Row) -> Result<KeptHead, Fault>
-    ensures cells { IfOk result (λ head. head_cells (head_read head) ≡ columns 5 row.now) }
-    ensures own { SparesOwn head_cells IsOwnHead (columns 5 row.now) result }
-{
-    let id: u64 = row.get(0)?;
-    if id != 1 {
-        return Err(Fault::ForeignRow);
-    }
-    Ok(KeptHead {
-        layout: row.get(1)?,
-        last: moment_in(row, 2)?,
-        grants: row.get(3)?,
-        sessions: row.get(4)?,
-    })
-}
-
-pub fn plan_of(row: &Row) -> Result<Plan, Fault>
-    ensures cells { IfOk result (λ plan. plan_cells plan ≡ columns 7 row.now) }
-    ensures own { SparesOwn plan_cells IsOwnPlan (columns 7 row.now) result }
-{
-    let id = id_in(row, 0)?;
-    let price = row.get(1)?;
-    let uses = row.get(2)?;
-    let seconds = row.get(3)?;
-    let bytes = row.get(4)?;
-    let shelf_days = row.get(5)?;
-    let extend = flag_in(row, 6)?;
-    Plan::new(id, price, uses, seconds, bytes, shelf_days, extend).map_err(|_| Fault::ForeignRow)
-}
-
-pub fn batch_of(row: &Row) -> Result<Batch, Fault>
-    ensures cells { IfOk result (λ batch. batch_cells batch ≡ columns 5 row.now) }
-    ensures own { SparesOwn batch_cells IsOwnBatch (columns 5 row.now) result }
-{
-    Ok(Batch {
-        id: id_in(row, 0)?,
-        plan: id_in(row, 1)?,
-        issued: moment_in(row, 2)?,
-        expires: moment_in(row, 3)?,
-        size: row.get(4)?,
-    })
-}
-
-pub fn voucher_of(row: &Row) -> Result<KeptVoucher, Fault>
-    ensures cells { IfOk result (λ voucher. voucher_cells (voucher_read voucher) ≡ columns 6 row.now) }
-    ensures own { SparesOwn voucher_cells IsOwnVoucher (columns 6 row.now) result }
-{
-    Ok(KeptVoucher {
-        code: code_in(row, 0)?,
-        batch: id_in(row, 1)?,
-        place: row.get(2)?,
-        sold: moment_or_null_in(row, 3)?,
-        refunded: moment_or_null_in(row, 4)?,
-        amount: row.get(5)?,
-    })
-}
-
-pub fn session_of(row: &Row) -> Result<KeptSession, Fault>
-    ensures cells { IfOk result (λ session. session_cells (session_read session) ≡ columns 6 row.now) }
-    ensures device { IfOk result (λ session. IsDevice session.device) }
-    ensures own { SparesOwn session_cells IsOwnSession (columns 6 row.now) result }
-{
-    Ok(KeptSession {
-        number: row.get(0)?,
-        device: device_in(row, 1)?,
-        plan: id_in(row, 2)?,
-        opened: moment_in(row, 3)?,
-        used: row.get(4)?,
-        closed: moment_or_null_in(row, 5)?,
-    })
-}
-
-pub fn count_of(row: &Row) -> Result<KeptCount, Fault>
-    ensures cells { IfOk result (λ count. count_cells (count_read count) ≡ columns 2 row.now) }
-    ensures own { SparesOwn count_cells IsOwnCount (columns 2 row.now) result }
-{
-    Ok(KeptCount {
-        code: code_in(row, 0)?,
-        redeemed: row.get(1)?,
-    })
-}
-
-pub fn total_of(row: &Row) -> Result<Total, Fault>
-    ensures cells { IfOk result (λ total. total_cells (ends_row total) ≡ columns 3 row.now) }
-    ensures own { SparesOwn total_cells IsOwnTotal (columns 3 row.now) result }
-{
-    Ok(Total {
-        number: row.get(0)?,
-        ends: moment_or_null_in(row, 1)?,
-        remaining: row.get(2)?,
-    })
 }

@@ -1,3 +1,5 @@
+//! Values as the columns of a row keep them.
+
 ghost use Rattle.std.specs.Prelude.{◌≡◌, pos, option_map};
 ghost use Rattle.sqlite_value.specs.declared.value.Value.TheVariants.{Text};
 

@@ -1,3 +1,5 @@
+//! The statements that change a row, one each.
+
 ghost use Rattle.std.specs.Prelude.{◌<◌, ◌^◌};
 ghost use Rattle.portal_codes.specs.Code.{text_of};
 ghost use Rattle.portal_rows.specs.Steps.{Writes, ends_row, with_close, with_ends, with_layout, with_moment};
@@ -6,6 +8,7 @@ ghost use Rattle.portal_rows.specs.Steps.{with_numbers, with_redeemed, with_refu
 use crate::signs::{Signs, Total, seconds};
 use portal_codes::Code;
 use portal_model::moment::Moment;
+use portal_sql::query::write;
 use sqlite::{Alter, Error, Transaction, params};
 
 /// Notes that the voucher was sold.
@@ -17,7 +20,8 @@ pub(crate) fn mark_sold<S: Alter>(
     ensures { Writes S.Store (with_sale (text_of code.now) at) tx.old tx.new result }
 {
     let text = code.text();
-    tx.execute(
+    write(
+        tx,
         "UPDATE portal_vouchers SET sold = ?2 WHERE code = ?1",
         params![
             Signs {
@@ -25,8 +29,7 @@ pub(crate) fn mark_sold<S: Alter>(
             },
             at.get() as i64
         ],
-    )?;
-    Ok(())
+    )
 }
 
 /// Notes the refund of the voucher.
@@ -40,7 +43,8 @@ pub(crate) fn mark_refunded<S: Alter>(
     ensures { Writes S.Store (with_refund (text_of code.now) at amount) tx.old tx.new result }
 {
     let text = code.text();
-    tx.execute(
+    write(
+        tx,
         "UPDATE portal_vouchers SET refunded = ?2, amount = ?3 WHERE code = ?1",
         params![
             Signs {
@@ -49,19 +53,18 @@ pub(crate) fn mark_refunded<S: Alter>(
             at.get() as i64,
             amount as i64
         ],
-    )?;
-    Ok(())
+    )
 }
 
 /// Sets the last moment.
 pub(crate) fn set_moment<S: Alter>(tx: &mut Transaction<'_, S>, at: Moment) -> Result<(), Error>
     ensures { Writes S.Store (with_moment at) tx.old tx.new result }
 {
-    tx.execute(
+    write(
+        tx,
         "UPDATE portal_head SET last_moment = ?1 WHERE id = 1",
         params![at.get() as i64],
-    )?;
-    Ok(())
+    )
 }
 
 /// Sets the last moment and the numbers of redemptions and sessions.
@@ -75,11 +78,11 @@ pub(crate) fn set_numbers<S: Alter>(
     requires sessions_fit { sessions < 2 ^ 63 }
     ensures { Writes S.Store (with_numbers at grants sessions) tx.old tx.new result }
 {
-    tx.execute(
+    write(
+        tx,
         "UPDATE portal_head SET last_moment = ?1, grants = ?2, sessions = ?3 WHERE id = 1",
         params![at.get() as i64, grants as i64, sessions as i64],
-    )?;
-    Ok(())
+    )
 }
 
 /// Sets the layout.
@@ -87,11 +90,11 @@ pub fn set_layout<S: Alter>(tx: &mut Transaction<'_, S>, layout: u64) -> Result<
     requires { layout < 2 ^ 63 }
     ensures { Writes S.Store (with_layout layout) tx.old tx.new result }
 {
-    tx.execute(
+    write(
+        tx,
         "UPDATE portal_head SET layout = ?1 WHERE id = 1",
         params![layout as i64],
-    )?;
-    Ok(())
+    )
 }
 
 /// Sets what the session has used.
@@ -104,11 +107,11 @@ pub(crate) fn set_used<S: Alter>(
     requires used_fits { used < 2 ^ 63 }
     ensures { Writes S.Store (with_use number used) tx.old tx.new result }
 {
-    tx.execute(
+    write(
+        tx,
         "UPDATE portal_sessions SET used = ?2 WHERE number = ?1",
         params![number as i64, used as i64],
-    )?;
-    Ok(())
+    )
 }
 
 /// Notes that the session was closed.
@@ -120,11 +123,11 @@ pub(crate) fn set_closed<S: Alter>(
     requires { number < 2 ^ 63 }
     ensures { Writes S.Store (with_close number at) tx.old tx.new result }
 {
-    tx.execute(
+    write(
+        tx,
         "UPDATE portal_sessions SET closed = ?2 WHERE number = ?1",
         params![number as i64, at.get() as i64],
-    )?;
-    Ok(())
+    )
 }
 
 /// Sets how often the voucher was redeemed.
@@ -137,7 +140,8 @@ pub(crate) fn set_redeemed<S: Alter>(
     ensures { Writes S.Store (with_redeemed (text_of code.now) redeemed) tx.old tx.new result }
 {
     let text = code.text();
-    tx.execute(
+    write(
+        tx,
         "UPDATE portal_counts SET redeemed = ?2 WHERE code = ?1",
         params![
             Signs {
@@ -145,8 +149,7 @@ pub(crate) fn set_redeemed<S: Alter>(
             },
             redeemed as i64
         ],
-    )?;
-    Ok(())
+    )
 }
 
 /// Sets the end of the session, and what remains of its allowance.
@@ -155,9 +158,9 @@ pub(crate) fn set_ends<S: Alter>(tx: &mut Transaction<'_, S>, total: &Total) -> 
     ensures { Writes S.Store (with_ends (ends_row total.now)) tx.old tx.new result }
 {
     let ends = seconds(total.ends);
-    tx.execute(
+    write(
+        tx,
         "UPDATE portal_totals SET ends = ?2, remaining = ?3 WHERE number = ?1",
         params![total.number as i64, ends, total.remaining],
-    )?;
-    Ok(())
+    )
 }

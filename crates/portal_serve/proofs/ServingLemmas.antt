@@ -1,14 +1,9 @@
 -- What serving leaves of a desk: nothing, one request more, or one run after another.
-use Rattle.std.proofs.Common.{◌≡◌, inl, inr, Option, ℕ, ◌+◌, ◌≤◌, List, [], ◌∷◌, ◌++◌, length, take, refl, ap, subst, arith}
-use Rattle.std.specs.Prelude.{Result, Ok, Err}
+use Rattle.portal_serve.proofs.Common.{◌≡◌, inl, inr, Option, ℕ, ◌+◌, ◌≤◌, List, [], ◌∷◌, ◌++◌, length, take, refl, ap, subst, arith, SettingsValue, State, running, MayStand, Fault, Arrived, Run, Served, Serves, ComeWith, EndsServing}
+use Rattle.std.specs.Prelude.{Result, Ok, Err, IsErrAnd}
 use Rattle.std.proofs.lemmas.List.{length-append}
-use Rattle.portal_files.specs.SettingsFile.{SettingsValue}
 use Rattle.portal_ledger.specs.Ledger.{Ledger, IsSound}
-use Rattle.portal_ledger.specs.States.{State, running, MayStand}
-use Rattle.portal_ends.specs.declared.fault.Fault.{Fault}
 use Rattle.portal_ends.specs.Faults.{status_of}
-use Rattle.portal_http.specs.Arrived.{Arrived}
-use Rattle.portal_http.specs.Runs.{Run, Served}
 use Rattle.portal_http.specs.Headline.{Survives}
 use Rattle.portal_http.proofs.HeadlineLemmas.{survives}
 use Rattle.portal_http.specs.Exchanges.{Wire, CutsOff, EndsExchange}
@@ -16,8 +11,12 @@ use Rattle.portal_http.specs.declared.exchanges.Done.{Done}
 use Rattle.portal_http.specs.declared.exchanges.Cut.{Cut}
 use Rattle.portal_http.specs.declared.exchanges.Cause.{Cause}
 use Rattle.portal_http.specs.declared.exchanges.Cause.TheVariants.{Read, NoRoom, Write}
-use Rattle.portal_serve.specs.Serving.{Serves, ComeWith, EndsServing}
 use Rattle.portal_serve.specs.Command.{IsUntold, EndsAt, status_at}
+
+-- a result that is an error, by what the error is
+pub is_err : {A E : Type 0} (result : Result A E) (e : E) → IsErrAnd result (λ it. it ≡ e) → result ≡ Err e
+is_err (Ok a) e is = absurd is
+is_err (Err it) e is = ap (λ (x : _). Err x) is
 
 -- ---- one exchange
 

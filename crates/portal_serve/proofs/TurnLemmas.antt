@@ -1,9 +1,6 @@
 -- One turn after another.
-use Rattle.std.proofs.Common.{ℕ, ◌+◌, sym, subst, add-one}
+use Rattle.portal_serve.proofs.Common.{ℕ, ◌+◌, sym, subst, add-one, SettingsValue, State, HostValue, IsTurn, Turns}
 use Rattle.std.specs.Prelude.{Bool}
-use Rattle.portal_files.specs.SettingsFile.{SettingsValue}
-use Rattle.portal_ledger.specs.States.{State}
-use Rattle.portal_serve.specs.Turns.{HostValue, IsTurn, Turns}
 
 module _ (host : HostValue) (settings : SettingsValue) where
   pub turns_more : (turns : ℕ) (before mid after : host.Host) (old between_them new : State) (failed fails : Bool)

@@ -6,7 +6,7 @@ use Rattle.portal_desk.specs.Calls.{is_over}
 use Rattle.portal_ends.specs.declared.fault.Fault.{Fault}
 use Rattle.portal_ends.specs.declared.fault.Fault.TheVariants.{Cut, NoMemory}
 use Rattle.portal_ends.specs.Faults.{line_of, status_of}
-use Rattle.portal_ends.specs.Streams.{Outlets, Prints}
+use Rattle.portal_ends.specs.Streams.{IsCutOff, Outlets, Prints}
 use Rattle.portal_files.specs.SettingsFile.{SettingsValue}
 use Rattle.portal_serve.specs.Serving.{SaysOfEach}
 use Rattle.portal_serve.specs.Turns.{HostValue, TakesTurns}
@@ -19,10 +19,10 @@ listening_line port = codes "listening 127.0.0.1:" ++ (decimal port ++ codes "\n
 abbrev pub IsUntold : Fault → Option (List ℕ) → Option (List ℕ) → List ℕ → Type 0
 IsUntold fault printed printed_after line =
     ((fault ≡ NoMemory) × Keeps printed printed_after)
-    ⊎ ((fault ≡ Cut) × (written : ℕ) × (written < length line) × Appends printed printed_after (take written line))
+    ⊎ ((fault ≡ Cut) × IsCutOff printed printed_after line)
 
--- What is printed before the end: the line, and then what is said of each connection. At a fault it may be that the line did not go out,
--- and then there was no connection.
+-- What is printed before the end: the line, and then what is said of each connection. At a fault it may be
+-- that the line did not go out, and then there was no connection.
 abbrev pub Tells : ℕ → ℕ → Outlets → Result (Unit {0}) Fault → Type 0
 Tells port count o (Ok done) =
     (said : List (Option Fault)) × (length said ≡ count) × SaysOfEach said o.errors o.errors_after × Appends o.output o.output_after (listening_line port)

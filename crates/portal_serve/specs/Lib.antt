@@ -1,3 +1,4 @@
 pub mod Serving
+pub mod Asks
 pub mod Command
 pub mod Turns

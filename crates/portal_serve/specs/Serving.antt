@@ -12,7 +12,8 @@ use Rattle.portal_ends.specs.Faults.{line_of}
 use Rattle.portal_ends.specs.Streams.{Prints}
 use Rattle.portal_http.specs.Arrived.{Arrived}
 
--- At so many connections: so many requests at most were served, where `IsRun` says what a run of such requests with such responses is.
+-- At so many connections: so many requests at most were served, where `IsRun` says what a run of such
+-- requests with such responses is.
 abbrev pub Serves : ℕ → (List Arrived → List (List ℕ) → Type 0) → Type 0
 Serves count IsRun = (arrivals : List Arrived) × (responses : List (List ℕ)) × (length arrivals ≤ count) × IsRun arrivals responses
 
@@ -41,7 +42,8 @@ abbrev pub fault_of_host : ErrorKind → Fault
 fault_of_host kind.OutOfMemory = NoMemory
 fault_of_host _ = File
 
--- By how it ended: all connections were served and the desk works; or the desk has stopped, or the host failed.
+-- By how it ended: all connections were served and the desk works; or the desk has stopped, or the host
+-- failed.
 abbrev pub EndsServing : State → Result (Unit {0}) Fault → Type 0
 EndsServing new (Ok done) = is_over new ≡ false
 EndsServing new (Err fault) = ((fault ≡ Refused Stopped) × (is_over new ≡ true)) ⊎ IsOfHost fault

@@ -5,6 +5,8 @@ use Rattle.std.specs.declared.io.Error.{Error}
 use Rattle.std.specs.declared.io.ErrorKind.TheVariants.{InvalidData}
 use Rattle.std.specs.declared.time.Duration.{Duration}
 use Rattle.std.specs.Duration.{as_nanos}
+use Rattle.std.specs.declared.io.Read.{Ghosts as ReadOf}
+use Rattle.std.specs.declared.io.Write.{Ghosts as WriteOf}
 use Rattle.portal_files.specs.SettingsFile.{SettingsValue}
 use Rattle.portal_ledger.specs.States.{State}
 use Rattle.portal_model.specs.declared.refusal.Refusal.TheVariants.{Stopped}
@@ -13,16 +15,19 @@ use Rattle.portal_ends.specs.declared.fault.Fault.{Fault}
 use Rattle.portal_ends.specs.declared.fault.Fault.TheVariants.{Refused}
 use Rattle.portal_http.specs.declared.exchanges.Done.{Done}
 use Rattle.portal_http.specs.declared.exchanges.Cut.{Cut}
-use Rattle.portal_http.specs.Exchanges.{between, EndsExchange}
+use Rattle.portal_http.specs.Exchanges.{Wire, between, EndsExchange}
 use Rattle.portal_http.specs.Runs.{Served}
+use Rattle.portal_serve.specs.declared.host.Host.{Ghosts as HostOf}
 
--- the moment that a clock says: its whole seconds, or the greatest where they are past it; 0 where it is set before 1970
+-- the moment that a clock says: its whole seconds, or the greatest where they are past it; 0 where it is set
+-- before 1970
 abbrev pub IsMomentOf : Result Duration Error → ℕ → Type 0
 IsMomentOf (Ok since) moment = moment ≡ min (as_nanos since / 1000000000) 253370764799
 IsMomentOf (Err error) moment = (error_kind error ≡ InvalidData) × (moment ≡ 0)
 
--- What is supposed of a host: from what it was to what it is then, which peer it accepted, or that one broke before; which moment its
--- clock said and which seed was drawn; which connection it ended, and that it waited a second. And what is known of the bytes that a peer has left to send, and was sent.
+-- What is supposed of a host: from what it was to what it is then, which peer it accepted, or that one broke
+-- before; which moment its clock said and which seed was drawn; which connection it ended, and that it waited
+-- a second. And what is known of the bytes that a peer has left to send, and was sent.
 pub record HostValue : Type 1 where
   pub Host : Type 0
   pub Reader : Type 0
@@ -34,22 +39,27 @@ pub record HostValue : Type 1 where
   pub unread : Reader → Option (List ℕ)
   pub sent : Writer → Option (List ℕ)
 
-abbrev pub host_of : {Host Reader Writer : Type 0} → (Host → Option (Reader × Writer) → Host → Type 0) → (Host → Result (ℕ × List ℕ) Fault → Host → Type 0)
-    → (Host → Reader → Writer → Host → Type 0) → (Host → Host → Type 0) → (Reader → Option (List ℕ)) → (Writer → Option (List ℕ)) → HostValue
-host_of accepts stamps closes pauses unread sent = record {
+-- that of a host, and of what its peers send and are sent
+abbrev pub host_of : {Host Reader Writer : Type 0} → HostOf Host Reader Writer → ReadOf Reader → WriteOf Writer → HostValue
+host_of host reader writer = record {
   Host = _;
   Reader = _;
   Writer = _;
-  accepts = accepts;
-  stamps = stamps;
-  closes = closes;
-  pauses = pauses;
-  unread = unread;
-  sent = sent;
+  accepts = host.accepts;
+  stamps = host.stamps;
+  closes = host.closes;
+  pauses = host.pauses;
+  unread = reader.remaining;
+  sent = writer.contents;
 }
 
--- A peer that was accepted is met: the clock is read and a seed drawn; then there is one exchange with it, at that moment and with that
--- seed; and then its connection is ended.
+-- what a reader has left to give and a writer was given, each before a call and after it
+abbrev pub wire_of : {R W : Type 0} → ReadOf R → WriteOf W → R → R → W → W → Wire
+wire_of r w reader reader_after writer writer_after =
+    between (r.remaining reader) (r.remaining reader_after) (w.contents writer) (w.contents writer_after)
+
+-- A peer that was accepted is met: the clock is read and a seed drawn; then there is one exchange with it, at
+-- that moment and with that seed; and then its connection is ended.
 abbrev pub IsMet : (host : HostValue) → SettingsValue → host.Host → host.Reader → host.Writer → State → host.Host → State → Type 0
 IsMet host settings before reader writer old after new =
     (moment : ℕ) × (seed : List ℕ) × (stamped : host.Host) × (reader_after : host.Reader) × (writer_after : host.Writer) × (ended : Result Done Cut)
@@ -63,8 +73,8 @@ abbrev pub Pauses : (host : HostValue) → Bool → host.Host → host.Host → 
 Pauses host true before after = host.pauses before after
 Pauses host false before after = after ≡ before
 
--- One turn, after one whose connection broke or did not: a connection broke before it was accepted, and nothing comes of it but a pause;
--- or a peer is accepted and met. And whether it broke.
+-- One turn, after one whose connection broke or did not: a connection broke before it was accepted, and
+-- nothing comes of it but a pause; or a peer is accepted and met. And whether it broke.
 abbrev pub IsTurn : (host : HostValue) → SettingsValue → Bool → host.Host → State → host.Host → State → Bool → Type 0
 IsTurn host settings has_failed before old after new fails =
     ((fails ≡ true) × (new ≡ old) × (broken : host.Host) × host.accepts before None broken × Pauses host has_failed broken after)

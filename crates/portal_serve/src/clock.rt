@@ -69,7 +69,8 @@ fn moment_at(seconds: u64) -> Moment
 /// A clock that is set before 1970 answers `InvalidData`. Faults: `File`, and `NoMemory`.
 pub fn moment_now<C: Watch>(clock: &C) -> Result<Moment, Fault>
     ensures why { IfErr result IsOfHost }
-    ensures moment { IfOk result (λ moment. (said : Result Since Why) × C.says clock.now said × IsMomentOf said moment) }
+    ensures moment { IfOk result (λ moment.
+        (said : Result Since Why) × C.says clock.now said × IsMomentOf said moment) }
 {
     match clock.watch() {
         Ok(since) => Ok(moment_at(since.as_secs())),

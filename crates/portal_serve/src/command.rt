@@ -1,20 +1,16 @@
 //! The command `serve`, over a host whose port is bound.
 ghost use Rattle.std.specs.Prelude.{◌≡◌, Result, MatchResult, IfOk, string_bytes};
 ghost use Rattle.std.specs.Io.KnownBytes.{Appends};
-ghost use Rattle.portal_ledger.specs.Ledger.{Ledger};
-ghost use Rattle.portal_ledger.specs.States.{State, running};
 ghost use Rattle.portal_ends.specs.declared.fault.Fault.{Fault as Said};
-ghost use Rattle.portal_http.specs.Runs.{Run};
-ghost use Rattle.portal_http.specs.Headline.{Survives};
-ghost use Rattle.portal_serve.specs.Serving.{Serves};
+ghost use Rattle.portal_ends.specs.Streams.{outlets};
+ghost use Rattle.portal_serve.specs.Asks.{KeepsSettings, LeadsDesk, ServesRun, ServesSafely};
 ghost use Rattle.portal_serve.specs.Turns.{host_of};
 ghost use Rattle.portal_serve.specs.Command.{listening_line, status_at, IsUntold, Tells, TellsAll, TellsTurns, EndsAt};
 
 use crate::host::Host;
 use crate::serving::serve_connections;
 use portal_desk::Desk;
-use portal_ends::Fault;
-use portal_head::write_response;
+use portal_ends::{Fault, print_text};
 use portal_route::Routes;
 use std::alloc::{AllocError, Global};
 use std::io::Write;
@@ -28,16 +24,12 @@ fn listening_line(alloc: Global, port: u16) -> Result<String, AllocError>
 
 /// Prints where the program listens. Faults: `NoMemory`, and `Cut` where the line goes out in part alone.
 fn tell_port<W: Write>(alloc: Global, port: u16, output: &mut W) -> Result<(), Fault>
-    ensures { MatchResult result (λ _. Appends (W.contents output.old) (W.contents output.new) (listening_line port))
+    ensures { MatchResult result
+        (λ _. Appends (W.contents output.old) (W.contents output.new) (listening_line port))
         (λ fault. IsUntold fault (W.contents output.old) (W.contents output.new) (listening_line port)) }
 {
-    let Ok(line) = listening_line(alloc, port) else {
-        return Err(Fault::NoMemory);
-    };
-    match write_response(output, line.as_bytes()) {
-        Ok(()) => Ok(()),
-        Err(_) => Err(Fault::Cut),
-    }
+    let line = listening_line(alloc, port)?;
+    print_text(line.as_bytes(), output)
 }
 
 /// Prints where the program listens, and then serves.
@@ -51,31 +43,32 @@ fn tell_and_serve<D: Desk, H: Host, W: Write, E: Write>(
     output: &mut W,
     errors: &mut E,
 ) -> Result<(), Fault>
-    ensures told { D.settings desk.new ≡ D.settings desk.old }
-    ensures honest { D.is_honest desk.new → D.is_honest desk.old }
-    ensures printed { Tells port count (record { output = W.contents output.old; output_after = W.contents output.new; errors = E.contents errors.old; errors_after = E.contents errors.new }) result }
-    ensures served { D.is_honest desk.new → (old : State) → D.stands desk.old old → (new : State) × D.stands desk.new new
-        × Serves count (λ arrivals responses. Run (D.settings desk.old) old arrivals responses new) × EndsAt new (status_at result) }
-    ensures turns { D.is_honest desk.new → (old : State) → D.stands desk.old old → (new : State) × D.stands desk.new new
-        × TellsTurns (host_of H.accepts H.stamps H.closes H.pauses H.Reader.remaining H.Writer.contents) (D.settings desk.old) port count
-        (record { output = W.contents output.old; output_after = W.contents output.new; errors = E.contents errors.old; errors_after = E.contents errors.new }) host.old old result host.new new }
+    ensures settings { KeepsSettings D.Desk desk.old desk.new }
+    ensures printed { Tells port count
+        (outlets W.Write E.Write output.old output.new errors.old errors.new) result }
+    ensures served { LeadsDesk D.Desk desk.old desk.new (λ old new.
+        ServesRun (D.settings desk.old) count old new × EndsAt new (status_at result)) }
+    ensures turns { LeadsDesk D.Desk desk.old desk.new (λ old new.
+        TellsTurns (host_of H.Host H.Reader.Read H.Writer.Write) (D.settings desk.old) port count
+        (outlets W.Write E.Write output.old output.new errors.old errors.new)
+        host.old old result host.new new) }
 {
-    match tell_port(alloc, port, output) {
-        Err(fault) => Err(fault),
-        Ok(()) => serve_connections(alloc, desk, routes, host, count, errors),
-    }
+    tell_port(alloc, port, output)?;
+    serve_connections(alloc, desk, routes, host, count, errors)
 }
 
-/// Serves `count` connections of a host on which `port` was bound, and gives the status with which the program ends.
+/// Serves `count` connections of a host on which `port` was bound, and gives the status with which the
+/// program ends.
 ///
-/// `listening 127.0.0.1:` and the port are printed on `output` first. Then one connection after another is served: its
-/// request is carried out at the clock's moment with a fresh seed, as `exchange` says. On `errors` `portal: cut` is
-/// printed of a connection that breaks off, and `portal: network` of one that is not accepted; from the second of those in a
-/// row on, a second is waited after each.
+/// `listening 127.0.0.1:` and the port are printed on `output` first. Then one connection after another is
+/// served: its request is carried out at the clock's moment with a fresh seed, as `exchange` says. On
+/// `errors` `portal: cut` is printed of a connection that breaks off, and `portal: network` of one that is
+/// not accepted; from the second of those in a row on, a second is waited after each.
 ///
-/// Status 0: so many connections were served, and the desk works. Status 3, with the fault's line on `errors`: the desk
-/// has stopped (`portal: stopped`), at once; the clock or the source of seeds failed (`portal: file`,
-/// `portal: no_memory`); or the first line did not go out (`portal: cut`, `portal: no_memory`).
+/// Status 0: so many connections were served, and the desk works. Status 3, with the fault's line on
+/// `errors`: the desk has stopped (`portal: stopped`), at once; the clock or the source of seeds failed
+/// (`portal: file`, `portal: no_memory`); or the first line did not go out (`portal: cut`, `portal:
+/// no_memory`).
 pub fn serve<D: Desk, H: Host, W: Write, E: Write>(
     alloc: Global,
     desk: &mut D,
@@ -86,17 +79,17 @@ pub fn serve<D: Desk, H: Host, W: Write, E: Write>(
     output: &mut W,
     errors: &mut E,
 ) -> u8
-    ensures told { D.settings desk.new ≡ D.settings desk.old }
-    ensures honest { D.is_honest desk.new → D.is_honest desk.old }
+    ensures settings { KeepsSettings D.Desk desk.old desk.new }
     ensures printed { (ended : Result (Unit {0}) Said) × (result ≡ status_at ended)
-        × TellsAll port count (record { output = W.contents output.old; output_after = W.contents output.new; errors = E.contents errors.old; errors_after = E.contents errors.new }) ended }
-    ensures served { D.is_honest desk.new → (old : State) → D.stands desk.old old → (new : State) × D.stands desk.new new
-        × Serves count (λ arrivals responses. Run (D.settings desk.old) old arrivals responses new) × EndsAt new result }
-    ensures survives { D.is_honest desk.new → (L : Ledger) → D.stands desk.old (running L)
-        → Serves count (λ arrivals responses. Survives D.Files (D.may_leave desk.new) D.shows (D.settings desk.old) L arrivals responses) }
-    ensures turns { D.is_honest desk.new → (old : State) → D.stands desk.old old → (new : State) × D.stands desk.new new
-        × ((ended : Result (Unit {0}) Said) × (result ≡ status_at ended) × TellsTurns (host_of H.accepts H.stamps H.closes H.pauses H.Reader.remaining H.Writer.contents) (D.settings desk.old) port count
-        (record { output = W.contents output.old; output_after = W.contents output.new; errors = E.contents errors.old; errors_after = E.contents errors.new }) host.old old ended host.new new) }
+        × TellsAll port count (outlets W.Write E.Write output.old output.new errors.old errors.new) ended }
+    ensures served { LeadsDesk D.Desk desk.old desk.new (λ old new.
+        ServesRun (D.settings desk.old) count old new × EndsAt new result) }
+    ensures survives { ServesSafely D.Desk desk.old desk.new count }
+    ensures turns { LeadsDesk D.Desk desk.old desk.new (λ old new.
+        (ended : Result (Unit {0}) Said) × (result ≡ status_at ended)
+        × TellsTurns (host_of H.Host H.Reader.Read H.Writer.Write) (D.settings desk.old) port count
+        (outlets W.Write E.Write output.old output.new errors.old errors.new)
+        host.old old ended host.new new) }
 {
     match tell_and_serve(alloc, desk, routes, host, port, count, output, errors) {
         Ok(()) => 0,

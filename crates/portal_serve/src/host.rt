@@ -7,8 +7,9 @@ use portal_ends::Fault;
 use portal_model::moment::Moment;
 use std::io::{Read, Write};
 
-/// What touches the machine: connections of peers, with each the clock's moment and a fresh seed, and a pause. The
-/// ghosts name what they gave, from what the host was to what it is then; no contract says more of it.
+/// What touches the machine: connections of peers, with each the clock's moment and a fresh seed, and a
+/// pause. The ghosts name what they gave, from what the host was to what it is then; no contract says more of
+/// it.
 pub trait Host {
     /// What a peer sends.
     type Reader: Read + Drop;

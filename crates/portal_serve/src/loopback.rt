@@ -23,17 +23,16 @@ pub fn loopback_address(port: u16) -> SocketAddrV4
     SocketAddrV4::new(Ipv4Addr::new(127, 0, 0, 1), port)
 }
 
-/// Takes a port of the loopback address; connections wait from then on. Fault: `Network`, where it cannot be had.
+/// Takes a port of the loopback address; connections wait from then on. Fault: `Network`, where it cannot be
+/// had.
 pub fn bind_loopback<N: Net<Listener = TcpListener, Stream = TcpStream>>(
     net: &N,
     port: u16,
 ) -> Result<TcpListener, Fault>
     ensures { IfErr result (λ fault. fault ≡ Network) }
 {
-    match net.bind(SocketAddr::V4(loopback_address(port))) {
-        Ok(listener) => Ok(listener),
-        Err(_) => Err(Fault::Network),
-    }
+    net.bind(SocketAddr::V4(loopback_address(port)))
+        .map_err(|_| Fault::Network)
 }
 
 /// A listener, with the clock and the source of seeds of its machine.
@@ -52,8 +51,9 @@ impl<'h, H> Loopback<'h, H> {
     }
 }
 
-/// Ends the response, and takes what the peer has sent by now and nobody has read: closing over unread bytes would reset
-/// the connection, and the reset can overtake the response (RFC 9112 section 9.6). It waits for nothing.
+/// Ends the response, and takes what the peer has sent by now and nobody has read: closing over unread bytes
+/// would reset the connection, and the reset can overtake the response (RFC 9112 section 9.6). It waits for
+/// nothing.
 fn drain(mut reader: TcpStream, writer: &TcpStream) {
     if writer.shutdown(Shutdown::Write).is_err() || reader.set_nonblocking(true).is_err() {
         return;
@@ -75,31 +75,23 @@ impl<'h, H: Watch + Draw> Host for Loopback<'h, H> {
     ghost accepts = { λ _ _ _. ⊤ };
 
     ghost stamps = { λ before given after. IfOk given (λ stamp.
-        ((said : Result Since Why) × H.says before.host.now said × IsMomentOf said stamp.0) × H.draws before.host.now stamp.1) };
+        ((said : Result Since Why) × H.says before.host.now said × IsMomentOf said stamp.0)
+        × H.draws before.host.now stamp.1) };
 
     ghost closes = { λ _ _ _ _. ⊤ };
 
     ghost pauses = { λ before after. H.waits before.host.now 1 };
 
     fn accept(&mut self) -> Option<(TcpStream, TcpStream)> {
-        let Ok(accepted) = self.listener.accept() else {
-            return None;
-        };
-        let (reader, _peer) = accepted;
-        match reader.try_clone() {
-            Ok(writer) => Some((reader, writer)),
-            Err(_) => None,
-        }
+        let (reader, _peer) = self.listener.accept().ok()?;
+        let writer = reader.try_clone().ok()?;
+        Some((reader, writer))
     }
 
     fn moment_and_seed(&mut self) -> Result<(Moment, [u8; 32]), Fault> {
-        match moment_now(self.host) {
-            Err(fault) => Err(fault),
-            Ok(moment) => match fresh_seed(self.host) {
-                Err(fault) => Err(fault),
-                Ok(seed) => Ok((moment, seed)),
-            },
-        }
+        let moment = moment_now(self.host)?;
+        let seed = fresh_seed(self.host)?;
+        Ok((moment, seed))
     }
 
     fn close(&mut self, reader: TcpStream, writer: TcpStream) {

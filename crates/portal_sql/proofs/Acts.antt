@@ -1,19 +1,10 @@
 -- Where no foreign key acts, an edit is its one step.
-use Rattle.std.proofs.Common.{◌≡◌, inl, inr, ℕ, List, [], ◌∷◌, Option, Some, None, IfSome, refl, true, false, Bool, if◌then◌else◌, ◌==◌, ap}
-use Rattle.std.specs.List.{flat_map, filter_map}
-use Rattle.std.specs.Prelude.{◌&&◌}
+use Rattle.portal_sql.proofs.Common.{◌≡◌, inl, inr, ℕ, List, [], ◌∷◌, Option, Some, None, IfSome, refl, true, false, Bool, if◌then◌else◌, ◌==◌, ap, filter_map, ◌&&◌, Table, Schema, Enforced, Deferred, Off, Reference, NoAction, ParentKey, parent_key, Has, IsUnacted}
+use Rattle.std.specs.List.{flat_map}
 use Rattle.sqlite.specs.Order.{Row}
-use Rattle.sqlite.specs.Table.{Table}
-use Rattle.sqlite.specs.Schema.{Schema}
 use Rattle.sqlite_schema.specs.declared.schema.Keys.{Keys}
-use Rattle.sqlite_schema.specs.declared.schema.Keys.TheVariants.{Enforced, Deferred, Off}
-use Rattle.sqlite_schema.specs.declared.schema.Reference.{Reference}
-use Rattle.sqlite_schema.specs.declared.schema.Action.TheVariants.{NoAction}
-use Rattle.sqlite_schema.specs.Rules.{ParentKey, parent_key}
-use Rattle.sqlite_rules.specs.Lists.{Has}
 use Rattle.sqlite_rules.specs.declared.action.Deed.{Deed}
 use Rattle.sqlite_rules.specs.Action.{Work, works, work_by, deed_for, pairs}
-use Rattle.portal_sql.specs.Stands.{IsUnacted}
 
 none_mapped : {X Y : Type 0} (f : X → Option Y) (xs : List X) → ((x : X) → Has xs x → f x ≡ None) → filter_map f xs ≡ []
 none_mapped f [] none = refl

@@ -1,25 +1,18 @@
 -- From the answer of a query to what a reader finds.
-use Rattle.std.proofs.Common.{◌≡◌, inl, inr, ◌&&◌, ℕ, List, [], ◌∷◌, map, filter, slice_get, Bool, true, false, Some, None, Result, Ok, Err, IfOk, refl, sym, ap, subst, ◌∙◌, arith, is_eq, is_lt, take}
-use Rattle.std.specs.List.Sorted.{IsPermutation, IsSorted}
-use Rattle.std.proofs.lemmas.List.Sorted.{IsPermutation-map, IsPermutation-sym, sorted_far, ranks_by, IsStrictWeakOrder-flip}
+use Rattle.portal_sql.proofs.Common.{◌≡◌, inl, inr, ◌&&◌, ℕ, List, [], ◌∷◌, map, filter, slice_get, Bool, true, false, Some, None, Result, Ok, Err, IfOk, refl, sym, ap, subst, ◌∙◌, arith, is_eq, is_lt, take, IsPermutation, IsSorted, IsPermutation-map, IsPermutation-sym, sorted_far, ranks_by, IsStrictWeakOrder-flip, Null, Int, Real, Text, Blob, column, is_null, Eq, Key, Binary, value_cmp-Null, value_cmp_total, Has, has_filtered, has_kept, has_got, contains_had, filter-map, along_permutation, IsSelection, by_column}
 use Rattle.sqlite.specs.declared.types.Value.{Value}
-use Rattle.sqlite.specs.declared.types.Value.TheVariants.{Null, Int, Real, Text, Blob}
-use Rattle.sqlite.specs.Order.{Row, column, value_cmp}
-use Rattle.sqlite.specs.Ops.{binary, is_true, is_null, from_truth}
+use Rattle.sqlite.specs.Order.{Row, value_cmp}
+use Rattle.sqlite.specs.Ops.{binary, is_true, from_truth}
 use Rattle.sqlite_sql.specs.declared.ops.BinaryOp.TheVariants as by
-use Rattle.sqlite_sql.specs.declared.ops.CompareOp.TheVariants.{Eq}
-use Rattle.sqlite_value.specs.declared.keys.Key.{Key}
-use Rattle.sqlite_value.specs.declared.keys.Collation.TheVariants.{Binary}
-use Rattle.sqlite_value.proofs.OrderLemmas.{value_cmp-Null, value_cmp_total}
-use Rattle.sqlite_rules.specs.Lists.{Has}
-use Rattle.sqlite_rules.proofs.ListLemmas.{has_filtered, has_kept, has_got, contains_had}
-use Rattle.sqlite_trees.proofs.ListLemmas.{filter-map, along_permutation}
-use Rattle.portal_sql.specs.Finds.{IsSelection, by_column}
 use Rattle.portal_sql.proofs.Scan.{IsScan}
 
 pub ok_then : {X E : Type 0} {P Q : X → Type 0} (r : Result X E) → ((x : X) → P x → Q x) → IfOk r P → IfOk r Q
 ok_then (Ok x) f h = f x h
 ok_then (Err e) f h = tt
+
+pub ok_both : {X E : Type 0} {P Q R : X → Type 0} (r : Result X E) → ((x : X) → P x → Q x → R x) → IfOk r P → IfOk r Q → IfOk r R
+ok_both (Ok x) f p q = f x p q
+ok_both (Err e) f p q = tt
 
 -- ---- a test of WHERE
 

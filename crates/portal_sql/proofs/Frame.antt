@@ -1,12 +1,7 @@
 -- Calls that leave a connection as it was.
-use Rattle.std.proofs.Common.{◌≡◌, inl, inr, false, Result, OnErr, Ok, Err, IsTrue, ℕ, List, refl, arith}
-use Rattle.std.proofs.lemmas.Bool.{cases_Bool}
+use Rattle.portal_sql.proofs.Common.{◌≡◌, inl, inr, false, Result, OnErr, Ok, Err, IsTrue, ℕ, List, refl, arith, cases_Bool, Trees, Error, Held, state, State, KeepsCommit, Survives, ExecutesInside}
 use Rattle.sqlite.specs.Store.{Ghosts}
 use Rattle.sqlite.specs.Order.{Row}
-use Rattle.sqlite.specs.Tree.{Trees}
-use Rattle.sqlite.specs.declared.error.Error.{Error}
-use Rattle.sqlite.specs.Held.{Held, state}
-use Rattle.sqlite.specs.State.{State, KeepsCommit, Survives, ExecutesInside}
 use Rattle.sqlite.proofs.InsideLemmas.{inside_keeps}
 
 -- a statement inside a transaction commits nothing

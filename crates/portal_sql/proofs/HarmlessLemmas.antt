@@ -1,16 +1,7 @@
 -- What the test of a schema tells, and the question that asks nothing of any table.
-use Rattle.std.proofs.Common.{◌≡◌, ◌⊎◌, inl, inr, ℕ, List, codes, Bool, true, false, ◌&&◌, ◌||◌, not, refl, ◌∙◌}
-use Rattle.sqlite.specs.Schema.{Schema}
-use Rattle.sqlite.specs.Listing.{understood}
-use Rattle.sqlite.specs.State.{State, IsUnchanged}
-use Rattle.sqlite.proofs.Callers.{IsPlain}
-use Rattle.sqlite_tied.specs.Compute.{everything}
+use Rattle.portal_sql.proofs.Common.{◌≡◌, ◌⊎◌, inl, inr, ℕ, List, Bool, true, false, ◌&&◌, ◌||◌, not, refl, ◌∙◌, Schema, State, IsUnchanged, NoAction, Restrict, Cascade, SetNull, SetDefault, test_has, IsUnactedBy, IsUndone, IsAsBefore}
 use Rattle.sqlite_schema.specs.declared.schema.Action.{Action}
-use Rattle.sqlite_schema.specs.declared.schema.Action.TheVariants.{NoAction, Restrict, Cascade, SetNull, SetDefault}
-use Rattle.sqlite_rules.proofs.ListLemmas.{test_has}
-use Rattle.portal_sql.specs.Stands.{IsUnactedBy}
 use Rattle.portal_sql.specs.Harmless.{is_idle, is_harmless, are_harmless}
-use Rattle.portal_sql.specs.States.{IsUndone, IsAsBefore}
 
 idle_is : (a : Action) → is_idle a ≡ true → a ≡ NoAction
 idle_is NoAction e = refl
@@ -42,11 +33,6 @@ pub counts_of : (c s : Bool) → (not c || s) ≡ true → (c && not s) ≡ fals
 counts_of false s e = refl
 counts_of true true e = refl
 counts_of true false e = absurd (cc)
-
--- the question that asks nothing of any table
-pub one_plain : (schema : Schema) → IsPlain (understood schema (codes "SELECT 1"))
-unfolding understood everything
-one_plain schema = (refl, refl)
 
 pub as_before : (old mid new : State) → IsUndone old mid → IsUnchanged mid new → IsAsBefore old new
 as_before old mid new undone same = record {

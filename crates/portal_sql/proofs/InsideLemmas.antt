@@ -1,33 +1,25 @@
 -- How calls on one transaction compose.
-use Rattle.std.proofs.Common.{◌≡◌, ℕ, List, false, IsTrue, Result, Ok, Err, OnOk, IsErrAnd, refl, ◌∙◌, arith}
+use Rattle.portal_sql.proofs.Common.{IsTrue, Result, Ok, Err, OnOk, IsErrAnd, refl, ◌∙◌, arith, state, State, Error, survives_then}
 use Rattle.std.proofs.lemmas.Result.{on_ok_weaker}
-use Rattle.sqlite.specs.Order.{Row}
 use Rattle.sqlite.specs.Store.{Ghosts}
-use Rattle.sqlite.specs.Held.{state}
-use Rattle.sqlite.specs.State.{State, HasCleanDisk, Survives, ExecutesInside}
-use Rattle.sqlite.specs.declared.error.Error.{Error}
 use Rattle.sqlite.specs.declared.transaction.Transaction.{Transaction}
 use Rattle.sqlite.proofs.InsideLemmas.{keeps_then}
-use Rattle.sqlite.proofs.StateLemmas.{survives_then}
 use Rattle.portal_sql.specs.Inside.{Inside}
-use Rattle.portal_sql.proofs.Frame.{kept_inside, keeps_none, survives_none}
+use Rattle.portal_sql.proofs.Frame.{keeps_none, survives_none}
 
 -- the `?` of a call that failed
 pub on_failed : {A E : Type 0} (r : Result A E) (P : Type 0) (Q : E → Type 0) → IsErrAnd r Q → OnOk r P
 on_failed (Ok a) P Q h = absurd h
 on_failed (Err e) P Q h = tt
 
--- one statement, which does as Does says if it succeeds
-pub inside_one : {S P : Type 0} (g : Ghosts S) {Does : State → State → Type 0} (old new : Transaction S) {result : Result (Unit {0}) Error} (sql : List ℕ) (params : Row) (r : Result ℕ Error)
-    → new.conn.ghost_name ≡ old.conn.ghost_name → (old.conn.now.in_transaction ≡ false → P × (new.conn.now ≡ old.conn.now))
-    → (HasCleanDisk (state g new.conn.now) → IsTrue old.conn.now.in_transaction → ExecutesInside 0 sql params (state g old.conn.now) (state g new.conn.now) r)
-    → Survives (state g old.conn.now) (state g new.conn.now) (λ _. ⊥)
-    → (HasCleanDisk (state g new.conn.now) → IsTrue old.conn.now.in_transaction → OnOk result (Does (state g old.conn.now) (state g new.conn.now))) → Inside g Does old new result
-inside_one g old new sql params r same ended runs survives leads = record {
-  same_reference = same;
-  steps = leads;
-  kept = λ clean. kept_inside g old.conn.now new.conn.now sql params r _ ended (runs clean);
-  survives = survives;
+-- what a call does comes to more
+pub inside_by : {S : Type 0} (g : Ghosts S) {First Second : State → State → Type 0} {old new : Transaction S} {result : Result (Unit {0}) Error}
+    → ((a b : State) → First a b → Second a b) → Inside g First old new result → Inside g Second old new result
+inside_by g {old = old} {new = new} {result = result} leads one = record {
+  same_reference = one.same_reference;
+  steps = λ clean inside. on_ok_weaker result (leads (state g old.conn.now) (state g new.conn.now)) (one.steps clean inside);
+  kept = one.kept;
+  survives = one.survives;
 }
 
 -- nothing was called

@@ -1,22 +1,12 @@
 -- From the rows of an answer to the values that a table holds.
-use Rattle.std.proofs.Common.{◌≡◌, inl, inr, ℕ, ◌≤◌, ℤ, pos, List, [], ◌∷◌, map, filter, slice_get, take, Bool, true, false, Option, Some, None, IsTrue, refl, sym, ap, ap₂, subst, ◌∙◌, is_eq, is_lt, Ordering, Less, Equal, Greater, true≢false, arith, bytes_eq, nat_eq}
-use Rattle.std.specs.List.{AllByRecursion}
-use Rattle.std.specs.List.Sorted.{IsPermutation}
-use Rattle.std.proofs.lemmas.Bool.Decides.{nat_tests, Decides-eqb}
+use Rattle.portal_sql.proofs.Common.{◌≡◌, inl, inr, ℕ, ◌≤◌, ℤ, pos, List, [], ◌∷◌, map, filter, slice_get, take, Bool, true, false, Option, Some, None, IsTrue, refl, sym, ap, ap₂, subst, ◌∙◌, is_eq, is_lt, Ordering, Less, Equal, Greater, true≢false, arith, bytes_eq, nat_eq, AllByRecursion, IsPermutation, nat_tests, Decides-eqb, tied_itself, ints, Int, Text, column, value_cmp-Text, value_cmp-Int, value_cmp_total, is_int, Has, number, or_null, FindsLast, columns, has_key, by_column, IsSelection}
 use Rattle.std.proofs.lemmas.Slice.Eq.{bytes_eq-Decides}
-use Rattle.std.proofs.lemmas.Cmp.{tied_itself}
-use Rattle.std.proofs.lemmas.Int.{ints}
 use Rattle.std.proofs.lemmas.Map.Lookups.{exact_bytes}
 use Rattle.sqlite.specs.declared.types.Value.{Value}
-use Rattle.sqlite.specs.declared.types.Value.TheVariants.{Int, Text}
-use Rattle.sqlite.specs.Order.{Row, column, value_cmp}
+use Rattle.sqlite.specs.Order.{Row, value_cmp}
 use Rattle.sqlite.specs.Tree.{rowid}
 use Rattle.sqlite.specs.Values.{or_null as nullable}
-use Rattle.sqlite_value.proofs.OrderLemmas.{value_cmp-Text, value_cmp-Int, value_cmp_total}
-use Rattle.sqlite_trees.specs.View.{is_int}
-use Rattle.sqlite_rules.specs.Lists.{Has}
-use Rattle.portal_sql.specs.Stored.{number, or_null}
-use Rattle.portal_sql.specs.Finds.{Finds, FindsLast, columns, has_key, by_column, IsSelection}
+use Rattle.portal_sql.specs.Finds.{Finds}
 use Rattle.portal_sql.proofs.FindLemmas.{found_some, found_none, has_image, first_of_one, greatest}
 
 -- ---- keys

@@ -1,11 +1,6 @@
 -- How calls that only read follow one another.
-use Rattle.std.proofs.Common.{◌≡◌, false, IsTrue, Result, Ok, Err, OnOk, sym, subst, ◌∙◌, arith}
-use Rattle.sqlite.specs.Schema.{Schema}
-use Rattle.sqlite.specs.Effect.{Database}
-use Rattle.sqlite.specs.State.{State, HasCleanDisk, IsUnchanged, Survives}
-use Rattle.sqlite.proofs.StateLemmas.{survives_then, survives_weaker, unchanged}
+use Rattle.portal_sql.proofs.Common.{◌≡◌, false, IsTrue, Result, Ok, Err, OnOk, sym, subst, ◌∙◌, arith, Schema, Database, State, HasCleanDisk, IsUnchanged, Survives, survives_then, survives_weaker, unchanged, KeepsNow}
 use Rattle.portal_sql.proofs.Frame.{survives_none}
-use Rattle.portal_sql.specs.States.{KeepsNow}
 use Rattle.portal_sql.specs.Looks.{Reads, Fails, Looks}
 
 -- what a query left

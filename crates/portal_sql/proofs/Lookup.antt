@@ -1,29 +1,9 @@
 -- A query that shows all columns of one table.
-use Rattle.std.proofs.Common.{◌≡◌, ◌+◌, ◌<◌, ℕ, ℤ, pos, List, [], ◌∷◌, map, length, take, Bool, true, false, None, Ordering, refl, sym, ap, ap₂, subst, ◌∙◌, arith, cond, nat_le, zero-add, is_lt, is_eq, slice_get, unwrap_or, ◌-◌, ◌^◌}
-use Rattle.std.specs.List.{range_with_len}
-use Rattle.std.specs.List.Sorted.{IsSorted}
-use Rattle.std.proofs.lemmas.List.{get_or-map, length-map}
+use Rattle.portal_sql.proofs.Common.{◌≡◌, ◌+◌, ◌<◌, ℕ, ℤ, pos, List, [], ◌∷◌, map, length, take, Bool, true, false, None, Ordering, refl, sym, ap, ap₂, subst, ◌∙◌, arith, cond, nat_le, zero-add, is_lt, is_eq, slice_get, unwrap_or, ◌-◌, ◌^◌, range_with_len, IsSorted, get_or-map, length-map, Key, Null, column, Table, Schema, Trees, is_null, Term, col, lit, eval, Binary, then-Equal, overlay, Query, inner, end, IsAnswer, key_cmp, Select, place_of, Has, map-map, State, reads_as, has_key, rows_in, fields, IsSelection, by_column, columns}
 use Rattle.std.proofs.lemmas.List.FromFn.{get_or-map-range_with_len}
-use Rattle.sqlite_value.specs.declared.keys.Key.{Key}
 use Rattle.sqlite_value.specs.declared.value.Value.{Value}
-use Rattle.sqlite.specs.declared.types.Value.TheVariants.{Null}
-use Rattle.sqlite.specs.Order.{Row, column, value_cmp}
-use Rattle.sqlite.specs.Table.{Table}
-use Rattle.sqlite.specs.Schema.{Schema}
-use Rattle.sqlite.specs.Tree.{Trees}
-use Rattle.sqlite.specs.Ops.{is_null}
-use Rattle.sqlite.specs.Term.{Term, col, lit, eval}
-use Rattle.sqlite_value.specs.declared.keys.Collation.TheVariants.{Binary}
-use Rattle.sqlite_value.proofs.OrderLemmas.{then-Equal}
-use Rattle.sqlite.specs.Program.{overlay}
-use Rattle.sqlite.specs.Query.{Query, inner, end, IsAnswer, key_cmp}
-use Rattle.sqlite.specs.Command.TheVariants.{Select}
-use Rattle.sqlite_schema.specs.Names.{place_of}
-use Rattle.sqlite_rules.specs.Lists.{Has}
-use Rattle.sqlite_trees.proofs.ListLemmas.{map-map}
-use Rattle.sqlite.specs.State.{State, Shown}
-use Rattle.sqlite.proofs.Callers.{reads_as}
-use Rattle.portal_sql.specs.Finds.{has_key, rows_in, fields, IsSelection, by_column, columns}
+use Rattle.sqlite.specs.Order.{Row, value_cmp}
+use Rattle.sqlite.specs.State.{Shown}
 use Rattle.portal_sql.proofs.Queries.{simple, equals, unlimited}
 use Rattle.portal_sql.proofs.Texts.{Means}
 use Rattle.portal_sql.proofs.Scan.{IsScan, env, passes, shown_of, keys_of, scan_all, scan_first}

@@ -1,30 +1,13 @@
 -- CREATE TABLE under any schema: where it answered Ok, it made the table.
-use Rattle.std.proofs.Common.{◌≡◌, ◌⊎◌, inl, inr, ℕ, ◌+◌, List, [], ◌∷◌, ◌++◌, codes, Option, Some, None, is_some, Ok, Err, Result, slice_get, slice_range, refl, true, false, Bool, if◌then◌else◌, ap, sym, subst, ◌∙◌}
-use Rattle.std.specs.Option.{option_or}
-use Rattle.sqlite.specs.Schema.{Schema}
-use Rattle.sqlite.specs.Table.{Table}
-use Rattle.sqlite_schema.specs.declared.command.Command.{Command}
-use Rattle.sqlite.specs.Command.TheVariants.{CreateTable, Nothing}
-use Rattle.sqlite_schema.specs.Names.{table_named, index_named, view_named}
-use Rattle.sqlite_ast.specs.declared.Statement.{Statement}
-use Rattle.sqlite_resolve.specs.declared.compiled.Compiled.{Compiled}
-use Rattle.sqlite_resolve.specs.declared.error.CompileError.{CompileError}
-use Rattle.sqlite_resolve.specs.declared.error.CompileError.TheVariants.{Exists, Unsupported}
-use Rattle.sqlite_resolve.specs.Lowering.{Checked, and_then}
-use Rattle.sqlite_resolve.specs.Compile.{compiled, planned, meaning, returning, command, timed, is_attached, small, with_command, table_defined_by}
+use Rattle.portal_sql.proofs.Common.{◌≡◌, ◌⊎◌, inl, inr, ℕ, ◌+◌, List, [], ◌∷◌, ◌++◌, codes, Option, Some, None, is_some, Ok, Err, slice_get, slice_range, refl, true, false, Bool, if◌then◌else◌, ap, sym, subst, ◌∙◌, option_or, Schema, Table, Command, CreateTable, Nothing, table_named, index_named, view_named, Statement, Compiled, Exists, Unsupported, Checked, and_then, returning, timed, is_attached, small, table_defined_by, list_any, ◌||◌, ◌&&◌, not, option_and_then, same_name, Tally, lacks_sequence, Database, State, Writes, Executes, ExecutesInside, Shows, statement_of, runs_as}
+use Rattle.sqlite_resolve.specs.Compile.{command}
 use Rattle.sqlite.specs.Change.{created, next_tree}
-use Rattle.std.specs.List.{list_any}
-use Rattle.std.specs.Prelude.{◌||◌, ◌&&◌, not, option_and_then}
-use Rattle.sqlite_schema.specs.Names.{same_name}
 use Rattle.sqlite.specs.Rows.{sequence}
 use Rattle.portal_sql.proofs.StandsLemmas.{placed_before, got_before}
 use Rattle.portal_sql.specs.Made.{Counts, HasMade}
-use Rattle.sqlite.specs.Does.{Tally, lacks_sequence}
-use Rattle.sqlite.specs.Effect.{Database}
-use Rattle.sqlite.specs.Listing.{understood, reads_listing, misses_table}
-use Rattle.sqlite.specs.State.{State, Writes, Executes, ExecutesIn, ExecutesInside, Shows}
-use Rattle.sqlite.proofs.Callers.{statement_of, runs_as}
-use Rattle.portal_sql.proofs.Texts.{IsText, Means}
+use Rattle.sqlite.specs.Listing.{understood}
+use Rattle.sqlite.specs.State.{ExecutesIn}
+use Rattle.portal_sql.proofs.Texts.{IsText, Means, known_as, refused, went, same_value}
 
 -- what a CREATE TABLE with no IF NOT EXISTS is, whatever is there
 abbrev pub made : Bool → Bool → Bool → Checked Command
@@ -37,35 +20,12 @@ made_in schema name = made (is_attached schema name) (is_some (index_named schem
 
 module _ (schema : Schema) (sql : List ℕ) (statement : Statement) (count : ℕ) (t : IsText sql statement count)
     (untimed : timed schema [] statement ≡ []) (unshown : (base : ℕ) → returning schema base statement ≡ Ok None) where
-  compiled_ok : (c : Command) → command schema [] (small t.parsed.names + 0) statement ≡ Ok c → compiled schema sql ≡ Ok (with_command t.parsed ([], (c, None)))
-  unfolding compiled planned meaning
-  compiled_ok c is = rw (t.read, t.is, t.timeless, untimed, unshown _, is) refl
-
-  compiled_err : (e : CompileError) → command schema [] (small t.parsed.names + 0) statement ≡ Err e → compiled schema sql ≡ Err e
-  unfolding compiled planned meaning
-  compiled_err e is = rw (t.read, t.is, t.timeless, untimed, unshown _, is) refl
-
-  refused : (e : CompileError) → misses_table (Err e) ≡ false → compiled schema sql ≡ Err e → (x : Compiled) → ¬ (understood schema sql ≡ Ok x)
-  unfolding understood
-  refused e other is x ok = let none = rw (is, other) at ok in cc
-
-  accepted : (c : Compiled) → compiled schema sql ≡ Ok c → (understood schema sql ≡ Ok c) × (reads_listing schema sql ≡ false)
-  unfolding understood
-  accepted c is = (rw is refl, rw is refl)
-
   means : (a b c : Bool) → command schema [] (small t.parsed.names + 0) statement ≡ made a b c → (x : Compiled) → understood schema sql ≡ Ok x
       → Means schema sql CreateTable × (statement_of sql (understood schema sql) ≡ slice_range sql t.parsed.start t.parsed.end)
-  means true b c is x ok = absurd (refused Unsupported refl (compiled_err Unsupported is) x ok)
-  means false true c is x ok = absurd (refused Exists refl (compiled_err Exists is) x ok)
-  means false false true is x ok = absurd (refused Exists refl (compiled_err Exists is) x ok)
-  means false false false is x ok = let u = accepted _ (compiled_ok CreateTable is) in (record { is = rw u.0 refl; plain = rw u.0 (refl, refl); unlisted = u.1 }, rw u.0 refl)
-
-went : {B E R : Type 0} {b : B} {Stops : E → Type 0} → ((stop : E) × Stops stop × (Ok b ≡ Err stop)) ⊎ R → R
-went (inl stopped) = absurd (let e = stopped.2 in cc)
-went (inr on) = on
-
-same_value : {B E : Type 0} {a b : B} → ◌≡◌ {A = Result B E} (Ok a) (Ok b) → a ≡ b
-same_value e = cc
+  means true b c is x ok = absurd (refused schema sql statement count t untimed unshown Unsupported refl is x ok)
+  means false true c is x ok = absurd (refused schema sql statement count t untimed unshown Exists refl is x ok)
+  means false false true is x ok = absurd (refused schema sql statement count t untimed unshown Exists refl is x ok)
+  means false false false is x ok = known_as schema sql statement count t untimed unshown CreateTable is
 
 -- a text that creates this table, under any schema
 pub record IsCreate (sql : List ℕ) (table : Table) : Type 0 where

@@ -1,20 +1,9 @@
 -- That no foreign key acts on a table, said by names, which a CREATE TABLE keeps.
-use Rattle.std.proofs.Common.{◌≡◌, ◌⊎◌, inl, inr, ℕ, List, [], ◌∷◌, ◌++◌, Option, Some, None, IfSome, refl, true, false, Bool, ◌==◌, ap, sym, ◌∙◌, find}
-use Rattle.std.proofs.lemmas.Bool.{cases_Bool}
-use Rattle.std.specs.Prelude.{option_map, option_and_then}
-use Rattle.sqlite.specs.Table.{Table}
-use Rattle.sqlite.specs.Schema.{Schema}
+use Rattle.portal_sql.proofs.Common.{◌≡◌, ◌⊎◌, inl, inr, ℕ, List, [], ◌∷◌, ◌++◌, Option, Some, None, IfSome, refl, true, false, Bool, ◌==◌, ap, sym, ◌∙◌, find, cases_Bool, option_map, option_and_then, Table, Schema, Reference, NoAction, same_name, key_in, key_places, declared_order, ParentKey, Has, Stands, IsUnacted, IsUnactedBy}
 use Rattle.sqlite_value.specs.declared.keys.Order.{Order}
-use Rattle.sqlite_schema.specs.declared.schema.Reference.{Reference}
-use Rattle.sqlite_schema.specs.declared.schema.Action.TheVariants.{NoAction}
-use Rattle.sqlite_schema.specs.Names.{same_name}
-use Rattle.sqlite_schema.specs.Rules.{key_in, key_places, declared_order, ParentKey}
-use Rattle.sqlite_rules.specs.Lists.{Has}
 use Rattle.sqlite_catalog.specs.Change.{created}
-use Rattle.portal_sql.specs.Stands.{Stands, IsUnacted}
-use Rattle.portal_sql.specs.Stands.{IsUnactedBy}
 
-has_part : {X : Type 0} (xs ys : List X) (x : X) → Has (xs ++ ys) x → Has xs x ⊎ Has ys x
+pub has_part : {X : Type 0} (xs ys : List X) (x : X) → Has (xs ++ ys) x → Has xs x ⊎ Has ys x
 has_part [] ys x h = inr h
 has_part (y ∷ xs) ys x (inl e) = inl (inl e)
 has_part (y ∷ xs) ys x (inr h) = elim (has_part xs ys x h) [ inl a ↦ inl (inr a) | inr b ↦ inr b ]
@@ -28,7 +17,7 @@ still_unacted schema table name idle h child ref listed has = elim (has_part sch
   | inr (inr none) ↦ absurd none
 ]
 
-found_has : {X : Type 0} (p : X → Bool) (xs : List X) (x : X) → find p xs ≡ Some x → Has xs x × (p x ≡ true)
+pub found_has : {X : Type 0} (p : X → Bool) (xs : List X) (x : X) → find p xs ≡ Some x → Has xs x × (p x ≡ true)
 found_has p [] x is = absurd cc
 found_has p (y ∷ xs) x is = elim (cases_Bool (p y)) [
   | inl on ↦ let same : ◌≡◌ {A = Option _} (Some y) (Some x) = rw on at is in let e : y ≡ x = cc in (inl (sym e), ap p (sym e) ∙ on)

@@ -1,26 +1,9 @@
 -- What an INSERT and an UPDATE come to on the rows of one table.
-use Rattle.std.proofs.Common.{◌≡◌, inl, inr, ℤ, pos, ◌+ℤ◌, ◌<ℤ◌, Bool, true, false, not, cond, List, [], ◌∷◌, ◌++◌, map, filter, fold, IsTrue, refl, sym, ap, ap₂, subst, ◌∙◌, Ordering, Less, Equal, Greater, is_eq, int_cmp, arith}
-use Rattle.std.specs.List.{AllByRecursion}
+use Rattle.portal_sql.proofs.Common.{◌≡◌, inl, inr, ℤ, pos, ◌+ℤ◌, ◌<ℤ◌, Bool, true, false, not, cond, List, [], ◌∷◌, ◌++◌, map, filter, fold, IsTrue, refl, sym, ap, ap₂, subst, ◌∙◌, Ordering, Less, Equal, Greater, is_eq, int_cmp, arith, AllByRecursion, cases_Bool, not-true, false_from_ne_true, nat_tests, tied_itself, ints, Int, value_cmp_total, value_cmp-Int, is_int, AreRows, IsTable-put_row, Has, id_in, next_rowid, without_all, put_all, are_fresh, ids_of, all_has, all_from, has_filtered, has_kept, int_is, put_all_has, put_all_keeps, put_all_adds}
 use Rattle.std.specs.Ordering.{ordering_reverse}
-use Rattle.std.proofs.lemmas.Bool.{cases_Bool, not-true, or_parts, false_from_ne_true}
-use Rattle.std.specs.List.Sorted.{IsPermutation}
-use Rattle.std.proofs.lemmas.List.Sorted.{IsPermutation-refl, IsPermutation-cons, IsPermutation-trans, IsPermutation-middle}
-use Rattle.std.proofs.lemmas.Bool.Decides.{nat_tests}
-use Rattle.std.proofs.lemmas.Cmp.{tied_itself}
-use Rattle.std.proofs.lemmas.Int.{ints}
-use Rattle.sqlite.specs.declared.types.Value.TheVariants.{Int}
 use Rattle.sqlite_value.specs.Order.{Row, value_cmp}
-use Rattle.sqlite_value.proofs.OrderLemmas.{value_cmp_total, value_cmp-Int}
 use Rattle.sqlite_trees.specs.Tree.{rowid, IsTable, has_rowid, put_row, without_rowid}
-use Rattle.sqlite_trees.specs.View.{is_int}
-use Rattle.portal_sql.specs.Stored.{AreRows}
-use Rattle.sqlite_trees.proofs.TreeLemmas.{IsTable-put_row}
-use Rattle.sqlite_rules.specs.Lists.{Has}
-use Rattle.sqlite_rules.specs.Edit.{id_in, next_rowid, without_all, put_all, is_taken, are_fresh}
-use Rattle.sqlite_rules.specs.Calls.{ids_of}
-use Rattle.sqlite_rules.proofs.ListLemmas.{all_has, all_from, has_filtered, has_kept}
 use Rattle.sqlite_rules.proofs.PlaceLemmas.{tied_same}
-use Rattle.sqlite_rules.proofs.TableLemmas.{int_is, put_all_has, put_all_keeps, put_all_adds}
 
 never_both : (a b : Row) → value_cmp (rowid a) (rowid b) ≡ Less → value_cmp (rowid b) (rowid a) ≡ Less → ⊥
 never_both a b p q = let e = value_cmp_total.antisymm (rowid a) (rowid b) ∙ ap ordering_reverse q in cc
@@ -182,18 +165,3 @@ inserts (x ∷ rows) rest are =
 pub more_rows : (rows : List Row) (rest : Row) → AreRows rows → AreRows (rows ++ (Int (next_rowid rows) ∷ rest) ∷ [])
 more_rows rows rest are =
     rw (← inserts rows rest are) (record { rise = IsTable-put_row _ rows are.rise; keyed = Rattle.sqlite_trees.proofs.TreeLemmas.all-put_row _ (Int (next_rowid rows) ∷ rest) rows refl are.keyed })
-
--- a row with a given rowid above all comes last
-pub inserts_at : (rows : List Row) (n : ℤ) (rest : Row) → AreRows rows → AllByRecursion (λ r. id_in (rowid r) <ℤ n) rows → put_row (Int n ∷ rest) rows ≡ rows ++ (Int n ∷ rest) ∷ []
-inserts_at rows n rest are below =
-    put_last (Int n ∷ rest) rows (all_from _ rows (λ r h. rw (int_is (rowid r) (all_has _ rows r are.keyed h)) (below_is _ n (all_has _ rows r below h))))
-
--- a row with a free rowid is added, wherever it stands
-pub put_permutes : (new : Row) (rows : List Row) → is_taken rows new ≡ false → IsPermutation (new ∷ rows) (put_row new rows)
-put_permutes new [] free = IsPermutation-refl _
-put_permutes new (r ∷ rows) free = let parts = or_parts _ _ free in go (value_cmp (rowid r) (rowid new)) refl parts.0 (put_permutes new rows parts.1)
-  where
-    go : (o : Ordering) → value_cmp (rowid r) (rowid new) ≡ o → is_eq (value_cmp (rowid r) (rowid new)) ≡ false → IsPermutation (new ∷ rows) (put_row new rows) → IsPermutation (new ∷ r ∷ rows) (put_row new (r ∷ rows))
-    go Less e other later = rw e (IsPermutation-trans _ _ _ (IsPermutation-middle (new ∷ []) r rows) (IsPermutation-cons r _ _ later))
-    go Equal e other later = absurd (let a = rw e at other in cc)
-    go Greater e other later = rw e (IsPermutation-refl _)

@@ -1,14 +1,7 @@
 -- What a query over one table answers, by the table's rows.
-use Rattle.std.proofs.Common.{◌≡◌, ◌+◌, arith, Ordering, ℕ, ℤ, pos, List, [], ◌∷◌, ◌++◌, map, filter, flat_map, take, Bool, true, false, cond, refl, sym, ap, subst, ◌∙◌}
-use Rattle.std.specs.List.{list_all}
-use Rattle.std.specs.List.Sorted.{IsPermutation, IsSorted}
-use Rattle.std.proofs.lemmas.List.{get_or-map, length-map}
-use Rattle.sqlite_value.specs.declared.keys.Key.{Key}
+use Rattle.portal_sql.proofs.Common.{◌≡◌, ◌+◌, arith, Ordering, ℕ, ℤ, pos, List, [], ◌∷◌, ◌++◌, map, filter, take, Bool, true, false, cond, refl, sym, ap, subst, ◌∙◌, list_all, IsPermutation, IsSorted, get_or-map, length-map, Key, Trees, Term, Env, eval_all, holds, inner, end, IsAnswer, Output, output, output_cmp, page, key_cmp, pull_back, map-map}
+use Rattle.std.proofs.Common.{flat_map}
 use Rattle.sqlite.specs.Order.{Row}
-use Rattle.sqlite.specs.Tree.{Trees}
-use Rattle.sqlite.specs.Term.{Term, Env, eval_all, holds}
-use Rattle.sqlite.specs.Query.{inner, end, IsAnswer, Output, output, output_cmp, page, key_cmp}
-use Rattle.sqlite_trees.proofs.ListLemmas.{pull_back, map-map}
 use Rattle.portal_sql.proofs.Queries.{simple, unlimited}
 
 -- the rows that pass, in an order that the keys allow, and what is shown of each

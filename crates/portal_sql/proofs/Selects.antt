@@ -1,17 +1,10 @@
 -- A SELECT of columns of one table, as a syntax tree, and what it means.
-use Rattle.std.proofs.Common.{◌≡◌, ℕ, List, [], ◌∷◌, map, Option, Some, None, Ok, refl, sym, subst, true, false}
-use Rattle.sqlite.specs.Term.{Term}
-use Rattle.sqlite.specs.Schema.{Schema}
+use Rattle.portal_sql.proofs.Common.{◌≡◌, ℕ, List, [], ◌∷◌, map, Option, Some, None, Ok, refl, sym, subst, true, false, Term, Schema, Select, Statement, roll-Select, out-Select, Core, roll-Core, Source, roll-Source, Collation, Draft, query_of, accepts_program, Name, named, paging, timed, returning}
 use Rattle.sqlite_tied.specs.Compute.{everything}
-use Rattle.sqlite.specs.Command.TheVariants.{Select}
-use Rattle.sqlite_ast.specs.declared.Statement.{Statement}
 use Rattle.sqlite_ast.specs.declared.Statement.TheVariants as written
 use Rattle.sqlite_ast.specs.declared.Conflict.TheVariants as conflict
 use Rattle.sqlite_ast.specs.declared.Rows.TheVariants as rows
-use Rattle.sqlite_ast.specs.declared.Select.{roll-Select, out-Select}
 use Rattle.sqlite_ast.specs.declared.Select as ast
-use Rattle.sqlite_ast.specs.declared.Core.{Core, roll-Core}
-use Rattle.sqlite_ast.specs.declared.Source.{Source, roll-Source}
 use Rattle.sqlite_ast.specs.declared.Sort.{Sort, roll-Sort}
 use Rattle.sqlite_ast.specs.declared.Shown.{Shown}
 use Rattle.sqlite_ast.specs.declared.Shown.TheVariants.{One}
@@ -19,13 +12,6 @@ use Rattle.sqlite_ast.specs.declared.Expr.{Expr}
 use Rattle.sqlite_ast.specs.declared.Expr.TheVariants as expr
 use Rattle.sqlite_ast.specs.declared.Binary.TheVariants as binary
 use Rattle.sqlite_ast.specs.declared.Origin.TheVariants as origin
-use Rattle.sqlite_value.specs.declared.keys.Collation.{Collation}
-use Rattle.sqlite_draft.specs.declared.query.Draft.{Draft}
-use Rattle.sqlite_draft.specs.Query.{query_of}
-use Rattle.sqlite_typing.specs.Types.{accepts_program}
-use Rattle.sqlite_resolve.specs.Scope.{Name}
-use Rattle.sqlite_resolve.specs.Select.{named, paging}
-use Rattle.sqlite_resolve.specs.Compile.{timed, returning}
 use Rattle.portal_sql.proofs.Texts.{IsText, Means, IsPlainSelect, means_is, select_is, program_of}
 
 -- ---- SELECT columns FROM table WHERE test, with an order and a limit

@@ -1,21 +1,9 @@
 -- A table that stands goes on standing where a table is made beside it, and one that is made stands.
-use Rattle.std.proofs.Common.{◌≡◌, ◌⊎◌, inl, inr, ℕ, zero, suc, ◌||◌, ◌+◌, ◌^◌, ◌<◌, ◌≤◌, ◌==◌, nat_le, max, List, [], ◌∷◌, ◌++◌, Option, Some, None, is_some, slice_get, find, fold, refl, true, false, Bool, ap, sym, ◌∙◌, length, arith, filter, zero-add, ne_eqb, eq-eqb}
-use Rattle.std.proofs.lemmas.Bool.Decides.{nat_tests}
-use Rattle.std.specs.List.{position_from}
-use Rattle.std.proofs.lemmas.Bool.{cases_Bool}
-use Rattle.sqlite_schema.specs.declared.schema.Index.{Index}
-use Rattle.sqlite.specs.Schema.{Schema}
-use Rattle.sqlite.specs.Table.{Table}
-use Rattle.sqlite.specs.Tree.{Trees}
-use Rattle.sqlite_schema.specs.Names.{table_named, same_name}
-use Rattle.sqlite_rules.specs.Lists.{Has}
-use Rattle.sqlite_catalog.specs.Listing.{IsSound, IsTableRow, is_table_row}
+use Rattle.portal_sql.proofs.Common.{◌≡◌, inl, inr, ℕ, zero, suc, ◌||◌, ◌+◌, ◌^◌, ◌<◌, ◌≤◌, ◌==◌, nat_le, max, List, [], ◌∷◌, ◌++◌, Option, Some, None, is_some, slice_get, find, fold, refl, true, false, Bool, ap, sym, ◌∙◌, length, arith, filter, zero-add, ne_eqb, eq-eqb, nat_tests, position_from, cases_Bool, Index, Schema, Table, Trees, table_named, same_name, Has, IsSound, IsTableRow, is_table_row, place_has, catalog_tree, Stands}
 use Rattle.sqlite_catalog.specs.Change.{created, next_tree, past_views, is_used}
 use Rattle.sqlite_catalog.proofs.ListFacts.{most_from, most_above}
 use Rattle.sqlite_catalog.proofs.LayoutLemmas.{zipped_left}
-use Rattle.sqlite_catalog.proofs.AlterLemmas.{place_has}
-use Rattle.sqlite_trees.specs.Objects.{catalog_tree}
-use Rattle.portal_sql.specs.Stands.{Stands}
+use Rattle.portal_sql.proofs.Named.{has_part}
 
 module _ {X : Type 0} (p : X → Bool) where
   pub placed_before : (from at : ℕ) (xs ys : List X) → position_from p from xs ≡ Some at → position_from p from (xs ++ ys) ≡ Some at
@@ -71,7 +59,7 @@ low_tree schema db table sound has =
 not_le : (n : ℕ) → n < 65536 → nat_le (2 ^ 31) n ≡ false
 not_le n low = grind (arith, nat_tests)
 
-has_last : {X : Type 0} (xs : List X) (x : X) → Has (xs ++ x ∷ []) x
+pub has_last : {X : Type 0} (xs : List X) (x : X) → Has (xs ++ x ∷ []) x
 has_last [] x = inl refl
 has_last (y ∷ xs) x = inr (has_last xs x)
 
@@ -81,11 +69,6 @@ below_next schema t has =
     let first : t.tree < tables = most_above (λ (u : Table). u.tree) (past_views schema) schema.tables t has in
     let more : tables ≤ next_tree schema = most_from (λ (i : Index). i.tree) tables schema.indexes in
     omega arith
-
-has_part : {X : Type 0} (xs ys : List X) (x : X) → Has (xs ++ ys) x → Has xs x ⊎ Has ys x
-has_part [] ys x h = inr h
-has_part (y ∷ xs) ys x (inl e) = inl (inl e)
-has_part (y ∷ xs) ys x (inr h) = elim (has_part xs ys x h) [ inl a ↦ inl (inr a) | inr b ↦ inr b ]
 
 pub still_stands : (schema : Schema) (at : ℕ) (table made : Table) → Stands schema at table → Stands (created schema made) at table
 still_stands schema at table made h = record {

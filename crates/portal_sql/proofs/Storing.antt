@@ -1,29 +1,14 @@
 -- A row more in a table, and rows that change in place.
-use Rattle.std.proofs.Common.{◌≡◌, inl, inr, ℕ, ℤ, pos, Bool, true, false, cond, ◌&&◌, List, [], ◌∷◌, ◌++◌, map, Option, Some, None, option_map, IsTrue, refl, sym, ap, ap₂, subst, ◌∙◌, Less, Equal, Greater}
+use Rattle.portal_sql.proofs.Common.{◌≡◌, inl, inr, ℕ, ℤ, pos, Bool, true, false, cond, ◌&&◌, List, [], ◌∷◌, ◌++◌, map, Option, Some, None, option_map, IsTrue, refl, sym, ap, ap₂, subst, ◌∙◌, Less, Equal, Greater, Null, Int, cast, cast_row, Table, Schema, overlay, IsAnswer, State, Has, id_in, next_rowid, ids_of, Given, all_has, int_is, is_int, IsTable-put_row, all-put_row, Term, col, eval_all, number, or_null, Stores, unnumbered, put_by}
 use Rattle.std.specs.Ordering.{match_ordering}
-use Rattle.sqlite.specs.declared.types.Value.TheVariants.{Null, Int}
 use Rattle.sqlite.specs.declared.types.Value.{Value}
-use Rattle.sqlite.specs.Cast.{cast, cast_row}
 use Rattle.sqlite.specs.Kind.TheVariants.{Integer}
 use Rattle.sqlite.specs.Order.{Row, value_cmp}
 use Rattle.sqlite.specs.Tree.{rowid, put_row}
-use Rattle.sqlite.specs.Table.{Table}
-use Rattle.sqlite.specs.Schema.{Schema}
-use Rattle.sqlite.specs.Program.{overlay}
-use Rattle.sqlite.specs.Query.{IsAnswer}
-use Rattle.sqlite.specs.State.{State}
 use Rattle.sqlite.specs.Values.{or_null as nullable, bound_value}
 use Rattle.sqlite_sql.specs.Ops.{unary, is_true, from_truth}
-use Rattle.sqlite_rules.specs.Lists.{Has}
-use Rattle.sqlite_rules.specs.Edit.{id_in, edit_of, next_rowid}
-use Rattle.sqlite_rules.specs.Calls.{ids_of}
-use Rattle.sqlite.specs.Rowids.TheVariants.{Given}
-use Rattle.sqlite_rules.proofs.ListLemmas.{all_has}
-use Rattle.sqlite_rules.proofs.TableLemmas.{int_is}
-use Rattle.sqlite_trees.specs.View.{is_int}
-use Rattle.sqlite_trees.proofs.TreeLemmas.{IsTable-put_row, all-put_row}
-use Rattle.sqlite.specs.Term.{Term, col, eval_all}
-use Rattle.portal_sql.specs.Stored.{number, or_null, Stores, whole, unnumbered, put_by}
+use Rattle.sqlite_rules.specs.Edit.{edit_of}
+use Rattle.portal_sql.specs.Stored.{whole}
 use Rattle.portal_sql.proofs.RowLemmas.{more_rows, changed_if, still_rows}
 use Rattle.portal_sql.proofs.Queries.{over}
 use Rattle.portal_sql.proofs.Writes.{Edits, rows_changed, simple, meant}

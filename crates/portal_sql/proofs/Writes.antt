@@ -1,50 +1,17 @@
 -- What an INSERT of one row and an UPDATE of one table do to a database, for any text, schema and table.
-use Rattle.std.proofs.Common.{◌≡◌, ◌⊎◌, inl, inr, ℕ, ℤ, ◌/◌, Bool, true, false, cond, nat_le, ◌-◌, ◌^◌, List, [], ◌∷◌, ◌++◌, length, map, filter, flat_map, drop, take, subst₂, ap₂, slice_get, append-nil, Some, None, Option, Ok, Err, Result, refl, sym, ap, subst, ◌∙◌, unwrap_or}
-use Rattle.std.specs.List.{list_all}
-use Rattle.std.specs.List.Sorted.{IsPermutation}
-use Rattle.std.proofs.lemmas.List.Sorted.{IsPermutation-sym, Contains-permutation}
-use Rattle.sqlite.specs.declared.types.Value.TheVariants.{Null, Int}
-use Rattle.sqlite.specs.Term.{Term, col, eval_all, holds}
-use Rattle.sqlite.specs.Query.{Query, IsAnswer, output, Output}
-use Rattle.sqlite.specs.Program.{overlay}
+use Rattle.portal_sql.proofs.Common.{◌≡◌, inl, inr, ℕ, ℤ, ◌/◌, Bool, true, false, cond, nat_le, ◌-◌, ◌^◌, List, [], ◌∷◌, ◌++◌, length, map, filter, drop, take, subst₂, ap₂, slice_get, append-nil, Some, None, Option, Ok, refl, sym, ap, subst, ◌∙◌, unwrap_or, list_all, IsPermutation, IsPermutation-sym, Contains-permutation, Null, Int, Term, col, eval_all, holds, Query, IsAnswer, output, Output, overlay, Insert, Update, Table, Schema, Trees, cast_row, Chosen, Given, Database, IsDatabase, value_rows, Tally, OnRows, AtPlace, State, mode_of, Executes, Shows, runs_as, one_step, map-map, pull_back, Enforced, ids_of, taken_by, with_rowid, Applies, next_rowid, id_in, without_all, put_all, are_fresh, Has, has_filtered, has_kept, has_contained, contains_had, IsUnacted, AreRows}
+use Rattle.std.proofs.Common.{flat_map}
 use Rattle.sqlite.specs.Source.TheVariants.{Values}
-use Rattle.sqlite.specs.Command.TheVariants.{Insert, Update}
 use Rattle.sqlite.specs.declared.run.Mode.{Mode}
-use Rattle.sqlite.specs.Table.{Table}
-use Rattle.sqlite.specs.Schema.{Schema}
-use Rattle.sqlite.specs.Tree.{Trees}
 use Rattle.sqlite.specs.Edit.{Edit, edit_of}
-use Rattle.sqlite.specs.Cast.{cast_row}
-use Rattle.sqlite.specs.Rowids.TheVariants.{Chosen, Given}
-use Rattle.sqlite.specs.Effect.{Database, IsDatabase, value_rows}
 use Rattle.sqlite.specs.Rows.{Written, Task}
-use Rattle.sqlite.specs.Does.{Tally, OnRows, AtPlace}
-use Rattle.sqlite.specs.Listing.{understood}
-use Rattle.sqlite.specs.State.{State, mode_of, Executes, Shows}
-use Rattle.sqlite.proofs.Callers.{statement_of, runs_as, one_step}
 use Rattle.sqlite_value.specs.Order.{Row}
 use Rattle.sqlite_trees.specs.Tree.{rowid, put_row}
-use Rattle.sqlite_trees.proofs.ListLemmas.{map-map, pull_back}
-use Rattle.sqlite_schema.specs.declared.schema.Keys.TheVariants.{Enforced}
-use Rattle.sqlite_rules.specs.Calls.{ids_of}
-use Rattle.sqlite_rules.specs.Edit.{taken_by, with_rowid, Applies, next_rowid, id_in, without_all, put_all, are_fresh}
-use Rattle.sqlite_rules.specs.Lists.{Has}
-use Rattle.sqlite_rules.proofs.ListLemmas.{has_filtered, has_kept, has_contained, contains_had}
 use Rattle.sqlite_rules.proofs.PlaceLemmas.{given}
 use Rattle.portal_sql.proofs.Queries.{over}
 use Rattle.portal_sql.proofs.Acts.{no_works, no_takers}
-use Rattle.portal_sql.proofs.Texts.{Means}
-use Rattle.portal_sql.specs.Stands.{IsUnacted}
-use Rattle.portal_sql.specs.Stored.{AreRows}
+use Rattle.portal_sql.proofs.Texts.{Means, went, same_value}
 use Rattle.portal_sql.proofs.RowLemmas.{changed_if, updates, inserts}
-
--- a part that gave a value did not stop on the way
-went : {B E R : Type 0} {b : B} {Stops : E → Type 0} → ((stop : E) × Stops stop × (Ok b ≡ Err stop)) ⊎ R → R
-went (inl stopped) = absurd (let e = stopped.2 in cc)
-went (inr on) = on
-
-same_value : {B E : Type 0} {a b : B} → ◌≡◌ {A = Result B E} (Ok a) (Ok b) → a ≡ b
-same_value e = cc
 
 -- a table with no AUTOINCREMENT and no default that reads the time
 abbrev pub simple : Table → Table
@@ -94,9 +61,6 @@ module _ (limit : Option ℕ) (mode : Mode) (schema : Schema) (t : Table) (param
       (found.0, found.1.answer Null, ap (λ (d : Database). d.schema) now, subst (Applies schema Enforced db (edit_of db (simple t) (ids_of found.0) Given 1 found.0)) (sym same_trees) applied)
 
 module _ (sql : List ℕ) (params : Row) (old new : State) (at : ℕ) (t : Table) (there : slice_get old.now.schema.tables at ≡ Some (simple t)) (count : ℕ) (ran : Executes sql params old new (Ok count)) where
-  abbrev text_run : List ℕ
-  text_run = statement_of sql (understood old.now.schema sql)
-
   pub insert_edits : (terms : List Term) (width : ℕ) → Means old.now.schema sql (Insert at (Values terms width)) → length terms / width ≡ 1
       → Edits old new old.now.schema (edit_of old.now.trees (simple t) [] Chosen 0 (eval_all (take width terms) (params ∷ []) ∷ []))
   insert_edits terms width means one =

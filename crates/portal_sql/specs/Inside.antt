@@ -1,8 +1,9 @@
 -- What a call on a transaction leaves.
-use Rattle.std.specs.Prelude.{◌≡◌, IsTrue, Result, OnOk}
+use Rattle.std.specs.Prelude.{◌≡◌, ℕ, List, IsTrue, Result, Ok, OnOk}
+use Rattle.sqlite.specs.Order.{Row}
 use Rattle.sqlite.specs.Store.{Ghosts}
 use Rattle.sqlite.specs.Held.{state}
-use Rattle.sqlite.specs.State.{State, HasCleanDisk, KeepsCommit, Survives}
+use Rattle.sqlite.specs.State.{State, HasCleanDisk, KeepsCommit, Survives, ExecutesInside}
 use Rattle.sqlite.specs.declared.error.Error.{Error}
 use Rattle.sqlite.specs.declared.transaction.Transaction.{Transaction}
 
@@ -13,3 +14,8 @@ pub record Inside {S : Type 0} (g : Ghosts S) (Does : State → State → Type 0
   pub steps : HasCleanDisk (state g new.conn.now) → IsTrue old.conn.now.in_transaction → OnOk result (Does (state g old.conn.now) (state g new.conn.now))
   pub kept : HasCleanDisk (state g new.conn.now) → KeepsCommit (state g old.conn.now) (state g new.conn.now)
   pub survives : Survives (state g old.conn.now) (state g new.conn.now) (λ _. ⊥)
+
+-- the statement ran, and nothing is committed
+pub record Runs (sql : List ℕ) (params : Row) (old new : State) : Type 0 where
+  pub count : ℕ
+  pub executes : ExecutesInside 0 sql params old new (Ok count)

@@ -1,3 +1,4 @@
+pub mod Commits
 pub mod Finds
 pub mod Harmless
 pub mod Inside

@@ -1,3 +1,5 @@
+//! Whether a schema has room for a table.
+
 ghost use Rattle.std.specs.Prelude.{◌≡◌, is_some};
 ghost use Rattle.std.specs.List.{list_all};
 ghost use Rattle.sqlite_schema.specs.Names.{table_named};

@@ -1,62 +1,53 @@
 -- A command that is prepared and then kept.
-use Rattle.std.proofs.Common.{◌≡◌, inl, inr, ℕ, Option, Some, ap, sym, subst, ◌∙◌}
-use Rattle.std.specs.Prelude.{option_map}
-use Rattle.portal_model.specs.declared.command.Command.{Command}
-use Rattle.portal_model.specs.declared.change.Answer.{Answer}
-use Rattle.portal_model.specs.declared.refusal.Refusal.{Refusal}
-use Rattle.portal_model.specs.Change.{answer_of}
-use Rattle.portal_ledger.specs.declared.marked.MarkedChanges.{MarkedChanges}
-use Rattle.portal_ledger.specs.Mark.{Mark}
-use Rattle.portal_ledger.specs.Ledger.{Accepted, taken_at}
-use Rattle.portal_ledger.specs.States.{State, running, stopped}
-use Rattle.portal_ledger.specs.Calls.{Fits, Keeps}
-use Rattle.portal_desk.specs.Calls.{CannotKeep, Prepares, Refuses, Repeats}
-use Rattle.portal_store.specs.Acting.{Acts, FailsToAct}
+use Rattle.portal_store.proofs.Common.{◌≡◌, inl, inr, ℕ, Bool, Option, Some, ap, sym, subst, ◌∙◌, option_map, None, Err, Ok, MatchResult, Result, Ghosts, Command, Answer, Refusal, answer_of, MarkedChanges, Mark, Accepted, Ledger, repeat_in, taken_at, State, running, stopped, Fits, Keeps, CannotKeep, KeepsStop, Prepares, PreparesMarked, StoreDesk, DeskAt, DeskIsHonest, MovesDesk, settings_of, stop_flag}
+use Rattle.portal_desk.specs.declared.prepared.Marked.{Marked}
+use Rattle.portal_desk.specs.declared.prepared.Marked.TheVariants.{Fresh}
+use Rattle.portal_store.specs.Acting.{Carries}
 
-module _ (command : Command) (moment : ℕ) (mark : Option Mark) (Mid Done : State → Type 0) (prepared : MarkedChanges) (old : State)
-    (got : (x : State) × Mid x × Prepares old command moment mark prepared x) where
-  -- it is kept
-  pub acts : (answer : Answer) → answer ≡ answer_of prepared.changes
-      → ((s : State) → Mid s → (a : Accepted) → Fits s prepared a → (y : State) × Done y × Keeps s a y)
-      → (y : State) × Done y × Acts old command moment mark answer y
-  acts answer told next = go old got
+-- what the call that keeps a prepared command leads to
+abbrev IsKept : MarkedChanges → Result Answer Refusal → State → Accepted → State → Type 0
+IsKept prepared result before a after = MatchResult result
+    (λ answer. (answer ≡ answer_of prepared.changes) × Keeps before a after) (λ r. CannotKeep before a r after)
+
+carries_so : (command : Command) (moment : ℕ) (mark : Option Mark) (prepared : MarkedChanges) (result : Result Answer Refusal) (L : Ledger) (after : State)
+    → (repeat_in L mark ≡ Ok None) × Fits (running L) prepared (taken_at L moment command mark)
+    → IsKept prepared result (running L) (taken_at L moment command mark) after → Carries result command moment mark (running L) after
+carries_so command moment mark prepared (Ok answer) L after is keep =
+    inl ((is.0, is.1.0, ap (option_map answer_of) is.1.1 ∙ ap Some (sym keep.0)), keep.1)
+carries_so command moment mark prepared (Err r) L after is (inl none) = inl (inr none.0, none.1)
+carries_so command moment mark prepared (Err r) L after is (inr over) = inr (over.0, inr (is.1.0, over.1))
+
+module _ {S : Type 0} (g : Ghosts S) (command : Command) (moment : ℕ) where
+  -- it is prepared, and it is kept, or it is not, or it is in doubt
+  pub carries : (mark : Option Mark) {old mid new : StoreDesk S} {prepared : MarkedChanges} (result : Result Answer Refusal)
+      → MovesDesk g old mid (Ok prepared) (λ before after. Prepares before command moment mark prepared after)
+      → settings_of new ≡ settings_of mid → (DeskIsHonest g new → DeskIsHonest g mid) → KeepsStop (stop_flag mid) (stop_flag new) result
+      → (DeskIsHonest g new → (before : State) → DeskAt g mid before → (a : Accepted) → Fits before prepared a
+      → (after : State) × DeskAt g new after × IsKept prepared result before a after)
+      → MovesDesk g old new result (Carries result command moment mark)
+  carries mark {old} {mid} {new} {prepared} result first told honest stops keep = record {
+    told = told ∙ first.told;
+    honest = λ is. first.honest (honest is);
+    stops = subst (λ (b : Bool). KeepsStop b (stop_flag new) result) first.stops stops;
+    step = λ is before at. go is before (first.step (honest is) before at);
+  }
     where
-      go : (s : State) → ((x : State) × Mid x × Prepares s command moment mark prepared x) → (y : State) × Done y × Acts s command moment mark answer y
-      go (running L) first =
-          let a = taken_at L moment command mark in
-          let fits = first.2.0.1 in
-          let it = next (running L) (subst Mid first.2.1 first.1) a fits in
-          (it.0, it.1, inl ((first.2.0.0, fits.0, ap (option_map answer_of) fits.1 ∙ ap Some (sym told)), it.2))
-      go (stopped L doubt) first = absurd first.2
+      go : DeskIsHonest g new → (before : State) → ((x : State) × DeskAt g mid x × Prepares before command moment mark prepared x)
+          → (after : State) × DeskAt g new after × Carries result command moment mark before after
+      go is (running L) one =
+          let it = keep is (running L) (subst (λ (s : State). DeskAt g mid s) one.2.1 one.1) (taken_at L moment command mark) one.2.0.1 in
+          (it.0, it.1, carries_so command moment mark prepared result L it.0 one.2.0 it.2)
+      go is (stopped L doubt) one = absurd one.2
 
-  -- it is not kept, or it is in doubt
-  pub fails : (r : Refusal) → ((s : State) → Mid s → (a : Accepted) → Fits s prepared a → (y : State) × Done y × CannotKeep s a r y)
-      → (y : State) × Done y × FailsToAct old command moment mark r y
-  fails r next = go old got
-    where
-      go : (s : State) → ((x : State) × Mid x × Prepares s command moment mark prepared x) → (y : State) × Done y × FailsToAct s command moment mark r y
-      go (running L) first =
-          let a = taken_at L moment command mark in
-          let fits = first.2.0.1 in
-          let it = next (running L) (subst Mid first.2.1 first.1) a fits in
-          (it.0, it.1, elim it.2 [ inl none ↦ inl (inr none.0, none.1) | inr over ↦ inr (over.0, inr (fits.0, over.1)) ])
-      go (stopped L doubt) first = absurd first.2
-
--- it is not prepared
-refused_so : (command : Command) (moment : ℕ) (mark : Option Mark) (r : Refusal) (old x : State) → Refuses old command moment mark r x
-    → FailsToAct old command moment mark r x
-refused_so command moment mark r (running L) x (inl is) = inl (inl is.0, is.1)
-refused_so command moment mark r (running L) x (inr (inl none)) = inl (inr none.0, none.1)
-refused_so command moment mark r (running L) x (inr (inr over)) = inr (over.0, inl over.1)
-refused_so command moment mark r (stopped L doubt) x (inl is) = absurd is
-refused_so command moment mark r (stopped L doubt) x (inr over) = over
-
-pub refuses : (command : Command) (moment : ℕ) (mark : Option Mark) (Mid : State → Type 0) (r : Refusal) (old : State)
-    → ((x : State) × Mid x × Refuses old command moment mark r x) → (y : State) × Mid y × FailsToAct old command moment mark r y
-refuses command moment mark Mid r old got = (got.0, got.1, refused_so command moment mark r old got.0 got.2)
-
--- it was kept before
-pub repeats : (command : Command) (moment : ℕ) (mark : Mark) (Mid : State → Type 0) (answer : Answer) (old : State)
-    → ((x : State) × Mid x × Repeats old mark answer x) → (y : State) × Mid y × Acts old command moment (Some mark) answer y
-repeats command moment mark Mid answer (running L) got = (got.0, got.1, inr got.2)
-repeats command moment mark Mid answer (stopped L doubt) got = absurd got.2
+  -- a request that acts once, which is a new one
+  pub fresh_first : (mark : Mark) {old mid : StoreDesk S} {marked : Marked} {prepared : MarkedChanges} → marked ≡ Fresh prepared
+      → MovesDesk g old mid (Ok marked) (λ before after. PreparesMarked before command moment mark marked after)
+      → MovesDesk g old mid (Ok prepared) (λ before after. Prepares before command moment (Some mark) prepared after)
+  fresh_first mark {old} {mid} {marked} {prepared} is first = record {
+    told = first.told;
+    honest = first.honest;
+    stops = first.stops;
+    step = λ honest before at.
+        let it = first.step honest before at in
+        (it.0, it.1, subst (λ (m : Marked). PreparesMarked before command moment mark m it.0) is it.2);
+  }

@@ -1,9 +1,7 @@
 -- What the tables say of a store that they take over, in a desk's words.
-use Rattle.std.proofs.Common.{◌≡◌, ◌≢◌, ℕ, IsTrue, Option}
-use Rattle.sqlite.specs.Held.{Held, state}
+use Rattle.portal_store.proofs.Common.{◌≡◌, ℕ, IsTrue, Option, subst, sym, Result, Ok, Err, IfErr, IsErrAnd, MatchResult, Held, state, Ghosts}
 use Rattle.sqlite.specs.State.{Survives}
-use Rattle.sqlite_trees.specs.declared.store.Store.{Ghosts}
-use Rattle.portal_tables.specs.Adopting.{IsExact, IsKept, IsKnown, IsWhy, TellsOwn}
+use Rattle.portal_tables.specs.Adopting.{IsKept, IsKnown, IsWhy, TellsOwn}
 use Rattle.portal_tables.specs.declared.fault.OpenFault.{OpenFault}
 use Rattle.portal_store.specs.Adopting.{IsAsItWas, IsCause, IsOpen, IsSpared, MayBeTaken, TellsHead}
 
@@ -35,3 +33,19 @@ module _ {S : Type 0} (g : Ghosts S) (conn : Held S) where
   pub is_spared : (new : Held S) → Survives (state g conn) (state g new) (λ _. ⊥) → IsSpared g conn new
   unfolding IsSpared
   is_spared new spared = spared
+
+-- the `?` of a call that failed
+module _ {T E : Type 0} (result : Result T E) (e : E) where
+  pub on_failed : (Made : T → Type 0) (Is : E → Type 0) → IsErrAnd result (λ y. y ≡ e) → Is e → MatchResult result Made Is
+  on_failed Made Is failed is = go result failed
+    where
+      go : (r : Result T E) → IsErrAnd r (λ y. y ≡ e) → MatchResult r Made Is
+      go (Ok x) h = absurd h
+      go (Err y) h = subst Is (sym h) is
+
+  pub if_failed : (Is : E → Type 0) → IsErrAnd result (λ y. y ≡ e) → Is e → IfErr result Is
+  if_failed Is failed is = go result failed
+    where
+      go : (r : Result T E) → IsErrAnd r (λ y. y ≡ e) → IfErr r Is
+      go (Ok x) h = absurd h
+      go (Err y) h = subst Is (sym h) is

@@ -1,20 +1,5 @@
 -- The sessions that a desk keeps stay those of its ledger where a command is kept, and where it is not.
-use Rattle.std.proofs.Common.{◌≡◌, inl, inr, ℕ, ◌∷◌, Option, Some, sym, subst}
-use Rattle.std.specs.Prelude.{IfSome}
-use Rattle.sqlite_trees.specs.declared.store.Store.{Ghosts}
-use Rattle.portal_model.specs.declared.command.Command.{Command}
-use Rattle.portal_model.specs.declared.change.Changes.{Changes}
-use Rattle.portal_model.specs.declared.refusal.Refusal.{Refusal}
-use Rattle.portal_model.specs.Change.{changes_of}
-use Rattle.portal_model.specs.History.{entry, History}
-use Rattle.portal_model.specs.Verdict.{Follows, IsLegal}
-use Rattle.portal_ledger.specs.declared.marked.MarkedChanges.{MarkedChanges}
-use Rattle.portal_ledger.specs.Ledger.{Accepted, history_of}
-use Rattle.portal_ledger.specs.States.{State, running, stopped}
-use Rattle.portal_ledger.specs.Calls.{Fits, Keeps}
-use Rattle.portal_desk.specs.Calls.{CannotKeep}
-use Rattle.portal_open.specs.Open.{OpenAt, open_at_last}
-use Rattle.portal_tables.specs.declared.tables.Tables.{Tables}
+use Rattle.portal_store.proofs.Common.{◌≡◌, inl, inr, ℕ, ◌∷◌, Option, Some, sym, subst, IfSome, Ghosts, Command, Changes, Refusal, changes_of, entry, History, Follows, IsLegal, MarkedChanges, Accepted, history_of, State, running, stopped, Fits, Keeps, CannotKeep, OpenAt, open_at_last, Tables}
 use Rattle.portal_tables.specs.TablesAt.{TablesAt}
 use Rattle.portal_store.specs.OpenIs.{OpenIs}
 use Rattle.portal_store.proofs.ReadLemmas.{legal_at}

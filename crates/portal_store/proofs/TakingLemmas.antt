@@ -1,15 +1,11 @@
 -- Takings are added up from the payments within a window that has each moment of their days.
-use Rattle.std.proofs.Common.{◌≡◌, ◌⊎◌, inl, inr, ℕ, zero, suc, ◌+◌, ◌<◌, ◌≤◌, ℤ, pos, negsuc, ◌+ℤ◌, ◌-ℤ◌, ◌*ℤ◌, ◌≤ℤ◌, Bool, true, false, cond, List, [], ◌∷◌, ◌++◌, Option, Some, None, map, refl, ap, sym, subst, ◌∙◌, arith}
-use Rattle.std.specs.Prelude.{option_map, filter, length, sum_by, count_by, IsPermutation, ◌&&◌, nat_le, IfOk, IfErr, Result, Ok, Err}
+use Rattle.portal_store.proofs.Common.{◌≡◌, ◌⊎◌, inl, inr, ℕ, zero, suc, ◌+◌, ◌<◌, ◌≤◌, ℤ, pos, negsuc, ◌+ℤ◌, ◌-ℤ◌, ◌*ℤ◌, ◌≤ℤ◌, Bool, true, false, cond, List, [], ◌∷◌, ◌++◌, Option, Some, None, map, refl, ap, subst, ◌∙◌, arith, option_map, filter, length, sum_by, count_by, IsPermutation, ◌&&◌, nat_le, IfOk, IfErr, Result, Ok, Err, option_to_list, ints, Ghosts, Load, Issue, Sell, Redeem, Report, Refund, Close, History, Issued, entry, issued_of, uses_of, amount_left, IsLegal, greatest_moment, local_day_of, takings_over, paid, is_paid_within, AreSales, AreRefunds, Refusal, Ledger, history_of, running, Tells, paid_days, StoreDesk, stop_flag, LeadsFrom}
 use Rattle.std.specs.Int.{int_div_euclid, int_gap}
 use Rattle.std.specs.List.{range_with_len, AllByRecursion}
-use Rattle.std.specs.Option.{option_to_list}
 use Rattle.std.specs.Ordering.{int_eq}
-use Rattle.std.proofs.lemmas.Int.{ints}
 use Rattle.std.proofs.lemmas.Bool.{le-leb}
 use Rattle.std.proofs.lemmas.Bool.Decides.{Decides-int_eq}
-use Rattle.std.proofs.lemmas.List.Sorted.{sum_by-IsPermutation, IsPermutation-map}
-use Rattle.std.proofs.lemmas.List.Sums.{sum_by-cons, length-filter}
+use Rattle.std.proofs.lemmas.List.Sorted.{IsPermutation-map}
 use Rattle.std.proofs.lemmas.Simd.{map-map}
 use Rattle.jiff_core.specs.Timestamp.{IsOffsetSeconds}
 use Rattle.jiff_tz.specs.Zone.{offset_at}
@@ -20,23 +16,12 @@ use Rattle.jiff_tz.specs.declared.timezone.TimeZone.TheVariants.{UTC, Unknown, F
 use Rattle.portal_days.specs.Span.{Span, day_count, days_of}
 use Rattle.portal_days.specs.Takings.{Pair, is_on, amount_on, takings_on}
 use Rattle.portal_days.specs.declared.takings.DayTakings.{DayTakings}
-use Rattle.portal_model.specs.declared.command.Command.TheVariants.{Load, Issue, Sell, Redeem, Report, Refund, Close}
-use Rattle.portal_model.specs.History.{History, Issued, entry, issued_of, uses_of, amount_left}
 use Rattle.portal_model.specs.Payments.{Payment, payment, sales_of, refunds_of, by_day}
-use Rattle.portal_model.specs.Verdict.{IsLegal, greatest_moment}
-use Rattle.portal_files.specs.LocalDay.{local_day_of}
 use Rattle.portal_files.specs.Takings.{paid_on, sum_of, takings_of, ArePaid}
-use Rattle.portal_desk.specs.Sheets.{takings_over}
-use Rattle.portal_tables.specs.Lists.{paid, is_paid_within, AreSales, AreRefunds}
-use Rattle.portal_model.specs.declared.refusal.Refusal.{Refusal}
+use Rattle.portal_files.proofs.Added.{counted, summed, day_takings}
 use Rattle.portal_model.specs.declared.refusal.Refusal.TheVariants.{NoMemory}
-use Rattle.portal_ledger.specs.Ledger.{history_of}
-use Rattle.portal_ledger.specs.States.{State}
-use Rattle.portal_ledger.specs.Calls.{ReadsOf}
-use Rattle.portal_desk.specs.Calls.{CannotAnswer}
-use Rattle.portal_store.specs.Paid.{paid_days}
-use Rattle.portal_store.specs.Steps.{Tells}
-use Rattle.portal_store.proofs.ReadLemmas.{no_room, so}
+use Rattle.portal_store.proofs.StepLemmas.{decided_stop}
+use Rattle.portal_store.proofs.StopLemmas.{lacks_memory}
 
 -- ---- a zone's clock is less than two days off
 
@@ -128,35 +113,6 @@ filter-narrower f g (p ∷ ps) all = by_test (filter-narrower f g ps all.1) (g p
 
 -- ---- adding up
 
-sum_by-by_day : (day_of : ℕ → ℤ) (f : Pair → ℕ) (payments : List Payment) → sum_by f (by_day day_of payments) ≡ sum_by (λ p. f (day_of p.at, p.amount)) payments
-sum_by-by_day day_of f [] = refl
-sum_by-by_day day_of f (p ∷ ps) =
-    let g : Payment → Pair = λ q. (day_of q.at, q.amount) in
-    sum_by-cons f (g p) (map g ps) ∙ ap (λ n. f (g p) + n) (sum_by-by_day day_of f ps) ∙ sym (sum_by-cons (λ q. f (g q)) p ps)
-
-sum_by-filtered : (test : Payment → Bool) (f : Payment → ℕ) (payments : List Payment) → sum_by (λ p. cond (test p) (f p) 0) payments ≡ sum_by f (filter test payments)
-sum_by-filtered test f [] = refl
-sum_by-filtered test f (p ∷ ps) = sum_by-cons (λ q. cond (test q) (f q) 0) p ps ∙ ap (λ n. cond (test p) (f p) 0 + n) (sum_by-filtered test f ps) ∙ kept (test p)
-  where
-    kept : (passes : Bool) → cond passes (f p) 0 + sum_by f (filter test ps) ≡ sum_by f (cond passes (p ∷ filter test ps) (filter test ps))
-    kept true = sym (sum_by-cons f p (filter test ps))
-    kept false = omega arith
-
-counted : (zone : TimeZone) (payments : List Payment) (pairs : List Pair) (day : ℤ) → ArePaid zone payments pairs → count_by (is_on day) pairs ≡ length (paid_on zone day payments)
-counted zone payments pairs day same =
-    sum_by-IsPermutation (λ p. cond (is_on day p) 1 0) (by_day (local_day_of zone) payments) pairs same
-    ∙ sum_by-by_day (local_day_of zone) (λ p. cond (is_on day p) 1 0) payments
-    ∙ sym (length-filter (λ p. int_eq (local_day_of zone p.at) day) payments)
-
-summed : (zone : TimeZone) (payments : List Payment) (pairs : List Pair) (day : ℤ) → ArePaid zone payments pairs → sum_by (amount_on day) pairs ≡ sum_of (paid_on zone day payments)
-summed zone payments pairs day same =
-    sum_by-IsPermutation (amount_on day) (by_day (local_day_of zone) payments) pairs same
-    ∙ sum_by-by_day (local_day_of zone) (amount_on day) payments
-    ∙ sum_by-filtered (λ p. int_eq (local_day_of zone p.at) day) (λ p. p.amount) payments
-
-abbrev day_takings : ℤ → ℕ → ℕ → ℕ → ℕ → DayTakings
-day_takings day sold sales refunded refunds = record { day = day; sold = sold; sales = sales; refunded = refunded; refunds = refunds }
-
 -- the days of payments that were read
 with_days : (zone : TimeZone) (payments : List Payment) (answer : List (ℕ × ℕ)) → IsPermutation payments (map paid answer) → ArePaid zone payments (paid_days zone answer)
 with_days zone payments answer same =
@@ -232,16 +188,27 @@ added_up zone range from to holds sales refunds sold refunded one two H legal so
     ∙ ap (λ (ps : List Pair). map (takings_on (paid_days zone sales) ps) (days_of range)) two
     ∙ taken zone range from to holds H legal sales refunds some others
 
--- the call's answer
-pub adds : {V : Type 0} (Done : State → Type 0) (result : Result V Refusal) (items : V → List DayTakings) (zone : TimeZone) (range : Span) (from to : ℕ) → Holds range from to
-    → (sales refunds : List (ℕ × ℕ)) (sold refunded : List Pair) → sold ≡ paid_days zone sales → refunded ≡ paid_days zone refunds
-    → IfOk result (λ v. items v ≡ map (takings_on sold refunded) (days_of range)) → IfErr result (λ r. r ≡ NoMemory) → (old : State)
-    → ((x : State) × Done x × ReadsOf old (λ L. IsLegal (history_of L) × (AreSales (history_of L) from to sales × AreRefunds (history_of L) from to refunds)) x)
-    → (x : State) × Done x × Tells result (λ v H. items v ≡ takings_over zone H range) old x
-adds Done (Ok v) items zone range from to holds sales refunds sold refunded one two made memory old got =
-    so Done (λ L. IsLegal (history_of L) × (AreSales (history_of L) from to sales × AreRefunds (history_of L) from to refunds))
-    (λ L. items v ≡ takings_over zone (history_of L) range)
-    (λ L is. made ∙ added_up zone range from to holds sales refunds sold refunded one two (history_of L) is.0 is.1.0 is.1.1) old got
-adds Done (Err r) items zone range from to holds sales refunds sold refunded one two made memory old got =
-    let it = no_room Done (λ L. IsLegal (history_of L) × (AreSales (history_of L) from to sales × AreRefunds (history_of L) from to refunds)) old got in
-    (it.0, it.1, subst (λ (e : Refusal). CannotAnswer old e it.0) (sym memory) it.2)
+-- an answer over them, where they are those of the ledger
+adds_so : {V : Type 0} (result : Result V Refusal) (items : V → List DayTakings) (zone : TimeZone) (range : Span) (L : Ledger) (days : List DayTakings)
+    → IfOk result (λ v. items v ≡ days) → IfErr result (λ r. r ≡ NoMemory) → days ≡ takings_over zone (history_of L) range
+    → Tells result (λ v H. items v ≡ takings_over zone H range) (running L) (running L)
+adds_so (Ok v) items zone range L days made memory same = (made ∙ same, refl)
+adds_so (Err r) items zone range L days made memory same = inl (memory, refl)
+
+pub adds_at : {S V : Type 0} {g : Ghosts S} {desk : StoreDesk S} {result : Result V Refusal} (items : V → List DayTakings) (zone : TimeZone) (range : Span)
+    (from to : ℕ) → Holds range from to → (sales refunds : List (ℕ × ℕ)) (sold refunded : List Pair)
+    → sold ≡ paid_days zone sales → refunded ≡ paid_days zone refunds
+    → IfOk result (λ v. items v ≡ map (takings_on sold refunded) (days_of range)) → IfErr result (λ r. r ≡ NoMemory)
+    → LeadsFrom g desk desk result (λ L after. IsLegal (history_of L) → AreSales (history_of L) from to sales → AreRefunds (history_of L) from to refunds
+    → Tells result (λ v H. items v ≡ takings_over zone H range) (running L) after)
+adds_at {desk = desk} {result = result} items zone range from to holds sales refunds sold refunded one two made memory = record {
+  rest = (refl, refl);
+  honest = λ honest. honest;
+  stops = decided_stop (stop_flag desk) result (lacks_memory result memory);
+  step = λ honest L at. (
+    running L,
+    at,
+    λ legal some others. adds_so result items zone range L _ made memory
+        (added_up zone range from to holds sales refunds sold refunded one two (history_of L) legal some others),
+  );
+}

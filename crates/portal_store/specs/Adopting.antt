@@ -1,10 +1,11 @@
 -- What becomes of a store that a desk takes over. The layers above cite these words and none of SQL.
-use Rattle.std.specs.Prelude.{ℕ, IsTrue, Option}
+use Rattle.std.specs.Prelude.{ℕ, IsTrue, MatchResult, Option, Result}
 use Rattle.sqlite.specs.Held.{Held, state}
 use Rattle.sqlite.specs.State.{Survives}
 use Rattle.sqlite_trees.specs.declared.store.Store.{Ghosts}
 use Rattle.portal_tables.specs.Adopting.{IsKept, IsKnown, IsWhy, TellsOwn}
-use Rattle.portal_tables.specs.TablesAt.{IsStopped}
+use Rattle.portal_tables.specs.TablesAt.{ConnIsHonest, IsHonest, IsStopped}
+use Rattle.portal_tables.specs.declared.adopt.Refused.{Refused}
 use Rattle.portal_tables.specs.declared.fault.OpenFault.{OpenFault}
 use Rattle.portal_store.specs.declared.desks.StoreDesk.{StoreDesk}
 
@@ -36,3 +37,8 @@ module _ {S : Type 0} (g : Ghosts S) where
   -- nothing is added to what a stop may leave
   unfoldable pub IsSpared : Held S → Held S → Type 0
   IsSpared old new = Survives (state g old) (state g new) (λ _. ⊥)
+
+  -- where the disk was honest, a desk that was made is so, and a store that was refused is so
+  abbrev pub OnHonest : Result (StoreDesk S) (Refused S) → (StoreDesk S → Type 0) → (Refused S → Type 0) → Type 0
+  OnHonest result Made Kept = MatchResult result
+      (λ desk. IsHonest g desk.tables → Made desk) (λ refused. ConnIsHonest g refused.connection → Kept refused)

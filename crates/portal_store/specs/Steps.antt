@@ -1,26 +1,33 @@
--- What a call makes of the tables under a desk.
-use Rattle.std.specs.Prelude.{Result, MatchResult}
+-- What a call over the tables leaves of a desk, and what it makes of the tables under it.
+use Rattle.std.specs.Prelude.{Result}
 use Rattle.sqlite_trees.specs.declared.store.Store.{Ghosts}
 use Rattle.portal_model.specs.declared.refusal.Refusal.{Refusal}
 use Rattle.portal_model.specs.History.{History}
 use Rattle.portal_ledger.specs.Ledger.{Ledger}
 use Rattle.portal_ledger.specs.States.{State, running}
-use Rattle.portal_ledger.specs.Calls.{ReadsThat}
-use Rattle.portal_desk.specs.Calls.{CannotAnswer}
-use Rattle.portal_tables.specs.declared.tables.Tables.{Tables}
+use Rattle.portal_desk.specs.Calls.{KeepsStop, Tells}
 use Rattle.portal_tables.specs.TablesAt.{IsHonest, TablesAt}
+use Rattle.portal_store.specs.declared.desks.StoreDesk.{StoreDesk}
+use Rattle.portal_store.specs.DeskAt.{stop_flag}
+use Rattle.portal_store.specs.Rest.{KeepsRest}
 
--- Where the disk was honest: from each state of the tables before, the call leads to one of the tables after.
-abbrev pub Leads : {S : Type 0} → Ghosts S → Tables S → Tables S → (State → State → Type 0) → Type 0
-Leads g before after Step =
-    IsHonest g after → (old : State) → TablesAt g before old → (new : State) × TablesAt g after new × Step old new
-
--- it tells what is so of the history, and changes nothing; or it cannot answer
-abbrev pub Tells : {A : Type 0} → Result A Refusal → (A → History → Type 0) → State → State → Type 0
-Tells result Is old new =
-    MatchResult result (λ found. ReadsThat old (λ H. Is found H) new) (λ r. CannotAnswer old r new)
+-- Whatever the disk did, all but the tables is as it was, and the answer tells whether they have stopped. Where the disk was honest, the call
+-- leads from each state of the tables before to one of the tables after.
+pub record Leads {S A : Type 0} (g : Ghosts S) (old new : StoreDesk S) (result : Result A Refusal) (Step : State → State → Type 0) : Type 0 where
+  pub rest : KeepsRest old new
+  pub honest : IsHonest g new.tables → IsHonest g old.tables
+  pub stops : KeepsStop (stop_flag old) (stop_flag new) result
+  pub step : IsHonest g new.tables → (before : State) → TablesAt g old.tables before
+      → (after : State) × TablesAt g new.tables after × Step before after
 
 -- the same from a ledger at which the tables work
-abbrev pub LeadsFrom : {S : Type 0} → Ghosts S → Tables S → Tables S → (Ledger → State → Type 0) → Type 0
-LeadsFrom g before after Step =
-    IsHonest g after → (L : Ledger) → TablesAt g before (running L) → (new : State) × TablesAt g after new × Step L new
+pub record LeadsFrom {S A : Type 0} (g : Ghosts S) (old new : StoreDesk S) (result : Result A Refusal) (Step : Ledger → State → Type 0) : Type 0 where
+  pub rest : KeepsRest old new
+  pub honest : IsHonest g new.tables → IsHonest g old.tables
+  pub stops : KeepsStop (stop_flag old) (stop_flag new) result
+  pub step : IsHonest g new.tables → (L : Ledger) → TablesAt g old.tables (running L)
+      → (after : State) × TablesAt g new.tables after × Step L after
+
+-- it tells what is so of the history, and changes nothing; or it cannot answer
+abbrev pub Reads : {S A : Type 0} → Ghosts S → StoreDesk S → StoreDesk S → Result A Refusal → (A → History → Type 0) → Type 0
+Reads g old new result Is = Leads g old new result (λ before after. Tells result Is before after)

@@ -1,14 +1,17 @@
 //! A command, carried out in one call.
 ghost use Rattle.std.specs.Prelude.{◌≡◌, Some, None, MatchResult};
-ghost use Rattle.portal_ledger.specs.States.{State};
+ghost use Rattle.portal_model.specs.Change.{answer_of};
 ghost use Rattle.portal_model.specs.Verdict.{IsWellFormed};
-ghost use Rattle.portal_desk.specs.Calls.{KeepsStop};
+ghost use Rattle.portal_ledger.specs.Calls.{Fits, Keeps};
+ghost use Rattle.portal_ledger.specs.Ledger.{Accepted};
+ghost use Rattle.portal_ledger.specs.States.{State};
+ghost use Rattle.portal_desk.specs.Calls.{CannotKeep, KeepsStop};
 ghost use Rattle.portal_store.specs.Acting.{Carries};
-ghost use Rattle.portal_store.specs.DeskAt.{DeskAt, DeskIsHonest, settings_of, stop_flag};
+ghost use Rattle.portal_store.specs.DeskAt.{DeskAt, DeskIsHonest, MovesDesk, settings_of, stop_flag};
 
 use crate::desks::StoreDesk;
 use portal_desk::Desk;
-use portal_desk::prepared::Marked;
+use portal_desk::prepared::{Marked, Prepared};
 use portal_ledger::request::RequestMark;
 use portal_model::change::Answer;
 use portal_model::command::Command;
@@ -18,11 +21,11 @@ use sqlite::Alter;
 use std::alloc::Global;
 
 impl<S: Alter> StoreDesk<S> {
-    /// Carries out the command of a request without a number: prepares it and keeps it. Answers what its caller is
-    /// told.
+    /// Carries out the command of a request without a number: prepares it and keeps it. Answers what its
+    /// caller is told.
     ///
-    /// Refusals: those of `prepare` and of `finish`. After `Stopped` the files may hold the command or not; after any
-    /// other refusal nothing has changed.
+    /// Refusals: those of `prepare` and of `finish`. After `Stopped` the files may hold the command or not;
+    /// after any other refusal nothing has changed.
     pub fn act(
         &mut self,
         alloc: Global,
@@ -30,25 +33,14 @@ impl<S: Alter> StoreDesk<S> {
         command: Command,
     ) -> Result<Answer, Refusal>
         requires { IsWellFormed command }
-        ensures told { settings_of self.new ≡ settings_of self.old }
-        ensures honest { DeskIsHonest S.Store self.new → DeskIsHonest S.Store self.old }
-        ensures stops { KeepsStop (stop_flag self.old) (stop_flag self.new) result }
-        ensures act { DeskIsHonest S.Store self.new → (old : State) → DeskAt S.Store self.old old
-            → (new : State) × DeskAt S.Store self.new new × Carries result command moment None old new }
+        ensures { MovesDesk S.Store self.old self.new result (Carries result command moment None) }
     {
-        let prepared = match self.prepare(alloc, moment, command) {
-            Ok(prepared) => prepared,
-            Err(r) => return Err(r),
-        };
-        let answer = prepared.answer();
-        match self.finish(prepared) {
-            Ok(()) => Ok(answer),
-            Err(r) => Err(r),
-        }
+        let prepared = self.prepare(alloc, moment, command)?;
+        self.keep(prepared)
     }
 
-    /// The same for a request that acts once: where it was carried out before, it is answered as then, and changes
-    /// nothing.
+    /// The same for a request that acts once: where it was carried out before, it is answered as then, and
+    /// changes nothing.
     ///
     /// Refusals: `IdReused` where its number was used for another request, then those of `act`.
     pub fn act_marked(
@@ -59,21 +51,28 @@ impl<S: Alter> StoreDesk<S> {
         mark: &RequestMark,
     ) -> Result<Answer, Refusal>
         requires { IsWellFormed command }
+        ensures { MovesDesk S.Store self.old self.new result (Carries result command moment (Some mark.now)) }
+    {
+        match self.prepare_marked(alloc, moment, command, mark)? {
+            Marked::Fresh(fresh) => self.keep(fresh),
+            Marked::Kept(answer) => Ok(answer),
+        }
+    }
+
+    /// Keeps what was prepared. Answers what its caller is told.
+    ///
+    /// Refusals: those of `finish`.
+    fn keep(&mut self, prepared: Prepared) -> Result<Answer, Refusal>
         ensures told { settings_of self.new ≡ settings_of self.old }
         ensures honest { DeskIsHonest S.Store self.new → DeskIsHonest S.Store self.old }
         ensures stops { KeepsStop (stop_flag self.old) (stop_flag self.new) result }
-        ensures act { DeskIsHonest S.Store self.new → (old : State) → DeskAt S.Store self.old old
-            → (new : State) × DeskAt S.Store self.new new × Carries result command moment (Some mark.now) old new }
+        ensures keep { DeskIsHonest S.Store self.new → (old : State) → DeskAt S.Store self.old old
+            → (a : Accepted) → Fits old prepared a → (new : State) × DeskAt S.Store self.new new
+            × MatchResult result (λ answer. (answer ≡ answer_of prepared.changes) × Keeps old a new)
+            (λ r. CannotKeep old a r new) }
     {
-        let fresh = match self.prepare_marked(alloc, moment, command, mark) {
-            Ok(Marked::Fresh(fresh)) => fresh,
-            Ok(Marked::Kept(answer)) => return Ok(answer),
-            Err(r) => return Err(r),
-        };
-        let answer = fresh.answer();
-        match self.finish(fresh) {
-            Ok(()) => Ok(answer),
-            Err(r) => Err(r),
-        }
+        let answer = prepared.answer();
+        self.finish(prepared)?;
+        Ok(answer)
     }
 }

@@ -27,9 +27,9 @@ use portal_tables::tables::Tables;
 use sqlite::Alter;
 use std::alloc::Global;
 
-/// A desk over the tables of a store. Of its own it keeps the settings, and the sessions that are open at the last
-/// moment, so that their list reads no table. It finds these by the tables when they are first listed, and again where
-/// there was no room to follow them.
+/// A desk over the tables of a store. Of its own it keeps the settings, and the sessions that are open at the
+/// last moment, so that their list reads no table. It finds these by the tables when they are first listed,
+/// and again where there was no room to follow them.
 pub struct StoreDesk<S: Alter> {
     pub(crate) tables: Tables<S>,
     pub(crate) settings: Settings,
@@ -66,64 +66,36 @@ impl<S: Alter> Desk for StoreDesk<S> {
     }
 
     fn state(&mut self, moment: Moment, device: Device) -> Result<Captive, Refusal> {
-        let head = match self.find_head() {
-            Ok(head) => head,
-            Err(r) => return Err(r),
-        };
-        match self.find_last(&device) {
-            Ok(last) => Ok(captive_of(last.as_ref(), effective(moment, head.last))),
-            Err(r) => Err(r),
-        }
+        let head = self.find_head()?;
+        let last = self.find_last(&device)?;
+        Ok(captive_of(last.as_ref(), effective(moment, head.last)))
     }
 
     fn voucher(&mut self, code: &Code) -> Result<Voucher, Refusal> {
-        match self.find_voucher(code) {
-            Ok(Some(voucher)) => Ok(voucher),
-            Ok(None) => Err(Refusal::UnknownCode),
-            Err(r) => Err(r),
-        }
+        self.find_voucher(code)?.ok_or(Refusal::UnknownCode)
     }
 
     fn batch(&mut self, alloc: Global, id: &Id) -> Result<BatchSheet, Refusal> {
-        let batch = match self.find_batch(id) {
-            Ok(Some(batch)) => batch,
-            Ok(None) => return Err(Refusal::UnknownBatch),
-            Err(r) => return Err(r),
-        };
+        let batch = self.find_batch(id)?.ok_or(Refusal::UnknownBatch)?;
         // the plan of a batch is always there
-        let plan = match self.find_plan(&batch.plan) {
-            Ok(Some(plan)) => plan,
-            Ok(None) => return Err(Refusal::UnknownBatch),
-            Err(r) => return Err(r),
-        };
-        match self.find_codes(alloc, id) {
-            Ok(codes) => match listed(alloc, codes.as_slice()) {
-                Ok(codes) => Ok(BatchSheet { batch, plan, codes }),
-                Err(_) => Err(Refusal::NoMemory),
-            },
-            Err(r) => Err(r),
-        }
+        let plan = self.find_plan(&batch.plan)?.ok_or(Refusal::UnknownBatch)?;
+        let codes = self.find_codes(alloc, id)?;
+        let codes = listed(alloc, codes.as_slice())?;
+        Ok(BatchSheet { batch, plan, codes })
     }
 
     fn open_now(&mut self, alloc: Global, moment: Moment) -> Result<Vec<OpenSession>, Refusal> {
-        let list = match self.take_open(alloc) {
-            Ok(list) => list,
-            Err(r) => return Err(r),
-        };
+        let list = self.take_open(alloc)?;
         let told = list.told(alloc, moment);
         self.open = Some(list);
-        match told {
-            Ok(told) => Ok(told),
-            Err(_) => Err(Refusal::NoMemory),
-        }
+        Ok(told?)
     }
 
     fn takings(&mut self, alloc: Global, range: DayRange) -> Result<Vec<DayTakings>, Refusal> {
         self.add_up(alloc, range)
     }
 
-    fn audit(&mut self, alloc: Global) -> Result<bool, Refusal> {
-        let _unused = alloc;
+    fn audit(&mut self, _alloc: Global) -> Result<bool, Refusal> {
         self.check_counters()
     }
 
@@ -133,10 +105,8 @@ impl<S: Alter> Desk for StoreDesk<S> {
         moment: Moment,
         command: Command,
     ) -> Result<Prepared, Refusal> {
-        match self.decide(alloc, moment, &command) {
-            Ok(changes) => Ok(Prepared::new(MarkedChanges::unmarked(changes))),
-            Err(r) => Err(r),
-        }
+        let changes = self.decide(alloc, moment, &command)?;
+        Ok(Prepared::new(MarkedChanges::unmarked(changes)))
     }
 
     fn prepare_marked(
@@ -147,18 +117,12 @@ impl<S: Alter> Desk for StoreDesk<S> {
         mark: &RequestMark,
     ) -> Result<Marked, Refusal> {
         mark_is_typed(mark);
-        match self.find_repeat(alloc, mark) {
-            Ok(None) => {}
-            Ok(Some(answer)) => return Ok(Marked::Kept(answer)),
-            Err(r) => return Err(r),
+        if let Some(answer) = self.find_repeat(alloc, mark)? {
+            return Ok(Marked::Kept(answer));
         }
-        match self.decide(alloc, moment, &command) {
-            Ok(changes) => match MarkedChanges::with_mark(alloc, changes, mark) {
-                Ok(marked) => Ok(Marked::Fresh(Prepared::new(marked))),
-                Err(r) => Err(r),
-            },
-            Err(r) => Err(r),
-        }
+        let changes = self.decide(alloc, moment, &command)?;
+        let marked = MarkedChanges::with_mark(alloc, changes, mark)?;
+        Ok(Marked::Fresh(Prepared::new(marked)))
     }
 
     fn finish(&mut self, prepared: Prepared) -> Result<(), Refusal> {

@@ -5,12 +5,9 @@ ghost use Rattle.portal_model.specs.Change.{changes_of};
 ghost use Rattle.portal_model.specs.History.{entry, History};
 ghost use Rattle.portal_model.specs.Verdict.{Follows, IsLegal};
 ghost use Rattle.portal_open.specs.Open.{open_at_last};
-ghost use Rattle.portal_ledger.specs.States.{State};
-ghost use Rattle.portal_desk.specs.Calls.{KeepsStop};
-ghost use Rattle.portal_tables.specs.TablesAt.{IsHonest};
-ghost use Rattle.portal_store.specs.DeskAt.{DeskAt, DeskIsHonest, settings_of, stop_flag};
-ghost use Rattle.portal_store.specs.Rest.{KeepsRest};
-ghost use Rattle.portal_store.specs.Steps.{Leads, Tells};
+ghost use Rattle.portal_desk.specs.Calls.{Tells};
+ghost use Rattle.portal_store.specs.DeskAt.{MovesDesk};
+ghost use Rattle.portal_store.specs.Steps.{Reads};
 
 use crate::desks::StoreDesk;
 use portal_desk::Desk;
@@ -23,30 +20,18 @@ use std::alloc::Global;
 impl<S: Alter> StoreDesk<S> {
     /// The sessions that are open at the last moment, by the tables.
     fn find_open_at_last(&mut self, alloc: Global) -> Result<OpenSessions, Refusal>
-        ensures rest { KeepsRest self.old self.new }
-        ensures honest { IsHonest S.Store self.new.tables → IsHonest S.Store self.old.tables }
-        ensures stops { KeepsStop (stop_flag self.old) (stop_flag self.new) result }
-        ensures read { Leads S.Store self.old.tables self.new.tables
-            (λ old new. Tells result (λ list H. list ≡ open_at_last H) old new) }
+        ensures { Reads S.Store self.old self.new result (λ list H. list ≡ open_at_last H) }
     {
-        let head = match self.find_head() {
-            Ok(head) => head,
-            Err(r) => return Err(r),
-        };
-        match self.find_open(alloc, head.last) {
-            Ok(sessions) => Ok(OpenSessions::new(head.last, sessions)),
-            Err(r) => Err(r),
-        }
+        let head = self.find_head()?;
+        let sessions = self.find_open(alloc, head.last)?;
+        Ok(OpenSessions::new(head.last, sessions))
     }
 
-    /// The sessions that are open at the last moment: those that are kept, and are then kept no longer, or else by the
-    /// tables. A desk that stopped has none.
+    /// The sessions that are open at the last moment: those that are kept, and are then kept no longer, or
+    /// else by the tables. A desk that stopped has none.
     pub(crate) fn take_open(&mut self, alloc: Global) -> Result<OpenSessions, Refusal>
-        ensures settings { settings_of self.new ≡ settings_of self.old }
-        ensures honest { DeskIsHonest S.Store self.new → DeskIsHonest S.Store self.old }
-        ensures stops { KeepsStop (stop_flag self.old) (stop_flag self.new) result }
-        ensures read { DeskIsHonest S.Store self.new → (old : State) → DeskAt S.Store self.old old
-            → (new : State) × DeskAt S.Store self.new new × Tells result (λ list H. list ≡ open_at_last H) old new }
+        ensures { MovesDesk S.Store self.old self.new result
+            (Tells result (λ list H. list ≡ open_at_last H)) }
     {
         if self.is_stopped() {
             return Err(Refusal::Stopped);
@@ -58,14 +43,12 @@ impl<S: Alter> StoreDesk<S> {
     }
 }
 
-/// What is kept after an accepted command, by what it changes: nothing where nothing was kept, or where there is no room.
+/// What is kept after an accepted command, by what it changes: nothing where nothing was kept, or where there
+/// is no room.
 pub(crate) fn followed(kept: Option<OpenSessions>, changes: &Changes) -> Option<OpenSessions>
     ensures { (H : History) → IsLegal H → (command : Command) (t : ℕ) → Follows H t command
         → changes_of H command t ≡ Some changes.now → IfSome kept (λ list. list ≡ open_at_last H)
         → IfSome result (λ list. list ≡ open_at_last (entry t command ∷ H)) }
 {
-    match kept {
-        Some(list) => list.followed(changes).ok(),
-        None => None,
-    }
+    kept?.followed(changes).ok()
 }

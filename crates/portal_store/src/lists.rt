@@ -2,14 +2,11 @@
 ghost use Rattle.std.specs.Prelude.{◌≡◌, ◌++◌, ◌≤◌, true, IfOk, filter, map};
 ghost use Rattle.portal_model.specs.Captive.{all_sessions};
 ghost use Rattle.portal_model.specs.History.{codes_of, is_open_at};
-ghost use Rattle.portal_desk.specs.Calls.{KeepsStop};
 ghost use Rattle.portal_tables.specs.Lists.{AreSales, AreRefunds};
 ghost use Rattle.portal_tables.specs.TablesAt.{IsHonest};
 ghost use Rattle.portal_store.specs.Counters.{CountersAre};
-ghost use Rattle.portal_store.specs.DeskAt.{stop_flag};
 ghost use Rattle.portal_store.specs.Paid.{paid_days};
-ghost use Rattle.portal_store.specs.Rest.{KeepsRest};
-ghost use Rattle.portal_store.specs.Steps.{Leads, Tells};
+ghost use Rattle.portal_store.specs.Steps.{Reads};
 
 use crate::desks::StoreDesk;
 use crate::reading::refused;
@@ -30,30 +27,17 @@ pub(crate) type Paid = (Moment, u64);
 impl<S: Alter> StoreDesk<S> {
     /// The codes of the batch, by place.
     pub(crate) fn find_codes(&mut self, alloc: Global, id: &Id) -> Result<Vec<Code>, Refusal>
-        ensures rest { KeepsRest self.old self.new }
-        ensures honest { IsHonest S.Store self.new.tables → IsHonest S.Store self.old.tables }
-        ensures stops { KeepsStop (stop_flag self.old) (stop_flag self.new) result }
-        ensures read { Leads S.Store self.old.tables self.new.tables
-            (λ old new. Tells result (λ found H. found.items ≡ codes_of H id.now) old new) }
+        ensures { Reads S.Store self.old self.new result (λ found H. found.items ≡ codes_of H id.now) }
     {
-        match self.tables.batch_rows(alloc, id) {
-            Ok(found) => Ok(found),
-            Err(fault) => Err(refused(fault)),
-        }
+        self.tables.batch_rows(alloc, id).map_err(refused)
     }
 
     /// The sessions that are open at `t`, by number.
     pub(crate) fn find_open(&mut self, alloc: Global, t: Moment) -> Result<Vec<Session>, Refusal>
-        ensures rest { KeepsRest self.old self.new }
-        ensures honest { IsHonest S.Store self.new.tables → IsHonest S.Store self.old.tables }
-        ensures stops { KeepsStop (stop_flag self.old) (stop_flag self.new) result }
-        ensures read { Leads S.Store self.old.tables self.new.tables
-            (λ old new. Tells result (λ found H. found.items ≡ filter (is_open_at t) (all_sessions H)) old new) }
+        ensures { Reads S.Store self.old self.new result
+            (λ found H. found.items ≡ filter (is_open_at t) (all_sessions H)) }
     {
-        match self.tables.open_sessions(alloc, t) {
-            Ok(found) => Ok(found),
-            Err(fault) => Err(refused(fault)),
-        }
+        self.tables.open_sessions(alloc, t).map_err(refused)
     }
 
     /// The sales within the two moments, both included, in the order in which their vouchers were issued.
@@ -62,17 +46,12 @@ impl<S: Alter> StoreDesk<S> {
         alloc: Global,
         from: Moment,
         to: Moment,
-    ) -> Result<Vec<(Moment, u64)>, Refusal>
-        ensures rest { KeepsRest self.old self.new }
-        ensures honest { IsHonest S.Store self.new.tables → IsHonest S.Store self.old.tables }
-        ensures stops { KeepsStop (stop_flag self.old) (stop_flag self.new) result }
-        ensures read { Leads S.Store self.old.tables self.new.tables
-            (λ old new. Tells result (λ found H. AreSales H from to found.items) old new) }
+    ) -> Result<Vec<Paid>, Refusal>
+        ensures { Reads S.Store self.old self.new result (λ found H. AreSales H from to found.items) }
     {
-        match self.tables.sales_as_issued(alloc, from, to) {
-            Ok(found) => Ok(found),
-            Err(fault) => Err(refused(fault)),
-        }
+        self.tables
+            .sales_as_issued(alloc, from, to)
+            .map_err(refused)
     }
 
     /// The refunds within the two moments, both included.
@@ -81,32 +60,20 @@ impl<S: Alter> StoreDesk<S> {
         alloc: Global,
         from: Moment,
         to: Moment,
-    ) -> Result<Vec<(Moment, u64)>, Refusal>
-        ensures rest { KeepsRest self.old self.new }
-        ensures honest { IsHonest S.Store self.new.tables → IsHonest S.Store self.old.tables }
-        ensures stops { KeepsStop (stop_flag self.old) (stop_flag self.new) result }
-        ensures read { Leads S.Store self.old.tables self.new.tables
-            (λ old new. Tells result (λ found H. AreRefunds H from to found.items) old new) }
+    ) -> Result<Vec<Paid>, Refusal>
+        ensures { Reads S.Store self.old self.new result (λ found H. AreRefunds H from to found.items) }
     {
-        match self.tables.refunds_between(alloc, from, to) {
-            Ok(found) => Ok(found),
-            Err(fault) => Err(refused(fault)),
-        }
+        self.tables
+            .refunds_between(alloc, from, to)
+            .map_err(refused)
     }
 
     /// Whether the counters agree with what they count, exactly.
     pub(crate) fn check_counters(&mut self) -> Result<bool, Refusal>
-        ensures rest { KeepsRest self.old self.new }
-        ensures honest { IsHonest S.Store self.new.tables → IsHonest S.Store self.old.tables }
-        ensures stops { KeepsStop (stop_flag self.old) (stop_flag self.new) result }
-        ensures read { Leads S.Store self.old.tables self.new.tables
-            (λ old new. Tells result (λ agrees H. agrees ≡ true) old new) }
+        ensures reads { Reads S.Store self.old self.new result (λ agrees H. agrees ≡ true) }
         ensures exact { IsHonest S.Store self.new.tables → IfOk result (CountersAre S.Store self.old.tables) }
     {
-        match self.tables.audit() {
-            Ok(agrees) => Ok(agrees),
-            Err(fault) => Err(refused(fault)),
-        }
+        self.tables.audit().map_err(refused)
     }
 }
 
@@ -125,7 +92,7 @@ pub(crate) fn listed(alloc: Global, codes: &[Code]) -> Result<Codes, AllocError>
 pub(crate) fn with_days(
     alloc: Global,
     settings: &Settings,
-    payments: &[(Moment, u64)],
+    payments: &[Paid],
 ) -> Result<Vec<(Day, u64)>, AllocError>
     ensures { IfOk result (λ pairs. pairs.items ≡ paid_days settings.now.zone payments.now) }
 {

@@ -1,21 +1,19 @@
 //! The takings of days, over the payments of the tables.
-ghost use Rattle.std.specs.Prelude.{◌≡◌, ◌<◌, ◌≤◌, ℕ, ◌+ℤ◌, ◌≤ℤ◌, IfOk, pos};
+ghost use Rattle.std.specs.Prelude.{◌≡◌, ◌<◌, ◌≤◌, ℕ, ◌+ℤ◌, ◌≤ℤ◌, IfErr, IfOk, map, pos};
 ghost use Rattle.jiff_tz.specs.declared.timezone.TimeZone.{TimeZone as Zone};
-ghost use Rattle.portal_days.specs.Span.{day_count};
-ghost use Rattle.portal_days.specs.Takings.{TotalsFit};
+ghost use Rattle.portal_days.specs.Span.{day_count, days_of};
+ghost use Rattle.portal_days.specs.Takings.{takings_on, TotalsFit};
 ghost use Rattle.portal_desk.specs.Sheets.{takings_over};
 ghost use Rattle.portal_files.specs.LocalDay.{local_day_of};
 ghost use Rattle.portal_model.specs.Verdict.{greatest_moment};
-ghost use Rattle.portal_desk.specs.Calls.{KeepsStop};
-ghost use Rattle.portal_tables.specs.TablesAt.{IsHonest};
-ghost use Rattle.portal_store.specs.DeskAt.{stop_flag};
-ghost use Rattle.portal_store.specs.Rest.{KeepsRest};
-ghost use Rattle.portal_store.specs.Steps.{Leads, Tells};
+ghost use Rattle.portal_store.specs.Paid.{paid_days};
+ghost use Rattle.portal_store.specs.Steps.{Reads};
 
 use crate::desks::StoreDesk;
-use crate::lists::with_days;
+use crate::lists::{Paid, with_days};
 use portal_core::add_takings;
 use portal_days::{Day, DayRange, DayTakings};
+use portal_files::Settings;
 use portal_model::moment::Moment;
 use portal_model::refusal::Refusal;
 use sqlite::Alter;
@@ -63,36 +61,46 @@ fn window(range: DayRange) -> (Moment, Moment)
     (earliest(first), latest(first).max(latest(last)))
 }
 
+/// The takings of each day of the range, in order, from payments that each have a moment and an amount in
+/// hundredths. Only a lack of memory is refused: `NoMemory`.
+fn add_payments(
+    alloc: Global,
+    settings: &Settings,
+    range: DayRange,
+    sales: &[Paid],
+    refunds: &[Paid],
+) -> Result<Vec<DayTakings>, Refusal>
+    ensures days { IfOk result (λ days. days.items ≡ map (takings_on
+        (paid_days settings.now.zone sales.now) (paid_days settings.now.zone refunds.now)) (days_of range)) }
+    ensures totals { IfOk result (λ days. TotalsFit days.items) }
+    ensures memory { IfErr result (λ r. r ≡ Refusal.NoMemory) }
+{
+    let sold = with_days(alloc, settings, sales)?;
+    let refunded = with_days(alloc, settings, refunds)?;
+    add_takings(alloc, range, sold.as_slice(), refunded.as_slice())
+}
+
 impl<S: Alter> StoreDesk<S> {
-    /// The takings of each day of the range, in order, by the civil days of the settings' zone. Payments that no clock
-    /// can show on these days are not read.
+    /// The takings of each day of the range, in order, by the civil days of the settings' zone. Payments that
+    /// no clock can show on these days are not read.
     pub(crate) fn add_up(
         &mut self,
         alloc: Global,
         range: DayRange,
     ) -> Result<Vec<DayTakings>, Refusal>
-        ensures rest { KeepsRest self.old self.new }
-        ensures honest { IsHonest S.Store self.new.tables → IsHonest S.Store self.old.tables }
-        ensures stops { KeepsStop (stop_flag self.old) (stop_flag self.new) result }
         ensures totals { IfOk result (λ days. TotalsFit days.items) }
-        ensures takings { Leads S.Store self.old.tables self.new.tables
-            (λ old new. Tells result (λ days H. days.items ≡ takings_over self.old.settings.zone H range) old new) }
+        ensures reads { Reads S.Store self.old self.new result
+            (λ days H. days.items ≡ takings_over self.old.settings.zone H range) }
     {
         let (from, to) = window(range);
-        let sales = match self.find_sales(alloc, from, to) {
-            Ok(sales) => sales,
-            Err(r) => return Err(r),
-        };
-        let refunds = match self.find_refunds(alloc, from, to) {
-            Ok(refunds) => refunds,
-            Err(r) => return Err(r),
-        };
-        let Ok(sold) = with_days(alloc, &self.settings, sales.as_slice()) else {
-            return Err(Refusal::NoMemory);
-        };
-        let Ok(refunded) = with_days(alloc, &self.settings, refunds.as_slice()) else {
-            return Err(Refusal::NoMemory);
-        };
-        add_takings(alloc, range, sold.as_slice(), refunded.as_slice())
+        let sales = self.find_sales(alloc, from, to)?;
+        let refunds = self.find_refunds(alloc, from, to)?;
+        add_payments(
+            alloc,
+            &self.settings,
+            range,
+            sales.as_slice(),
+            refunds.as_slice(),
+        )
     }
 }

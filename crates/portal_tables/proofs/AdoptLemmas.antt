@@ -1,20 +1,6 @@
 -- How the steps of adopting a store follow one another.
-use Rattle.std.proofs.Common.{◌≡◌, ◌⊎◌, ℕ, true, false, inl, inr, IfSome, IfNone, List, Option, Some, None, sym, subst, arith}
+use Rattle.portal_tables.proofs.Common.{◌≡◌, ◌⊎◌, ◌≤◌, ◌∙◌, ℕ, IsTrue, lit≤, true, false, inl, inr, IfSome, IfNone, List, Option, Some, None, sym, subst, arith, Schema, Database, State, HasCleanDisk, IsUnchanged, Survives, survives_then, both, Contents, Holds, HoldsIn, this_layout, KeepsOthers, LeftOthers, is_free, Answers, IsOneRow, TellsLayout, is_whole, HasUpgraded, number_of, upgraded, OldLayout, First, Second, Third, Fourth, IsCarried, IsCompleted, LeftCarried, MayBeUpgraded, SparesOurTables, TellsKnown}
 use Rattle.sqlite.specs.Order.{Row}
-use Rattle.sqlite.specs.Schema.{Schema}
-use Rattle.sqlite.specs.Effect.{Database}
-use Rattle.sqlite.specs.State.{State, HasCleanDisk, IsUnchanged, Survives}
-use Rattle.sqlite.proofs.StateLemmas.{survives_then}
-use Rattle.portal_sql.proofs.HarmlessLemmas.{both}
-use Rattle.portal_rows.specs.Contents.{Contents}
-use Rattle.portal_rows.specs.Holds.{Holds, HoldsIn, this_layout}
-use Rattle.portal_rows.specs.Others.{KeepsOthers, LeftOthers}
-use Rattle.portal_layouts.specs.Creates.{is_free}
-use Rattle.portal_layouts.specs.Layouts.{Answers, IsOneRow, TellsLayout, is_whole}
-use Rattle.portal_layouts.specs.Brings.{HasUpgraded, number_of, upgraded}
-use Rattle.portal_layouts.specs.declared.layouts.OldLayout.{OldLayout}
-use Rattle.portal_layouts.specs.declared.layouts.OldLayout.TheVariants.{Fourth}
-use Rattle.portal_tables.specs.Adopting.{IsCarried, IsCompleted, LeftCarried, MayBeUpgraded, SparesOurTables}
 
 -- what was made of the rows that the head answered
 pub tells_by : (db : Database) (rows : List Row) (o : Option ℕ) → Answers db rows → IfSome o (IsOneRow rows) → IfNone o ((layout : ℕ) → ¬ IsOneRow rows layout) → TellsLayout db o
@@ -37,7 +23,7 @@ spared_before old mid same spared = subst (λ (db : Database). SparesOurTables d
 
 -- ---- a look at the head, and then the upgrade
 
-pub upgrades_crash : (from : OldLayout) (old mid new : State) → (HasCleanDisk mid → TellsLayout old.now (Some (number_of from)) × IsUnchanged old mid) → Survives old mid (λ _. ⊥) → Survives mid new (MayBeUpgraded from mid)
+upgrades_crash : (from : OldLayout) (old mid new : State) → (HasCleanDisk mid → TellsLayout old.now (Some (number_of from)) × IsUnchanged old mid) → Survives old mid (λ _. ⊥) → Survives mid new (MayBeUpgraded from mid)
     → Survives old new (λ trees. SparesOurTables old.now.schema × LeftCarried old.now trees)
 upgrades_crash from old mid new look one two =
     survives_then old mid new _ _ (λ trees. SparesOurTables old.now.schema × LeftCarried old.now trees) (λ _ db none. absurd none)
@@ -53,7 +39,7 @@ upgrades_crash from old mid new look one two =
     )) one two
 
 -- a look at the head, and what it led to
-pub brings : (from : OldLayout) (old mid new : State) → TellsLayout old.now (Some (number_of from)) → IsUnchanged old mid → HasUpgraded from mid new → IsCarried old new
+brings : (from : OldLayout) (old mid new : State) → TellsLayout old.now (Some (number_of from)) → IsUnchanged old mid → HasUpgraded from mid new → IsCarried old new
 brings from old mid new tells same did = record {
   carries = inr (
     from,
@@ -67,7 +53,7 @@ brings from old mid new tells same did = record {
   same = did.committed;
 }
 
-pub completes : (old mid new : State) → TellsLayout old.now (Some this_layout) → IsUnchanged old mid → IsCompleted mid new → IsCarried old new
+completes : (old mid new : State) → TellsLayout old.now (Some this_layout) → IsUnchanged old mid → IsCompleted mid new → IsCarried old new
 completes old mid new tells same did = go did.holds
   where
     here : (t : Contents) → HoldsIn this_layout false old.now t → HoldsIn this_layout false mid.now t
@@ -79,3 +65,30 @@ completes old mid new tells same did = go did.holds
     go : ((t : Contents) → HoldsIn this_layout false mid.now t → Holds new.now t) ⊎ ((t : Contents) → HoldsIn this_layout false mid.now t → Holds new.now (upgraded Fourth t)) → IsCarried old new
     go (inl kept) = record { carries = inl (tells, λ t h. (kept t (here t h), others t h)); is_open = did.is_open; ended = did.ended; same = did.same }
     go (inr up) = record { carries = inr (Fourth, tells, λ t h. (up t (here t h), others t h)); is_open = did.is_open; ended = did.ended; same = did.same }
+
+known : (from : OldLayout) → (1 ≤ number_of from) × (number_of from ≤ this_layout)
+known First = (lit≤ tt, lit≤ tt)
+known Second = (lit≤ tt, lit≤ tt)
+known Third = (lit≤ tt, lit≤ tt)
+known Fourth = (lit≤ tt, lit≤ tt)
+
+-- the layout that the look told
+module _ (from : OldLayout) (old mid new : State) {o : Option ℕ} (look : HasCleanDisk mid → TellsLayout old.now o × IsUnchanged old mid) (told : o ≡ Some (number_of from)) (later : Survives mid new (MayBeUpgraded from mid)) where
+  seen : HasCleanDisk mid → TellsLayout old.now (Some (number_of from)) × IsUnchanged old mid
+  seen clean = let it = look clean in (subst (TellsLayout old.now) told it.0, it.1)
+
+  pub resumed_crash : Survives old mid (λ _. ⊥) → Survives old new (λ trees. SparesOurTables old.now.schema × LeftCarried old.now trees)
+  resumed_crash first = upgrades_crash from old mid new seen first later
+
+  pub resumed_why : HasCleanDisk new → SparesOurTables mid.now.schema → SparesOurTables old.now.schema × TellsKnown old.now
+  resumed_why clean spared =
+      let it = seen (omega (arith, clean, later.clean)) in (spared_before old mid it.1 spared, (number_of from, (known from).0, (known from).1, it.0))
+
+  pub resumed_done : HasCleanDisk new → (IsTrue mid.is_open → HasUpgraded from mid new) → IsCarried old new
+  resumed_done clean did = let it = seen (omega (arith, clean, later.clean)) in brings from old mid new it.0 it.1 (did it.1.0.is_open)
+
+pub completed_done : (old mid new : State) {o : Option ℕ} → (HasCleanDisk mid → TellsLayout old.now o × IsUnchanged old mid) → o ≡ Some this_layout → Survives mid new (MayBeUpgraded Fourth mid) → HasCleanDisk new
+    → old.now ≡ old.committed → (IsTrue mid.is_open → mid.now ≡ mid.committed → IsCompleted mid new) → IsCarried old new
+completed_done old mid new look told later clean settled did =
+    let it = seen Fourth old mid new look told later (omega (arith, clean, later.clean)) in
+    completes old mid new it.0 it.1 (did it.1.0.is_open (it.1.0.now_is ∙ settled ∙ sym it.1.0.committed_is))

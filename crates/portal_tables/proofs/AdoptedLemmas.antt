@@ -1,37 +1,14 @@
 -- What adopting a store comes to, where the store shows a history.
-use Rattle.std.proofs.Common.{◌≡◌, ◌≢◌, ◌⊎◌, inl, inr, ◌<◌, ◌≤◌, ℕ, true, false, cond, nat_eq, true≢false, IsTrue, [], Option, Some, None, refl, sym, ap, subst, ◌∙◌, arith, lit≤}
-use Rattle.sqlite.specs.Held.{Held, state}
-use Rattle.sqlite.specs.Tree.{Trees}
-use Rattle.sqlite.specs.Schema.{Schema}
-use Rattle.sqlite.specs.Effect.{Database, IsDatabase}
-use Rattle.sqlite.specs.State.{State, HasCleanDisk, Survives}
+use Rattle.portal_tables.proofs.Common.{◌≡◌, ◌≢◌, ◌⊎◌, inl, inr, ◌<◌, ◌≤◌, ℕ, true, false, cond, nat_eq, true≢false, IsTrue, [], Option, Some, None, refl, sym, ap, subst, ◌∙◌, arith, lit≤, Held, state, Trees, Schema, Database, IsDatabase, State, HasCleanDisk, Survives, survives_weaker, Ledger, all_rows_of, running, IsAsBefore, LeftShows, at_open, new_store, Holds, LeftHolds, this_layout, KeepsOthers, LeftOthers, others_none, number_of, OldLayout, First, Second, Third, Fourth, TellsLayout, Refused, Carries, Stays, IsBrought, FailsToAdopt, HeadIsNoView, IsExact, IsKnown, IsReady, IsWhy, LeftCarried, MayAdopt, TellsKnown, ShowsIn, ShowsLedger, all_contents_of, IsBare, IsNamed, ShowsOlder, StoreShows}
 use Rattle.sqlite.specs.View.{doubt as doubt_of}
-use Rattle.sqlite.proofs.StateLemmas.{survives_weaker}
 use Rattle.sqlite_trees.specs.declared.store.Store.{Ghosts}
-use Rattle.portal_ledger.specs.Ledger.{Ledger, all_rows_of}
-use Rattle.portal_ledger.specs.States.{running}
-use Rattle.portal_sql.specs.States.{IsAsBefore}
-use Rattle.portal_sql.specs.StandsAt.{LeftShows}
-use Rattle.portal_sql.proofs.StandsAtLemmas.{at_open}
-use Rattle.portal_layouts.specs.Creates.{new_store}
-use Rattle.portal_rows.specs.Holds.{Holds, LeftHolds, this_layout}
-use Rattle.portal_rows.specs.Others.{KeepsOthers, LeftOthers}
-use Rattle.portal_rows.proofs.OthersLemmas.{others_none}
-use Rattle.portal_layouts.specs.Brings.{number_of}
-use Rattle.portal_layouts.specs.declared.layouts.OldLayout.{OldLayout}
-use Rattle.portal_layouts.specs.declared.layouts.OldLayout.TheVariants.{First, Second, Third, Fourth}
 use Rattle.portal_layouts.proofs.IndexedLemmas.{less_indexed}
-use Rattle.portal_layouts.specs.Layouts.{TellsLayout}
 use Rattle.portal_layouts.proofs.HeadLayout.{tells, head_named}
 use Rattle.portal_layouts.proofs.TellsOnce.{tells_once}
-use Rattle.portal_tables.specs.declared.adopt.Refused.{Refused}
 use Rattle.portal_tables.specs.declared.fault.OpenFault.{OpenFault}
 use Rattle.portal_tables.specs.declared.fault.OpenFault.TheVariants.{NotOurs, Newer, Memory, Store}
 use Rattle.portal_tables.specs.declared.tables.Tables.{Tables}
-use Rattle.portal_tables.specs.Adopting.{Carries, Stays, IsBrought, FailsToAdopt, HeadIsNoView, IsExact, IsKept, IsKnown, IsReady, IsWhy, LeftCarried, MayAdopt, TellsKnown}
-use Rattle.portal_tables.specs.Older.{ShowsIn}
-use Rattle.portal_tables.specs.Shown.{ShowsLedger, all_contents_of}
-use Rattle.portal_tables.specs.Stores.{IsBare, IsNamed, ShowsOlder, StoreShows}
+use Rattle.portal_tables.specs.Adopting.{IsKept}
 use Rattle.portal_tables.specs.TablesAt.{ConnAt, ConnLeaves, ConnIsHonest, Files, FilesShow, IsHonest, OthersLeft, OthersStay, TablesAt}
 use Rattle.portal_tables.proofs.StandingLemmas.{IsSettled, left_store}
 use Rattle.portal_tables.proofs.Upgrading.{upgraded_shows}

@@ -1,32 +1,7 @@
 -- The counters of a history, as the tables keep them, are the sums over the rows as the tables keep them.
-use Rattle.std.proofs.Common.{◌≡◌, inl, inr, ℕ, ◌+◌, cond, List, [], ◌∷◌, map, filter, count_by, sum_by, refl, ap, ap₂, sym, subst, ◌∙◌, bytes_eq, nat_eq, option_and_then}
-use Rattle.std.specs.List.{AllByRecursion}
-use Rattle.std.proofs.lemmas.List.{length-map}
-use Rattle.std.proofs.lemmas.List.Elements.{recursion_from_All}
-use Rattle.std.proofs.lemmas.List.Sums.{sum_by-cons}
-use Rattle.sqlite_rules.specs.Lists.{Has}
+use Rattle.portal_tables.proofs.Common.{◌≡◌, inl, ℕ, ◌+◌, cond, List, [], ◌∷◌, map, filter, count_by, sum_by, refl, ap, ap₂, sym, subst, ◌∙◌, bytes_eq, nat_eq, option_and_then, AllByRecursion, length-map, recursion_from_All, sum_by-cons, Has, has_image, IsCode, text_of, Plan, History, limited, plan_among, Rows, VoucherRow, SessionRow, GrantRow, CountRow, rows_of, count_from, total_from, remaining_of, IsLegal, rows_are_numbered, counts_are_sums, totals_are_sums, rows_are_typed, summed, has_mapped, voucher_kept, session_kept, grant_kept, count_kept, contents_of, RequestRow, this_layout, code_test}
 use Rattle.sqlite_trees.proofs.ListLemmas.{map-map, filter-map}
-use Rattle.portal_sql.proofs.FindLemmas.{has_image}
-use Rattle.portal_codes.specs.Code.{IsCode, text_of}
-use Rattle.portal_model.specs.declared.plan.Plan.{Plan}
-use Rattle.portal_model.specs.History.{History, limited}
-use Rattle.portal_model.specs.Change.{plan_among}
-use Rattle.portal_model.specs.Rows.{Rows, VoucherRow, SessionRow, GrantRow, CountRow, rows_of, count_from, total_from, remaining_of}
-use Rattle.portal_model.specs.Verdict.{IsLegal}
-use Rattle.portal_laws.proofs.Numbers.{rows_are_numbered}
-use Rattle.portal_laws.proofs.Sessions.{counts_are_sums, totals_are_sums}
-use Rattle.portal_laws.proofs.Typed.{rows_are_typed}
 use Rattle.portal_lists.specs.Audit.{IsAudited, total_in}
-use Rattle.portal_lists.specs.Sums.{summed}
-use Rattle.portal_tables.specs.Shown.{voucher_kept, session_kept, grant_kept, count_kept, contents_of}
-use Rattle.portal_ledger.specs.RequestRow.{RequestRow}
-use Rattle.portal_rows.specs.Holds.{this_layout}
-use Rattle.portal_lists.proofs.SameCode.{code_test}
-
-has_mapped : {X Y : Type 0} (f : X → Y) (xs : List X) (x : X) → Has xs x → Has (map f xs) (f x)
-has_mapped f [] x has = absurd has
-has_mapped f (y ∷ xs) x (inl e) = inl (ap f e)
-has_mapped f (y ∷ xs) x (inr later) = inr (has_mapped f xs x later)
 
 -- ---- counts
 

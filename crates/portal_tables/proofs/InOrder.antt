@@ -1,12 +1,6 @@
 -- Of a list that rises by a number, one order is sorted by it.
-use Rattle.std.proofs.Common.{◌≡◌, ℕ, ◌+◌, ◌<◌, ◌≤◌, zero, suc, List, [], ◌∷◌, ◌++◌, map, filter, Bool, true, false, not, refl, ap, ap₂, subst, ◌∙◌, arith, add-one, nat_cmp, is_lt, nat_lt}
-use Rattle.std.specs.List.{AllByRecursion, range_with_len}
-use Rattle.std.specs.List.Sorted.{IsPermutation, IsSorted}
-use Rattle.std.proofs.lemmas.Bool.Decides.{nat_tests}
-use Rattle.std.proofs.lemmas.List.Elements.{recursion_from_All, All-from_recursion}
+use Rattle.portal_tables.proofs.Common.{◌≡◌, ℕ, ◌+◌, ◌<◌, ◌≤◌, zero, suc, List, [], ◌∷◌, ◌++◌, map, filter, Bool, true, false, not, refl, ap, ap₂, subst, ◌∙◌, arith, add-one, nat_cmp, is_lt, nat_lt, AllByRecursion, range_with_len, IsPermutation, IsSorted, nat_tests, recursion_from_All, All-from_recursion, IsAscending, all_weaker, filter_all, filter_none, IsPermutation-filter, ascending-filter}
 use Rattle.std.proofs.lemmas.List.Sorted.{length_permutation, All-permutation}
-use Rattle.sqlite.specs.Tree.{IsAscending}
-use Rattle.sqlite_trees.proofs.ListLemmas.{all_weaker, filter_all, filter_none, IsPermutation-filter, ascending-filter}
 
 not_less : (a b : ℕ) → is_lt (nat_cmp a b) ≡ false → b ≤ a
 not_less a b h = grind (arith, nat_tests)

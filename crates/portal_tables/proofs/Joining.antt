@@ -1,44 +1,15 @@
 -- From what the readers find to the records of the history.
-use Rattle.std.proofs.Common.{◌≡◌, inl, inr, ℕ, ◌+◌, ◌<◌, ◌≤◌, ◌^◌, Bool, true, false, cond, List, [], ◌∷◌, map, All, Option, Some, None, option_map, refl, sym, ap, subst, ◌∙◌, arith, bytes_eq, nat_eq, zero, suc}
-use Rattle.std.specs.Option.{option_or}
-use Rattle.std.specs.Prelude.{is_some}
+use Rattle.portal_tables.proofs.Common.{◌≡◌, inl, inr, ℕ, ◌+◌, ◌<◌, ◌≤◌, ◌^◌, Bool, true, false, cond, List, [], ◌∷◌, map, All, Option, Some, None, option_map, refl, sym, ap, subst, ◌∙◌, arith, bytes_eq, nat_eq, zero, suc, option_or, is_some, range_with_len, recursion_from_All, Decides-eqb, bytes_eq-Decides, Has, all_has, IsCode, text_of, IsDevice, text_of_device, Plan, Batch, History, plan_of, batch_of, issued_of, voucher_of, session_of, last_session_of, head_of, plan_among, VoucherRow, SessionRow, CountRow, TotalRow, rows_of, plans_of, batches_of, vouchers_of, sessions_of, counts_of, totals_of, places_of, row_of_place, count_of_place, batch_among, row_among, count_among, session_among, total_among, last_among, joined, joined_session, voucher_from, session_from, last_session_from, allowance_from, IsLegal, stands_twice, session_is_row, last_session_is_row, rows_are_numbered, keys_apart, rows_are_typed, FindsLast, KeptVoucher, KeptSession, KeptCount, Total, HeadRow, ends_row, head_read, voucher_read, session_read, count_read, has_image, has_mapped, head_kept, voucher_kept, session_kept, count_kept, IsRowOf, this_layout, same_code}
 use Rattle.std.proofs.Math.Bool.{or-false}
-use Rattle.std.specs.List.{range_with_len}
-use Rattle.std.proofs.lemmas.List.Elements.{recursion_from_All}
-use Rattle.std.proofs.lemmas.Bool.Decides.{Decides-eqb}
-use Rattle.std.proofs.lemmas.Slice.Eq.{bytes_eq-Decides}
-use Rattle.sqlite_rules.specs.Lists.{Has}
-use Rattle.sqlite_rules.proofs.ListLemmas.{all_has}
-use Rattle.portal_codes.specs.Code.{IsCode, text_of}
-use Rattle.portal_model.specs.Device.{IsDevice, text_of_device}
-use Rattle.portal_model.specs.declared.plan.Plan.{Plan}
-use Rattle.portal_model.specs.declared.record.Batch.{Batch}
-use Rattle.portal_model.specs.History.{History, plan_of, batch_of, issued_of, voucher_of, session_of, last_session_of, head_of}
-use Rattle.portal_model.specs.Change.{plan_among}
-use Rattle.portal_model.specs.Rows.{VoucherRow, SessionRow, CountRow, TotalRow, rows_of, plans_of, batches_of, vouchers_of, sessions_of, counts_of, totals_of, places_of, row_of_place, count_of_place, batch_among, row_among, count_among, session_among, total_among, last_among, joined, joined_session, voucher_from, session_from, last_session_from, allowance_from}
-use Rattle.portal_model.specs.Verdict.{IsLegal, stands_twice}
 use Rattle.portal_laws.proofs.Basics.{map-map}
 use Rattle.portal_laws.proofs.Keys.{batch_is_row}
 use Rattle.portal_laws.proofs.Plans.{plan_is_row}
 use Rattle.portal_laws.proofs.Vouchers.{voucher_is_row, taken_are_rows}
-use Rattle.portal_laws.proofs.Sessions.{session_is_row, last_session_is_row}
-use Rattle.portal_laws.proofs.Numbers.{rows_are_numbered, keys_apart}
-use Rattle.portal_laws.proofs.Typed.{rows_are_typed}
 use Rattle.portal_laws.proofs.Within.{rows_are_within}
-use Rattle.portal_sql.specs.Finds.{Finds, FindsLast}
+use Rattle.portal_sql.specs.Finds.{Finds}
 use Rattle.portal_rows.specs.declared.rows.KeptHead.{KeptHead}
-use Rattle.portal_rows.specs.declared.rows.KeptVoucher.{KeptVoucher}
-use Rattle.portal_rows.specs.declared.rows.KeptSession.{KeptSession}
-use Rattle.portal_rows.specs.declared.rows.KeptCount.{KeptCount}
-use Rattle.portal_rows.specs.declared.signs.Total.{Total}
-use Rattle.portal_rows.specs.Contents.{HeadRow}
-use Rattle.portal_rows.specs.Steps.{ends_row}
-use Rattle.portal_rows.specs.Read.{head_read, voucher_read, session_read, count_read}
-use Rattle.portal_tables.specs.Shown.{head_kept, voucher_kept, session_kept, count_kept, IsRowOf}
-use Rattle.portal_rows.specs.Holds.{this_layout}
-use Rattle.portal_lists.proofs.SameCode.{same_code}
 use Rattle.portal_tables.proofs.Spelled.{same_device}
-use Rattle.portal_tables.proofs.Lookups.{IsApart, finds_it, finds_none_of, apart_by_text, apart_by_number, from_on, has_origin, has_image_of}
+use Rattle.portal_tables.proofs.Lookups.{IsApart, finds_it, finds_none_of, apart_by_text, apart_by_number, from_on}
 
 same_bytes : (a b : List ℕ) → (bytes_eq a b ≡ true → a ≡ b) × (a ≡ b → bytes_eq a b ≡ true)
 same_bytes a b = bytes_eq-Decides a b
@@ -85,19 +56,19 @@ module _ (h : History) (legal : IsLegal h) (code : List ℕ) (is : IsCode code) 
   pub voucher_missing : Finds (λ (x : VoucherRow). x.code) (text_of code) (map voucher_kept (vouchers_of h)) None → voucher_of h code ≡ None
   voucher_missing none =
       let gone : row_among (vouchers_of h) code ≡ None =
-      finds_none_of (λ (v : VoucherRow). v.code) bytes_eq same_bytes code (vouchers_of h) (λ x has same. none (voucher_kept x) (has_image_of voucher_kept (vouchers_of h) x has) (ap text_of same)) in
+      finds_none_of (λ (v : VoucherRow). v.code) bytes_eq same_bytes code (vouchers_of h) (λ x has same. none (voucher_kept x) (has_mapped voucher_kept (vouchers_of h) x has) (ap text_of same)) in
       voucher_is_row h legal code ∙ rw gone refl
 
   row_found : (row : KeptVoucher) → Finds (λ (x : VoucherRow). x.code) (text_of code) (map voucher_kept (vouchers_of h)) (Some (voucher_read row))
       → (x : VoucherRow) × (row_among (vouchers_of h) code ≡ Some x) × (voucher_read row ≡ voucher_kept x) × (x.code ≡ code)
   row_found row f =
-      let it = has_origin voucher_kept (vouchers_of h) (voucher_read row) f.0 in
+      let it = has_image voucher_kept (vouchers_of h) (voucher_read row) f.0 in
       let named = the_rows it.0 it.1 (ap (λ (v : VoucherRow). v.code) (sym it.2) ∙ f.1) in
       (it.0, finds_it (λ (v : VoucherRow). v.code) bytes_eq same_bytes code (vouchers_of h) (apart_by_text (λ (v : VoucherRow). v.code) (vouchers_of h) (keys_apart h legal).codes) it.0 it.1 named, it.2, named)
 
   count_found : (count : KeptCount) → Finds (λ (x : CountRow). x.code) (text_of code) (map count_kept (counts_of h)) (Some (count_read count)) → (x : CountRow) × (count_among (counts_of h) code ≡ Some x) × (count.redeemed ≡ x.redeemed)
   count_found count f =
-      let it = has_origin count_kept (counts_of h) (count_read count) f.0 in
+      let it = has_image count_kept (counts_of h) (count_read count) f.0 in
       let named = the_counts it.0 it.1 (ap (λ (k : CountRow). k.code) (sym it.2) ∙ f.1) in
       (it.0, finds_it (λ (k : CountRow). k.code) bytes_eq same_bytes code (counts_of h) (apart_by_text (λ (k : CountRow). k.code) (counts_of h) counts_apart) it.0 it.1 named, ap (λ (k : CountRow). k.redeemed) it.2)
 
@@ -107,7 +78,7 @@ module _ (h : History) (legal : IsLegal h) (code : List ℕ) (is : IsCode code) 
   pub held_is : (found : Option KeptVoucher) → Finds (λ (x : VoucherRow). x.code) (text_of code) (map voucher_kept (vouchers_of h)) (option_map voucher_read found) → is_some found ≡ is_some (issued_of h code)
   held_is None none =
       let gone : row_among (vouchers_of h) code ≡ None =
-      finds_none_of (λ (v : VoucherRow). v.code) bytes_eq same_bytes code (vouchers_of h) (λ x has same. none (voucher_kept x) (has_image_of voucher_kept (vouchers_of h) x has) (ap text_of same)) in
+      finds_none_of (λ (v : VoucherRow). v.code) bytes_eq same_bytes code (vouchers_of h) (λ x has same. none (voucher_kept x) (has_mapped voucher_kept (vouchers_of h) x has) (ap text_of same)) in
       sym (held_by_row ∙ ap (λ (o : Option VoucherRow). is_some o) gone)
   held_is (Some row) f = let it = row_found row f in sym (held_by_row ∙ ap (λ (o : Option VoucherRow). is_some o) it.1)
 
@@ -139,7 +110,7 @@ module _ (h : History) (legal : IsLegal h) where
   pub session_missing : (n : ℕ) → Finds (λ (x : SessionRow). x.number) n (map session_kept (sessions_of h)) None → session_of h n ≡ None
   session_missing n none =
       let gone : session_among (sessions_of h) n ≡ None =
-      finds_none_of (λ (s : SessionRow). s.number) nat_eq same_numbers n (sessions_of h) (λ x has same. none (session_kept x) (has_image_of session_kept (sessions_of h) x has) same) in
+      finds_none_of (λ (s : SessionRow). s.number) nat_eq same_numbers n (sessions_of h) (λ x has same. none (session_kept x) (has_mapped session_kept (sessions_of h) x has) same) in
       session_is_row h legal n ∙ rw gone refl
 
   -- no session has so great a number
@@ -155,7 +126,7 @@ module _ (h : History) (legal : IsLegal h) where
       session_is_row h legal n ∙ rw gone refl
 
   pub row_of_number : (n : ℕ) (row : KeptSession) → Finds (λ (x : SessionRow). x.number) n (map session_kept (sessions_of h)) (Some (session_read row)) → IsRowOf h row × (row.number ≡ n)
-  row_of_number n row f = let it = has_origin session_kept (sessions_of h) (session_read row) f.0 in (record { of_history = it.0; among = it.1; is = it.2 }, f.1)
+  row_of_number n row f = let it = has_image session_kept (sessions_of h) (session_read row) f.0 in (record { of_history = it.0; among = it.1; is = it.2 }, f.1)
 
   pub session_joined : (row : KeptSession) (total : Total) (plan : Plan) (allowance : Option ℕ) → IsDevice row.device → IsRowOf h row
       → Finds (λ (x : TotalRow). x.number) row.number (totals_of h) (Some (ends_row total)) → plan_of h row.plan ≡ Some plan → allowance ≡ allowance_from total.remaining row.used
@@ -245,19 +216,19 @@ module _ (h : History) (legal : IsLegal h) where
 
   pub last_missing : (d : List ℕ) → IsDevice d → FindsLast (λ (x : SessionRow). x.device) (text_of_device d) (λ (x : SessionRow). x.number) (map session_kept (sessions_of h)) None → last_session_of h d ≡ None
   last_missing d device none =
-      let gone : last_among (sessions_of h) d ≡ None = none_last d (sessions_of h) (λ q has same. none (session_kept q) (has_image_of session_kept (sessions_of h) q has) (ap text_of_device same)) in
+      let gone : last_among (sessions_of h) d ≡ None = none_last d (sessions_of h) (λ q has same. none (session_kept q) (has_mapped session_kept (sessions_of h) q has) (ap text_of_device same)) in
       last_session_is_row h legal d ∙ rw gone refl
 
   pub last_found : (d : List ℕ) → IsDevice d → (row : KeptSession) → FindsLast (λ (x : SessionRow). x.device) (text_of_device d) (λ (x : SessionRow). x.number) (map session_kept (sessions_of h)) (Some (session_read row))
       → IsRowOf h row × (last_session_of h d ≡ session_of h row.number)
   last_found d device row f =
-      let it = has_origin session_kept (sessions_of h) (session_read row) f.0 in
+      let it = has_image session_kept (sessions_of h) (session_read row) f.0 in
       let x = it.0 in
       let number_is : row.number ≡ x.number = ap (λ (s : SessionRow). s.number) it.2 in
       let named : x.device ≡ d =
       same_device x.device d (one (λ (s : SessionRow). IsDevice s.device) (sessions_of h) x (rows_are_typed h legal).sessions it.1) device (ap (λ (s : SessionRow). s.device) (sym it.2) ∙ f.1) in
       let most : (q : SessionRow) → Has (sessions_of h) q → q.device ≡ d → q.number ≤ x.number = λ q has same.
-      let le = f.2 (session_kept q) (has_image_of session_kept (sessions_of h) q has) (ap text_of_device same) in omega (arith, le, number_is) in
+      let le = f.2 (session_kept q) (has_mapped session_kept (sessions_of h) q has) (ap text_of_device same) in omega (arith, le, number_is) in
       let last : last_among (sessions_of h) d ≡ Some x = last_is d x 1 (head_of h).sessions (sessions_of h) (rows_are_numbered h legal).sessions it.1 named most in
       let all : last_session_from (rows_of h) d ≡ session_from (rows_of h) x.number = rw last refl in
       (record { of_history = x; among = it.1; is = it.2 }, last_session_is_row h legal d ∙ all ∙ sym (session_is_row h legal x.number) ∙ ap (session_of h) (sym number_is))

@@ -1,37 +1,16 @@
 -- The request that is held under a key is the row of that key.
 use Rattle.portal_laws.proofs.Basics.{and-true}
 use Rattle.portal_ledger.proofs.Keys.{held-alike, key-refl}
-use Rattle.portal_ledger.proofs.Ledgers.{the_held_is_row}
+use Rattle.portal_tables.proofs.Common.{the_held_is_row, Accepted, Ledger, IsSound, history_of, request_kept, requests_of, is_under, held_in, answer_in, kept_with, Mark, IsCaller, same_caller, same_key, IsKeptTyped, row_of_request, text_of_caller, KeptRequest, Answer, has_image, all_has, Has, ◌≡◌, inl, inr, ℕ, Bool, true, cond, ◌&&◌, List, [], ◌∷◌, map, Option, Some, None, IfSome, option_map, refl, sym, ap, ap₂, subst, ◌∙◌, bytes_eq, cases_Bool, recursion_from_All, bytes_eq-Decides, option_or, option_and_then, find, has_mapped}
 use Rattle.portal_ledger.proofs.Told.{the_caller_is_told_by_text, the_request_is_told_by_row}
 use Rattle.portal_ledger.proofs.Typed.{the_sound_keeps_typed}
-use Rattle.portal_ledger.specs.Ledger.{Accepted, Ledger, IsSound, history_of, request_kept, requests_of, is_under, held_in, answer_in, kept_with, IsFree}
-use Rattle.portal_ledger.specs.Mark.{Mark, IsCaller, same_caller, same_key}
-use Rattle.portal_ledger.specs.RequestRow.{IsKeptTyped, row_of_request, text_of_caller}
+use Rattle.portal_ledger.specs.Ledger.{IsFree}
 use Rattle.portal_ledger.specs.declared.caller.Caller.TheVariants.{Desk, Gateway, Guest}
 use Rattle.portal_ledger.specs.declared.caller.Caller.{Caller}
-use Rattle.portal_ledger.specs.declared.request.KeptRequest.{KeptRequest}
-use Rattle.portal_model.specs.declared.change.Answer.{Answer}
 use Rattle.portal_rows.specs.Requests.{key_of}
-use Rattle.portal_sql.proofs.FindLemmas.{has_image}
 use Rattle.portal_sql.specs.Finds.{Finds}
-use Rattle.sqlite_rules.proofs.ListLemmas.{all_has}
-use Rattle.sqlite_rules.specs.Lists.{Has}
-use Rattle.std.proofs.Common.{◌≡◌, ◌⊎◌, inl, inr, ℕ, Bool, true, cond, ◌&&◌, List, [], ◌∷◌, ◌++◌, map, Option, Some, None, IfSome, option_map, refl, sym, ap, ap₂, subst, ◌∙◌, bytes_eq}
-use Rattle.std.proofs.lemmas.Bool.{cases_Bool}
-use Rattle.std.proofs.lemmas.List.Elements.{recursion_from_All}
-use Rattle.std.proofs.lemmas.Slice.Eq.{bytes_eq-Decides}
-use Rattle.std.specs.Option.{option_or, option_to_list}
-use Rattle.std.specs.Prelude.{option_and_then, find}
-
-has_part : {X : Type 0} (xs ys : List X) (x : X) → Has (xs ++ ys) x → Has xs x ⊎ Has ys x
-has_part [] ys x h = inr h
-has_part (y ∷ xs) ys x (inl e) = inl (inl e)
-has_part (y ∷ xs) ys x (inr h) = elim (has_part xs ys x h) [ inl a ↦ inl (inr a) | inr b ↦ inr b ]
-
-has_mapped : {X Y : Type 0} (f : X → Y) (xs : List X) (x : X) → Has xs x → Has (map f xs) (f x)
-has_mapped f [] x has = absurd has
-has_mapped f (y ∷ xs) x (inl e) = inl (ap f e)
-has_mapped f (y ∷ xs) x (inr later) = inr (has_mapped f xs x later)
+use Rattle.std.specs.Option.{option_to_list}
+use Rattle.portal_sql.proofs.Named.{has_part}
 
 has_one : {X : Type 0} (o : Option X) (x : X) → Has (option_to_list o) x → o ≡ Some x
 has_one None x has = absurd has

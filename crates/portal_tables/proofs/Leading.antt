@@ -1,35 +1,15 @@
 -- What a command makes of the tables is what it makes of the rows of the history.
-use Rattle.std.proofs.Common.{◌≡◌, ℕ, ◌+◌, ◌<◌, Bool, true, false, cond, List, [], ◌∷◌, ◌++◌, map, All, Option, Some, None, option_map, refl, ap, ap₂, sym, subst, ◌∙◌, arith, append-nil, nat_eq, max, Less, zero, suc}
-use Rattle.std.specs.List.{range_with_len, AllByRecursion}
-use Rattle.std.proofs.lemmas.List.{map-append}
-use Rattle.std.proofs.lemmas.List.Elements.{recursion_from_All}
-use Rattle.std.proofs.lemmas.Bool.Decides.{nat_tests, Decides-eqb}
-use Rattle.std.proofs.lemmas.Int.{ints}
+use Rattle.portal_tables.proofs.Common.{◌≡◌, ℕ, ◌+◌, ◌<◌, Bool, true, false, cond, List, [], ◌∷◌, ◌++◌, map, All, Option, Some, None, option_map, refl, ap, ap₂, sym, subst, ◌∙◌, arith, append-nil, nat_eq, max, Less, zero, suc, range_with_len, AllByRecursion, map-append, recursion_from_All, nat_tests, Decides-eqb, ints, IsCode, text_of, Session, Plan, Changes, entry, History, Issued, issued_of, voucher_of, voucher_row, session_of, last_session_of, head_of, kept_if, is_open_at, plan_of, changes_of, session_after, head_after, reported, issue_change, sell_change, redeem_change, report_change, refund_change, close_change, Rows, VoucherRow, SessionRow, GrantRow, CountRow, TotalRow, rows_of, lead, total_row, new_vouchers, new_counts, sold_if, refunded_if, used_if, closed_if, counted_if, totalled_if, new_grant, IsLegal, Follows, IsTyped, rows_are_numbered, rows_are_typed, ended_if, with_moment, with_use, kept, left_of, RequestRow, contents_of, head_kept, voucher_kept, session_kept, grant_kept, count_kept, code_test}
 use Rattle.sqlite_value.proofs.OrderLemmas.{value_cmp-Int}
 use Rattle.sqlite.specs.Order.{value_cmp}
-use Rattle.portal_codes.specs.Code.{IsCode, text_of}
 use Rattle.portal_model.specs.declared.command.Command.{Command}
 use Rattle.portal_model.specs.declared.command.Command.TheVariants.{Load, Issue, Sell, Redeem, Report, Refund, Close}
 use Rattle.portal_model.specs.declared.record.Head.{Head}
-use Rattle.portal_model.specs.declared.record.Session.{Session}
 use Rattle.portal_model.specs.declared.record.Voucher.{Voucher}
-use Rattle.portal_model.specs.declared.plan.Plan.{Plan}
-use Rattle.portal_model.specs.declared.change.Changes.{Changes}
 use Rattle.portal_model.specs.declared.change.Changes.TheVariants as to
-use Rattle.portal_model.specs.History.{entry, History, Issued, issued_of, voucher_of, voucher_row, session_of, last_session_of, head_of, kept_if, is_open_at, plan_of}
-use Rattle.portal_model.specs.Change.{changes_of, session_after, head_after, reported, issue_change, sell_change, redeem_change, report_change, refund_change, close_change}
-use Rattle.portal_model.specs.Rows.{Rows, VoucherRow, SessionRow, GrantRow, CountRow, TotalRow, rows_of, lead, total_row, new_vouchers, new_counts, sold_if, refunded_if, used_if, closed_if, counted_if, totalled_if, new_grant}
-use Rattle.portal_model.specs.Verdict.{IsLegal, Follows, IsTyped}
 use Rattle.portal_laws.specs.Laws.{AreTyped}
 use Rattle.portal_laws.proofs.Leading.{rows_lead}
-use Rattle.portal_laws.proofs.Numbers.{rows_are_numbered}
-use Rattle.portal_laws.proofs.Typed.{rows_are_typed}
 use Rattle.portal_sql.specs.Stored.{number, put_by}
-use Rattle.portal_rows.specs.Steps.{ended_if, with_moment, with_use}
-use Rattle.portal_rows.specs.Commands.{kept, left_of}
-use Rattle.portal_ledger.specs.RequestRow.{RequestRow}
-use Rattle.portal_tables.specs.Shown.{contents_of, head_kept, voucher_kept, session_kept, grant_kept, count_kept}
-use Rattle.portal_lists.proofs.SameCode.{code_test}
 use Rattle.portal_tables.proofs.Reported.{left_alone}
 
 -- ---- rows that change

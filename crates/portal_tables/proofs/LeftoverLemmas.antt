@@ -1,14 +1,9 @@
 -- What is left of files that were not opened.
-use Rattle.std.proofs.Common.{◌≡◌, ◌⊎◌, inl, inr, ◌∙◌, ◌-◌, ◌*◌, ◌%◌, ◌≤◌, ◌<◌, ℕ, true, false, true≢false, IsTrue, List, [], ◌++◌, ◌∷◌, length, take, slice_index, Option, Some, unwrap_or, codes, refl, ap, sym, subst, arith, get_or-take, eq-eqb, ne_eqb, zero-add}
-use Rattle.std.proofs.lemmas.Bool.{cases_Bool, cases_eq}
-use Rattle.std.proofs.lemmas.List.{length-take}
-use Rattle.std.proofs.Math.Logic.{∥∥₁_map, ∥∥₁_elim}
+use Rattle.portal_tables.proofs.Common.{◌≡◌, ◌⊎◌, inl, inr, ◌∙◌, ◌-◌, ◌*◌, ◌%◌, ◌≤◌, ◌<◌, ℕ, true, false, true≢false, IsTrue, List, [], ◌++◌, ◌∷◌, length, take, slice_index, Option, Some, unwrap_or, codes, refl, ap, sym, subst, arith, get_or-take, eq-eqb, ne_eqb, zero-add, cases_Bool, cases_eq, length-take, ∥∥₁_map, ∥∥₁_elim, Image, IsIgnored, pages_after, outcomes, recovers, Trees, Schema, Database, HoldsDatabase, IsNothing, AreFoundIn, LeavesFiles, NamesSize, SaysSums, image_of, empty_is_sound, LeftShows}
 use Rattle.sqlite_disk.specs.declared.Disk.{Ghosts}
 use Rattle.sqlite_disk.specs.declared.Files.{Files}
 use Rattle.sqlite_wal.specs.Format.{part}
 use Rattle.sqlite_wal.specs.Recovery as raw
-use Rattle.sqlite_wal.specs.Recovery.{Image, IsIgnored, pages_after}
-use Rattle.sqlite_wal.specs.Files.{outcomes}
 use Rattle.sqlite_wal.proofs.PartLemmas.{slice_index-part, part_within}
 use Rattle.sqlite_wal.proofs.RecoveryLemmas.{replays_once}
 use Rattle.sqlite_wal.proofs.AppendLemmas.{some_value, page_from_pages}
@@ -20,16 +15,10 @@ use Rattle.sqlite_pool.specs.Opening.{IsBlankFile}
 use Rattle.sqlite_pool.proofs.ProbeLemmas.{first_byte, reserved_word, size_by_log, size_by_file}
 use Rattle.sqlite_store.specs.declared.store.FileStore.{FileStore}
 use Rattle.sqlite_store.specs.declared.store.open.Unopened.{Unopened}
-use Rattle.sqlite_store.specs.FileStore.{recovers}
 use Rattle.sqlite_store.specs.Unopened.{state_of}
-use Rattle.sqlite.specs.Tree.{Trees}
-use Rattle.sqlite.specs.Schema.{Schema}
-use Rattle.sqlite.specs.Effect.{Database}
 use Rattle.sqlite.specs.declared.file.Leftover.TheVariants as left
-use Rattle.sqlite.specs.Files.{HoldsDatabase, IsNothing, IsEmpty, IsKept, AreFoundIn, LeavesFiles, NamesSize, SaysSums, image_of}
+use Rattle.sqlite.specs.Files.{IsEmpty, IsKept}
 use Rattle.sqlite.proofs.FileLemmas.{is_something}
-use Rattle.sqlite.proofs.ListingLemmas.{empty_is_sound}
-use Rattle.portal_sql.specs.StandsAt.{LeftShows}
 use Rattle.portal_tables.specs.Images.{HasSums}
 
 -- the schema of an empty database

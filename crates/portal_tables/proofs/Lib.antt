@@ -1,3 +1,4 @@
+pub mod Common
 pub mod AdoptLemmas
 pub mod AdoptedLemmas
 pub mod CountersShown

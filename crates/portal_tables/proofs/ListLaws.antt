@@ -1,29 +1,9 @@
 -- From what the readers list to the lists of the history: the codes of a batch, and the open sessions.
-use Rattle.std.proofs.Common.{◌≡◌, ℕ, pos, ◌-ℤ◌, List, [], ◌∷◌, map, filter, Bool, true, false, ◌&&◌, is_none, cond, Option, Some, None, All, refl, sym, ap, ap₂, subst, ◌∙◌, arith, bytes_eq, nat_lt}
+use Rattle.portal_tables.proofs.Common.{◌≡◌, ℕ, pos, ◌-ℤ◌, List, [], ◌∷◌, map, filter, Bool, true, false, ◌&&◌, is_none, cond, Option, Some, None, All, refl, sym, ap, ap₂, subst, ◌∙◌, arith, bytes_eq, nat_lt, filter_map, cons_option, range_with_len, IsPermutation, nat_tests, ints, All-head, All-tail, All-map, All-filter, All-weaker, filter-filter, IsCode, text_of, Session, all_sessions, History, codes_of, grants_of, head_of, session_of, kept_if, is_below, is_open_at, VoucherRow, TotalRow, vouchers_of, totals_of, openings, session_opened, total_row, remaining_of, IsLegal, rows_are_numbered, IsFirst, openings_first, session_at, rows_are_typed, agree, Lists, ListsAs, by_place, by_number, is_left, may_be_open, numbers_open, open_numbered, voucher_kept, same_code}
 use Rattle.std.specs.Prelude.{int_lt}
-use Rattle.std.specs.List.{filter_map, cons_option, range_with_len}
-use Rattle.std.specs.List.Sorted.{IsPermutation}
-use Rattle.std.proofs.lemmas.Bool.Decides.{nat_tests}
-use Rattle.std.proofs.lemmas.Int.{ints}
-use Rattle.std.proofs.lemmas.List.Elements.{All-head, All-tail, All-map, All-filter, All-weaker}
-use Rattle.sqlite_trees.proofs.ListLemmas.{filter-filter}
-use Rattle.portal_codes.specs.Code.{IsCode, text_of}
-use Rattle.portal_model.specs.declared.record.Session.{Session}
-use Rattle.portal_model.specs.Captive.{all_sessions}
-use Rattle.portal_model.specs.History.{History, codes_of, grants_of, head_of, session_of, kept_if, is_below, is_open_at}
-use Rattle.portal_model.specs.Rows.{VoucherRow, TotalRow, vouchers_of, totals_of, openings, session_opened, total_row, remaining_of}
-use Rattle.portal_model.specs.Verdict.{IsLegal}
 use Rattle.portal_laws.proofs.Basics.{map-map, filter-map, bytes_swap}
 use Rattle.portal_laws.proofs.Listings.{codes_are_rows}
-use Rattle.portal_laws.proofs.Numbers.{rows_are_numbered}
-use Rattle.portal_laws.proofs.Openings.{IsFirst, openings_first, session_at}
-use Rattle.portal_laws.proofs.Typed.{rows_are_typed}
-use Rattle.portal_sql.proofs.Keys.{agree}
-use Rattle.portal_lists.specs.Lists.{Lists, ListsAs, by_place, by_number, is_left, may_be_open, numbers_open}
-use Rattle.portal_tables.specs.Lists.{open_numbered}
-use Rattle.portal_tables.specs.Shown.{voucher_kept}
 use Rattle.portal_tables.proofs.InOrder.{in_order, filter_true}
-use Rattle.portal_lists.proofs.SameCode.{same_code}
 
 -- ---- the codes of a batch
 

@@ -1,9 +1,6 @@
 -- One step of a loop over a list that keeps what a function gives.
-use Rattle.std.proofs.Common.{◌≡◌, ℕ, ◌+◌, ◌<◌, List, [], ◌∷◌, ◌++◌, take, length, get_or, Option, Some, None, refl, ap, ◌∙◌}
-use Rattle.std.specs.List.{filter_map, cons_option}
+use Rattle.portal_tables.proofs.Common.{◌≡◌, ℕ, ◌+◌, ◌<◌, List, [], ◌∷◌, ◌++◌, take, length, get_or, Option, Some, None, refl, ap, ◌∙◌, filter_map, cons_option, take_more, filter_map-append}
 use Rattle.std.specs.Option.{option_to_list}
-use Rattle.std.proofs.lemmas.List.{take_more}
-use Rattle.std.proofs.lemmas.List.Elements.{filter_map-append}
 
 one_kept : {Y : Type 0} (o : Option Y) → cons_option o [] ≡ option_to_list o
 one_kept None = refl

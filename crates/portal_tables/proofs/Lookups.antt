@@ -1,21 +1,10 @@
 -- From a value that stands among others to the one that a search by its key gives.
-use Rattle.std.proofs.Common.{◌≡◌, inl, inr, ℕ, ◌+◌, ◌<◌, ◌≤◌, Bool, true, false, ◌||◌, List, [], ◌∷◌, map, find, Option, Some, None, refl, sym, ap, subst, ◌∙◌, arith, zero, suc, bytes_eq, true≢false}
-use Rattle.std.specs.List.{range_with_len, list_any}
-use Rattle.std.proofs.lemmas.Bool.{cases_Bool}
-use Rattle.std.proofs.lemmas.Slice.Eq.{bytes_eq-Decides}
-use Rattle.sqlite_rules.specs.Lists.{Has}
-use Rattle.portal_model.specs.Verdict.{stands_twice}
+use Rattle.portal_tables.proofs.Common.{◌≡◌, inl, inr, ℕ, ◌+◌, ◌<◌, ◌≤◌, Bool, true, false, ◌||◌, List, [], ◌∷◌, map, find, Option, Some, None, refl, sym, ap, subst, ◌∙◌, arith, zero, suc, bytes_eq, true≢false, range_with_len, list_any, cases_Bool, bytes_eq-Decides, Has, stands_twice}
+use Rattle.portal_sql.proofs.Named.{found_has}
 
 -- no two have one key
 abbrev pub IsApart : {P K : Type 0} → (P → K) → List P → Type 0
 IsApart {P = P} key xs = (x y : P) → Has xs x → Has xs y → key x ≡ key y → x ≡ y
-
-found_has : {X : Type 0} (p : X → Bool) (xs : List X) (x : X) → find p xs ≡ Some x → Has xs x × (p x ≡ true)
-found_has p [] x is = absurd cc
-found_has p (y ∷ xs) x is = elim (cases_Bool (p y)) [
-  | inl on ↦ let same : ◌≡◌ {A = Option _} (Some y) (Some x) = rw on at is in let e : y ≡ x = cc in (inl (sym e), ap p (sym e) ∙ on)
-  | inr off ↦ let r = found_has p xs x (rw off at is) in (inr r.0, r.1)
-]
 
 not_found : {X : Type 0} (p : X → Bool) (xs : List X) (x : X) → find p xs ≡ None → Has xs x → p x ≡ false
 not_found p [] x is h = absurd h
@@ -114,15 +103,3 @@ apart_by_number key from (suc count) (z ∷ xs) is x y hx hy same =
         | inr ty ↦ apart_by_number key (from + 1) count xs rest x y tx ty same
       ]
     ]
-
--- ---- images
-
-pub has_origin : {P Q : Type 0} (f : P → Q) (xs : List P) (y : Q) → Has (map f xs) y → (x : P) × Has xs x × (y ≡ f x)
-has_origin f [] y h = absurd h
-has_origin f (x ∷ xs) y (inl e) = (x, inl refl, e)
-has_origin f (x ∷ xs) y (inr h) = let it = has_origin f xs y h in (it.0, inr it.1, it.2)
-
-pub has_image_of : {P Q : Type 0} (f : P → Q) (xs : List P) (x : P) → Has xs x → Has (map f xs) (f x)
-has_image_of f [] x h = h
-has_image_of f (y ∷ xs) x (inl e) = inl (ap f e)
-has_image_of f (y ∷ xs) x (inr h) = inr (has_image_of f xs x h)

@@ -1,35 +1,21 @@
 -- Files that are opened, and opened again, stand at the history that they show.
-use Rattle.std.proofs.Common.{◌≡◌, [], false, inl, inr, IsTrue, refl, subst, sym}
-use Rattle.std.proofs.Math.Logic.{∥∥₁_elim, ∥∥₁_map}
+use Rattle.portal_tables.proofs.Common.{◌≡◌, [], false, inl, inr, IsTrue, refl, subst, sym, ∥∥₁_elim, ∥∥₁_map, Image, outcomes, Trees, Database, Held, state, Schema, IsCleanLeft, IsNothing, LeavesFiles, image_of, file_state, over_files, IsOpened, empty_is_sound, view, faults, recovers, is_shielded, Ledger, LeftShows, at_open, shows_under, is_any_named, StoreShows}
 use Rattle.sqlite_disk.specs.declared.Disk.{Ghosts}
 use Rattle.sqlite_disk.specs.declared.Files.{Files}
-use Rattle.sqlite_wal.specs.Recovery.{Image}
-use Rattle.sqlite_wal.specs.Files.{outcomes}
 use Rattle.sqlite_wal.specs.Reads.{AreClean}
-use Rattle.sqlite.specs.Tree.{Trees}
 use Rattle.sqlite.specs.declared.FileStore.{FileStore}
-use Rattle.sqlite.specs.Effect.{Database}
 use Rattle.sqlite.proofs.Callers.{finds_again}
-use Rattle.sqlite.specs.Held.{Held, state}
 use Rattle.sqlite.specs.Start.{FindsIn}
-use Rattle.sqlite.specs.Schema.{Schema}
 use Rattle.sqlite.specs.Steps.{over_memory, IsEmpty}
 use Rattle.sqlite_trees.specs.declared.memory.MemStore.{MemStore}
 use Rattle.sqlite.specs.Closing.{HoldsAlone, IsCopied}
 use Rattle.sqlite.specs.declared.file.Leftover.{Leftover}
 use Rattle.sqlite.specs.declared.file.Leftover.TheVariants as left
-use Rattle.sqlite.specs.Files.{HoldsDatabase, IsCleanLeft, IsNothing, LeavesFiles, image_of, file_state, over_files, Finds, IsOpened}
-use Rattle.sqlite.proofs.ListingLemmas.{empty_is_sound}
+use Rattle.sqlite.specs.Files.{Finds}
 use Rattle.sqlite_catalog.proofs.ReadLemmas.{lists_once}
 use Rattle.sqlite_trees.specs.Objects.{catalog_tree}
 use Rattle.sqlite_trees.specs.Props.{Trees-set}
 use Rattle.sqlite_trees.specs.View.{IsQuiet}
-use Rattle.sqlite_store.specs.FileStore.{view, faults, recovers, is_shielded}
-use Rattle.portal_ledger.specs.Ledger.{Ledger}
-use Rattle.portal_sql.specs.StandsAt.{LeftShows}
-use Rattle.portal_sql.proofs.StandsAtLemmas.{at_open, shows_under}
-use Rattle.portal_layouts.specs.Layouts.{is_any_named}
-use Rattle.portal_tables.specs.Stores.{StoreShows}
 use Rattle.portal_tables.specs.Images.{AreAt, ClosedShow, ImageHolds, ImageShows, LeftoverShows, StoreMayLeave}
 use Rattle.portal_tables.specs.TablesAt.{ConnAt, Files as Tables, FilesShow}
 use Rattle.portal_tables.proofs.LeftoverLemmas.{no_schema, found_empty, store_left, unopened_left}

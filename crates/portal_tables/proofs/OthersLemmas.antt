@@ -1,24 +1,8 @@
 -- A commit keeps the tables of others.
-use Rattle.std.proofs.Common.{◌≡◌, inl, inr, true, false, true≢false, sym, ◌∙◌, arith}
-use Rattle.sqlite.specs.Held.{Held, state}
-use Rattle.sqlite.specs.State.{HasCleanDisk, IsUnchanged, Survives}
-use Rattle.sqlite.proofs.StateLemmas.{survives_then}
+use Rattle.portal_tables.proofs.Common.{◌≡◌, inl, inr, true, true≢false, sym, ◌∙◌, arith, Held, state, HasCleanDisk, IsUnchanged, Survives, survives_then, MarkedChanges, Ledger, all_rows_of, running, IsUndone, StandsAt, at_open, again_at, kept_marked, this_layout, KeepsOthers, Leads, MayLead, others_none, StoreFault, all_contents_of}
 use Rattle.sqlite_trees.specs.declared.store.Store.{Ghosts}
-use Rattle.portal_ledger.specs.declared.marked.MarkedChanges.{MarkedChanges}
-use Rattle.portal_ledger.specs.Ledger.{Ledger, all_rows_of}
-use Rattle.portal_ledger.specs.States.{running}
-use Rattle.portal_sql.specs.States.{IsUndone}
-use Rattle.portal_sql.specs.StandsAt.{StandsAt}
-use Rattle.portal_sql.proofs.StandsAtLemmas.{at_open, again_at}
-use Rattle.portal_rows.specs.Commands.{kept_marked}
-use Rattle.portal_rows.specs.Holds.{this_layout}
-use Rattle.portal_rows.specs.Others.{KeepsOthers}
-use Rattle.portal_rows.specs.Steps.{Leads, MayLead}
-use Rattle.portal_rows.proofs.OthersLemmas.{others_none}
-use Rattle.portal_tables.specs.declared.fault.StoreFault.{StoreFault}
 use Rattle.portal_tables.specs.declared.fault.StoreFault.TheVariants.{Memory}
 use Rattle.portal_tables.specs.declared.tables.Tables.{Tables}
-use Rattle.portal_tables.specs.Shown.{all_contents_of}
 use Rattle.portal_tables.specs.TablesAt.{Files, IsHonest, OthersKept, OthersLeft, OthersStay, TablesAt}
 use Rattle.portal_tables.proofs.StandingLemmas.{IsSettled, IsTold, honest_is}
 

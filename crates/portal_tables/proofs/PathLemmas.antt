@@ -1,8 +1,7 @@
 -- Files to which nothing has happened since they were opened at a path.
-use Rattle.std.proofs.Common.{◌≡◌, inl, inr, ℕ, Bool, List, [], ◌∷◌, cond, refl, ap}
+use Rattle.portal_tables.proofs.Common.{◌≡◌, inl, inr, ℕ, Bool, List, [], ◌∷◌, cond, refl, ap, Image}
 use Rattle.sqlite_disk.specs.Events.{Event, settled, replay}
 use Rattle.sqlite_disk.specs.History.{MayLeave}
-use Rattle.sqlite_wal.specs.Recovery.{Image}
 
 abbrev pub image : List ℕ → List ℕ → Image
 image log db = record { log = log; db = db }

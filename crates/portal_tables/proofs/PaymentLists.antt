@@ -1,24 +1,10 @@
 -- From the sales and refunds that the readers list to those of the history.
-use Rattle.std.proofs.Common.{◌≡◌, ℕ, List, [], ◌∷◌, map, filter, Bool, true, false, cond, Option, Some, None, option_map, option_and_then, refl, sym, ap, ap₂, subst, ◌∙◌, Ordering}
-use Rattle.std.specs.List.{filter_map, cons_option}
-use Rattle.std.specs.List.Sorted.{IsPermutation, IsSorted}
+use Rattle.portal_tables.proofs.Common.{◌≡◌, ℕ, List, [], ◌∷◌, map, filter, Bool, true, false, cond, Option, Some, None, option_map, option_and_then, refl, sym, ap, ap₂, subst, ◌∙◌, Ordering, filter_map, cons_option, IsPermutation, IsSorted, IsPermutation-filter, along_permutation, pull_back, Plan, Batch, plan_among, History, VoucherRow, rows_of, vouchers_of, batches_of, plans_of, batch_among, IsLegal, Lists, ListsAs, is_within, by_refund, by_sale, sale_shown, sale_read, refund_shown, refund_read, KeptSale, AreOrderedSales, AreSales, AreRefunds, paid, is_paid_within, price_among, is_priced, voucher_kept}
 use Rattle.std.proofs.lemmas.List.Sorted.{IsPermutation-refl, IsPermutation-cons, IsPermutation-trans, IsPermutation-middle}
-use Rattle.sqlite_trees.proofs.ListLemmas.{IsPermutation-filter, along_permutation, pull_back}
-use Rattle.portal_model.specs.declared.plan.Plan.{Plan}
-use Rattle.portal_model.specs.declared.record.Batch.{Batch}
-use Rattle.portal_model.specs.Change.{plan_among}
-use Rattle.portal_model.specs.History.{History}
 use Rattle.portal_model.specs.Payments.{Payment, payment, sales_of, sale_from, refunds_of, refund_from, plan_of_row}
-use Rattle.portal_model.specs.Rows.{VoucherRow, rows_of, vouchers_of, batches_of, plans_of, batch_among}
-use Rattle.portal_model.specs.Verdict.{IsLegal}
 use Rattle.portal_laws.proofs.Basics.{map-map, filter-map}
 use Rattle.portal_laws.proofs.Paid.{sales_are_rows, refunds_are_rows}
-use Rattle.portal_lists.specs.Lists.{Lists, ListsAs, is_within, by_refund, by_sale, sale_shown, sale_read, refund_shown, refund_read}
-use Rattle.portal_lists.specs.declared.lists.KeptSale.{KeptSale}
 use Rattle.portal_lists.proofs.Listing.{sorted_from_map}
-use Rattle.portal_tables.specs.Lists.{AreOrderedSales, AreSales, AreRefunds, paid, is_paid_within}
-use Rattle.portal_tables.specs.Prices.{price_among, is_priced}
-use Rattle.portal_tables.specs.Shown.{voucher_kept}
 
 -- ---- lists
 

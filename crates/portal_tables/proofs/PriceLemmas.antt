@@ -1,15 +1,6 @@
 -- The prices of the batches so far, with one batch more, and the price of a sale.
-use Rattle.std.proofs.Common.{◌≡◌, ℕ, ◌∙◌, List, [], ◌∷◌, ◌++◌, Bool, true, false, cond, Option, Some, None, option_map, option_and_then, is_some, refl, sym, ap, inl, inr, true≢false}
-use Rattle.std.specs.Prelude.{bytes_eq}
-use Rattle.std.specs.Option.{option_or}
-use Rattle.std.proofs.lemmas.Bool.{cases_Bool}
+use Rattle.portal_tables.proofs.Common.{◌≡◌, ℕ, ◌∙◌, List, [], ◌∷◌, ◌++◌, Bool, true, false, cond, Option, Some, None, option_map, option_and_then, is_some, refl, sym, ap, inl, inr, true≢false, bytes_eq, option_or, cases_Bool, bytes_eq-Decides, Plan, Batch, plan_among, batch_among, ArePrices}
 use Rattle.std.proofs.lemmas.List.Folds.{find-append}
-use Rattle.std.proofs.lemmas.Slice.Eq.{bytes_eq-Decides}
-use Rattle.portal_model.specs.declared.plan.Plan.{Plan}
-use Rattle.portal_model.specs.declared.record.Batch.{Batch}
-use Rattle.portal_model.specs.Change.{plan_among}
-use Rattle.portal_model.specs.Rows.{batch_among}
-use Rattle.portal_tables.specs.Prices.{ArePrices}
 
 abbrev is_of : List ℕ → Batch → Bool
 is_of id b = bytes_eq b.id id

@@ -1,14 +1,6 @@
 -- A report of a session without an allowance leaves the row of its total as it is.
-use Rattle.std.proofs.Common.{◌≡◌, ℕ, Bool, true, false, cond, List, [], ◌∷◌, map, All, Option, Some, None, option_map, refl, ap, ap₂, sym, ◌∙◌, nat_eq, max}
-use Rattle.std.proofs.lemmas.Bool.Decides.{Decides-eqb}
-use Rattle.std.proofs.lemmas.List.Elements.{All-head, All-tail, All-map, All-weaker}
+use Rattle.portal_tables.proofs.Common.{◌≡◌, ℕ, Bool, true, false, cond, List, [], ◌∷◌, map, All, Option, Some, None, option_map, refl, ap, ap₂, sym, ◌∙◌, nat_eq, max, Decides-eqb, All-head, All-tail, All-map, All-weaker, IsFirst, openings_first, session_at, all_sessions, reported, History, Grant, grants_of, members, oldest, session_of, session_row, totals_of, openings, session_opened, total_row, totalled_if, remaining_of, Session}
 use Rattle.portal_laws.proofs.Basics.{map-map}
-use Rattle.portal_laws.proofs.Openings.{IsFirst, openings_first, session_at}
-use Rattle.portal_model.specs.Captive.{all_sessions}
-use Rattle.portal_model.specs.Change.{reported}
-use Rattle.portal_model.specs.History.{History, Grant, grants_of, members, oldest, session_of, session_row}
-use Rattle.portal_model.specs.Rows.{totals_of, openings, session_opened, total_row, totalled_if, remaining_of}
-use Rattle.portal_model.specs.declared.record.Session.{Session}
 
 some_is : {X : Type 0} {a b : X} → Some a ≡ Some b → a ≡ b
 some_is e = cc

@@ -1,6 +1,5 @@
 -- Devices are told by their printed texts.
-use Rattle.std.proofs.Common.{◌≡◌, ℕ, List, subst}
-use Rattle.portal_model.specs.Device.{IsDevice, SpellsDevice, text_of_device}
+use Rattle.portal_tables.proofs.Common.{◌≡◌, ℕ, List, subst, IsDevice, SpellsDevice, text_of_device}
 use Rattle.portal_model.proofs.Devices.{reads-back}
 
 pub same_device : (a b : List ℕ) → IsDevice a → IsDevice b → text_of_device a ≡ text_of_device b → a ≡ b

@@ -1,40 +1,14 @@
 -- From what the calls of the store say to how the tables stand.
-use Rattle.std.proofs.Common.{◌≡◌, ◌⊎◌, inl, inr, ℕ, true, false, IsTrue, Bool, List, [], ◌∷◌, ◌++◌, map, Option, Some, None, option_map, refl, sym, ap, subst, ◌∙◌, ◌≤◌, arith, append-nil}
-use Rattle.std.specs.Prelude.{option_and_then}
+use Rattle.portal_tables.proofs.Common.{◌≡◌, ◌⊎◌, inl, inr, ℕ, true, false, IsTrue, Bool, List, [], ◌∷◌, ◌++◌, map, Option, Some, None, option_map, refl, sym, ap, subst, ◌∙◌, ◌≤◌, arith, append-nil, true≢false, option_and_then, Result, Ok, Err, IsErrAnd, err_from_is_err_and, map-append, Held, state, Trees, Database, State, HasCleanDisk, IsUnchanged, Survives, survives_then, survives_weaker, Changes, entry, History, changes_of, answer_of, Rows, rows_of, MarkedChanges, KeptRequest, Mark, Accepted, Ledger, IsSound, history_of, answer_in, kept_with, request_kept, requests_of, all_rows_of, RequestRow, row_of_request, running, stopped, MayStand, the_sound_is_legal, kept_under, IsUndone, Reads, Fails, Looks, StandsAt, LeftShows, still_at, at_open, again_at, left_still, StoreFault, Holds, HasTables, this_layout, Fault, Leads, MayLead, kept, kept_marked, with_mark, ShowsLedger, OfShown, OfLedger, contents_of, all_contents_of, StoreShows}
+use Rattle.std.specs.Prelude.{IfOk}
 use Rattle.std.specs.Option.{option_to_list}
-use Rattle.std.proofs.lemmas.List.{map-append}
-use Rattle.sqlite.specs.Held.{Held, state}
-use Rattle.sqlite.specs.Tree.{Trees}
-use Rattle.sqlite.specs.Effect.{Database}
 use Rattle.sqlite_trees.specs.declared.store.Store.{Ghosts}
-use Rattle.sqlite.specs.State.{State, HasCleanDisk, IsUnchanged, Survives}
 use Rattle.sqlite.specs.View.{doubt as doubt_of}
-use Rattle.sqlite.proofs.StateLemmas.{survives_then, survives_weaker}
-use Rattle.portal_model.specs.declared.change.Changes.{Changes}
-use Rattle.portal_model.specs.History.{entry, History}
-use Rattle.portal_model.specs.Change.{changes_of, answer_of}
-use Rattle.portal_model.specs.Rows.{Rows, rows_of}
-use Rattle.portal_ledger.specs.declared.marked.MarkedChanges.{MarkedChanges}
-use Rattle.portal_ledger.specs.declared.request.KeptRequest.{KeptRequest}
-use Rattle.portal_ledger.specs.Mark.{Mark}
-use Rattle.portal_ledger.specs.Ledger.{Accepted, Ledger, IsSound, history_of, answer_in, kept_with, request_kept, requests_of, all_rows_of}
-use Rattle.portal_ledger.specs.RequestRow.{RequestRow, row_of_request}
-use Rattle.portal_ledger.specs.States.{State as Standing, running, stopped, MayStand}
-use Rattle.portal_ledger.specs.Calls.{ReadsOf, ReadsThat, FailsToRead, Fits, Keeps, FailsToKeep}
-use Rattle.portal_ledger.proofs.Ledgers.{the_sound_is_legal, kept_under}
-use Rattle.portal_sql.specs.States.{IsUndone}
-use Rattle.portal_sql.specs.Looks.{Reads, Fails}
-use Rattle.portal_sql.specs.StandsAt.{StandsAt, LeftShows}
-use Rattle.portal_sql.proofs.StandsAtLemmas.{still_at, at_open, again_at, left_still}
-use Rattle.portal_tables.specs.declared.fault.StoreFault.{StoreFault}
+use Rattle.portal_ledger.specs.States.{State as Standing}
+use Rattle.portal_ledger.specs.Calls.{ReadsOf, FailsToRead, Fits, Keeps, FailsToKeep}
 use Rattle.portal_tables.specs.declared.fault.StoreFault.TheVariants.{Memory, Stopped}
 use Rattle.portal_tables.specs.declared.tables.Tables.{Tables}
-use Rattle.portal_rows.specs.Holds.{Holds, HasTables, this_layout}
-use Rattle.portal_rows.specs.Steps.{Leads, MayLead}
-use Rattle.portal_rows.specs.Commands.{kept, kept_marked, with_mark}
-use Rattle.portal_tables.specs.Shown.{ShowsLedger, OfShown, OfLedger, contents_of, all_contents_of}
-use Rattle.portal_tables.specs.Stores.{StoreShows}
-use Rattle.portal_tables.specs.TablesAt.{ConnAt, ConnIsHonest, ConnLeaves, ConnMayLeave, Files, IsHonest, TablesAt, Leaves, LeavesNoMore, MayLeave, FilesShow}
+use Rattle.portal_tables.specs.TablesAt.{ConnAt, ConnIsHonest, ConnLeaves, ConnMayLeave, Files, IsHonest, TablesAt, Leaves, LeavesNoMore, MayLeave, FilesShow, ReadsTables, TellsFault, TellsRead}
 use Rattle.portal_tables.proofs.Leading.{leads_on}
 use Rattle.portal_tables.proofs.ShownLemmas.{has_all_tables, history_shown}
 
@@ -138,11 +112,6 @@ module _ {S : Type 0} (g : Ghosts S) where
       let got = reads_at it.0 old new (subst (TablesAt g old) it.1 at) (honest_is new honest) same read in
       subst (λ (y : Standing). (x : Standing) × TablesAt g new x × LeavesNoMore g old new × ReadsOf y Is x) (sym it.1) (running it.0, got.0, got.3, (found (honest_is new honest) got.2 it.0 got.1, refl))
 
-  pub reads : (old new : Tables S) → old.is_stopped ≡ false → new.is_stopped ≡ old.is_stopped → IsHonest g new → Reads HasTables (state g old.conn) (state g new.conn) → (Is : History → Type 0)
-      → OfShown (state g old.conn) (state g new.conn) Is → (s : Standing) → TablesAt g old s → (x : Standing) × TablesAt g new x × LeavesNoMore g old new × ReadsThat s Is x
-  reads old new on same honest read Is found s at =
-      reads_of old new on same honest read (λ L. Is (history_of L)) (λ clean live L shown. found clean live (history_of L) (history_shown L (state g old.conn).now shown)) s at
-
   -- ---- a call that did not
 
   fails_at : (h : Ledger) (old new : Tables S) (mid : Held S) → TablesAt g old (running h) → HasCleanDisk (state g new.conn) → Fails HasTables (state g old.conn) (state g mid) → Survives (state g mid) (state g new.conn) (λ _. ⊥)
@@ -172,6 +141,60 @@ module _ {S : Type 0} (g : Ghosts S) where
       let it = running_is old s at on in
       let clean = honest_is new honest in
       subst (λ (y : Standing). (x : Standing) × TablesAt g new x × LeavesNoMore g old new × FailsToRead Memory Stopped y fault x) (sym it.1) (fails_at it.0 old new mid (subst (TablesAt g old) it.1 at) clean failed later law fault told (same clean))
+
+  -- ---- what a reading of the store comes to, told to the caller
+
+  -- tables that stopped
+  pub read_stopped : {A : Type 0} (tables : Tables S) (result : Result A StoreFault) {fault : StoreFault} {Is : Ledger → A → Type 0} → (fault ≡ Stopped) × (tables.is_stopped ≡ true) → IsErrAnd result (λ e. e ≡ fault)
+      → ReadsTables g tables tables result Is
+  read_stopped tables result on fails =
+      let told = err_from_is_err_and result fails in
+      let is : result ≡ Err Stopped = told.1 ∙ ap Err (told.2 ∙ on.0) in
+      record {
+        honest = λ clean. clean;
+        stopped = λ _. (rw is refl, refl);
+        stops = rw is (inr (refl, on.1));
+        found = λ clean s at. rw is (stays_read tables s at on.1);
+      }
+
+  read_found : {A : Type 0} (old new : Tables S) (found : A) {Is : Ledger → A → Type 0} → old.is_stopped ≡ false → new.is_stopped ≡ old.is_stopped → Reads HasTables (state g old.conn) (state g new.conn)
+      → OfLedger (state g old.conn) (state g new.conn) (λ L. Is L found) → ReadsTables g old new (Ok found) Is
+  read_found old new found {Is = Is} on same read is = record {
+    honest = λ clean. honest_by old new (omega (arith, read.crash.clean)) clean;
+    stopped = λ off. absurd (true≢false (sym off ∙ on));
+    stops = same;
+    found = λ clean s at. reads_of old new on same clean read (λ L. Is L found) is s at;
+  }
+
+  read_failed : {A : Type 0} (old new : Tables S) (mid : Held S) (fault : StoreFault) {Is : Ledger → A → Type 0} → old.is_stopped ≡ false → IsSettled g new.conn → Fails HasTables (state g old.conn) (state g mid)
+      → TellsFault g (record old { conn = mid }) new fault → ReadsTables g old new (Err fault) Is
+  read_failed old new mid fault on law failed tells = record {
+    honest = λ clean. honest_by old new (omega (arith, failed.crash.clean, tells.survives.clean)) clean;
+    stopped = λ off. absurd (true≢false (sym off ∙ on));
+    stops = tells.told;
+    found = λ clean s at. fails old new mid on clean failed tells.survives law fault tells.told tells.same s at;
+  }
+
+  module _ {A : Type 0} (old new : Tables S) (mid : Held S) {result : Result A StoreFault} (on : old.is_stopped ≡ false) (law : IsSettled g new.conn) where
+    -- of a ledger
+    pub tells_ledger : {Is : Ledger → A → Type 0} (read : Result A Fault) → Looks HasTables read (state g old.conn) (state g mid) → OfLedger (state g old.conn) (state g mid) (λ L. IfOk read (Is L))
+        → TellsRead g (record old { conn = mid }) new read result → ReadsTables g old new result Is
+    tells_ledger {Is = Is} (Ok found) looks is tells =
+        subst (λ (it : Result A StoreFault). ReadsTables g old new it Is) (sym tells.0)
+        (subst (λ (t : Tables S). ReadsTables g old t (Ok found) Is) (sym tells.1) (read_found old (record old { conn = mid }) found on refl looks is))
+    tells_ledger {Is = Is} (Err e) looks is tells =
+        let told = err_from_is_err_and result tells in
+        subst (λ (it : Result A StoreFault). ReadsTables g old new it Is) (sym told.1) (read_failed old new mid told.0 on law looks told.2)
+
+    -- of a history
+    pub tells_history : (Is : History → A → Type 0) (read : Result A Fault) → Looks HasTables read (state g old.conn) (state g mid) → OfShown (state g old.conn) (state g mid) (λ h. IfOk read (Is h))
+        → TellsRead g (record old { conn = mid }) new read result → ReadsTables g old new result (λ L. Is (history_of L))
+    tells_history Is read looks is tells = tells_ledger read looks (λ clean live L shown. is clean live (history_of L) (history_shown L (state g old.conn).now shown)) tells
+
+  -- what else is so of what was read
+  pub tells_also : {A : Type 0} (old new : Tables S) (mid : Held S) (P : A → Type 0) (result : Result A StoreFault) (read : Result A Fault) → (HasCleanDisk (state g mid) → IfOk read P) → TellsRead g (record old { conn = mid }) new read result → IsHonest g new → IfOk result P
+  tells_also {A = A} old new mid P result (Ok found) is tells clean = subst (λ (it : Result A StoreFault). IfOk it P) (sym tells.0) (is (subst (λ (t : Tables S). HasCleanDisk (state g t.conn)) tells.1 (honest_is new clean)))
+  tells_also {A = A} old new mid P result (Err e) is tells clean = let told = err_from_is_err_and result tells in subst (λ (it : Result A StoreFault). IfOk it P) (sym told.1) tt
 
   -- ---- a commit
 

@@ -1,36 +1,7 @@
 -- An upgraded store shows the history that it showed.
-use Rattle.std.proofs.Common.{lit<, option_to_list, ◌≡◌, inl, inr, ◌+◌, ◌<◌, ℕ, IsTrue, Bool, cond, Option, None, option_map, List, [], ◌∷◌, ◌++◌, map, filter, count_by, sum_by, refl, sym, ap, ap₂, subst, ◌∙◌, bytes_eq, nat_eq}
-use Rattle.std.specs.Prelude.{option_and_then}
-use Rattle.std.specs.List.{AllByRecursion}
-use Rattle.std.proofs.lemmas.List.Elements.{recursion_from_All}
-use Rattle.std.proofs.lemmas.List.Sums.{sum_by-cons}
-use Rattle.sqlite.specs.Tree.{Trees}
-use Rattle.sqlite.specs.Effect.{Database}
-use Rattle.sqlite.specs.State.{State, HasCleanDisk, Survives}
-use Rattle.portal_codes.specs.Code.{IsCode, text_of}
-use Rattle.portal_model.specs.declared.plan.Plan.{Plan}
-use Rattle.portal_model.specs.History.{History, limited}
-use Rattle.portal_model.specs.Change.{plan_among}
-use Rattle.portal_model.specs.Rows.{Rows, VoucherRow, SessionRow, GrantRow, CountRow, TotalRow, rows_of, count_from, total_from, remaining_of}
-use Rattle.portal_model.specs.Verdict.{IsLegal}
+use Rattle.portal_tables.proofs.Common.{lit<, ◌≡◌, inl, inr, ◌+◌, ◌<◌, ℕ, IsTrue, Bool, cond, Option, None, option_map, List, [], ◌∷◌, ◌++◌, map, filter, count_by, sum_by, refl, sym, ap, ap₂, subst, ◌∙◌, bytes_eq, nat_eq, option_and_then, AllByRecursion, recursion_from_All, sum_by-cons, Trees, Database, State, HasCleanDisk, Survives, IsCode, text_of, Plan, History, limited, plan_among, Rows, VoucherRow, SessionRow, GrantRow, CountRow, TotalRow, rows_of, count_from, total_from, remaining_of, IsLegal, counts_are_sums, totals_are_sums, rows_are_typed, StandsAt, at_open, Holds, this_layout, summed, AreUnmarked, ShowsIn, LeftInEither, Mark, KeptRequest, Accepted, Ledger, IsSound, history_of, answer_in, kept_with, request_kept, requests_of, all_rows_of, RequestRow, row_of_request, the_sound_is_legal, HasUpgraded, MayUpgrade, number_of, upgraded, OldLayout, First, Second, Third, Fourth, voucher_kept, session_kept, grant_kept, count_kept, contents_of, all_contents_of, ShowsLedger, code_test}
+use Rattle.std.proofs.Common.{option_to_list}
 use Rattle.portal_laws.proofs.Basics.{filter-map}
-use Rattle.portal_laws.proofs.Sessions.{counts_are_sums, totals_are_sums}
-use Rattle.portal_laws.proofs.Typed.{rows_are_typed}
-use Rattle.portal_sql.specs.StandsAt.{StandsAt}
-use Rattle.portal_sql.proofs.StandsAtLemmas.{at_open}
-use Rattle.portal_rows.specs.Holds.{Holds, this_layout}
-use Rattle.portal_lists.specs.Sums.{summed}
-use Rattle.portal_tables.specs.Older.{AreUnmarked, ShowsIn, LeftInEither}
-use Rattle.portal_ledger.specs.Mark.{Mark}
-use Rattle.portal_ledger.specs.declared.request.KeptRequest.{KeptRequest}
-use Rattle.portal_ledger.specs.Ledger.{Accepted, Ledger, IsSound, history_of, answer_in, kept_with, request_kept, requests_of, all_rows_of}
-use Rattle.portal_ledger.specs.RequestRow.{RequestRow, row_of_request}
-use Rattle.portal_ledger.proofs.Ledgers.{the_sound_is_legal}
-use Rattle.portal_layouts.specs.Brings.{HasUpgraded, MayUpgrade, number_of, upgraded}
-use Rattle.portal_layouts.specs.declared.layouts.OldLayout.{OldLayout}
-use Rattle.portal_layouts.specs.declared.layouts.OldLayout.TheVariants.{First, Second, Third, Fourth}
-use Rattle.portal_tables.specs.Shown.{voucher_kept, session_kept, grant_kept, count_kept, contents_of, all_contents_of, ShowsLedger}
-use Rattle.portal_lists.proofs.SameCode.{code_test}
 
 -- ---- the counts
 

@@ -1,7 +1,7 @@
 -- When tables stand so, and what a stop may leave of them. The layers above cite these words and none of SQL.
-use Rattle.std.specs.Prelude.{◌≡◌, ◌⊎◌, ◌∷◌, Some, None, Result, MatchResult, IsErrOf, true, false}
+use Rattle.std.specs.Prelude.{◌≡◌, ◌⊎◌, ◌∷◌, Some, None, Result, Ok, MatchResult, IsErrAnd, IsErrOf, true, false}
 use Rattle.sqlite.specs.Tree.{Trees}
-use Rattle.sqlite.specs.State.{HasCleanDisk}
+use Rattle.sqlite.specs.State.{HasCleanDisk, IsUnchanged, Survives}
 use Rattle.sqlite.specs.Held.{Held, state}
 use Rattle.sqlite_trees.specs.declared.store.Store.{Ghosts}
 use Rattle.portal_sql.specs.StandsAt.{LeftShows, StandsAt}
@@ -9,6 +9,7 @@ use Rattle.portal_ledger.specs.Ledger.{Ledger}
 use Rattle.portal_ledger.specs.States.{State as Standing, running, stopped}
 use Rattle.portal_ledger.specs.Calls.{ReadsOf, FailsToRead}
 use Rattle.portal_rows.specs.Others.{KeepsOthers, LeftOthers}
+use Rattle.portal_rows.specs.declared.rows.Fault.{Fault}
 use Rattle.portal_tables.specs.declared.fault.StoreFault.{StoreFault}
 use Rattle.portal_tables.specs.declared.fault.StoreFault.TheVariants.{Memory, Stopped}
 use Rattle.portal_tables.specs.declared.tables.Tables.{Tables}
@@ -92,6 +93,16 @@ module _ {S : Type 0} (g : Ghosts S) where
   -- after `Stopped` they have stopped, and any other answer leaves them stopped or working as they were; whatever the disk did
   abbrev pub KeepsStop : {T : Type 0} → Tables S → Tables S → Result T StoreFault → Type 0
   KeepsStop old new result = MatchResult result (λ _. new.is_stopped ≡ old.is_stopped) (TellsStop old new)
+
+  -- What the fault of a call on the store comes to: want of memory is told only where nothing has changed since, and no stop leaves more.
+  pub record TellsFault (old new : Tables S) (fault : StoreFault) : Type 0 where
+    pub told : TellsStop old new fault
+    pub same : HasCleanDisk (state g new.conn) → fault ≡ Memory → IsUnchanged (state g old.conn) (state g new.conn)
+    pub survives : Survives (state g old.conn) (state g new.conn) (λ _. ⊥)
+
+  -- what a reading of the store comes to: what it found, with the tables as they were, or what its fault comes to
+  abbrev pub TellsRead : {T : Type 0} → Tables S → Tables S → Result T Fault → Result T StoreFault → Type 0
+  TellsRead old new read result = MatchResult read (λ found. (result ≡ Ok found) × (new ≡ old)) (λ _. IsErrAnd result (TellsFault old new))
 
   -- each set of files that a stop may leave after is one that it might leave before
   abbrev pub LeavesNoMore : Tables S → Tables S → Type 0

@@ -27,10 +27,12 @@ pub struct Refused<S: Alter> {
 }
 
 impl<S: Alter> Tables<S> {
-    /// Takes over the store of a connection, which is to be outside a transaction. A store with no table of the product's
-    /// names gets the tables, in one transaction. One of an older layout is brought to this version's, in one transaction. One of this version's stays as it is, but for the index, which is made where it is missing.
-    /// Each table beside the product's keeps its rows. Where a foreign key of one of them acts on a table of the product's names, whether that
-    /// stands or not, the store is refused and nothing changes, whatever layout stands there.
+    /// Takes over the store of a connection, which is to be outside a transaction. A store with no table
+    /// of the product's names gets the tables, in one transaction. One of an older layout is brought to
+    /// this version's, in one transaction. One of this version's stays as it is, but for the index, which
+    /// is made where it is missing. Each table beside the product's keeps its rows. Where a foreign key
+    /// of one of them acts on a table of the product's names, whether that stands or not, the store is
+    /// refused and nothing changes, whatever layout stands there.
     pub fn adopt(conn: Connection<S>) -> Result<Tables<S>, Refused<S>>
         ensures honest { MatchResult result (λ tables. IsHonest S.Store tables → ConnIsHonest S.Store conn)
             (λ refused. ConnIsHonest S.Store refused.connection → ConnIsHonest S.Store conn) }

@@ -25,7 +25,8 @@ use portal_layouts::layouts::{
 use portal_sql::query::answers;
 use sqlite::{Alter, Connection, Error, ErrorCode};
 
-/// What an error comes to. Want of memory is told only where the connection still answers, and so nothing has changed.
+/// What an error comes to. Want of memory is told only where the connection still answers, and so nothing
+/// has changed.
 fn told<S: Alter>(conn: &mut Connection<S>, error: &Error) -> OpenFault
     ensures told { (result ≡ Memory) ⊎ (result ≡ Store) }
     ensures same { HasCleanDisk (state S.Store conn.new) → result ≡ Memory
@@ -84,8 +85,8 @@ fn start<S: Alter>(conn: &mut Connection<S>) -> Result<(), OpenFault>
     }
 }
 
-/// Upgrades the tables of an older layout. Where a foreign key acts on a table of ours, also on one that the layout does not
-/// have yet, nothing is written.
+/// Upgrades the tables of an older layout. Where a foreign key acts on a table of ours, also on one that
+/// the layout does not have yet, nothing is written.
 fn upgrade_spared<S: Alter>(conn: &mut Connection<S>, from: OldLayout) -> Result<(), OpenFault>
     requires { conn.old.in_transaction ≡ false }
     ensures done { HasCleanDisk (state S.Store conn.new) → IsTrue (state S.Store conn.old).is_open

@@ -1,3 +1,5 @@
+//! Errors of the tables.
+
 /// Why a call of the tables did not answer.
 #[derive(Clone, Copy, Debug, PartialEq, Eq)]
 pub enum StoreFault {
@@ -10,7 +12,8 @@ pub enum StoreFault {
 /// Why a store was not adopted.
 #[derive(Clone, Copy, Debug, PartialEq, Eq)]
 pub enum OpenFault {
-    /// A table or a view of the product's names stands there, and the head is not one row with a layout from 1 on. Nothing changed.
+    /// A table or a view of the product's names stands there, and the head is not one row with a layout
+    /// from 1 on. Nothing changed.
     NotOurs,
     /// The layout is past this version's. Nothing changed.
     Newer,

@@ -8,6 +8,7 @@ use crate::tables::Tables;
 use sqlite::{Alter, Connection};
 
 /// What a stop leaves of tables that stand so shows what a reopening may find.
+#[tactic(auto, using(crate::proofs::StandingLemmas::leaves))]
 pub fn tables_leave<S: Alter>(tables: &Tables<S>)
     ensures { (s : Standing) → TablesAt S.Store tables.now s → Leaves S.Store tables.now (MayStand s) }
 {
@@ -15,6 +16,7 @@ pub fn tables_leave<S: Alter>(tables: &Tables<S>)
 }
 
 /// The ledger of tables that work is sound, and so its history is legal.
+#[tactic(auto, using(crate::proofs::StandingLemmas::sound_at))]
 pub fn tables_are_sound<S: Alter>(tables: &Tables<S>)
     ensures { (L : Ledger) → TablesAt S.Store tables.now (running L) → IsSound L }
 {
@@ -22,11 +24,13 @@ pub fn tables_are_sound<S: Alter>(tables: &Tables<S>)
 }
 
 /// A ledger that files show is sound.
+#[tactic(auto, using(crate::proofs::StandingLemmas::files_sound))]
 pub fn files_are_sound()
     ensures { (files : Files) (L : Ledger) → FilesShow files L → IsSound L }
 {}
 
 /// What a stop leaves of a connection that stands at a ledger shows that ledger.
+#[tactic(auto, using(crate::proofs::StandingLemmas::conn_leaves))]
 pub fn connections_leave<S: Alter>(conn: &Connection<S>)
     ensures { (L : Ledger) → ConnAt S.Store conn.now L → ConnLeaves S.Store conn.now L }
 {

@@ -4,6 +4,7 @@ ghost use Rattle.std.specs.Prelude.{◌≡◌, filter};
 ghost use Rattle.std.specs.List.{filter_map};
 ghost use Rattle.portal_model.specs.Captive.{all_sessions};
 ghost use Rattle.portal_model.specs.History.{is_open_at};
+ghost use Rattle.portal_model.specs.Rows.{batches_of, plans_of};
 ghost use Rattle.portal_tables.specs.Lists.{AreOrderedSales, AreSales, open_numbered};
 ghost use Rattle.portal_tables.specs.Shown.{ReadsShown};
 
@@ -12,7 +13,8 @@ use crate::records::read_session;
 use portal_lists::lists::{list_numbers, list_ordered_sales, list_sales};
 use portal_lists::whole::{all_batches, all_plans};
 use portal_model::moment::Moment;
-use portal_model::record::{Session, is_open};
+use portal_model::plan::Plan;
+use portal_model::record::{Batch, Session, is_open};
 use portal_rows::rows::Fault;
 use sqlite::{Alter, Connection};
 use std::alloc::Global;
@@ -68,7 +70,21 @@ pub(crate) fn read_open_sessions<S: Alter>(
     Ok(sessions)
 }
 
-/// The sales within the two moments, both included: of each the moment, and the price in hundredths. They are ordered as their vouchers were issued. The plans and the batches are read once, however many sales there are.
+/// All plans and all batches.
+fn read_plans_and_batches<S: Alter>(
+    conn: &mut Connection<S>,
+) -> Result<(Vec<Plan>, Vec<Batch>), Fault>
+    ensures { ReadsShown S.Store conn.old conn.new result
+        (λ h both. (both.0.items ≡ plans_of h) × (both.1.items ≡ batches_of h)) }
+{
+    let plans = all_plans(conn)?;
+    let batches = all_batches(conn)?;
+    Ok((plans, batches))
+}
+
+/// The sales within the two moments, both included: of each the moment, and the price in hundredths. They
+/// are ordered as their vouchers were issued. The plans and the batches are read once, however many sales
+/// there are.
 pub(crate) fn read_sales<S: Alter>(
     alloc: Global,
     conn: &mut Connection<S>,
@@ -78,14 +94,15 @@ pub(crate) fn read_sales<S: Alter>(
     ensures { ReadsShown S.Store conn.old conn.new result
         (λ h payments. AreSales h from to payments.items) }
 {
-    let plans = all_plans(conn)?;
-    let batches = all_batches(conn)?;
+    let (plans, batches) = read_plans_and_batches(conn)?;
     let prices = prices_by_batch(alloc, &plans, &batches)?;
     let sales = list_sales(alloc, conn, from, to)?;
     Ok(priced_sales(alloc, &prices, &sales)?)
 }
 
-/// The sales within the two moments, both included: of each the moment, and the price in hundredths. They are ordered by moment, and at one moment by the voucher's printed code. The plans and the batches are read once, however many sales there are.
+/// The sales within the two moments, both included: of each the moment, and the price in hundredths. They
+/// are ordered by moment, and at one moment by the voucher's printed code. The plans and the batches are
+/// read once, however many sales there are.
 pub(crate) fn read_ordered_sales<S: Alter>(
     alloc: Global,
     conn: &mut Connection<S>,
@@ -95,8 +112,7 @@ pub(crate) fn read_ordered_sales<S: Alter>(
     ensures { ReadsShown S.Store conn.old conn.new result
         (λ h payments. AreOrderedSales h from to payments.items) }
 {
-    let plans = all_plans(conn)?;
-    let batches = all_batches(conn)?;
+    let (plans, batches) = read_plans_and_batches(conn)?;
     let prices = prices_by_batch(alloc, &plans, &batches)?;
     let sales = list_ordered_sales(alloc, conn, from, to)?;
     Ok(priced_sales(alloc, &prices, &sales)?)

@@ -17,15 +17,13 @@ use std::alloc::{AllocError, Global};
 pub fn open_in_memory(alloc: Global) -> Result<Connection<MemStore>, AllocError>
     ensures { IfOk result (λ conn. ConnAt over_memory conn []) }
 {
-    match Connection::open_in_memory(alloc) {
-        Ok(conn) => Ok(conn),
-        Err(fault) => Err(fault),
-    }
+    Connection::open_in_memory(alloc)
 }
 
-/// Opens files. Where they show a ledger, as a stop leaves them, the connection stands at it; files with no database yet
-/// show that nothing was accepted. Whatever they hold, the connection finds those tables, ours and those of others. Where
-/// they are not opened, what a stop may leave of them shows the ledger still.
+/// Opens files. Where they show a ledger, as a stop leaves them, the connection stands at it; files with
+/// no database yet show that nothing was accepted. Whatever they hold, the connection finds those tables,
+/// ours and those of others. Where they are not opened, what a stop may leave of them shows the ledger
+/// still.
 pub fn open_files<D: Disk + Drop>(
     alloc: Global,
     files: Files<D>,
@@ -39,17 +37,14 @@ pub fn open_files<D: Disk + Drop>(
     ensures unopened { (L : Ledger) → AreAt D.Disk files L
         → IfErr result (λ e. IsCleanLeft e.1 → LeftoverShows (image_of D.Disk files) e.1 L) }
 {
-    match Connection::open_files(alloc, files, options) {
-        Ok(conn) => Ok(conn),
-        Err(fault) => Err(fault),
-    }
+    Connection::open_files(alloc, files, options)
 }
 
-/// Opens the database file at a path with its log, both made where they are missing. They are locked until the
-/// connection is let go. No contract says what a file holds, nor ties a path to one: `S` stands for what the two held
-/// when they were opened. Where that shows a ledger, the connection stands at it, and what a stop may leave of files
-/// that were locked and not opened shows it still. Nothing is left over where the files were not locked, or no random
-/// number could be drawn.
+/// Opens the database file at a path with its log, both made where they are missing. They are locked
+/// until the connection is let go. No contract says what a file holds, nor ties a path to one: `S` stands
+/// for what the two held when they were opened. Where that shows a ledger, the connection stands at it,
+/// and what a stop may leave of files that were locked and not opened shows it still. Nothing is left
+/// over where the files were not locked, or no random number could be drawn.
 pub fn open_path<S: Start>(
     host: &HostRuntime,
     path: &str,
@@ -61,10 +56,7 @@ pub fn open_path<S: Start>(
         → IfErr result (λ e. IfSome e.1
         (λ left. IsCleanLeft left → LeftoverShows (image_at S.Start) left L)) }
 {
-    match Connection::open_from(host, path, false, start) {
-        Ok(opened) => Ok(opened),
-        Err(fault) => Err(fault),
-    }
+    Connection::open_from(host, path, false, start)
 }
 
 /// What is left of files that were not closed, or not opened again, and why.
@@ -75,8 +67,8 @@ pub enum Unopened<D: Disk> {
     Refused(Error, Leftover<D>),
 }
 
-/// Closes the files of a connection and opens them again. What stood there stands there, and what a stop may leave of
-/// files that were not closed, or not opened again, shows it still.
+/// Closes the files of a connection and opens them again. What stood there stands there, and what a stop
+/// may leave of files that were not closed, or not opened again, shows it still.
 pub fn reopen<D: Disk + Drop>(
     alloc: Global,
     conn: Connection<FileStore<D>>,

@@ -27,7 +27,8 @@ fn price_of(plans: &[Plan], batch: &Batch) -> Result<u64, Fault>
     }
 }
 
-/// The price of each batch in hundredths, by its id: of two batches with one id that of the first. A batch without its plan is a foreign row.
+/// The price of each batch in hundredths, by its id: of two batches with one id that of the first. A
+/// batch without its plan is a foreign row.
 pub(crate) fn prices_by_batch<'a>(
     alloc: Global,
     plans: &[Plan],

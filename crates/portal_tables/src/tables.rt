@@ -1,3 +1,5 @@
+//! The tables behind a connection: records, and commands that are kept.
+
 ghost use Rattle.std.specs.Prelude.{◌≡◌, ◌↔◌, ◌⊎◌, true, false, IsTrue, MatchResult, IsErrOf, is_some};
 ghost use Rattle.sqlite.specs.Held.{state};
 ghost use Rattle.sqlite.specs.State.{HasCleanDisk, IsUnchanged, Survives};
@@ -5,13 +7,13 @@ ghost use Rattle.portal_ledger.specs.Ledger.{Accepted, Ledger, history_of};
 ghost use Rattle.portal_model.specs.History.{head_of, plan_of, batch_of, issued_of, voucher_of, session_of};
 ghost use Rattle.portal_model.specs.History.{last_session_of};
 ghost use Rattle.portal_rows.specs.Commands.{Fits as FitsColumns, FitsSession, FitsIssuance, FitsRedemption};
-ghost use Rattle.portal_rows.specs.Commands.{FitsUsage, FitsAnswer, FitsMark, FitsMarked};
+ghost use Rattle.portal_rows.specs.Commands.{FitsUsage, FitsAnswer, FitsMark, FitsWithAnswer};
 ghost use Rattle.portal_ledger.specs.States.{State as Standing, running};
 ghost use Rattle.portal_ledger.specs.Calls.{Fits, Keeps, FailsToKeep};
 ghost use Rattle.portal_tables.specs.Shown.{IsHeldUnder};
 ghost use Rattle.portal_tables.specs.TablesAt.{ConnAt, ConnIsHonest, ConnMayLeave, Files, IsHonest, MayLeave};
 ghost use Rattle.portal_tables.specs.TablesAt.{OthersKept, TablesAt, IsStopped, KeepsStop, TellsStop};
-ghost use Rattle.portal_tables.specs.TablesAt.{ReadsTables};
+ghost use Rattle.portal_tables.specs.TablesAt.{ReadsTables, TellsFault, TellsRead};
 ghost use Rattle.portal_tables.specs.declared.fault.StoreFault.TheVariants.{Memory, Stopped};
 
 mod audits;
@@ -53,8 +55,8 @@ impl<S: Alter> Tables<S> {
         }
     }
 
-    /// Hands the connection back. Where the tables are not stopped, it stands where they stood. A stop leaves of it what it might
-    /// leave of them.
+    /// Hands the connection back. Where the tables are not stopped, it stands where they stood. A stop
+    /// leaves of it what it might leave of them.
     pub fn release(self) -> Connection<S>
         ensures same { result ≡ self.conn }
         ensures stands { (L : Ledger) → TablesAt S.Store self (running L) → ConnAt S.Store result L }
@@ -75,12 +77,22 @@ impl<S: Alter> Tables<S> {
         self.is_stopped
     }
 
-    /// What a fault comes to. Want of memory is told only where the connection still answers, and so nothing has changed.
+    /// Whether the tables work: where they have stopped, the error is `Stopped`.
+    fn check_working(&self) -> Result<(), StoreFault>
+        ensures { MatchResult result (λ _. self.now.is_stopped ≡ false)
+            (λ fault. (fault ≡ Stopped) × IsStopped S.Store self.now) }
+    {
+        if self.is_stopped {
+            Err(StoreFault::Stopped)
+        } else {
+            Ok(())
+        }
+    }
+
+    /// What a fault comes to. Want of memory is told only where the connection still answers, and so
+    /// nothing has changed.
     fn fault(&mut self, fault: Fault) -> StoreFault
-        ensures told { TellsStop S.Store self.old self.new result }
-        ensures same { HasCleanDisk (state S.Store self.new.conn) → result ≡ Memory
-            → IsUnchanged (state S.Store self.old.conn) (state S.Store self.new.conn) }
-        ensures survives { Survives (state S.Store self.old.conn) (state S.Store self.new.conn) (λ _. ⊥) }
+        ensures { TellsFault S.Store self.old self.new result }
     {
         if matches!(
             &fault,
@@ -93,9 +105,20 @@ impl<S: Alter> Tables<S> {
         StoreFault::Stopped
     }
 
-    /// Keeps what a command changes, and its request where it has a mark, in one transaction. They are to be those of a command that may follow, under a key that is not held.
-    /// Memory leaves all as it was. After Stopped the files hold the command whole or not at all.
-    /// Whatever comes of it, each table beside the product's keeps its rows.
+    /// What a reading of the store comes to: what it found, or what its fault comes to.
+    fn answer<T>(&mut self, read: Result<T, Fault>) -> Result<T, StoreFault>
+        ensures { TellsRead S.Store self.old self.new read result }
+    {
+        match read {
+            Ok(found) => Ok(found),
+            Err(fault) => Err(self.fault(fault)),
+        }
+    }
+
+    /// Keeps what a command changes, and its request where it has a mark, in one transaction. They are to
+    /// be those of a command that may follow, under a key that is not held. Memory leaves all as it was.
+    /// After Stopped the files hold the command whole or not at all. Whatever comes of it, each table
+    /// beside the product's keeps its rows.
     pub fn commit(&mut self, marked: &MarkedChanges) -> Result<(), StoreFault>
         ensures honest { IsHonest S.Store self.new → IsHonest S.Store self.old }
         ensures stopped { IsStopped S.Store self.old → IsErrOf result Stopped × (self.new ≡ self.old) }
@@ -111,11 +134,12 @@ impl<S: Alter> Tables<S> {
         if self.is_stopped {
             return Err(StoreFault::Stopped);
         }
-        if !self.conn.is_autocommit() || !are_kept(marked) {
+        let answer = marked.answer();
+        if !self.conn.is_autocommit() || !are_kept(marked, &answer) {
             self.is_stopped = true;
             return Err(StoreFault::Stopped);
         }
-        match keep(&mut self.conn, marked) {
+        match keep(&mut self.conn, marked, &answer) {
             Ok(()) => Ok(()),
             Err(error) => Err(self.fault(Fault::Sql(error))),
         }
@@ -125,13 +149,9 @@ impl<S: Alter> Tables<S> {
     pub fn head(&mut self) -> Result<Head, StoreFault>
         ensures { ReadsTables S.Store self.old self.new result (λ L found. found ≡ head_of (history_of L)) }
     {
-        if self.is_stopped {
-            return Err(StoreFault::Stopped);
-        }
-        match read_head(&mut self.conn) {
-            Ok(found) => Ok(found),
-            Err(fault) => Err(self.fault(fault)),
-        }
+        self.check_working()?;
+        let read = read_head(&mut self.conn);
+        self.answer(read)
     }
 
     /// The plan of the id, where it is held.
@@ -139,13 +159,9 @@ impl<S: Alter> Tables<S> {
         ensures { ReadsTables S.Store self.old self.new result
             (λ L found. found ≡ plan_of (history_of L) id.now) }
     {
-        if self.is_stopped {
-            return Err(StoreFault::Stopped);
-        }
-        match find_plan(&mut self.conn, id) {
-            Ok(found) => Ok(found),
-            Err(fault) => Err(self.fault(fault)),
-        }
+        self.check_working()?;
+        let read = find_plan(&mut self.conn, id);
+        self.answer(read)
     }
 
     /// The batch of the id, where there is one.
@@ -153,13 +169,9 @@ impl<S: Alter> Tables<S> {
         ensures { ReadsTables S.Store self.old self.new result
             (λ L found. found ≡ batch_of (history_of L) id.now) }
     {
-        if self.is_stopped {
-            return Err(StoreFault::Stopped);
-        }
-        match find_batch(&mut self.conn, id) {
-            Ok(found) => Ok(found),
-            Err(fault) => Err(self.fault(fault)),
-        }
+        self.check_working()?;
+        let read = find_batch(&mut self.conn, id);
+        self.answer(read)
     }
 
     /// The voucher of the code, where it was issued.
@@ -167,13 +179,9 @@ impl<S: Alter> Tables<S> {
         ensures { ReadsTables S.Store self.old self.new result
             (λ L found. found ≡ voucher_of (history_of L) code.now) }
     {
-        if self.is_stopped {
-            return Err(StoreFault::Stopped);
-        }
-        match read_voucher(&mut self.conn, code) {
-            Ok(found) => Ok(found),
-            Err(fault) => Err(self.fault(fault)),
-        }
+        self.check_working()?;
+        let read = read_voucher(&mut self.conn, code);
+        self.answer(read)
     }
 
     /// Whether a voucher of the code was issued: one look at the tables, where its voucher takes up to four.
@@ -181,13 +189,9 @@ impl<S: Alter> Tables<S> {
         ensures { ReadsTables S.Store self.old self.new result
             (λ L held. held ≡ is_some (issued_of (history_of L) code.now)) }
     {
-        if self.is_stopped {
-            return Err(StoreFault::Stopped);
-        }
-        match read_is_held(&mut self.conn, code) {
-            Ok(held) => Ok(held),
-            Err(fault) => Err(self.fault(fault)),
-        }
+        self.check_working()?;
+        let read = read_is_held(&mut self.conn, code);
+        self.answer(read)
     }
 
     /// The session of the number, where there is one.
@@ -195,13 +199,9 @@ impl<S: Alter> Tables<S> {
         ensures { ReadsTables S.Store self.old self.new result
             (λ L found. found ≡ session_of (history_of L) number) }
     {
-        if self.is_stopped {
-            return Err(StoreFault::Stopped);
-        }
-        match read_session(&mut self.conn, number) {
-            Ok(found) => Ok(found),
-            Err(fault) => Err(self.fault(fault)),
-        }
+        self.check_working()?;
+        let read = read_session(&mut self.conn, number);
+        self.answer(read)
     }
 
     /// The session of the device with the greatest number, where there is one.
@@ -209,13 +209,9 @@ impl<S: Alter> Tables<S> {
         ensures { ReadsTables S.Store self.old self.new result
             (λ L found. found ≡ last_session_of (history_of L) device.now) }
     {
-        if self.is_stopped {
-            return Err(StoreFault::Stopped);
-        }
-        match read_last_session(&mut self.conn, device) {
-            Ok(found) => Ok(found),
-            Err(fault) => Err(self.fault(fault)),
-        }
+        self.check_working()?;
+        let read = read_last_session(&mut self.conn, device);
+        self.answer(read)
     }
 
     /// The request that is kept under the caller's number, with what its caller was told, where there is one.
@@ -228,13 +224,9 @@ impl<S: Alter> Tables<S> {
         ensures { ReadsTables S.Store self.old self.new result
             (λ L found. IsHeldUnder L caller.now number.now found) }
     {
-        if self.is_stopped {
-            return Err(StoreFault::Stopped);
-        }
-        match read_kept(alloc, &mut self.conn, caller, number) {
-            Ok(found) => Ok(found),
-            Err(fault) => Err(self.fault(fault)),
-        }
+        self.check_working()?;
+        let read = read_kept(alloc, &mut self.conn, caller, number);
+        self.answer(read)
     }
 }
 
@@ -319,10 +311,9 @@ fn mark_fits(mark: &Option<RequestMark>, answer: &Answer) -> bool
     }
 }
 
-/// Whether each number that is kept with the changes can be.
-fn are_kept(marked: &MarkedChanges) -> bool
-    ensures { IsTrue result ↔ FitsMarked marked.now }
+/// Whether each number that is kept with the changes and their answer can be.
+fn are_kept(marked: &MarkedChanges, answer: &Answer) -> bool
+    ensures { IsTrue result ↔ FitsWithAnswer marked.now answer.now }
 {
-    let answer = marked.answer();
-    fit(&marked.changes) && mark_fits(&marked.mark, &answer)
+    fit(&marked.changes) && mark_fits(&marked.mark, answer)
 }

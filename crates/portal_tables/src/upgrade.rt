@@ -19,7 +19,8 @@ use portal_rows::rows::Fault;
 use portal_sql::query::answers;
 use sqlite::{Alter, Connection, Error, ErrorCode};
 
-/// What a fault comes to. Want of memory is told only where the connection still answers, and so nothing has changed.
+/// What a fault comes to. Want of memory is told only where the connection still answers, and so nothing
+/// has changed.
 fn told<S: Alter>(conn: &mut Connection<S>, fault: &Fault) -> OpenFault
     ensures told { (result ≡ Memory) ⊎ (result ≡ Store) }
     ensures same { HasCleanDisk (state S.Store conn.new) → result ≡ Memory
@@ -36,8 +37,8 @@ fn told<S: Alter>(conn: &mut Connection<S>, fault: &Fault) -> OpenFault
     OpenFault::Store
 }
 
-/// Gives a store of an older layout this version's tables, index and layout, in one transaction. Memory leaves all as it was; after
-/// Store the files show the same ledger, in the one layout or in the other.
+/// Gives a store of an older layout this version's tables, index and layout, in one transaction. Memory
+/// leaves all as it was; after Store the files show the same ledger, in the one layout or in the other.
 pub(crate) fn upgrade<S: Alter>(conn: &mut Connection<S>, from: OldLayout) -> Result<(), OpenFault>
     ensures done { HasCleanDisk (state S.Store conn.new) → IsTrue (state S.Store conn.old).is_open
         → OnOk result (HasUpgraded from (state S.Store conn.old) (state S.Store conn.new)) }

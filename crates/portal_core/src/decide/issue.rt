@@ -1,8 +1,9 @@
 //! Issuing a batch of codes.
-ghost use Rattle.std.specs.Prelude.{◌≡◌, ◌⊎◌, bytes_eq, IfOk, IfErr, Some, None};
+ghost use Rattle.std.specs.Prelude.{◌≡◌, ◌≢◌, bytes_eq, IfOk, IfErr, Some, None};
 ghost use Rattle.std.specs.List.{list_any};
 ghost use Rattle.portal_model.specs.Verdict.{issue_verdict, stands_twice};
 ghost use Rattle.portal_model.specs.Change.{issue_change};
+ghost use Rattle.portal_core.specs.Decision.{IsDecisionOrFull};
 
 use portal_codes::Code;
 use portal_model::change::{Changes, Issuance};
@@ -16,7 +17,12 @@ use std::alloc::{AllocError, Global};
 
 const SECONDS_PER_DAY: u64 = 86_400;
 
-/// The issue of the codes as the batch `id` of the plan that was found, where `batch` is the batch that is held under that id, and `taken` says that one of the codes is held. Refused: `UnknownPlan` where no plan was found, `BatchExists`, `MomentRange` where the vouchers would expire past the greatest moment, `CodeTaken` where a code is held or listed twice. The first of them whose condition holds is the answer with want of memory aside, which is told as `NoMemory` where the list of codes could not be copied.
+/// The issue of the codes as the batch `id` of the plan that was found, where `batch` is the batch that is
+/// held under that id, and `taken` says that one of the codes is held.
+///
+/// Refused: `UnknownPlan` where no plan was found, `BatchExists`, `MomentRange` where the vouchers would
+/// expire past the greatest moment, `CodeTaken` where a code is held or listed twice: the first of them whose
+/// condition holds. Else `NoMemory` where the list of codes could not be copied.
 pub fn decide_issue(
     alloc: Global,
     plan: Option<Plan>,
@@ -26,21 +32,16 @@ pub fn decide_issue(
     codes: &[Code],
     t: Moment,
 ) -> Result<Changes, Refusal>
-    ensures accepted { IfOk result (λ _. issue_verdict plan batch taken codes.now t ≡ None) }
-    ensures refused { IfErr result (λ r. (r ≡ Refusal.NoMemory) ⊎ (issue_verdict plan batch taken codes.now t ≡ Some r)) }
-    ensures change { IfOk result (λ change. issue_change plan id codes.now t ≡ Some change) }
+    ensures { IsDecisionOrFull result (issue_verdict plan batch taken codes.now t)
+        (issue_change plan id codes.now t) }
 {
-    match check_issue(plan, batch, taken, id, codes, t) {
-        Ok(batch) => match copied(alloc, codes) {
-            Ok(codes) => Ok(Changes::Issuance(Issuance {
-                at: t,
-                batch,
-                codes,
-            })),
-            Err(_) => Err(Refusal::NoMemory),
-        },
-        Err(refusal) => Err(refusal),
-    }
+    let batch = check_issue(plan, batch, taken, id, codes, t)?;
+    let codes = copied(alloc, codes)?;
+    Ok(Changes::Issuance(Issuance {
+        at: t,
+        batch,
+        codes,
+    }))
 }
 
 /// The batch, where it may be issued.
@@ -54,7 +55,9 @@ fn check_issue(
 ) -> Result<Batch, Refusal>
     ensures accepted { IfOk result (λ _. issue_verdict plan batch taken codes.now t ≡ None) }
     ensures refused { IfErr result (λ r. issue_verdict plan batch taken codes.now t ≡ Some r) }
-    ensures change { IfOk result (λ b. issue_change plan id codes.now t ≡ Some (Changes.Issuance (record { at = t; batch = b; codes = codes.now }))) }
+    ensures own { IfErr result (λ r. r ≢ Refusal.Stopped) }
+    ensures change { IfOk result (λ b. issue_change plan id codes.now t
+        ≡ Some (Changes.Issuance (record { at = t; batch = b; codes = codes.now }))) }
 {
     let Some(plan) = plan else {
         return Err(Refusal::UnknownPlan);

@@ -1,8 +1,9 @@
 //! Loading plans.
-ghost use Rattle.std.specs.Prelude.{◌≡◌, ◌⊎◌, IfOk, IfErr, Some, None};
+ghost use Rattle.std.specs.Prelude.{◌≡◌, IfOk, Some};
 ghost use Rattle.std.specs.List.{list_any};
 ghost use Rattle.portal_model.specs.Verdict.{load_verdict, same_terms, differs};
 ghost use Rattle.portal_model.specs.Change.{plan_among, added, load_change};
+ghost use Rattle.portal_core.specs.Decision.{IsDecisionOrFull};
 
 use portal_model::change::{Changes, Loading};
 use portal_model::lists::Plans;
@@ -12,28 +13,29 @@ use portal_model::plan::Plan;
 use portal_model::refusal::Refusal;
 use std::alloc::{AllocError, Global};
 
-/// The load of a list of plans, where `held` has the plans that are held of the listed ids: those that are not held are added. Refused: `PlanDiffers` where a listed id is held with other terms; this is so with want of memory aside, which is told as `NoMemory` where the list of added plans could not grow.
+/// The load of a list of plans, where `held` has the plans that are held of the listed ids: those that are
+/// not held are added.
+///
+/// Refused: `PlanDiffers` where a listed id is held with other terms; else `NoMemory` where the list of added
+/// plans could not grow.
 pub fn decide_plans(
     alloc: Global,
     held: &[Plan],
     plans: &[Plan],
     t: Moment,
 ) -> Result<Changes, Refusal>
-    ensures accepted { IfOk result (λ _. load_verdict (plan_among held.now) plans.now ≡ None) }
-    ensures refused { IfErr result (λ r. (r ≡ Refusal.NoMemory) ⊎ (load_verdict (plan_among held.now) plans.now ≡ Some r)) }
-    ensures change { IfOk result (λ change. change ≡ load_change (plan_among held.now) plans.now t) }
+    ensures { IsDecisionOrFull result (load_verdict (plan_among held.now) plans.now)
+        (Some (load_change (plan_among held.now) plans.now t)) }
 {
     if any_differs(held, plans) {
         return Err(Refusal::PlanDiffers);
     }
-    match new_plans(alloc, held, plans) {
-        Ok(added) => Ok(Changes::Loading(Loading {
-            at: t,
-            listed: plans.len() as u64,
-            added,
-        })),
-        Err(_) => Err(Refusal::NoMemory),
-    }
+    let added = new_plans(alloc, held, plans)?;
+    Ok(Changes::Loading(Loading {
+        at: t,
+        listed: plans.len() as u64,
+        added,
+    }))
 }
 
 /// The first of the plans with that id.
@@ -64,10 +66,7 @@ fn same_terms(plan: &Plan, other: &Plan) -> bool
 fn differs(held: Option<Plan>, plan: &Plan) -> bool
     ensures { result ≡ differs held plan.now }
 {
-    match held {
-        None => false,
-        Some(held) => !same_terms(&held, plan),
-    }
+    held.is_some_and(|held| !same_terms(&held, plan))
 }
 
 fn any_differs(held: &[Plan], plans: &[Plan]) -> bool

@@ -1,5 +1,5 @@
 //! Redeeming a voucher.
-ghost use Rattle.std.specs.Prelude.{◌≡◌, ◌≤◌, IfOk, IfErr, Some, None, true, false};
+ghost use Rattle.std.specs.Prelude.{◌≡◌, ◌≢◌, ◌≤◌, IfOk, IfErr, Some, None, true, false};
 ghost use Rattle.portal_model.specs.History.{is_open_at, kept_if};
 ghost use Rattle.portal_model.specs.Verdict.{redeem_verdict, voucher_verdict, voucher_refusal, place_verdict, same_limits, is_past};
 ghost use Rattle.portal_model.specs.Change.{session_after, raised, redemption, redeem_change};
@@ -15,9 +15,15 @@ const GREATEST_ALLOWANCE: u64 = 9_000_000_000_000_000;
 
 const GREATEST_COUNT: u64 = 9_007_199_254_740_991;
 
-/// The redemption of the voucher that was found under the code, for a device whose last session is `last`. Where that session is open at `t` it is extended by the plan's seconds and bytes, and else a new session opens with the next number.
+/// The redemption of the voucher that was found under the code, for a device whose last session is `last`.
+/// Where that session is open at `t` it is extended by the plan's seconds and bytes, and else a new session
+/// opens with the next number.
 ///
-/// Refused, first for the voucher: `UnknownCode` where there is none, `NotSold`, `Refunded`, `Expired` from its expiry moment on, `UsedUp`. Then for an open session: `NoExtend` where its first plan does not extend, `ShapeDiffers` where it limits other quantities than the plan, `AllowanceFull` past 9,000,000,000,000,000 bytes, `MomentRange` where it would end past the greatest moment, `NumbersFull` after 9,007,199,254,740,991 redemptions; or for a new session `MomentRange` and `NumbersFull`.
+/// Refused, first for the voucher: `UnknownCode` where there is none, `NotSold`, `Refunded`, `Expired` from
+/// its expiry moment on, `UsedUp`. Then for an open session: `NoExtend` where its first plan does not extend,
+/// `ShapeDiffers` where it limits other quantities than the plan, `AllowanceFull` past 9,000,000,000,000,000
+/// bytes, `MomentRange` where it would end past the greatest moment, `NumbersFull` after
+/// 9,007,199,254,740,991 redemptions; or for a new session `MomentRange` and `NumbersFull`.
 ///
 /// A store never has more sessions than redemptions; of a head that tells otherwise no change is promised.
 pub fn decide_redeem(
@@ -29,7 +35,9 @@ pub fn decide_redeem(
 ) -> Result<Changes, Refusal>
     ensures accepted { IfOk result (λ _. redeem_verdict head.now voucher last t ≡ None) }
     ensures refused { IfErr result (λ r. redeem_verdict head.now voucher last t ≡ Some r) }
-    ensures change { head.now.sessions ≤ head.now.grants → IfOk result (λ change. redeem_change head.now voucher last device t ≡ Some change) }
+    ensures own { IfErr result (λ r. r ≢ Refusal.Stopped) }
+    ensures change { head.now.sessions ≤ head.now.grants
+        → IfOk result (λ change. redeem_change head.now voucher last device t ≡ Some change) }
 {
     let voucher = check_voucher(voucher, t)?;
     let running = open_of(last, t);
@@ -40,6 +48,7 @@ pub fn decide_redeem(
 fn check_voucher(voucher: Option<Voucher>, t: Moment) -> Result<Voucher, Refusal>
     ensures ok { IfOk result (λ v. (voucher ≡ Some v) × (voucher_refusal v t ≡ None)) }
     ensures err { IfErr result (λ r. voucher_verdict voucher t ≡ Some r) }
+    ensures own { IfErr result (λ r. r ≢ Refusal.Stopped) }
 {
     let Some(voucher) = voucher else {
         return Err(Refusal::UnknownCode);
@@ -63,12 +72,7 @@ fn check_voucher(voucher: Option<Voucher>, t: Moment) -> Result<Voucher, Refusal
 fn open_of(last: Option<Session>, t: Moment) -> Option<Session>
     ensures { result ≡ kept_if (is_open_at t) last }
 {
-    let session = last?;
-    if is_open(&session, t) {
-        Some(session)
-    } else {
-        None
-    }
+    last.filter(|session| is_open(session, t))
 }
 
 /// What the redemption of the voucher changes, beside the open session of the device.
@@ -81,7 +85,9 @@ fn redeem(
 ) -> Result<Changes, Refusal>
     ensures accepted { IfOk result (λ _. place_verdict head.now voucher.now.plan t running.now ≡ None) }
     ensures refused { IfErr result (λ r. place_verdict head.now voucher.now.plan t running.now ≡ Some r) }
-    ensures change { head.now.sessions ≤ head.now.grants → IfOk result (λ change. change ≡ redemption head.now running.now device t voucher.now) }
+    ensures own { IfErr result (λ r. r ≢ Refusal.Stopped) }
+    ensures change { head.now.sessions ≤ head.now.grants
+        → IfOk result (λ change. change ≡ redemption head.now running.now device t voucher.now) }
 {
     let session = place(head, *running, voucher.plan, device, t)?;
     Ok(Changes::Redemption(Redemption {
@@ -103,7 +109,9 @@ fn place(
 ) -> Result<Session, Refusal>
     ensures ok { IfOk result (λ _. place_verdict head.now plan t running ≡ None) }
     ensures err { IfErr result (λ r. place_verdict head.now plan t running ≡ Some r) }
-    ensures after { head.now.sessions ≤ head.now.grants → IfOk result (λ after. after ≡ session_after head.now plan running device t) }
+    ensures own { IfErr result (λ r. r ≢ Refusal.Stopped) }
+    ensures after { head.now.sessions ≤ head.now.grants
+        → IfOk result (λ after. after ≡ session_after head.now plan running device t) }
 {
     match running {
         Some(session) => extended_session(head, session, plan, device, t),
@@ -119,8 +127,10 @@ fn extended_session(
     device: Device,
     t: Moment,
 ) -> Result<Session, Refusal>
-    ensures ok { IfOk result (λ after. (place_verdict head.now plan t (Some session) ≡ None) × (after ≡ session_after head.now plan (Some session) device t)) }
+    ensures ok { IfOk result (λ after. (place_verdict head.now plan t (Some session) ≡ None)
+        × (after ≡ session_after head.now plan (Some session) device t)) }
     ensures err { IfErr result (λ r. place_verdict head.now plan t (Some session) ≡ Some r) }
+    ensures own { IfErr result (λ r. r ≢ Refusal.Stopped) }
 {
     if !session.extend {
         return Err(Refusal::NoExtend);
@@ -148,8 +158,10 @@ fn limits_same(session: &Session, plan: &Plan) -> bool
 }
 
 fn raised_allowance(allowance: Option<u64>, bytes: u64) -> Result<Option<u64>, Refusal>
-    ensures ok { IfOk result (λ more. (is_past 9000000000000000 allowance bytes ≡ false) × (more ≡ raised allowance bytes)) }
-    ensures err { IfErr result (λ r. (is_past 9000000000000000 allowance bytes ≡ true) × (r ≡ Refusal.AllowanceFull)) }
+    ensures ok { IfOk result (λ more. (is_past 9000000000000000 allowance bytes ≡ false)
+        × (more ≡ raised allowance bytes)) }
+    ensures err { IfErr result (λ r. (is_past 9000000000000000 allowance bytes ≡ true)
+        × (r ≡ Refusal.AllowanceFull)) }
 {
     let Some(had) = allowance else {
         return Ok(None);
@@ -161,7 +173,8 @@ fn raised_allowance(allowance: Option<u64>, bytes: u64) -> Result<Option<u64>, R
 }
 
 fn raised_end(ends: Option<Moment>, seconds: u32) -> Result<Option<Moment>, Refusal>
-    ensures ok { IfOk result (λ more. (is_past 253370764799 ends seconds ≡ false) × (more ≡ raised ends seconds)) }
+    ensures ok { IfOk result (λ more. (is_past 253370764799 ends seconds ≡ false)
+        × (more ≡ raised ends seconds)) }
     ensures err { IfErr result (λ r. (is_past 253370764799 ends seconds ≡ true) × (r ≡ Refusal.MomentRange)) }
 {
     let Some(had) = ends else {
@@ -177,7 +190,9 @@ fn raised_end(ends: Option<Moment>, seconds: u32) -> Result<Option<Moment>, Refu
 fn new_session(head: &Head, plan: Plan, device: Device, t: Moment) -> Result<Session, Refusal>
     ensures ok { IfOk result (λ _. place_verdict head.now plan t None ≡ None) }
     ensures err { IfErr result (λ r. place_verdict head.now plan t None ≡ Some r) }
-    ensures after { head.now.sessions ≤ head.now.grants → IfOk result (λ after. after ≡ session_after head.now plan None device t) }
+    ensures own { IfErr result (λ r. r ≢ Refusal.Stopped) }
+    ensures after { head.now.sessions ≤ head.now.grants
+        → IfOk result (λ after. after ≡ session_after head.now plan None device t) }
 {
     let Some(end) = Moment::new(t.get() + u64::from(plan.seconds)) else {
         return Err(Refusal::MomentRange);

@@ -13,20 +13,18 @@ use portal_lists::audits::audit;
 use sqlite::Alter;
 
 impl<S: Alter> Tables<S> {
-    /// Whether the counters of the store agree with its other rows: each count is the number of the redemptions with its code, each end and remainder is what the sums over its redemptions and its used bytes give, each voucher and each session has its counters, and the head has the numbers of redemptions and sessions.
-    /// So it is in tables that only this product has written.
+    /// Whether the counters of the store agree with its other rows: each count is the number of the
+    /// redemptions with its code, each end and remainder is what the sums over its redemptions and its
+    /// used bytes give, each voucher and each session has its counters, and the head has the numbers of
+    /// redemptions and sessions. So it is in tables that only this product has written.
     pub fn audit(&mut self) -> Result<bool, StoreFault>
         ensures reads { ReadsTables S.Store self.old self.new result (λ L audited. audited ≡ true) }
         ensures exact { IsHonest S.Store self.new → IsTrue (state S.Store self.old.conn).is_open
             → (t : Contents) → Holds (state S.Store self.old.conn).now t
             → IfOk result (λ audited. IsTrue audited ↔ IsAudited t) }
     {
-        if self.is_stopped {
-            return Err(StoreFault::Stopped);
-        }
-        match audit(&mut self.conn) {
-            Ok(audited) => Ok(audited),
-            Err(fault) => Err(self.fault(fault)),
-        }
+        self.check_working()?;
+        let read = audit(&mut self.conn);
+        self.answer(read)
     }
 }

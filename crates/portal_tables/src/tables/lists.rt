@@ -24,13 +24,9 @@ impl<S: Alter> Tables<S> {
         ensures { ReadsTables S.Store self.old self.new result
             (λ L found. found.items ≡ codes_of (history_of L) id.now) }
     {
-        if self.is_stopped {
-            return Err(StoreFault::Stopped);
-        }
-        match list_codes(alloc, &mut self.conn, id) {
-            Ok(found) => Ok(found),
-            Err(fault) => Err(self.fault(fault)),
-        }
+        self.check_working()?;
+        let read = list_codes(alloc, &mut self.conn, id);
+        self.answer(read)
     }
 
     /// The sessions that are open at `t`, by number.
@@ -38,16 +34,13 @@ impl<S: Alter> Tables<S> {
         ensures { ReadsTables S.Store self.old self.new result
             (λ L found. found.items ≡ filter (is_open_at t) (all_sessions (history_of L))) }
     {
-        if self.is_stopped {
-            return Err(StoreFault::Stopped);
-        }
-        match read_open_sessions(alloc, &mut self.conn, t) {
-            Ok(found) => Ok(found),
-            Err(fault) => Err(self.fault(fault)),
-        }
+        self.check_working()?;
+        let read = read_open_sessions(alloc, &mut self.conn, t);
+        self.answer(read)
     }
 
-    /// The sales within the two moments, both included: of each the moment, and the price in hundredths. They are ordered by moment, and at one moment by the voucher's printed code.
+    /// The sales within the two moments, both included: of each the moment, and the price in hundredths.
+    /// They are ordered by moment, and at one moment by the voucher's printed code.
     pub fn sales_between(
         &mut self,
         alloc: Global,
@@ -57,16 +50,13 @@ impl<S: Alter> Tables<S> {
         ensures { ReadsTables S.Store self.old self.new result
             (λ L found. AreOrderedSales (history_of L) from to found.items) }
     {
-        if self.is_stopped {
-            return Err(StoreFault::Stopped);
-        }
-        match read_ordered_sales(alloc, &mut self.conn, from, to) {
-            Ok(found) => Ok(found),
-            Err(fault) => Err(self.fault(fault)),
-        }
+        self.check_working()?;
+        let read = read_ordered_sales(alloc, &mut self.conn, from, to);
+        self.answer(read)
     }
 
-    /// The sales within the two moments, both included: of each the moment, and the price in hundredths. They are ordered as their vouchers were issued, which costs no sorting.
+    /// The sales within the two moments, both included: of each the moment, and the price in hundredths.
+    /// They are ordered as their vouchers were issued, which costs no sorting.
     pub fn sales_as_issued(
         &mut self,
         alloc: Global,
@@ -76,16 +66,13 @@ impl<S: Alter> Tables<S> {
         ensures { ReadsTables S.Store self.old self.new result
             (λ L found. AreSales (history_of L) from to found.items) }
     {
-        if self.is_stopped {
-            return Err(StoreFault::Stopped);
-        }
-        match read_sales(alloc, &mut self.conn, from, to) {
-            Ok(found) => Ok(found),
-            Err(fault) => Err(self.fault(fault)),
-        }
+        self.check_working()?;
+        let read = read_sales(alloc, &mut self.conn, from, to);
+        self.answer(read)
     }
 
-    /// The refunds within the two moments, both included: of each the moment, and the amount in hundredths. They are ordered by moment, and at one moment by the voucher's printed code.
+    /// The refunds within the two moments, both included: of each the moment, and the amount in
+    /// hundredths. They are ordered by moment, and at one moment by the voucher's printed code.
     pub fn refunds_between(
         &mut self,
         alloc: Global,
@@ -95,12 +82,8 @@ impl<S: Alter> Tables<S> {
         ensures { ReadsTables S.Store self.old self.new result
             (λ L found. AreRefunds (history_of L) from to found.items) }
     {
-        if self.is_stopped {
-            return Err(StoreFault::Stopped);
-        }
-        match list_refunds(alloc, &mut self.conn, from, to) {
-            Ok(found) => Ok(found),
-            Err(fault) => Err(self.fault(fault)),
-        }
+        self.check_working()?;
+        let read = list_refunds(alloc, &mut self.conn, from, to);
+        self.answer(read)
     }
 }

@@ -1,5 +1,4 @@
-use Rattle.std.proofs.Common.{inr, refl, sym, None, subst, ℕ, List}
-use Rattle.std.specs.Prelude.{IsUtf8}
+use Rattle.portal_checks.proofs.Common.{inr, refl, sym, None, subst, ℕ, List, IsUtf8}
 use Rattle.portal_checks.proofs.checks.check_path.Goals as goal
 
 pub returns-in_default-clause-checks : goal.returns-in_default-clause-checks

@@ -1,5 +1,4 @@
-use Rattle.std.proofs.Common.{Ok}
-use Rattle.portal_head.specs.Message.{said_by}
+use Rattle.portal_checks.proofs.Common.{Ok, said_by}
 use Rattle.portal_checks.proofs.NoStops.{no_stop}
 use Rattle.portal_checks.proofs.checks.check_request.Goals as goal
 

@@ -1,7 +1,10 @@
 use Rattle.std.proofs.Common.{inl}
 use Rattle.clap.specs.Words.{found_of, rows_of}
-use Rattle.portal_cli.proofs.OrderLemmas.{answer_without}
+use Rattle.portal_cli.specs.Orders.{IsAnswer}
+use Rattle.portal_cli.proofs.OrderLemmas.{answer_without, finds_none}
 use Rattle.portal_cli.proofs.found.answer_of.Goals as goal
 
-pub returns-in-None : goal.returns-in-None
-returns-in-None c = answer_without (rows_of (found_of c.args.found.now)) (inl c.in-None.ensures)
+pub returns-in_err-now : goal.returns-in_err-now
+returns-in_err-now c =
+    let rows = rows_of (found_of c.args.found.now) in
+    finds_none IsAnswer rows c.from_residual.result c.from_residual.ensures (answer_without rows (inl c.in_err-now.ensures))

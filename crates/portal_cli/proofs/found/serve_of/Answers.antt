@@ -1,10 +1,15 @@
 use Rattle.std.proofs.Common.{inl, inr}
 use Rattle.clap.specs.Words.{found_of, rows_of}
-use Rattle.portal_cli.proofs.OrderLemmas.{serve_without}
+use Rattle.portal_cli.specs.Orders.{IsServe}
+use Rattle.portal_cli.proofs.OrderLemmas.{finds_none, serve_without}
 use Rattle.portal_cli.proofs.found.serve_of.Goals as goal
 
-pub returns-in-None-number_of : goal.returns-in-None-number_of
-returns-in-None-number_of c = serve_without (rows_of (found_of c.args.found.now)) (inr (inl c.in-None-number_of.ensures))
+pub returns-in_err-port : goal.returns-in_err-port
+returns-in_err-port c =
+    let rows = rows_of (found_of c.args.found.now) in
+    finds_none IsServe rows c.from_residual-in_err-port.result c.from_residual-in_err-port.ensures (serve_without rows (inr (inl c.in_err-port.ensures)))
 
-pub returns-in-None-number_of-2 : goal.returns-in-None-number_of-2
-returns-in-None-number_of-2 c = serve_without (rows_of (found_of c.args.found.now)) (inr (inr c.in-None-number_of-2.ensures))
+pub returns-in_err-count : goal.returns-in_err-count
+returns-in_err-count c =
+    let rows = rows_of (found_of c.args.found.now) in
+    finds_none IsServe rows c.from_residual-in_err-count.result c.from_residual-in_err-count.ensures (serve_without rows (inr (inr c.in_err-count.ensures)))

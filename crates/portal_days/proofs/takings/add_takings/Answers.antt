@@ -1,8 +1,4 @@
-use Rattle.std.proofs.Common.{◌≡◌, ◌∙◌, ◌+◌, ◌<◌, ℕ, [], ◌∷◌, ◌++◌, ap, sym, length, map, pos, ◌+ℤ◌, subst, arith, rules}
-use Rattle.std.specs.List.{range_with_len}
-use Rattle.portal_days.specs.Takings.{takings_on, TotalsFit}
-use Rattle.portal_days.specs.Span.{day_count}
-use Rattle.portal_days.specs.Private.DaySums.{day_sum}
+use Rattle.portal_days.proofs.Common.{◌≡◌, ◌∙◌, ◌+◌, ◌<◌, [], ◌∷◌, ◌++◌, ap, sym, length, map, pos, ◌+ℤ◌, subst, arith, rules, range_with_len, takings_on, TotalsFit, day_count, day_sum}
 use Rattle.portal_days.proofs.DayLists.{map-days_more}
 use Rattle.portal_days.proofs.DaySumLemmas.{many_days, day_at, taken_same}
 use Rattle.portal_days.proofs.Totals.{totals-fit}

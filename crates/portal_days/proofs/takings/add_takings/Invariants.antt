@@ -1,6 +1,4 @@
-use Rattle.std.proofs.Common.{◌≡◌, map, pos, ◌+ℤ◌}
-use Rattle.std.specs.List.{range_with_len}
-use Rattle.portal_days.specs.Takings.{takings_on, TotalsFit}
+use Rattle.portal_days.proofs.Common.{◌≡◌, map, pos, ◌+ℤ◌, range_with_len, takings_on, TotalsFit}
 use Rattle.portal_days.proofs.takings.add_takings.Given as goal
 
 abbrev pub invariant-loop-after : goal.invariant-loop-after

@@ -1,10 +1,4 @@
-use Rattle.std.proofs.Common.{◌≡◌, ◌<◌, ◌^◌, ◌+◌, ◌+ℤ◌, ℕ, pos, length, get_or, take, ap, sym, ◌∙◌, subst, arith, rules, slice_index_or}
-use Rattle.std.specs.Prelude.{All}
-use Rattle.std.proofs.lemmas.List.{take_all}
-use Rattle.std.proofs.lemmas.List.Elements.{All-more}
-use Rattle.portal_days.specs.Takings.{Pair}
-use Rattle.portal_days.specs.Span.{day_count}
-use Rattle.portal_days.specs.Private.DaySums.{day_sum, nothing, with_pair, HasRoom}
+use Rattle.portal_days.proofs.Common.{◌≡◌, ◌<◌, ◌^◌, ◌+◌, ◌+ℤ◌, pos, length, get_or, take, ap, sym, ◌∙◌, subst, rules, slice_index_or, All, take_all, All-more, Pair, day_sum, nothing, with_pair, HasRoom}
 use Rattle.portal_days.proofs.DaySumLemmas.{day_sum_more, day_sum_room, sums_are, whole}
 use Rattle.portal_days.proofs.takings.sums_by_day.Goals as goal
 

@@ -1,7 +1,4 @@
-use Rattle.std.proofs.Common.{◌≡◌, ◌<◌, ◌^◌, ◌+ℤ◌, ℕ, pos, length, get_or, take}
-use Rattle.std.specs.Prelude.{All}
-use Rattle.portal_days.specs.Span.{day_count}
-use Rattle.portal_days.specs.Private.DaySums.{day_sum, nothing}
+use Rattle.portal_days.proofs.Common.{◌≡◌, ◌<◌, ◌^◌, ◌+ℤ◌, ℕ, pos, length, get_or, take, All, day_count, day_sum, nothing}
 use Rattle.portal_days.proofs.takings.sums_by_day.Given as goal
 
 abbrev pub invariant-loop-day : goal.invariant-loop-day

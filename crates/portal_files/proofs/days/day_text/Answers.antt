@@ -1,8 +1,4 @@
-use Rattle.std.proofs.Common.{◌≡◌, ◌∙◌, w64, to_z, of_z, ap, subst, arith}
-use Rattle.std.proofs.lemmas.Int.{ints}
-use Rattle.std.proofs.lemmas.Result.{IfOk-weaker}
-use Rattle.jiff.specs.Words.{epoch_day}
-use Rattle.portal_days.specs.Span.{IsDay}
+use Rattle.portal_files.proofs.Common.{◌≡◌, ◌∙◌, w64, to_z, of_z, ap, subst, arith, ints, IfOk-weaker, epoch_day, IsDay}
 use Rattle.portal_files.proofs.DateTexts.{day-text}
 use Rattle.portal_files.proofs.days.day_text.Goals as goal
 

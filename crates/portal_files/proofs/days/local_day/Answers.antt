@@ -1,8 +1,4 @@
-use Rattle.std.proofs.Common.{arith, ◌≡◌, w32, to_z, of_z, sym, ap, subst, ◌∙◌}
-use Rattle.std.proofs.lemmas.Int.{ints}
-use Rattle.jiff.specs.Words.{epoch_day}
-use Rattle.portal_days.specs.Span.{IsDay}
-use Rattle.portal_files.specs.LocalDay.{local_day_of}
+use Rattle.portal_files.proofs.Common.{arith, ◌≡◌, w32, to_z, of_z, sym, ap, subst, ◌∙◌, ints, epoch_day, IsDay, local_day_of}
 use Rattle.portal_files.proofs.ShownDays.{day-from_seconds, local-day}
 use Rattle.portal_files.proofs.days.local_day.Goals as goal
 use Rattle.portal_files.proofs.days.local_day.Goals.{After-to_unix_epoch_day-number}

@@ -1,6 +1,4 @@
-use Rattle.std.proofs.Common.{◌≡◌, ◌<◌, ℤ, pos, ◌+ℤ◌, ◌*ℤ◌, to_z, of_z, w8, w16, is_some, is_ok, true, false, ap, sym, ◌∙◌, arith}
-use Rattle.std.proofs.lemmas.Bool.{false≢true}
-use Rattle.std.proofs.lemmas.Int.{ints}
+use Rattle.portal_files.proofs.Common.{◌≡◌, ◌<◌, ℤ, pos, ◌+ℤ◌, ◌*ℤ◌, to_z, of_z, w8, w16, is_some, is_ok, true, false, ap, sym, ◌∙◌, arith, false≢true, ints}
 use Rattle.portal_files.proofs.DateTexts.{WasReadAt, date-text, text-date, date-made}
 use Rattle.portal_files.proofs.Tables.{some-from_ok}
 use Rattle.portal_files.proofs.days.read_date.Goals as goal

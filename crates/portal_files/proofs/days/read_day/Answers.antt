@@ -1,7 +1,4 @@
-use Rattle.std.proofs.Common.{◌≡◌, w32, to_z, of_z, ap, ◌∙◌, subst, arith}
-use Rattle.std.proofs.lemmas.Int.{ints}
-use Rattle.jiff.specs.Words.{epoch_day}
-use Rattle.portal_files.specs.DayText.{IsDateText}
+use Rattle.portal_files.proofs.Common.{◌≡◌, w32, to_z, of_z, ap, ◌∙◌, subst, arith, ints, epoch_day, IsDateText}
 use Rattle.portal_files.proofs.DateTexts.{day-found, no-day}
 use Rattle.portal_files.proofs.days.read_day.Goals as goal
 use Rattle.portal_files.proofs.days.read_day.Goals.{After-new}

@@ -1,13 +1,13 @@
-use Rattle.std.proofs.Common.{◌∙◌}
-use Rattle.toml.proofs.Views.{table_get}
+use Rattle.portal_files.proofs.Common.{◌∙◌, table_get}
 use Rattle.portal_files.proofs.fields.string_at.Goals as goal
 
-pub returns-in-Some : goal.returns-in-Some
-returns-in-Some c =
+pub returns : goal.returns
+returns c =
     let found = table_get c.get.result c.args.key.now c.args.table.now.entries c.get.ensures.value in
-    c.as_str.ensures ∙ rw (← rw c.in-Some.is at found)
+    c.as_str.ensures ∙ rw (← rw c.in_ok-get.was at found)
 
-pub returns-in-None : goal.returns-in-None
-returns-in-None c =
+pub returns-in_err-get : goal.returns-in_err-get
+returns-in_err-get c =
     let found = table_get c.get.result c.args.key.now c.args.table.now.entries c.get.ensures.value in
-    rw (← rw c.in-None.is at found)
+    let gone = rw c.in_err-get.was at found in
+    rw (c.from_residual.ensures, ← gone)

@@ -1,5 +1,5 @@
-use Rattle.portal_files.proofs.TextsAt.{same-settings}
+use Rattle.portal_files.proofs.TextsAt.{same_settings}
 use Rattle.portal_files.proofs.laws.file_fixes_settings.Goals as goal
 
 pub returns : goal.returns
-returns c = same-settings
+returns c = same_settings

@@ -1,8 +1,4 @@
-use Rattle.std.proofs.Common.{◌≡◌, ◌∙◌, ◌+◌, ◌||◌, Bool, true, false, List, drop, map, sym, ap}
-use Rattle.std.specs.List.{list_any}
-use Rattle.std.specs.Prelude.{bytes_eq}
-use Rattle.portal_model.specs.declared.plan.Plan.{Plan}
-use Rattle.portal_model.specs.Verdict.{ids_stand_twice}
+use Rattle.portal_files.proofs.Common.{◌≡◌, ◌∙◌, ◌+◌, ◌||◌, Bool, true, false, List, drop, map, sym, ap, list_any, bytes_eq, Plan, ids_stand_twice}
 use Rattle.portal_files.proofs.PlanLists.{ids_stand_twice-drop, list_any-map}
 use Rattle.portal_files.proofs.plans.has_repeated_id.Goals as goal
 

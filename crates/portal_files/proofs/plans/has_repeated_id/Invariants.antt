@@ -1,5 +1,4 @@
-use Rattle.std.proofs.Common.{◌≡◌, drop}
-use Rattle.portal_model.specs.Verdict.{ids_stand_twice}
+use Rattle.portal_files.proofs.Common.{◌≡◌, drop, ids_stand_twice}
 use Rattle.portal_files.proofs.plans.has_repeated_id.Given as goal
 
 abbrev pub invariant-loop-i : goal.invariant-loop-i

@@ -1,10 +1,5 @@
-use Rattle.std.proofs.Common.{◌≡◌, ◌+◌, ◌∙◌, List, [], ◌∷◌, ◌++◌, get_or, take, ap, sym, subst, refl}
+use Rattle.portal_files.proofs.Common.{◌≡◌, ◌+◌, ◌∙◌, List, [], ◌∷◌, ◌++◌, get_or, take, ap, sym, subst, refl, push_item, view, items_view, items_view-push, Plan, IsPlanData, ArePlanTables}
 use Rattle.std.proofs.lemmas.List.{take_more}
-use Rattle.toml.specs.Data.{push_item}
-use Rattle.toml.specs.View.{view, items_view}
-use Rattle.toml.proofs.Views.{items_view-push}
-use Rattle.portal_model.specs.declared.plan.Plan.{Plan}
-use Rattle.portal_files.specs.PlansFile.{IsPlanData, ArePlanTables}
 use Rattle.portal_files.proofs.PlanLists.{no-table_at, tables-push}
 use Rattle.portal_files.proofs.plans.read_members.Goals as goal
 

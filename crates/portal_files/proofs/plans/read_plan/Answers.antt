@@ -1,5 +1,4 @@
-use Rattle.std.proofs.Common.{◌≡◌, Some, refl, arith, ap, ◌∙◌}
-use Rattle.toml.specs.View.{table_view}
+use Rattle.portal_files.proofs.Common.{◌≡◌, Some, refl, arith, ap, ◌∙◌, table_view}
 use Rattle.portal_files.proofs.Tables.{member_count-view, WasRead, plan-table, table-terms, id-text, some-from_ok, none-from_err}
 use Rattle.portal_model.specs.declared.refusal.Refusal.TheVariants.{BadPlans}
 use Rattle.portal_files.proofs.plans.read_plan.Goals as goal

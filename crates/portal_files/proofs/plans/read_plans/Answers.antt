@@ -1,9 +1,5 @@
-use Rattle.std.proofs.Common.{◌≡◌, ◌∙◌, length, true, Some, ap, sym, subst, arith}
+use Rattle.portal_files.proofs.Common.{◌≡◌, ◌∙◌, length, true, Some, ap, sym, subst, arith, false≢true, items_view, ids_stand_twice, ArePlanTables}
 use Rattle.std.proofs.lemmas.Bool.Decides.{nat_tests}
-use Rattle.std.proofs.lemmas.Bool.{false≢true}
-use Rattle.toml.specs.View.{items_view}
-use Rattle.portal_model.specs.Verdict.{ids_stand_twice}
-use Rattle.portal_files.specs.PlansFile.{ArePlanTables}
 use Rattle.portal_files.proofs.PlanLists.{tables-length}
 use Rattle.portal_files.proofs.SamePlans.{file-tables, equal-plans}
 use Rattle.portal_files.proofs.plans.read_plans.Goals as goal

@@ -1,6 +1,4 @@
-use Rattle.std.proofs.Common.{◌≡◌, subst, sym}
-use Rattle.std.proofs.lemmas.Result.{IfOk-weaker, IfErr-weaker}
-use Rattle.portal_files.specs.SettingsFile.{IsSettingsFile}
+use Rattle.portal_files.proofs.Common.{◌≡◌, subst, sym, IfOk-weaker, IfErr-weaker, IsSettingsFile}
 use Rattle.portal_files.proofs.SampleText.{sample_text, sample-settings}
 use Rattle.portal_files.proofs.SampleZone.{sample_value, sample-file, only-memory}
 use Rattle.portal_files.proofs.settings_file.sample_settings.Goals as goal

@@ -1,6 +1,4 @@
-use Rattle.std.proofs.Common.{◌∙◌, arith, ap, sym, refl}
-use Rattle.toml.specs.View.{table_view}
-use Rattle.portal_files.specs.SettingsFile.{key_count}
+use Rattle.portal_files.proofs.Common.{◌∙◌, arith, ap, sym, refl, table_view, key_count}
 use Rattle.portal_files.proofs.Tables.{member_count-view}
 use Rattle.portal_files.proofs.TextsAt.{same-venue}
 use Rattle.portal_files.proofs.settings_file.texts_of.Goals as goal

@@ -1,6 +1,4 @@
-use Rattle.std.proofs.Common.{◌∙◌, codes, sym, ap, not, refl}
-use Rattle.toml.specs.View.{table_view}
-use Rattle.toml.proofs.Views.{table_get}
+use Rattle.portal_files.proofs.Common.{◌∙◌, codes, sym, ap, not, refl, table_view, table_get}
 use Rattle.portal_files.proofs.TextsAt.{option_map-none, member-there, no-venue}
 use Rattle.portal_files.proofs.settings_file.venue_at.Goals as goal
 

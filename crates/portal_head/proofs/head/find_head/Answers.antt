@@ -1,11 +1,10 @@
-use Rattle.std.proofs.Common.{◌≡◌, ◌≢◌, List, ℕ, ap, inl, inr, Err, refl, ◌⊎◌, subst, arith}
+use Rattle.portal_head.proofs.Common.{◌≡◌, ◌≢◌, List, ℕ, map, ap, ◌∙◌, inl, inr, Ok, Err, refl, ◌⊎◌, subst, RequestSpans, NeverHasRequest, RequestHead, header_bytes, IsRequestOf, IsRequestWithin, RequestExceeds, field_limit, HasManyLines, BeginsWith}
 use Rattle.httparse.specs.declared.Error.{Error}
 use Rattle.httparse.specs.declared.Error.TheVariants.{TooManyHeaders}
-use Rattle.httparse.specs.Grammar.{NeverHasRequest}
-use Rattle.httparse.specs.Spans.{RequestExceeds}
-use Rattle.portal_head.specs.Limits.{field_limit}
-use Rattle.portal_head.specs.Lines.{HasManyLines}
+use Rattle.httparse.specs.declared.Status.{Status}
+use Rattle.httparse.specs.Outcome.{IfComplete}
 use Rattle.portal_head.proofs.LineFeedLemmas.{exceeds}
+use Rattle.portal_head.proofs.RequestLemmas.{is_found}
 use Rattle.portal_head.proofs.head.find_head.Goals as goal
 
 -- no bytes can follow that make a head, or too many fields came
@@ -14,9 +13,19 @@ by_error : (front : List ℕ) (e : Error) → (e ≡ TooManyHeaders → RequestE
 by_error front TooManyHeaders many never = inl (exceeds front (many refl))
 by_error front e many never = inr (never (λ same. cc))
 
-pub returns-in-Err-clause-found : goal.returns-in-Err-clause-found
-returns-in-Err-clause-found c = (
-  λ head begins. c.in-Err.ensures.found head begins.0 begins.1 (omega (arith, begins.2, c.requires)),
-  by_error c.args.front.now c.in-Err.field-0 (λ e. subst (λ (room : ℕ). RequestExceeds room c.args.front.now) c.requires (c.in-Err.ensures.too_many (ap Err e)))
-      c.in-Err.ensures.invalid,
-)
+pub returns-in-Ok-Complete : goal.returns-in-Ok-Complete
+returns-in-Ok-Complete c =
+    let front = c.front-front.result.now in
+    let headers = c.parse_request.new.headers in
+    let found = c.in-Ok-Complete in
+    let within = subst (λ (s : Status RequestSpans). IfComplete {E = Error} (Ok s) (IsRequestWithin front headers)) found.field-0-is found.ensures.within in
+    let complete = subst (λ (s : Status RequestSpans). IfComplete {E = Error} (Ok s) (IsRequestOf front headers)) found.field-0-is found.ensures.complete in
+    is_found c.args.bytes.now front headers found.spans c.declared_length-declared.result complete.0 c.new.result c.front-front.ensures
+    c.parse_request.auto.headers within complete.1 (c.new.ensures ∙ ap (map (header_bytes front)) c.split_at.ensures.front)
+    c.declared_length-declared.ensures.value c.declared_length-declared.ensures.limit
+
+pub returns-in-Err : goal.returns-in-Err
+returns-in-Err c =
+    let none = c.in-Err.ensures in
+    subst (λ (f : List ℕ). ((head : RequestHead) → ¬ (BeginsWith f head)) × (HasManyLines f ⊎ NeverHasRequest f)) c.front-front.ensures
+    (λ head begins. none.found head begins.0 begins.1 begins.2, by_error c.front-front.result.now c.in-Err.field-0 (λ e. none.too_many (ap Err e)) none.invalid)

@@ -1,6 +1,4 @@
-use Rattle.std.proofs.Common.{sym, arith}
-use Rattle.std.proofs.lemmas.List.{take_all, length-take-le}
-use Rattle.portal_head.specs.Limits.{head_limit}
+use Rattle.portal_head.proofs.Common.{sym, arith, take_all, length-take-le, head_limit}
 use Rattle.portal_head.proofs.head.front.Goals as goal
 
 pub slice_bounds-result-end : goal.slice_bounds-result-end

@@ -1,11 +1,5 @@
-use Rattle.std.proofs.Common.{◌≡◌, ℕ, ◌≤◌, List, ◌++◌, length, Option, Some, None, Result, Ok, Err, refl, ap, ◌∙◌, inl, inr, arith, false, nat_lt}
-use Rattle.std.proofs.lemmas.Bool.{le-ltb}
-use Rattle.std.proofs.lemmas.List.{drop-append-le, take-append-le, length-append, length-take}
-use Rattle.httparse.specs.Grammar.{RequestHead, print_request}
-use Rattle.portal_head.specs.Limits.{head_limit}
-use Rattle.portal_head.specs.declared.faults.HeadFault.{HeadFault}
-use Rattle.portal_head.specs.Message.{HeadOf, bytes_after, body_after, length_of, message_in, message_with}
-use Rattle.portal_head.specs.Decided.{IsDecided, IsSettled}
+use Rattle.portal_head.proofs.Common.{◌≡◌, ℕ, ◌≤◌, List, ◌++◌, length, Option, Some, None, Result, Ok, Err, refl, ap, ◌∙◌, inl, inr, arith, false, nat_lt, le-ltb, drop-append-le, take-append-le, length-append, length-take, RequestHead, head_limit, HeadFault, HeadOf, bytes_after, body_after, length_of, message_in, message_with, IsDecided, IsSettled}
+use Rattle.httparse.specs.Grammar.{print_request}
 use Rattle.portal_head.proofs.DecidedLemmas.{stays, by_one, none_comes}
 use Rattle.portal_head.proofs.laws.decided_stays.Goals as goal
 

@@ -1,9 +1,5 @@
-use Rattle.std.proofs.Common.{◌≡◌, ◌∙◌, sym, ap, arith, ◌+◌, ◌-◌, ◌*◌, min, ℕ, Bool, true, ◌&&◌, get_or, drop}
-use Rattle.std.proofs.lemmas.Bool.Decides.{nat_tests}
+use Rattle.portal_head.proofs.Common.{◌≡◌, ◌∙◌, sym, ap, arith, ◌+◌, ◌-◌, ◌*◌, min, ℕ, Bool, true, ◌&&◌, get_or, drop, nat_tests, at_drop_more, list_all, is_ascii_digit, digit_value}
 use Rattle.std.proofs.lemmas.Int.Digits.{digits_value_more}
-use Rattle.std.proofs.lemmas.List.{at_drop_more}
-use Rattle.std.specs.List.{list_all}
-use Rattle.std.specs.Char.{is_ascii_digit, digit_value}
 use Rattle.portal_head.proofs.lengths.capped_number.Goals as goal
 
 digit_is : (x : ℕ) → is_ascii_digit x ≡ true → digit_value x ≡ x - 48

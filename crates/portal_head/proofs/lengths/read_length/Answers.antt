@@ -1,7 +1,4 @@
-use Rattle.std.proofs.Common.{◌≡◌, ◌∙◌, sym, ◌<◌, nat_lt, true, false, arith}
-use Rattle.std.proofs.lemmas.Bool.Decides.{nat_tests}
-use Rattle.std.specs.Str.Parse.{digits_value}
-use Rattle.portal_head.specs.Limits.{body_limit}
+use Rattle.portal_head.proofs.Common.{◌≡◌, ◌∙◌, sym, ◌<◌, nat_lt, true, false, arith, nat_tests, digits_value, body_limit}
 use Rattle.portal_head.specs.Lengths.{length_in}
 use Rattle.portal_head.proofs.lengths.read_length.Goals as goal
 

@@ -1,17 +1,12 @@
-use Rattle.std.proofs.Common.{sym, subst, inl, arith, List, ℕ}
-use Rattle.std.proofs.lemmas.Result.{err_from_is_err_and}
+use Rattle.portal_head.proofs.Common.{Bool, sym, subst, inl, MatchBool, err_from_is_err_and, IsDecided, IsOpen, BreaksOff}
 use Rattle.std.proofs.KnownBytes.{Consumes-nil}
-use Rattle.portal_head.specs.Decided.{IsDecided}
-use Rattle.portal_head.specs.Reading.{BreaksOff}
-use Rattle.portal_head.proofs.ReadingLemmas.{open_at_first, one_more, at_end, breaks_off, open_yet}
+use Rattle.portal_head.proofs.ReadingLemmas.{open_at_first, one_more, at_end, breaks_off}
 use Rattle.portal_head.proofs.reading.read_request.Goals as goal
-use Rattle.portal_head.specs.Steps.{IsWanted}
 
 pub loop-received-init : goal.loop-received-init
-loop-received-init g c = rw c.new-received.ensures (record {
+loop-received-init g c = rw (c.new-received.ensures, c.new.ensures.items) (record {
   read = Consumes-nil (g.R.Read.remaining c.args.reader.now);
   open_yet = open_at_first;
-  wanted = (open_at_first, omega arith);
 })
 
 pub returns-in_err-receive : goal.returns-in_err-receive
@@ -26,15 +21,18 @@ returns-then-branch-eq0 g c =
     let before = c.loop-received.invariant in
     at_end _ _ _ c.loop-received.received c.receive.new.self _ c.if-branch-eq0.true before.read before.open_yet c.in_ok-receive.ensures
 
-pub returns-in-Nothing : goal.returns-in-Nothing
-returns-in-Nothing g c =
+pub returns-then-is_decided : goal.returns-then-is_decided
+returns-then-is_decided g c =
     let before = c.loop-received.invariant in
     let more = one_more _ _ _ c.loop-received.received c.receive.new.self _ before.read before.open_yet c.in_ok-receive.ensures in
-    record { read = more.read; enough = inl (subst IsDecided c.bytes.ensures c.in-Nothing.ensures); not_late = more.not_late }
+    let bytes = c.receive.new.self.bytes in
+    let decided = subst (λ (b : Bool). MatchBool b (IsDecided bytes) (IsOpen bytes)) c.if-is_decided.true c.is_decided.ensures in
+    record { read = more.read; enough = inl decided; not_late = more.not_late }
 
 pub loop-received-preserved : goal.loop-received-preserved
 loop-received-preserved g c =
     let before = c.loop-received.invariant in
     let more = one_more _ _ _ c.loop-received.received c.receive.new.self _ before.read before.open_yet c.in_ok-receive.ensures in
-    let wanted = subst (λ (bytes : List ℕ). IsWanted bytes c.still_wanted-wanted.result) c.bytes.ensures c.still_wanted-wanted.ensures in
-    record { read = more.read; open_yet = open_yet _ _ wanted c.in_default.not-Nothing; wanted = wanted }
+    let bytes = c.receive.new.self.bytes in
+    let open_yet = subst (λ (b : Bool). MatchBool b (IsDecided bytes) (IsOpen bytes)) c.if-is_decided.false c.is_decided.ensures in
+    record { read = more.read; open_yet = open_yet }

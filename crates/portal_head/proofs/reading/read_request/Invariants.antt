@@ -1,15 +1,11 @@
-use Rattle.std.proofs.Common.{◌-◌, length}
-use Rattle.std.specs.Io.KnownBytes.{Consumes}
-use Rattle.portal_head.specs.Decided.{IsOpen}
+use Rattle.portal_head.proofs.Common.{◌-◌, length, Consumes, IsOpen}
 use Rattle.portal_head.proofs.reading.read_request.Given as goal
-use Rattle.portal_head.specs.Steps.{IsWanted}
 
 -- the reply is open yet
 abbrev pub invariant-loop-received : goal.invariant-loop-received
 invariant-loop-received g l = record {
   read : Consumes (g.R.Read.remaining l.fn.reader) (g.R.Read.remaining l.reader) l.received.bytes;
   open_yet : IsOpen l.received.bytes;
-  wanted : IsWanted l.received.bytes l.wanted;
 }
 
 abbrev pub decreases-loop-received : goal.decreases-loop-received

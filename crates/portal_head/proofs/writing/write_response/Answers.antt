@@ -1,7 +1,5 @@
-use Rattle.std.proofs.Common.{List, ℕ, take, drop, sym, subst, arith}
-use Rattle.std.proofs.Math.Seq.{take-add}
+use Rattle.portal_head.proofs.Common.{List, ℕ, take, drop, sym, subst, arith, take-add, Appends}
 use Rattle.std.proofs.KnownBytes.{Appends-trans}
-use Rattle.std.specs.Io.KnownBytes.{Appends}
 use Rattle.portal_head.proofs.writing.write_response.Goals as goal
 
 pub loop-written-preserved : goal.loop-written-preserved

@@ -1,5 +1,4 @@
-use Rattle.std.proofs.Common.{◌≤◌, ◌-◌, length, take}
-use Rattle.std.specs.Io.KnownBytes.{Appends}
+use Rattle.portal_head.proofs.Common.{◌≤◌, ◌-◌, length, take, Appends}
 use Rattle.portal_head.proofs.writing.write_response.Given as goal
 
 -- the first bytes went out

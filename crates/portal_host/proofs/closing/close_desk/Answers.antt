@@ -1,23 +1,36 @@
-use Rattle.std.proofs.Common.{subst}
-use Rattle.sqlite.specs.Closing.{HoldsAlone}
-use Rattle.sqlite.specs.Files.{file_state}
-use Rattle.sqlite.specs.Held.{Held}
+use Rattle.portal_host.proofs.Common.{subst, Files, view, AreClean, HoldsAlone, IsCopied, FailsToClose, IsClosed, file_state, over_files, Held, Ledger, AreCopied, AreWhole}
+use Rattle.sqlite_store.specs.declared.store.FileStore.{FileStore}
+use Rattle.sqlite_trees.specs.View.{IsClean}
+use Rattle.sqlite.specs.declared.error.Error.{Error}
+use Rattle.portal_ledger.specs.States.{running}
+use Rattle.portal_store.specs.DeskAt.{DeskAt, DeskMayLeave}
 use Rattle.portal_tables.proofs.OpeningLemmas.{unclosed_shows}
-use Rattle.portal_host.proofs.ClosingLemmas.{closed_whole, unclosed_leaves}
+use Rattle.portal_tables.specs.Images.{StoreMayLeave}
+use Rattle.portal_tables.specs.TablesAt.{Files as Tables, FilesShow}
+use Rattle.portal_host.proofs.ClosingLemmas.{closed_whole, if_err, if_ok, unclosed_leaves}
 use Rattle.portal_host.proofs.closing.close_desk.Goals as goal
 
-pub returns-in-Ok-clause-whole : goal.returns-in-Ok-clause-whole
-returns-in-Ok-clause-whole g c honest L stands =
-    closed_whole L c.release.result (c.release.ensures.stands L stands) c.in-Ok.files (c.in-Ok.ensures.copied honest)
+pub returns-clause-copied : goal.returns-clause-copied
+returns-clause-copied g c =
+    if_ok c.close_files.result (λ (files : Files _). AreClean g.D.Disk files.log files.db → IsCopied c.release.result files)
+    (λ (files : Files _). AreClean g.D.Disk files.log files.db → AreCopied c.args.desk files)
+    (λ files copied honest image may.
+    subst (λ (conn : Held _). HoldsAlone image (file_state conn).committed.trees) c.release.ensures.same ((copied honest).left image may)) c.close_files.ensures.copied
 
-pub returns-in-Err-clause-unclosed : goal.returns-in-Err-clause-unclosed
-returns-in-Err-clause-unclosed g c L stands =
-    unclosed_shows L c.release.result c.in-Err.unclosed.1 (c.release.ensures.stands L stands) c.in-Err.ensures.err.0.quiet
+pub returns-clause-whole : goal.returns-clause-whole
+returns-clause-whole g c =
+    if_ok c.close_files.result (λ (files : Files _). AreClean g.D.Disk files.log files.db → IsCopied c.release.result files)
+    (λ (files : Files _). AreClean g.D.Disk files.log files.db → (L : Ledger) → DeskAt over_files c.args.desk (running L) → AreWhole g.D.Disk files L)
+    (λ files copied honest L stands. closed_whole L c.release.result (c.release.ensures.stands L stands) files (copied honest)) c.close_files.ensures.copied
 
-pub returns-in-Ok-clause-copied : goal.returns-in-Ok-clause-copied
-returns-in-Ok-clause-copied g c honest image may =
-    subst (λ (conn : Held _). HoldsAlone image (file_state conn).committed.trees) c.release.ensures.same ((c.in-Ok.ensures.copied honest).left image may)
+pub returns-clause-unclosed : goal.returns-clause-unclosed
+returns-clause-unclosed g c L stands =
+    if_err c.close_files.result (λ (e : Error × FileStore _ _). IsClosed c.release.result e.1 × (IsClean (view e.1) → FailsToClose c.release.result e.1 e.0))
+    (λ (e : Error × FileStore _ _). (tables : Tables) → StoreMayLeave e.1 tables → FilesShow tables L)
+    (λ e closed. unclosed_shows L c.release.result e.1 (c.release.ensures.stands L stands) closed.0.quiet) c.close_files.ensures.err
 
-pub returns-in-Err-clause-left : goal.returns-in-Err-clause-left
-returns-in-Err-clause-left g c tables may =
-    c.release.ensures.left tables (unclosed_leaves c.release.result c.in-Err.unclosed.1 c.in-Err.ensures.err.0.quiet tables may)
+pub returns-clause-left : goal.returns-clause-left
+returns-clause-left g c =
+    if_err c.close_files.result (λ (e : Error × FileStore _ _). IsClosed c.release.result e.1 × (IsClean (view e.1) → FailsToClose c.release.result e.1 e.0))
+    (λ (e : Error × FileStore _ _). (tables : Tables) → StoreMayLeave e.1 tables → DeskMayLeave over_files c.args.desk tables)
+    (λ e closed tables may. c.release.ensures.left tables (unclosed_leaves c.release.result e.1 closed.0.quiet tables may)) c.close_files.ensures.err

@@ -1,8 +1,5 @@
-use Rattle.std.proofs.Common.{◌≡◌, Option, Some, None, subst}
-use Rattle.sqlite_wal.specs.declared.page_size.PageSize.{PageSize}
-use Rattle.sqlite_wal.specs.PageSize.{Names}
-use Rattle.sqlite_wal.specs.Format.{be32}
-use Rattle.sqlite_wal.specs.Reads.{AreClean, IsClean}
+use Rattle.portal_host.proofs.Common.{Option, subst, PageSize, Names, be32, AreClean}
+use Rattle.sqlite_wal.specs.Reads.{IsClean}
 use Rattle.sqlite_wal.proofs.CleanLemmas.{halves}
 use Rattle.std.proofs.lemmas.Bool.{and_from}
 use Rattle.portal_host.proofs.LookingLemmas.{holds_on, none_named}

@@ -1,7 +1,8 @@
-use Rattle.std.proofs.Common.{ℕ, ◌<◌, length, rules}
+use Rattle.std.proofs.Common.{◌<◌, length, rules}
 use Rattle.portal_host.proofs.LookingLemmas.{some_taken}
 use Rattle.portal_host.proofs.looking.takes_frames.Goals as goal
 
-pub returns-in-Ok-clause-value : goal.returns-in-Ok-clause-value
-returns-in-Ok-clause-value g c clean committed =
-    let some : 0 < length c.in-Ok.frames.items = some_taken _ _ c.in-Ok.frames.items (c.in-Ok.ensures.ok clean) committed in search rules
+pub returns-clause-value : goal.returns-clause-value
+returns-clause-value g c clean committed =
+    let frames = c.in_ok-frames.frames.items in
+    let some : 0 < length frames = some_taken _ _ frames (c.in_ok-frames.ensures.ok clean) committed in search rules

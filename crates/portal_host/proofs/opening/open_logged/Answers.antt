@@ -1,19 +1,17 @@
-use Rattle.std.proofs.Common.{◌≡◌, sym, ap₂, subst}
-use Rattle.sqlite_wal.specs.Recovery.{Image}
-use Rattle.portal_tables.specs.Images.{ImageShows}
-use Rattle.portal_tables.proofs.PathLemmas.{image}
-use Rattle.portal_host.specs.Opening.{ComesFrom}
+use Rattle.portal_host.proofs.Common.{sym, ap₂, subst, Image, ImageShows, image, ComesFrom}
+use Rattle.portal_host.proofs.OpeningLemmas.{opens_not}
 use Rattle.portal_host.proofs.opening.open_logged.Goals as goal
 
-pub returns-in-Ok-open_looked-clause-opened : goal.returns-in-Ok-open_looked-clause-opened
-returns-in-Ok-open_looked-clause-opened g c L shown clean =
-    let same = ap₂ image c.look.ensures.log.seen c.look.ensures.db.seen in
-    c.in-Ok-open_looked.ensures.opened L (subst (λ (i : Image). ImageShows i L) (sym same) shown) clean
+pub returns-in_err-is_new : goal.returns-in_err-is_new
+returns-in_err-is_new g c = opens_not _ _ c.from_residual.result _ c.from_residual.ensures.1
 
-pub returns-in-Ok-open_looked-clause-found : goal.returns-in-Ok-open_looked-clause-found
-returns-in-Ok-open_looked-clause-found g c clean = c.in-Ok.ensures.found (c.in-Ok-open_looked.ensures.honest clean)
+pub returns-in_err-conn : goal.returns-in_err-conn
+returns-in_err-conn g c = opens_not _ _ c.from_residual-in_err-conn.result _ c.from_residual-in_err-conn.ensures.1
 
-pub returns-in-Ok-open_looked-clause-from : goal.returns-in-Ok-open_looked-clause-from
-returns-in-Ok-open_looked-clause-from g c clean =
-    let same = ap₂ image c.look.ensures.log.seen c.look.ensures.db.seen in
-    subst (λ (i : Image). ComesFrom i c.args.copies c.in-Ok-open_looked.conn) same (c.in-Ok-open_looked.ensures.from clean)
+pub returns : goal.returns
+returns g c =
+    let same = ap₂ image c.look.ensures.log.seen c.look.ensures.db.seen in record {
+      opened = λ L shown clean. c.in_ok-conn.ensures.opened L (subst (λ (i : Image). ImageShows i L) (sym same) shown) clean;
+      found = λ clean. c.in_ok-is_new.ensures.found (c.in_ok-conn.ensures.honest clean);
+      from = λ clean. subst (λ (i : Image). ComesFrom i c.args.copies c.in_ok-conn.conn) same (c.in_ok-conn.ensures.from clean);
+    }

@@ -1,19 +1,18 @@
-use Rattle.sqlite_store.specs.Laws.{settled_at}
+use Rattle.portal_host.proofs.Common.{settled_at, image_of}
 use Rattle.portal_tables.proofs.OpeningLemmas.{opens}
-use Rattle.sqlite.specs.Files.{image_of}
 use Rattle.portal_host.proofs.OpeningLemmas.{from_on, honest_on, stands_on}
 use Rattle.portal_host.proofs.opening.open_looked.Goals as goal
 
 pub returns-in-Ok-clause-honest : goal.returns-in-Ok-clause-honest
-returns-in-Ok-clause-honest g c = honest_on c.copy_log_if.result _ _ _ c.copy_log_if.ensures.honest (λ clean. (c.in-Ok.ensures.found clean).honest)
+returns-in-Ok-clause-honest g c = honest_on c.copy_log.result _ _ _ c.copy_log.ensures.honest (λ clean. (c.in-Ok.ensures.found clean).honest)
 
 pub returns-in-Ok-clause-opened : goal.returns-in-Ok-clause-opened
 returns-in-Ok-clause-opened g c L shown =
-    stands_on c.copy_log_if.result _ _ _ _ c.copy_log_if.ensures.honest (c.copy_log_if.ensures.stands L)
+    stands_on c.copy_log.result _ _ _ _ c.copy_log.ensures.honest (c.copy_log.ensures.stands L)
     (λ clean. opens L c.args.files c.in-Ok.conn (λ db. settled_at c.in-Ok.conn.store g.met.D.Disk.seen_may_stay db)
     shown (c.in-Ok.ensures.opened clean) (c.in-Ok.ensures.found clean))
 
 pub returns-in-Ok-clause-from : goal.returns-in-Ok-clause-from
 returns-in-Ok-clause-from g c =
-    from_on c.copy_log_if.result (image_of g.D.Disk c.args.files) c.args.copies c.in-Ok.conn c.copy_log_if.ensures.honest c.copy_log_if.ensures.same c.copy_log_if.ensures.reopened
+    from_on c.copy_log.result (image_of g.D.Disk c.args.files) c.args.copies c.in-Ok.conn c.copy_log.ensures.honest c.copy_log.ensures.same c.copy_log.ensures.reopened
     (λ clean. let found = c.in-Ok.ensures.found clean in record { holds = found.holds; reads = found.reads })

@@ -1,10 +1,11 @@
+use Rattle.portal_host.proofs.OpeningLemmas.{opens_not}
 use Rattle.portal_host.proofs.opening.open_pair_of.Goals as goal
 
-pub returns-in-Ok-clause-opened : goal.returns-in-Ok-clause-opened
-returns-in-Ok-clause-opened g c L shown = rw c.set_clock.ensures (c.in-Ok.ensures.opened L shown)
+pub returns-in_err-options : goal.returns-in_err-options
+returns-in_err-options g c = opens_not _ _ c.from_residual.result _ c.from_residual.ensures.1
 
-pub returns-in-Ok-clause-found : goal.returns-in-Ok-clause-found
-returns-in-Ok-clause-found g c = rw c.set_clock.ensures c.in-Ok.ensures.found
+pub returns-in_err-conn : goal.returns-in_err-conn
+returns-in_err-conn g c = opens_not _ _ c.from_residual-in_err-conn.result _ c.from_residual-in_err-conn.ensures.1
 
-pub returns-in-Ok-clause-from : goal.returns-in-Ok-clause-from
-returns-in-Ok-clause-from g c = rw c.set_clock.ensures c.in-Ok.ensures.from
+pub returns : goal.returns
+returns g c = rw c.set_clock.ensures c.in_ok-conn.ensures

@@ -1,20 +1,25 @@
-use Rattle.std.proofs.Common.{ℕ, List}
-use Rattle.portal_ledger.specs.States.{running}
-use Rattle.portal_http.specs.Arrived.{Arrived}
-use Rattle.portal_http.specs.Runs.{Served}
-use Rattle.portal_http.specs.Headline.{Survives}
+use Rattle.portal_http.proofs.Common.{ℕ, List, running, Arrived, Served, Survives}
 use Rattle.portal_http.proofs.HeadlineLemmas.{survives}
 use Rattle.portal_http.proofs.ExchangeLemmas.{ends_also}
 use Rattle.portal_http.proofs.exchanges.exchange.Goals as goal
 
-pub returns-clause-survives : goal.returns-clause-survives
-returns-clause-survives g c = λ honest L stands.
+pub returns : goal.returns
+returns g c =
     let desk = g.D.Desk in
     let settings = desk.settings c.args.desk.now in
-    let it = c.carry_out.ensures.served honest (running L) stands in
     let left = desk.may_leave c.carry_out.new.desk in
-    ends_also (λ (xs : List Arrived). λ (rs : List (List ℕ)). Served settings (running L) xs rs it.0)
-    (λ (xs : List Arrived). λ (rs : List (List ℕ)). Survives desk.Files left desk.shows settings L xs rs)
-    (λ xs rs is. survives settings desk.Files left desk.shows L xs rs it.0 is (λ files may. g.met.D.Desk.leaves c.carry_out.new.desk it.0 it.1 files may)
-    (λ files found shown. g.met.D.Desk.sound files found shown))
-    _ c.args.moment c.args.seed c.carry_out.result it.2
+    let carried = c.carry_out.ensures.desk in
+    record {
+      told = carried.told;
+      honest = carried.honest;
+      stays = carried.stays;
+      wire = c.carry_out.ensures.wire;
+      served = carried.step;
+      survives = λ honest L stands.
+          let it = carried.step honest (running L) stands in
+          ends_also (λ (xs : List Arrived). λ (rs : List (List ℕ)). Served settings (running L) xs rs it.0)
+          (λ (xs : List Arrived). λ (rs : List (List ℕ)). Survives desk.Files left desk.shows settings L xs rs)
+          (λ xs rs is. survives settings desk.Files left desk.shows L xs rs it.0 is (λ files may. g.met.D.Desk.leaves c.carry_out.new.desk it.0 it.1 files may)
+          (λ files found shown. g.met.D.Desk.sound files found shown))
+          _ c.args.moment c.args.seed c.carry_out.result it.2;
+    }

@@ -1,4 +1,4 @@
-use Rattle.portal_http.proofs.ExchangeLemmas.{accepted_shown, refused_shown}
+use Rattle.portal_http.proofs.ResponseLemmas.{accepted_shown, refused_shown}
 use Rattle.portal_http.proofs.exchanges.status_is_shown.Goals as goal
 
 pub returns : goal.returns

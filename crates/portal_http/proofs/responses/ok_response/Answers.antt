@@ -1,6 +1,12 @@
-use Rattle.std.proofs.Common.{None, subst}
-use Rattle.portal_response.specs.Bytes.{IsResponse}
+use Rattle.portal_http.proofs.Common.{None, subst, sym, IsResponse}
+use Rattle.portal_http.proofs.ResponseLemmas.{accepted_shown}
 use Rattle.portal_http.proofs.responses.ok_response.Goals as goal
 
-pub returns-in-Ok-clause-ok : goal.returns-in-Ok-clause-ok
-returns-in-Ok-clause-ok c = subst (λ n. IsResponse 200 n c.args.content_type None c.args.body.now c.in-Ok.bytes.items) c.get.ensures.value c.in-Ok.ensures
+pub invariant_of-result : goal.invariant_of-result
+invariant_of-result c = record { shown = sym (accepted_shown _ c.args.content_type None c.args.body.now c.in_ok-bytes.bytes.items c.in_ok-bytes.ensures) }
+
+pub returns : goal.returns
+returns c = record {
+  ok = subst (λ n. IsResponse 200 n c.args.content_type None c.args.body.now c.in_ok-bytes.bytes.items) c.get.ensures.value c.in_ok-bytes.ensures;
+  err = tt;
+}

@@ -1,11 +1,11 @@
 use Rattle.portal_print.specs.PrintFile.{IsPrintFile}
-use Rattle.portal_response.specs.declared.ContentType.TheVariants.{Csv}
+use Rattle.portal_head.specs.declared.responses.ContentType.TheVariants.{Csv}
 use Rattle.portal_http.specs.Replies.{IsSheet}
 use Rattle.portal_http.proofs.ResponseLemmas.{with_text}
 use Rattle.portal_http.proofs.responses.sheet_response.Goals as goal
 
-pub returns-in-Ok-clause-ok : goal.returns-in-Ok-clause-ok
+pub returns : goal.returns
 unfolding IsSheet
-returns-in-Ok-clause-ok c =
+returns c =
     with_text (IsPrintFile c.args.settings.now.zone c.args.sheet.now) Csv c.args.moment c.as_slice.result.now c.in-Ok.body.items c.ok_response.result
-    c.in-Ok.ensures.ok c.as_slice.ensures.value c.ok_response.ensures.ok
+    c.in-Ok.ensures.ok c.as_slice.ensures.value c.ok_response.ensures

@@ -1,23 +1,19 @@
-use Rattle.std.proofs.Common.{ℕ, ◌+◌, List, [], ◌∷◌, ◌++◌, ap, ◌∙◌, append_assoc, subst}
-use Rattle.std.specs.Prelude.{Vec}
-use Rattle.std.specs.declared.alloc.Global.{Global}
+use Rattle.portal_http.proofs.Common.{ℕ, ◌+◌, List, [], ◌∷◌, ◌++◌, ap, ◌∙◌, append_assoc, subst, Vec, Global, SettingsValue, Step}
 use Rattle.std.proofs.lemmas.List.{length_push}
-use Rattle.portal_files.specs.SettingsFile.{SettingsValue}
-use Rattle.portal_http.specs.Runs.{Step}
 use Rattle.portal_http.proofs.RunLemmas.{Run-more}
 use Rattle.portal_http.proofs.runs.serve_all.Goals as goal
 
 pub loop-arrival-preserved : goal.loop-arrival-preserved
 loop-arrival-preserved g c = record {
-  told = c.in-Ok.ensures.told ∙ c.loop-arrival.invariant.told;
-  honest = λ honest. c.loop-arrival.invariant.honest (c.in-Ok.ensures.honest honest);
-  stays = λ over. c.in-Ok.ensures.stays (c.loop-arrival.invariant.stays over);
+  told = c.in_ok-response.ensures.desk.told ∙ c.loop-arrival.invariant.told;
+  honest = λ honest. c.loop-arrival.invariant.honest (c.in_ok-response.ensures.desk.honest honest);
+  stays = λ over. c.in_ok-response.ensures.desk.stays (c.loop-arrival.invariant.stays over);
   served = λ honest old stands.
-      let before = c.loop-arrival.invariant.served (c.in-Ok.ensures.honest honest) old stands in
-      let response = c.in-Ok.response in
-      let served = c.in-Ok.ensures.step honest before.0 before.2 in
+      let before = c.loop-arrival.invariant.served (c.in_ok-response.ensures.desk.honest honest) old stands in
+      let response = c.in_ok-response.response.bytes in
+      let served = c.in_ok-response.ensures.desk.step honest before.0 before.2 in
       let step = subst (λ (s : SettingsValue). Step s before.0 c.arrival-item.result response.items served.0) c.loop-arrival.invariant.told served.2 in
-      let grown = c.in-Ok-push.ensures.items ∙ ap (λ (xs : List (Vec ℕ Global)). xs ++ response ∷ []) (c.reserve.ensures.items ∙ before.3) in (
+      let grown = c.in-Ok.ensures.items ∙ ap (λ (xs : List (Vec ℕ Global)). xs ++ response ∷ []) (c.in_ok-reserve.ensures.items ∙ before.3) in (
         served.0,
         before.1 ++ response ∷ [],
         served.1,

@@ -1,9 +1,4 @@
-use Rattle.std.proofs.Common.{◌≡◌, ℕ, List, ◌++◌, length, take}
-use Rattle.std.specs.Prelude.{Vec}
-use Rattle.std.specs.declared.alloc.Global.{Global}
-use Rattle.portal_ledger.specs.States.{State}
-use Rattle.portal_desk.specs.Calls.{StaysStopped}
-use Rattle.portal_http.specs.Runs.{Run, bytes_of}
+use Rattle.portal_http.proofs.Common.{◌≡◌, ℕ, List, ◌++◌, length, take, Vec, Global, State, StaysStopped, Run, bytes_of}
 use Rattle.portal_http.proofs.runs.serve_all.Given as goal
 
 abbrev pub invariant-loop-arrival : goal.invariant-loop-arrival

@@ -1,5 +1,4 @@
-use Rattle.std.proofs.Common.{List, ℕ, Result, Ok, Err, refl}
-use Rattle.std.specs.Prelude.{IsOk, IsUtf8, MatchResult}
+use Rattle.portal_json.proofs.Common.{List, ℕ, Result, Ok, Err, refl, IsOk, IsUtf8, MatchResult}
 use Rattle.std.proofs.lemmas.Str.{IsUtf8-from_ascii}
 use Rattle.portal_json.proofs.objects.as_text.Goals as goal
 

@@ -1,5 +1,4 @@
-use Rattle.std.proofs.Common.{subst, sym}
-use Rattle.std.specs.Prelude.{IsAscii}
+use Rattle.portal_json.proofs.Common.{subst, sym, IsAscii}
 use Rattle.portal_json.proofs.TextLemmas.{device_ascii}
 use Rattle.portal_json.proofs.sessions.session_object.Goals as goal
 

@@ -1,5 +1,4 @@
-use Rattle.std.proofs.Common.{ap, ◌∙◌}
-use Rattle.portal_json.specs.Bodies.{session_data}
+use Rattle.portal_json.proofs.Common.{ap, ◌∙◌, session_data}
 use Rattle.portal_json.proofs.SessionLemmas.{pushed}
 use Rattle.portal_json.proofs.sessions.session_values.Goals as goal
 

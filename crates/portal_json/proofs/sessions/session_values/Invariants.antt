@@ -1,6 +1,4 @@
-use Rattle.std.proofs.Common.{◌≡◌, map, take}
-use Rattle.serde_json.specs.View.{view}
-use Rattle.portal_json.specs.Bodies.{session_data}
+use Rattle.portal_json.proofs.Common.{◌≡◌, map, take, view, session_data}
 use Rattle.portal_json.proofs.sessions.session_values.Given as goal
 
 abbrev pub invariant-loop-session : goal.invariant-loop-session

@@ -1,10 +1,5 @@
-use Rattle.std.proofs.Common.{arith, false, ◌∙◌, rules}
-use Rattle.sqlite.specs.Held.{state}
-use Rattle.sqlite.specs.State.{HasCleanDisk}
-use Rattle.portal_rows.specs.Holds.{this_layout}
-use Rattle.portal_layouts.specs.Creates.{no_rows}
+use Rattle.portal_layouts.proofs.Common.{arith, false, ◌∙◌, rules, state, HasCleanDisk, this_layout, no_rows, others_then}
 use Rattle.portal_layouts.proofs.CreateLemmas.{made_holds}
-use Rattle.portal_rows.proofs.OthersLemmas.{others_then}
 use Rattle.portal_layouts.proofs.OthersLemmas.{others_all_made}
 use Rattle.portal_layouts.proofs.creates.create_inside.Goals as goal
 

@@ -1,13 +1,6 @@
-use Rattle.sqlite.specs.Held.{state}
 use Rattle.portal_layouts.proofs.Indexing.{indexes_inside}
-use Rattle.portal_sql.proofs.InsideLemmas.{on_failed, inside_one}
+use Rattle.portal_sql.proofs.InsideLemmas.{inside_by}
 use Rattle.portal_layouts.proofs.creates.make_index.Goals as goal
 
 pub returns : goal.returns
-returns g c =
-    inside_one g.S.Store _ _ _ _ _ c.execute.ensures.same_reference c.execute.ensures.ended c.execute.ensures.runs c.execute.ensures.survives
-    (λ clean inside layout had.
-    indexes_inside layout had (state g.S.Store c.args.tx.now.conn.now) (state g.S.Store c.execute.new.self.conn.now) c.in_ok-execute.field-0 (c.in_ok-execute.ensures.runs clean inside))
-
-pub returns-in_err-execute : goal.returns-in_err-execute
-returns-in_err-execute g c = inside_one g.S.Store _ _ _ _ _ c.execute.ensures.same_reference c.execute.ensures.ended c.execute.ensures.runs c.execute.ensures.survives (λ clean inside. on_failed c.from_residual.result _ _ c.from_residual.ensures.1)
+returns g c = inside_by g.S.Store (λ a b ran layout had. indexes_inside layout had a b ran.count ran.executes) c.write.ensures

@@ -1,6 +1,4 @@
-use Rattle.std.proofs.Common.{arith, refl, ◌∙◌, rules}
-use Rattle.sqlite.specs.Held.{state}
-use Rattle.sqlite.specs.State.{HasCleanDisk}
+use Rattle.portal_layouts.proofs.Common.{arith, refl, ◌∙◌, rules, state, HasCleanDisk}
 use Rattle.portal_layouts.proofs.creates.make_last.Goals as goal
 
 pub returns : goal.returns

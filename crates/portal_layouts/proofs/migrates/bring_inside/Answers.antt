@@ -1,10 +1,4 @@
-use Rattle.std.proofs.Common.{arith, rules}
-use Rattle.sqlite.specs.Held.{state}
-use Rattle.sqlite.specs.State.{HasCleanDisk}
-use Rattle.portal_rows.specs.Contents.{Contents}
-use Rattle.portal_rows.specs.Holds.{this_layout}
-use Rattle.portal_rows.specs.Steps.{with_layout}
-use Rattle.portal_layouts.specs.Brings.{number_of, widened, filled}
+use Rattle.portal_layouts.proofs.Common.{arith, rules, state, HasCleanDisk, Contents, this_layout, with_layout, number_of, widened, filled}
 use Rattle.portal_layouts.proofs.MigrateLemmas.{from_steps}
 use Rattle.portal_layouts.proofs.migrates.bring_inside.Goals as goal
 

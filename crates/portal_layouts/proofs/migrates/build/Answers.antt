@@ -1,9 +1,4 @@
-use Rattle.std.proofs.Common.{arith, true, rules}
-use Rattle.sqlite.specs.Held.{state}
-use Rattle.sqlite.specs.State.{HasCleanDisk}
-use Rattle.portal_rows.specs.Contents.{Contents}
-use Rattle.portal_rows.specs.Holds.{this_layout}
-use Rattle.portal_layouts.specs.Brings.{number_of, widened}
+use Rattle.portal_layouts.proofs.Common.{arith, true, rules, state, HasCleanDisk, Contents, this_layout, number_of, widened}
 use Rattle.portal_layouts.proofs.MigrateLemmas.{from_then}
 use Rattle.portal_layouts.proofs.migrates.build.Goals as goal
 

@@ -1,7 +1,4 @@
-use Rattle.std.proofs.Common.{refl, rules}
-use Rattle.sqlite.specs.Held.{state}
-use Rattle.portal_rows.specs.Holds.{this_layout}
-use Rattle.portal_rows.proofs.OthersLemmas.{others_none}
+use Rattle.portal_layouts.proofs.Common.{refl, rules, state, this_layout, others_none}
 use Rattle.portal_layouts.proofs.migrates.complete.Goals as goal
 
 pub returns-then-has_index : goal.returns-then-has_index

@@ -1,10 +1,4 @@
-use Rattle.std.proofs.Common.{Ok, sym, subst, take}
-use Rattle.std.proofs.lemmas.List.{take_all}
-use Rattle.portal_rows.specs.Read.{count_read}
-use Rattle.portal_rows.specs.Steps.{Writes, with_counts}
-use Rattle.portal_layouts.specs.Brings.{counts_read}
-use Rattle.portal_rows.proofs.Compose.{more_mapped}
-use Rattle.portal_rows.proofs.WritesLemmas.{writes_none, writes_by}
+use Rattle.portal_layouts.proofs.Common.{Ok, sym, subst, take, take_all, count_read, Writes, with_counts, counts_read, more_mapped, writes_none, writes_by}
 use Rattle.portal_layouts.proofs.MigrateLemmas.{kept_none, kept_then}
 use Rattle.portal_layouts.proofs.migrates.insert_kept_counts.Goals as goal
 

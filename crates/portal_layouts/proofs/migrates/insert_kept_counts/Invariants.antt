@@ -1,6 +1,4 @@
-use Rattle.std.proofs.Common.{take, Ok}
-use Rattle.portal_rows.specs.Steps.{Writes, with_counts}
-use Rattle.portal_layouts.specs.Brings.{counts_read}
+use Rattle.portal_layouts.proofs.Common.{take, Ok, Writes, with_counts, counts_read}
 use Rattle.portal_layouts.proofs.migrates.insert_kept_counts.Given as goal
 
 abbrev pub invariant-loop-count : goal.invariant-loop-count

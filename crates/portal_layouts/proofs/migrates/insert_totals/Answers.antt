@@ -1,9 +1,4 @@
-use Rattle.std.proofs.Common.{Ok, sym, subst, take}
-use Rattle.std.proofs.lemmas.List.{take_all}
-use Rattle.portal_rows.specs.Steps.{Writes, ends_row}
-use Rattle.portal_layouts.specs.Brings.{with_totals, totals_read}
-use Rattle.portal_rows.proofs.Compose.{more_mapped}
-use Rattle.portal_rows.proofs.WritesLemmas.{writes_none, writes_by}
+use Rattle.portal_layouts.proofs.Common.{Ok, sym, subst, take, take_all, Writes, ends_row, with_totals, totals_read, more_mapped, writes_none, writes_by}
 use Rattle.portal_layouts.proofs.MigrateLemmas.{totals_none, totals_then}
 use Rattle.portal_layouts.proofs.migrates.insert_totals.Goals as goal
 

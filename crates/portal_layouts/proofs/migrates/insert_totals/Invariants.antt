@@ -1,6 +1,4 @@
-use Rattle.std.proofs.Common.{take, Ok}
-use Rattle.portal_rows.specs.Steps.{Writes}
-use Rattle.portal_layouts.specs.Brings.{with_totals, totals_read}
+use Rattle.portal_layouts.proofs.Common.{take, Ok, Writes, with_totals, totals_read}
 use Rattle.portal_layouts.proofs.migrates.insert_totals.Given as goal
 
 abbrev pub invariant-loop-total : goal.invariant-loop-total

@@ -1,6 +1,4 @@
-use Rattle.std.proofs.Common.{rules}
-use Rattle.sqlite.specs.Held.{state}
-use Rattle.portal_rows.specs.Layout.{requests}
+use Rattle.portal_layouts.proofs.Common.{rules, state, requests}
 use Rattle.portal_layouts.proofs.BesideLemmas.{asked}
 use Rattle.portal_layouts.proofs.OthersLemmas.{others_made}
 use Rattle.portal_layouts.proofs.migrates.make_asked.Goals as goal

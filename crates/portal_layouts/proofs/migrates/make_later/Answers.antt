@@ -1,9 +1,5 @@
-use Rattle.std.proofs.Common.{arith, ◌∙◌, rules}
-use Rattle.sqlite.specs.Held.{state}
-use Rattle.sqlite.specs.State.{HasCleanDisk}
+use Rattle.portal_layouts.proofs.Common.{arith, ◌∙◌, rules, state, HasCleanDisk, counts, totals, requests, others_then}
 use Rattle.portal_layouts.proofs.BesideLemmas.{widened_first}
-use Rattle.portal_rows.specs.Layout.{counts, totals, requests}
-use Rattle.portal_rows.proofs.OthersLemmas.{others_then}
 use Rattle.portal_layouts.proofs.OthersLemmas.{others_made}
 use Rattle.portal_layouts.proofs.migrates.make_later.Goals as goal
 

@@ -1,7 +1,5 @@
-use Rattle.std.proofs.Common.{refl, rules}
-use Rattle.sqlite.specs.Held.{state}
+use Rattle.portal_layouts.proofs.Common.{refl, rules, state, others_none}
 use Rattle.portal_layouts.proofs.BesideLemmas.{alike}
-use Rattle.portal_rows.proofs.OthersLemmas.{others_none}
 use Rattle.portal_layouts.proofs.migrates.widen.Goals as goal
 
 pub returns-in_ok-make_later-in-First : goal.returns-in_ok-make_later-in-First

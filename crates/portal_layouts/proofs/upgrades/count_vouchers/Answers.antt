@@ -1,6 +1,4 @@
-use Rattle.portal_sql.proofs.LooksLemmas.{looks_read}
-use Rattle.portal_lists.specs.Asks.{Anything}
-use Rattle.std.proofs.lemmas.Result.{err_from_is_err_and}
+use Rattle.portal_layouts.proofs.Common.{looks_read, Anything, err_from_is_err_and}
 use Rattle.portal_layouts.proofs.UpgradeLemmas.{counts_are}
 use Rattle.portal_layouts.proofs.upgrades.count_vouchers.Goals as goal
 

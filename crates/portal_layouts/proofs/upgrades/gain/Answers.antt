@@ -1,9 +1,4 @@
-use Rattle.std.proofs.Common.{IsTrue, ℕ, true, false, subst}
-use Rattle.sqlite.specs.Held.{state}
-use Rattle.sqlite.specs.Schema.{Schema}
-use Rattle.sqlite.proofs.StateLemmas.{survives_weaker}
-use Rattle.portal_rows.specs.Holds.{Places, Stand}
-use Rattle.portal_layouts.specs.Brings.{HasRoom, number_of}
+use Rattle.portal_layouts.proofs.Common.{IsTrue, ℕ, true, false, subst, state, Schema, survives_weaker, Places, Stand, HasRoom, number_of}
 use Rattle.portal_layouts.proofs.IndexedLemmas.{as_indexed}
 use Rattle.portal_layouts.proofs.upgrades.gain.Goals as goal
 

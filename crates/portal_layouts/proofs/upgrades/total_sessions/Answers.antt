@@ -1,10 +1,5 @@
-use Rattle.std.proofs.Common.{arith, rules}
-use Rattle.sqlite.specs.Held.{state}
-use Rattle.sqlite.specs.State.{HasCleanDisk}
+use Rattle.portal_layouts.proofs.Common.{arith, rules, state, HasCleanDisk, reads_then, looks_then, looks_read, Anything, err_from_is_err_and}
 use Rattle.portal_sql.specs.Looks.{Looks}
-use Rattle.portal_sql.proofs.LooksLemmas.{reads_then, looks_then, looks_read}
-use Rattle.portal_lists.specs.Asks.{Anything}
-use Rattle.std.proofs.lemmas.Result.{err_from_is_err_and}
 use Rattle.portal_layouts.proofs.UpgradeLemmas.{totals_are, first_after}
 use Rattle.portal_layouts.proofs.upgrades.total_sessions.Goals as goal
 

@@ -1,5 +1,4 @@
-use Rattle.sqlite.specs.Held.{state}
-use Rattle.portal_layouts.specs.declared.layouts.OldLayout.TheVariants.{Second, Third, Fourth}
+use Rattle.portal_layouts.proofs.Common.{state, Second, Third, Fourth}
 use Rattle.portal_layouts.proofs.MigrateLemmas.{brought_later}
 use Rattle.portal_layouts.proofs.UpgradeLemmas.{later_crash, later_done}
 use Rattle.portal_layouts.proofs.upgrades.upgrade.Goals as goal

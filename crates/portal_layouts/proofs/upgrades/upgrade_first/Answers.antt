@@ -1,12 +1,4 @@
-use Rattle.std.proofs.Common.{arith, ◌∙◌, ◌≡◌, true, sym, subst}
-use Rattle.sqlite.specs.Held.{state}
-use Rattle.sqlite.specs.State.{HasCleanDisk}
-use Rattle.portal_sql.proofs.Frame.{on_err}
-use Rattle.portal_sql.proofs.LooksLemmas.{reads_then, fails_then, same_now}
-use Rattle.portal_lists.specs.Asks.{Anything}
-use Rattle.std.proofs.lemmas.Result.{err_from_is_err_and}
-use Rattle.sqlite.specs.Effect.{Database}
-use Rattle.portal_layouts.specs.Brings.{has_room}
+use Rattle.portal_layouts.proofs.Common.{arith, ◌∙◌, ◌≡◌, true, sym, subst, state, HasCleanDisk, on_err, reads_then, fails_then, same_now, Anything, err_from_is_err_and, Database, has_room}
 use Rattle.portal_layouts.proofs.UpgradeLemmas.{upgrade_done, upgrade_crash, fails_crash, undone_after, upgrade_fits, first_after}
 use Rattle.portal_layouts.proofs.upgrades.upgrade_first.Goals as goal
 

@@ -1,14 +1,4 @@
-use Rattle.std.proofs.Common.{◌≡◌, ◌↔◌, IsTrue, sym, ap, subst, ◌∙◌, map, List, true, rules}
-use Rattle.std.specs.List.{list_all}
-use Rattle.portal_model.specs.Rows.{total_from}
-use Rattle.portal_lists.specs.declared.grants.KeptGrant.{KeptGrant}
-use Rattle.portal_rows.specs.declared.rows.KeptVoucher.{KeptVoucher}
-use Rattle.portal_rows.specs.declared.signs.Total.{Total}
-use Rattle.portal_rows.specs.Steps.{ends_row}
-use Rattle.portal_rows.specs.Read.{head_read, voucher_read, session_read, count_read}
-use Rattle.portal_lists.specs.Sums.{grant_read, summed}
-use Rattle.portal_lists.specs.Audit.{is_counted, has_count}
-use Rattle.std.proofs.lemmas.Result.{err_from_is_err_and}
+use Rattle.portal_lists.proofs.Common.{◌≡◌, ◌↔◌, IsTrue, sym, ap, subst, ◌∙◌, map, List, true, rules, list_all, total_from, KeptGrant, KeptVoucher, Total, ends_row, head_read, voucher_read, session_read, count_read, grant_read, summed, is_counted, has_count, err_from_is_err_and}
 use Rattle.portal_lists.proofs.AuditLemmas.{on_totals}
 use Rattle.portal_lists.proofs.audits.agree.Goals as goal
 

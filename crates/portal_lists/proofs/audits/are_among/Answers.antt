@@ -1,10 +1,4 @@
-use Rattle.std.proofs.Common.{rules, tests, sym, ◌∙◌}
-use Rattle.std.proofs.lemmas.Iterator.{YieldsList-from_slice}
-use Rattle.std.proofs.lemmas.Iterator.Search.{all_from_yields_List}
-use Rattle.std.proofs.lemmas.List.Folds.{list_all-map}
-use Rattle.portal_rows.specs.declared.rows.KeptVoucher.{KeptVoucher}
-use Rattle.portal_rows.specs.Read.{voucher_read}
-use Rattle.portal_lists.specs.Audit.{has_count}
+use Rattle.portal_lists.proofs.Common.{rules, tests, sym, ◌∙◌, YieldsList-from_slice, all_from_yields_List, list_all-map, KeptVoucher, voucher_read, has_count}
 use Rattle.portal_lists.proofs.audits.are_among.Goals as goal
 
 pub returns : goal.returns

@@ -1,9 +1,6 @@
-use Rattle.std.proofs.Common.{◌≡◌, ap, ap₂, Bool, true, false, ◌&&◌, Option, Some, None, refl, sym, true≢false}
+use Rattle.portal_lists.proofs.Common.{◌≡◌, ap, ap₂, Bool, ◌&&◌, Option, Some, None, refl, sym, true≢false, Decides-eqb, Decides-int_eq, slice_eq-Decides, Total, both}
 use Rattle.std.specs.Bool.{Decides}
 use Rattle.std.specs.Option.{option_eq}
-use Rattle.std.proofs.lemmas.Bool.Decides.{Decides-eqb, Decides-int_eq}
-use Rattle.std.proofs.lemmas.Slice.Eq.{slice_eq-Decides}
-use Rattle.portal_rows.specs.declared.signs.Total.{Total}
 use Rattle.portal_rows.specs.contracts.signs.TotalPartialEq.TheImpl as derived
 use Rattle.portal_lists.proofs.audits.are_same.Goals as goal
 
@@ -12,10 +9,6 @@ option_Decides E each None None = (λ _. refl, λ _. refl)
 option_Decides E each None (Some b) = (λ on. absurd (true≢false (sym on)), λ e. cc)
 option_Decides E each (Some a) None = (λ on. absurd (true≢false (sym on)), λ e. cc)
 option_Decides E each (Some a) (Some b) = (λ on. ap Some ((each a b).0 on), λ e. let same : a ≡ b = cc in (each a b).1 same)
-
-both : (a b : Bool) → (a && b) ≡ true → (a ≡ true) × (b ≡ true)
-both true b h = (refl, h)
-both false b h = absurd (true≢false (sym h))
 
 total_Decides : (a b : Total) → Decides (derived.eq-value.it a b) (a ≡ b)
 total_Decides a b =

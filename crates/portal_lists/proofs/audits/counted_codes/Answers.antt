@@ -1,10 +1,4 @@
-use Rattle.std.proofs.Common.{ap, ◌∙◌, map, bytes_eq}
-use Rattle.std.specs.HashSet.{contains}
-use Rattle.std.specs.List.{list_any}
-use Rattle.std.proofs.lemmas.List.{take_all}
-use Rattle.portal_codes.specs.Code.{text_of}
-use Rattle.portal_model.specs.Rows.{CountRow}
-use Rattle.portal_rows.specs.Read.{count_read}
+use Rattle.portal_lists.proofs.Common.{ap, ◌∙◌, map, bytes_eq, contains, list_any, take_all, text_of, CountRow, count_read}
 use Rattle.portal_lists.proofs.AuditLemmas.{counted_step}
 use Rattle.portal_lists.proofs.audits.counted_codes.Goals as goal
 

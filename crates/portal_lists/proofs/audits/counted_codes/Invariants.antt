@@ -1,6 +1,4 @@
-use Rattle.std.proofs.Common.{◌≡◌, ℕ, List, bytes_eq}
-use Rattle.std.specs.HashSet.{contains}
-use Rattle.portal_codes.specs.Code.{IsCode, text_of}
+use Rattle.portal_lists.proofs.Common.{◌≡◌, ℕ, List, bytes_eq, contains, IsCode, text_of}
 use Rattle.portal_lists.proofs.AuditLemmas.{counted_so_far}
 use Rattle.portal_lists.proofs.audits.counted_codes.Given as goal
 

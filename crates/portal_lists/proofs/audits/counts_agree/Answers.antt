@@ -1,5 +1,4 @@
-use Rattle.std.proofs.Common.{map}
-use Rattle.portal_lists.specs.Sums.{grant_read}
+use Rattle.portal_lists.proofs.Common.{map, grant_read}
 use Rattle.portal_lists.proofs.audits.counts_agree.Goals as goal
 
 pub returns-clause-agree : goal.returns-clause-agree

@@ -1,5 +1,4 @@
-use Rattle.std.proofs.Common.{map}
-use Rattle.portal_rows.specs.Read.{count_read}
+use Rattle.portal_lists.proofs.Common.{map, count_read}
 use Rattle.portal_lists.proofs.audits.vouchers_agree.Goals as goal
 
 pub returns-clause-agree : goal.returns-clause-agree

@@ -1,5 +1,4 @@
-use Rattle.std.proofs.Common.{refl}
-use Rattle.portal_rows.specs.Read.{voucher_read}
+use Rattle.portal_lists.proofs.Common.{refl, voucher_read}
 use Rattle.portal_lists.proofs.lists.code_of.Goals as goal
 
 pub returns-clause-read : goal.returns-clause-read

@@ -1,12 +1,4 @@
-use Rattle.std.proofs.Common.{All, map, take, ap, sym, subst, ◌∙◌, ◌∷◌, [], ◌+◌, rules}
-use Rattle.std.proofs.lemmas.List.{map-append}
-use Rattle.std.proofs.lemmas.List.Elements.{All-push}
-use Rattle.portal_codes.specs.Code.{IsCode, text_of}
-use Rattle.portal_model.specs.Rows.{VoucherRow}
-use Rattle.portal_rows.specs.Contents.{voucher_cells}
-use Rattle.portal_lists.specs.Lists.{AreReadAs}
-use Rattle.std.proofs.lemmas.Result.{err_from_is_err_and}
-use Rattle.sqlite_rules.proofs.ListLemmas.{has_at}
+use Rattle.portal_lists.proofs.Common.{All, map, take, ap, sym, subst, ◌∙◌, ◌∷◌, [], ◌+◌, rules, map-append, All-push, IsCode, text_of, VoucherRow, voucher_cells, AreReadAs, err_from_is_err_and, has_at}
 use Rattle.portal_lists.proofs.Listing.{read_none, read_more}
 use Rattle.portal_lists.proofs.lists.codes_in.Goals as goal
 

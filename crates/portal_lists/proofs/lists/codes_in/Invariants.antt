@@ -1,8 +1,4 @@
-use Rattle.std.proofs.Common.{map, take, All}
-use Rattle.portal_codes.specs.Code.{text_of, IsCode}
-use Rattle.portal_model.specs.Rows.{VoucherRow}
-use Rattle.portal_rows.specs.Contents.{voucher_cells}
-use Rattle.portal_lists.specs.Lists.{AreReadAs}
+use Rattle.portal_lists.proofs.Common.{map, take, All, text_of, IsCode, VoucherRow, voucher_cells, AreReadAs}
 use Rattle.portal_lists.proofs.lists.codes_in.Given as goal
 
 abbrev pub invariant-loop-row : goal.invariant-loop-row

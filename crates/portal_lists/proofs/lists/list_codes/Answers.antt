@@ -1,13 +1,4 @@
-use Rattle.std.proofs.Common.{map, refl, subst, bytes_eq, sym}
-use Rattle.portal_codes.specs.Code.{text_of}
-use Rattle.portal_sql.proofs.LooksLemmas.{looks_read}
-use Rattle.portal_model.specs.Rows.{VoucherRow}
-use Rattle.portal_rows.specs.Contents.{voucher_cells}
-use Rattle.portal_rows.specs.Holds.{HasTables}
-use Rattle.portal_lists.specs.Lists.{AreReadAs, by_place}
-use Rattle.portal_rows.proofs.Cells.{exact_voucher}
-use Rattle.std.proofs.lemmas.Result.{err_from_is_err_and}
-use Rattle.portal_rows.specs.Foreign.{AreOfOwn, IsOwnVoucher}
+use Rattle.portal_lists.proofs.Common.{map, refl, subst, bytes_eq, sym, text_of, looks_read, VoucherRow, voucher_cells, HasTables, AreReadAs, by_place, exact_voucher, err_from_is_err_and, AreOfOwn, IsOwnVoucher}
 use Rattle.portal_lists.proofs.OwnRows.{own_listed}
 use Rattle.portal_lists.proofs.Listing.{read_shown}
 use Rattle.portal_lists.proofs.ListReading.{batch_listed}

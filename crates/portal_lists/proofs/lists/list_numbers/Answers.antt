@@ -1,17 +1,4 @@
-use Rattle.std.proofs.Common.{List, map, refl, ap, ◌∙◌, true}
-use Rattle.sqlite_trees.proofs.ListLemmas.{map-map}
-use Rattle.sqlite.specs.Held.{state}
-use Rattle.portal_sql.proofs.LooksLemmas.{fails_weaker, looks_read, reads_weaker}
-use Rattle.portal_model.specs.Rows.{TotalRow}
-use Rattle.portal_rows.specs.Contents.{total_cells}
-use Rattle.portal_rows.specs.Holds.{HasTables}
-use Rattle.portal_rows.specs.Steps.{ends_row}
-use Rattle.portal_lists.specs.Asks.{Asks}
-use Rattle.portal_lists.specs.Lists.{by_number, numbers_open}
-use Rattle.portal_rows.proofs.Cells.{exact_total}
-use Rattle.std.proofs.lemmas.Result.{err_from_is_err_and}
-use Rattle.portal_rows.specs.declared.signs.Total.{Total}
-use Rattle.portal_rows.specs.Foreign.{IsOwnTotal}
+use Rattle.portal_lists.proofs.Common.{List, map, refl, ap, ◌∙◌, true, map-map, state, fails_weaker, looks_read, reads_weaker, TotalRow, total_cells, HasTables, ends_row, Asks, by_number, numbers_open, exact_total, err_from_is_err_and, Total, IsOwnTotal}
 use Rattle.portal_lists.proofs.OwnRows.{own_listed}
 use Rattle.portal_lists.proofs.Listing.{read_listed}
 use Rattle.portal_lists.proofs.ListReading.{asks_totals, totals_rows_are, totals_simple}

@@ -1,18 +1,4 @@
-use Rattle.std.proofs.Common.{◌<◌, ◌^◌, ◌∙◌, w64, List, map, refl, ap, sym, subst, arith}
-use Rattle.std.proofs.lemmas.Int.{to_z_pos}
-use Rattle.std.proofs.lemmas.Result.{err_from_is_err_and}
-use Rattle.sqlite.specs.Held.{state}
-use Rattle.sqlite_trees.proofs.ListLemmas.{map-map}
-use Rattle.portal_sql.proofs.LooksLemmas.{fails_weaker, looks_read, reads_weaker}
-use Rattle.portal_model.specs.Rows.{VoucherRow}
-use Rattle.portal_rows.specs.Contents.{voucher_cells}
-use Rattle.portal_rows.specs.Foreign.{AreOwn, IsOwnRefund, IsOwnVoucher}
-use Rattle.portal_rows.specs.Holds.{HasTables}
-use Rattle.portal_rows.specs.Read.{voucher_read}
-use Rattle.portal_rows.specs.declared.rows.KeptVoucher.{KeptVoucher}
-use Rattle.portal_rows.proofs.Cells.{exact_voucher}
-use Rattle.portal_lists.specs.Asks.{Asks}
-use Rattle.portal_lists.specs.Lists.{is_within, by_refund, refund_shown}
+use Rattle.portal_lists.proofs.Common.{◌<◌, ◌^◌, ◌∙◌, w64, List, map, refl, ap, sym, subst, arith, to_z_pos, err_from_is_err_and, state, map-map, fails_weaker, looks_read, reads_weaker, VoucherRow, voucher_cells, AreOwn, IsOwnRefund, IsOwnVoucher, HasTables, voucher_read, KeptVoucher, exact_voucher, Asks, is_within, by_refund, refund_shown}
 use Rattle.portal_lists.proofs.OwnRows.{listed_own, own_listed, within_some}
 use Rattle.portal_lists.proofs.Listing.{read_listed}
 use Rattle.portal_lists.proofs.ListReading.{asks_refunded, refunded_rows_are, refunded_simple}

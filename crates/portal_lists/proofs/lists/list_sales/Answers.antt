@@ -1,14 +1,5 @@
-use Rattle.std.proofs.Common.{◌<◌, ◌^◌, ◌∙◌, w64, map, filter, refl, arith}
-use Rattle.std.proofs.lemmas.Int.{to_z_pos}
-use Rattle.sqlite.specs.Held.{state}
-use Rattle.sqlite_trees.proofs.ListLemmas.{map-map}
-use Rattle.portal_sql.proofs.FindLemmas.{ok_then}
-use Rattle.portal_sql.proofs.LooksLemmas.{looks_weaker}
-use Rattle.portal_model.specs.Rows.{VoucherRow}
-use Rattle.portal_rows.specs.Holds.{HasTables}
+use Rattle.portal_lists.proofs.Common.{◌<◌, ◌^◌, ◌∙◌, w64, map, filter, refl, arith, to_z_pos, state, map-map, ok_then, looks_weaker, VoucherRow, HasTables, Asks, IsOwnSale, is_within, sale_cells, sale_shown, sale_read}
 use Rattle.portal_lists.proofs.OwnRows.{own_rows, own_sales}
-use Rattle.portal_lists.specs.Asks.{Asks}
-use Rattle.portal_lists.specs.Lists.{IsOwnSale, is_within, sale_cells, sale_shown, sale_read}
 use Rattle.portal_lists.proofs.Listing.{exact_sale}
 use Rattle.portal_lists.proofs.ListReading.{asks_sold, sold_rows_are, sold_simple}
 use Rattle.portal_lists.proofs.ListTexts.{sold_text}

@@ -1,8 +1,4 @@
-use Rattle.std.proofs.Common.{◌++◌, ◌∷◌, [], ◌∙◌, ℕ, List, Bool, cond, Vec, Global, map, take, ap, sym, append-nil}
-use Rattle.std.proofs.lemmas.List.{take_all}
-use Rattle.portal_rows.specs.declared.signs.Total.{Total}
-use Rattle.portal_rows.specs.Steps.{ends_row}
-use Rattle.portal_lists.specs.Lists.{numbers_open}
+use Rattle.portal_lists.proofs.Common.{◌++◌, ◌∷◌, [], ◌∙◌, ℕ, List, Bool, cond, Vec, Global, map, take, ap, sym, append-nil, take_all, Total, ends_row, numbers_open}
 use Rattle.portal_lists.proofs.Listing.{numbers_more}
 use Rattle.portal_lists.proofs.lists.numbers_in.Goals.{then-may_be_open+in_ok-push, else-may_be_open}
 use Rattle.portal_lists.proofs.lists.numbers_in.Goals as goal

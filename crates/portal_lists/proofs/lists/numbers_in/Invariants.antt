@@ -1,6 +1,4 @@
-use Rattle.std.proofs.Common.{◌≡◌, map, take}
-use Rattle.portal_rows.specs.Steps.{ends_row}
-use Rattle.portal_lists.specs.Lists.{numbers_open}
+use Rattle.portal_lists.proofs.Common.{◌≡◌, map, take, ends_row, numbers_open}
 use Rattle.portal_lists.proofs.lists.numbers_in.Given as goal
 
 abbrev pub invariant-loop-total : goal.invariant-loop-total

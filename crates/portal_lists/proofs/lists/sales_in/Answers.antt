@@ -1,11 +1,4 @@
-use Rattle.std.proofs.Common.{ap, ◌∙◌, map}
-use Rattle.std.proofs.lemmas.List.{take_all}
-use Rattle.std.proofs.lemmas.Result.{err_from_is_err_and}
-use Rattle.sqlite_rules.proofs.ListLemmas.{has_at}
-use Rattle.portal_rows.specs.declared.rows.KeptVoucher.{KeptVoucher}
-use Rattle.portal_rows.specs.Read.{voucher_read}
-use Rattle.portal_lists.specs.Lists.{sale_shown, sale_read}
-use Rattle.portal_lists.proofs.OwnRows.{has_mapped}
+use Rattle.portal_lists.proofs.Common.{ap, ◌∙◌, map, take_all, err_from_is_err_and, has_at, KeptVoucher, voucher_read, sale_shown, sale_read, has_mapped}
 use Rattle.portal_lists.proofs.SumLemmas.{made_more}
 use Rattle.portal_lists.proofs.lists.sales_in.Goals as goal
 

@@ -1,6 +1,4 @@
-use Rattle.std.proofs.Common.{◌≡◌, map, take}
-use Rattle.portal_rows.specs.Read.{voucher_read}
-use Rattle.portal_lists.specs.Lists.{sale_shown, sale_read}
+use Rattle.portal_lists.proofs.Common.{◌≡◌, map, take, voucher_read, sale_shown, sale_read}
 use Rattle.portal_lists.proofs.lists.sales_in.Given as goal
 
 abbrev pub invariant-loop-voucher : goal.invariant-loop-voucher

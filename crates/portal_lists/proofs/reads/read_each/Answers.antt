@@ -1,8 +1,4 @@
-use Rattle.std.proofs.Common.{ap, ◌∙◌, map}
-use Rattle.std.proofs.lemmas.List.{take_all}
-use Rattle.portal_sql.specs.Finds.{columns}
-use Rattle.std.proofs.lemmas.Result.{err_from_is_err_and}
-use Rattle.sqlite_rules.proofs.ListLemmas.{has_at}
+use Rattle.portal_lists.proofs.Common.{ap, ◌∙◌, map, take_all, columns, err_from_is_err_and, has_at}
 use Rattle.portal_lists.proofs.SumLemmas.{made_more}
 use Rattle.portal_lists.proofs.reads.read_each.Goals as goal
 

@@ -1,5 +1,4 @@
-use Rattle.std.proofs.Common.{◌≡◌, map, take}
-use Rattle.portal_sql.specs.Finds.{columns}
+use Rattle.portal_lists.proofs.Common.{◌≡◌, map, take, columns}
 use Rattle.portal_lists.proofs.reads.read_each.Given as goal
 
 abbrev pub invariant-loop-row : goal.invariant-loop-row

@@ -1,12 +1,4 @@
-use Rattle.std.proofs.Common.{refl, ◌∙◌, rules}
-use Rattle.std.proofs.lemmas.Result.{err_from_is_err_and}
-use Rattle.sqlite.specs.Held.{state}
-use Rattle.sqlite.specs.State.{HasCleanDisk}
-use Rattle.sqlite.specs.Values.{bound}
-use Rattle.portal_sql.specs.Looks.{Looks}
-use Rattle.portal_sql.specs.Finds.{columns}
-use Rattle.portal_sql.proofs.LooksLemmas.{looks_read}
-use Rattle.portal_lists.specs.Asks.{Asks}
+use Rattle.portal_lists.proofs.Common.{refl, ◌∙◌, rules, err_from_is_err_and, state, HasCleanDisk, bound, Looks, columns, looks_read, Asks}
 use Rattle.portal_lists.proofs.Streaming.{begins_reading, fails_refused, fails_on, own_row, reads_all, reads_row, reads_value}
 use Rattle.portal_lists.proofs.reads.read_values.Goals as goal
 

@@ -1,6 +1,4 @@
-use Rattle.std.proofs.Common.{◌≡◌}
-use Rattle.sqlite.specs.Held.{state}
-use Rattle.sqlite.specs.Values.{bound}
+use Rattle.portal_lists.proofs.Common.{◌≡◌, state, bound}
 use Rattle.portal_lists.proofs.Streaming.{ReadsOn}
 use Rattle.portal_lists.proofs.reads.read_values.Given as goal
 

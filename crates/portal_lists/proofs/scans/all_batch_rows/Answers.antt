@@ -1,13 +1,7 @@
-use Rattle.sqlite.specs.Held.{state}
-use Rattle.portal_sql.proofs.FindLemmas.{ok_then}
-use Rattle.portal_sql.proofs.LooksLemmas.{looks_weaker}
-use Rattle.portal_rows.specs.Holds.{HasTables}
 use Rattle.portal_lists.proofs.WholeReading.{all_batches_are, all_batches_plain}
+use Rattle.portal_rows.proofs.SelectsLemmas.{selects_by}
 use Rattle.portal_lists.proofs.scans.all_batch_rows.Goals as goal
 
 pub returns : goal.returns
-returns g c = record {
-  rows = λ clean t h.
-      ok_then c.read_all.result (λ rows shown. all_batches_are (state g.S.Store c.args.conn.now) (state g.S.Store c.read_all.new.conn) rows.items shown t h) (c.read_all.ensures.shown clean);
-  looks = looks_weaker _ HasTables all_batches_plain c.read_all.result _ _ c.read_all.ensures.looks;
-}
+returns g c =
+    selects_by g.S.Store _ _ c.read_all.result (λ rows. rows.items) all_batches_plain (λ rows. all_batches_are _ _ rows.items) c.read_all.ensures.shown c.read_all.ensures.looks

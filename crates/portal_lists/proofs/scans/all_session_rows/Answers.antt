@@ -1,16 +1,6 @@
-use Rattle.sqlite.specs.Held.{state}
-use Rattle.portal_sql.proofs.FindLemmas.{ok_then}
-use Rattle.portal_sql.proofs.LooksLemmas.{looks_weaker}
-use Rattle.portal_lists.specs.Asks.{Anything}
-use Rattle.portal_rows.specs.First.{HasFirst}
 use Rattle.portal_lists.proofs.WholeReading.{all_sessions_are}
-use Rattle.portal_lists.proofs.AskLemmas.{sessions_asked}
+use Rattle.portal_lists.proofs.AskLemmas.{sessions_asked, selects_first}
 use Rattle.portal_lists.proofs.scans.all_session_rows.Goals as goal
 
 pub returns : goal.returns
-returns g c = record {
-  rows = λ clean t h.
-      ok_then c.ask.result (λ rows shown. all_sessions_are (state g.S.Store c.args.conn.now) (state g.S.Store c.ask.new.conn) rows.items shown t h) (c.ask.ensures.shown clean);
-  looks = looks_weaker Anything HasFirst (λ schema has. tt) c.ask.result _ _ (c.ask.ensures.always sessions_asked);
-  always = c.ask.ensures.always sessions_asked;
-}
+returns g c = selects_first g.S.Store _ _ c.ask.result (λ rows. rows.items) sessions_asked (λ rows. all_sessions_are _ _ rows.items) c.ask.ensures.shown c.ask.ensures.always

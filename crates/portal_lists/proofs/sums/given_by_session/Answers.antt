@@ -1,9 +1,4 @@
-use Rattle.std.proofs.Common.{ap, ◌∙◌, cond, Some, map}
-use Rattle.std.specs.Prelude.{nat_eq}
-use Rattle.std.specs.HashMap.{get}
-use Rattle.std.proofs.lemmas.List.{take_all}
-use Rattle.portal_lists.specs.Sums.{grant_read, given_to}
-use Rattle.std.proofs.lemmas.Result.{err_from_is_err_and}
+use Rattle.portal_lists.proofs.Common.{ap, ◌∙◌, cond, Some, map, nat_eq, get, take_all, grant_read, given_to, err_from_is_err_and}
 use Rattle.portal_lists.proofs.SumLemmas.{given_step, given_kept}
 use Rattle.portal_lists.proofs.sums.given_by_session.Goals as goal
 

@@ -1,7 +1,4 @@
-use Rattle.std.proofs.Common.{◌≡◌, ℕ, unwrap_or}
-use Rattle.std.specs.Prelude.{nat_eq}
-use Rattle.std.specs.HashMap.{get}
-use Rattle.portal_lists.specs.Sums.{nothing_given}
+use Rattle.portal_lists.proofs.Common.{◌≡◌, ℕ, unwrap_or, nat_eq, get, nothing_given}
 use Rattle.portal_lists.proofs.SumLemmas.{given_so_far}
 use Rattle.portal_lists.proofs.sums.given_by_session.Given as goal
 

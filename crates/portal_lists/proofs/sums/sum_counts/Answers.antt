@@ -1,11 +1,4 @@
-use Rattle.std.proofs.Common.{◌≡◌, sym, ap, ◌∙◌, map}
-use Rattle.std.proofs.lemmas.List.{take_all}
-use Rattle.sqlite_trees.proofs.ListLemmas.{map-map}
-use Rattle.portal_codes.specs.Code.{text_of}
-use Rattle.portal_model.specs.Rows.{count_from}
-use Rattle.portal_rows.specs.declared.rows.KeptVoucher.{KeptVoucher}
-use Rattle.portal_rows.specs.Read.{voucher_read, count_read}
-use Rattle.portal_lists.specs.Sums.{grant_read, uses_in}
+use Rattle.portal_lists.proofs.Common.{◌≡◌, sym, ap, ◌∙◌, map, take_all, map-map, text_of, count_from, KeptVoucher, voucher_read, count_read, grant_read, uses_in}
 use Rattle.portal_lists.proofs.SumLemmas.{made_more}
 use Rattle.portal_lists.proofs.sums.sum_counts.Goals as goal
 

@@ -1,7 +1,4 @@
-use Rattle.std.proofs.Common.{◌≡◌, map, take}
-use Rattle.portal_model.specs.Rows.{count_from}
-use Rattle.portal_rows.specs.Read.{voucher_read, count_read}
-use Rattle.portal_lists.specs.Sums.{grant_read}
+use Rattle.portal_lists.proofs.Common.{◌≡◌, map, take, count_from, voucher_read, count_read, grant_read}
 use Rattle.portal_lists.proofs.sums.sum_counts.Given as goal
 
 abbrev pub invariant-loop-voucher : goal.invariant-loop-voucher

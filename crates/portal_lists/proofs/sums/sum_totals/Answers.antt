@@ -1,15 +1,5 @@
-use Rattle.std.proofs.Common.{sym, ap, ◌∙◌, map, subst, ◌<◌, ◌^◌}
-use Rattle.std.proofs.lemmas.List.{take_all}
-use Rattle.sqlite_trees.proofs.ListLemmas.{map-map}
-use Rattle.portal_model.specs.Rows.{total_from}
+use Rattle.portal_lists.proofs.Common.{sym, ap, ◌∙◌, map, subst, ◌<◌, ◌^◌, take_all, map-map, total_from, session_read, ends_row, grant_read, summed, err_from_is_err_and, has_at, has_mapped, Given}
 use Rattle.portal_rows.specs.declared.rows.KeptSession.{KeptSession}
-use Rattle.portal_rows.specs.Read.{session_read}
-use Rattle.portal_rows.specs.Steps.{ends_row}
-use Rattle.portal_lists.specs.Sums.{grant_read, summed}
-use Rattle.std.proofs.lemmas.Result.{err_from_is_err_and}
-use Rattle.sqlite_rules.proofs.ListLemmas.{has_at}
-use Rattle.portal_sql.proofs.Keys.{has_mapped}
-use Rattle.portal_lists.specs.declared.sums.Given.{Given}
 use Rattle.portal_lists.proofs.SumLemmas.{made_more}
 use Rattle.portal_lists.proofs.sums.sum_totals.Goals as goal
 

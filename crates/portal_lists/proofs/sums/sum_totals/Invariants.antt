@@ -1,8 +1,4 @@
-use Rattle.std.proofs.Common.{◌≡◌, map, take}
-use Rattle.portal_model.specs.Rows.{total_from}
-use Rattle.portal_rows.specs.Read.{session_read}
-use Rattle.portal_rows.specs.Steps.{ends_row}
-use Rattle.portal_lists.specs.Sums.{grant_read, summed}
+use Rattle.portal_lists.proofs.Common.{◌≡◌, map, take, total_from, session_read, ends_row, grant_read, summed}
 use Rattle.portal_lists.proofs.sums.sum_totals.Given as goal
 
 abbrev pub invariant-loop-session : goal.invariant-loop-session

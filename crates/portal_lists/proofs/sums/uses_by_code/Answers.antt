@@ -1,10 +1,4 @@
-use Rattle.std.proofs.Common.{◌≡◌, ◌≤◌, List, subst, ◌∙◌, arith, map}
-use Rattle.std.specs.Prelude.{bytes_eq}
-use Rattle.std.specs.HashMap.{get}
-use Rattle.std.proofs.lemmas.List.{take_all}
-use Rattle.portal_codes.specs.Code.{text_of}
-use Rattle.portal_lists.specs.declared.grants.KeptGrant.{KeptGrant}
-use Rattle.portal_lists.specs.Sums.{AreUses, grant_read}
+use Rattle.portal_lists.proofs.Common.{◌≡◌, ◌≤◌, List, subst, ◌∙◌, arith, map, bytes_eq, get, take_all, text_of, KeptGrant, AreUses, grant_read}
 use Rattle.portal_lists.proofs.SumLemmas.{uses_so_far, uses_few, uses_step}
 use Rattle.portal_lists.proofs.sums.uses_by_code.Goals as goal
 

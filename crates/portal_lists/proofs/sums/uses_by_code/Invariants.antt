@@ -1,5 +1,4 @@
-use Rattle.std.proofs.Common.{map, take}
-use Rattle.portal_lists.specs.Sums.{AreUses, grant_read}
+use Rattle.portal_lists.proofs.Common.{map, take, AreUses, grant_read}
 use Rattle.portal_lists.proofs.sums.uses_by_code.Given as goal
 
 abbrev pub invariant-loop-grant : goal.invariant-loop-grant

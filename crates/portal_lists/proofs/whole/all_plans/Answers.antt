@@ -1,33 +1,14 @@
-use Rattle.std.proofs.Common.{refl, ap, ◌∙◌, map, sym, subst}
-use Rattle.portal_sql.specs.Finds.{columns}
-use Rattle.portal_sql.proofs.LooksLemmas.{looks_read}
-use Rattle.portal_rows.specs.Contents.{plan_cells}
-use Rattle.portal_lists.specs.Asks.{Anything}
-use Rattle.portal_rows.specs.First.{HasFirst}
-use Rattle.portal_rows.proofs.Cells.{exact_plan}
-use Rattle.std.proofs.lemmas.Result.{err_from_is_err_and}
-use Rattle.portal_rows.specs.Foreign.{AreOfOwn, IsOwnPlan}
-use Rattle.portal_lists.proofs.OwnRows.{own_rows}
-use Rattle.portal_lists.proofs.SumLemmas.{rows_exact}
+use Rattle.portal_lists.proofs.Common.{refl, state, looks_read, plan_cells, HasFirst, HoldsFirst, IsOwnPlan, Anything, exact_plan}
+use Rattle.portal_lists.proofs.WholeValues.{are_whole, whole_own}
 use Rattle.portal_lists.proofs.whole.all_plans.Goals as goal
 
 pub returns : goal.returns
-returns g c = record {
-  found = λ clean t h.
-      rows_exact plan_cells 7 (λ x. refl) exact_plan c.in_ok-read_each.field-0.items t.plans _ (c.in_ok-read_each.ensures.cells ∙ ap (map (columns 7)) c.deref.ensures.value) (c.in_ok-rows.ensures.rows clean t h);
-  looks = c.in_ok-rows.ensures.looks;
-  always = c.in_ok-rows.ensures.always;
-  foreign = λ clean t h own. tt;
-}
-
-pub returns-in_err-read_each : goal.returns-in_err-read_each
-returns-in_err-read_each g c =
-    let told = err_from_is_err_and c.from_residual-in_err-read_each.result c.from_residual-in_err-read_each.ensures.1 in
+returns g c =
+    let old = state g.S.Store c.args.conn.now in
+    let new = state g.S.Store c.all_plan_rows.new.conn in
     record {
-      found = λ clean t h. rw told.1 tt;
-      looks = looks_read HasFirst _ _ _ c.in_ok-rows.ensures.looks;
-      always = looks_read Anything _ _ _ c.in_ok-rows.ensures.always;
-      foreign = λ clean t h own.
-          let shows = own_rows plan_cells 7 (λ x. refl) IsOwnPlan t.plans c.in_ok-rows.rows.items (c.in_ok-rows.ensures.rows clean t h) own in
-          rw (told.1, told.2) (c.in_err-read_each.ensures.own (subst (AreOfOwn plan_cells 7 IsOwnPlan) (sym c.deref.ensures.value) shows));
+      found = are_whole c.read_each.result plan_cells 7 (λ x. refl) HoldsFirst (λ t. t.plans) old new c.in_ok-rows.ensures.rows c.deref.ensures.value exact_plan (λ v. v.items) (λ v. refl) c.read_each.ensures.cells;
+      looks = looks_read HasFirst c.read_each.result old new c.in_ok-rows.ensures.looks;
+      always = looks_read Anything c.read_each.result old new c.in_ok-rows.ensures.always;
+      foreign = whole_own c.read_each.result plan_cells 7 (λ x. refl) HoldsFirst (λ t. t.plans) old new c.in_ok-rows.ensures.rows c.deref.ensures.value IsOwnPlan c.read_each.ensures.own;
     }

@@ -1,32 +1,13 @@
-use Rattle.std.proofs.Common.{refl, ap, ◌∙◌, map, sym, subst}
-use Rattle.sqlite_trees.proofs.ListLemmas.{map-map}
-use Rattle.portal_sql.specs.Finds.{columns}
-use Rattle.portal_sql.proofs.LooksLemmas.{looks_read}
-use Rattle.portal_rows.specs.Contents.{total_cells}
-use Rattle.portal_rows.specs.Holds.{HasTables}
-use Rattle.portal_rows.specs.Steps.{ends_row}
-use Rattle.portal_rows.proofs.Cells.{exact_total}
-use Rattle.std.proofs.lemmas.Result.{err_from_is_err_and}
-use Rattle.portal_rows.specs.Foreign.{AreOfOwn, IsOwnTotal}
-use Rattle.portal_lists.proofs.OwnRows.{own_rows}
-use Rattle.portal_lists.proofs.SumLemmas.{rows_exact}
+use Rattle.portal_lists.proofs.Common.{refl, map, map-map, state, looks_read, total_cells, HasTables, Holds, IsOwnTotal, ends_row, exact_total}
+use Rattle.portal_lists.proofs.WholeValues.{are_whole, whole_own}
 use Rattle.portal_lists.proofs.whole.all_totals.Goals as goal
 
 pub returns : goal.returns
-returns g c = record {
-  found = λ clean t h.
-      rows_exact total_cells 3 (λ x. refl) exact_total (map ends_row c.in_ok-read_each.field-0.items) t.totals _ (map-map total_cells ends_row c.in_ok-read_each.field-0.items ∙ c.in_ok-read_each.ensures.cells ∙ ap (map (columns 3)) c.deref.ensures.value) (c.in_ok-rows.ensures.rows clean t h);
-  looks = c.in_ok-rows.ensures.looks;
-  foreign = λ clean t h own. tt;
-}
-
-pub returns-in_err-read_each : goal.returns-in_err-read_each
-returns-in_err-read_each g c =
-    let told = err_from_is_err_and c.from_residual-in_err-read_each.result c.from_residual-in_err-read_each.ensures.1 in
+returns g c =
+    let old = state g.S.Store c.args.conn.now in
+    let new = state g.S.Store c.all_total_rows.new.conn in
     record {
-      found = λ clean t h. rw told.1 tt;
-      looks = looks_read HasTables _ _ _ c.in_ok-rows.ensures.looks;
-      foreign = λ clean t h own.
-          let shows = own_rows total_cells 3 (λ x. refl) IsOwnTotal t.totals c.in_ok-rows.rows.items (c.in_ok-rows.ensures.rows clean t h) own in
-          rw (told.1, told.2) (c.in_err-read_each.ensures.own (subst (AreOfOwn total_cells 3 IsOwnTotal) (sym c.deref.ensures.value) shows));
+      found = are_whole c.read_each.result total_cells 3 (λ x. refl) Holds (λ t. t.totals) old new c.in_ok-rows.ensures.rows c.deref.ensures.value exact_total (λ v. map ends_row v.items) (λ v. map-map total_cells ends_row v.items) c.read_each.ensures.cells;
+      looks = looks_read HasTables c.read_each.result old new c.in_ok-rows.ensures.looks;
+      foreign = whole_own c.read_each.result total_cells 3 (λ x. refl) Holds (λ t. t.totals) old new c.in_ok-rows.ensures.rows c.deref.ensures.value IsOwnTotal c.read_each.ensures.own;
     }

@@ -1,7 +1,5 @@
-use Rattle.std.proofs.Common.{ap, rules, ◌∙◌}
+use Rattle.portal_open.proofs.Common.{ap, rules, ◌∙◌, is_open_at, OpenAt, led}
 use Rattle.std.proofs.lemmas.Fn.{filter_same}
-use Rattle.portal_model.specs.History.{is_open_at}
-use Rattle.portal_open.specs.Open.{OpenAt, led}
 use Rattle.portal_open.proofs.Opening.{follows_on}
 use Rattle.portal_open.proofs.OpenSessions.followed.Goals as goal
 

@@ -1,10 +1,5 @@
-use Rattle.std.proofs.Common.{List, ap, map, ◌∙◌}
-use Rattle.std.specs.Prelude.{filter, max}
+use Rattle.portal_open.proofs.Common.{List, ap, map, ◌∙◌, filter, max, Session, open_session, is_open_at, OpenAt}
 use Rattle.std.proofs.lemmas.List.{take_all}
-use Rattle.portal_model.specs.declared.record.Session.{Session}
-use Rattle.portal_model.specs.Captive.{open_session}
-use Rattle.portal_model.specs.History.{is_open_at}
-use Rattle.portal_open.specs.Open.{OpenAt}
 use Rattle.portal_open.proofs.Opening.{tells}
 use Rattle.portal_open.proofs.OpenSessions.told.Goals as goal
 

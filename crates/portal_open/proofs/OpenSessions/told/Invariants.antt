@@ -1,7 +1,4 @@
-use Rattle.std.proofs.Common.{◌≡◌, map, take}
-use Rattle.std.specs.Prelude.{filter}
-use Rattle.portal_model.specs.Captive.{open_session}
-use Rattle.portal_model.specs.History.{is_open_at}
+use Rattle.portal_open.proofs.Common.{◌≡◌, map, take, filter, open_session, is_open_at}
 use Rattle.portal_open.proofs.OpenSessions.told.Given as goal
 
 abbrev pub invariant-loop-session : goal.invariant-loop-session

@@ -1,7 +1,5 @@
-use Rattle.std.proofs.Common.{ap, arith, set, sym, ◌∙◌}
+use Rattle.portal_open.proofs.Common.{ap, arith, set, sym, ◌∙◌, Session, changed_to}
 use Rattle.std.proofs.lemmas.List.Edits.{map_over_more}
-use Rattle.portal_model.specs.declared.record.Session.{Session}
-use Rattle.portal_open.specs.Open.{changed_to}
 use Rattle.portal_open.proofs.changed.put.Goals as goal
 
 pub loop-session-preserved : goal.loop-session-preserved

@@ -1,5 +1,4 @@
-use Rattle.std.proofs.Common.{◌≡◌, ◌++◌, drop, map, take}
-use Rattle.portal_open.specs.Open.{changed_to}
+use Rattle.portal_open.proofs.Common.{◌≡◌, ◌++◌, drop, map, take, changed_to}
 use Rattle.portal_open.proofs.changed.put.Given as goal
 
 abbrev pub invariant-loop-session : goal.invariant-loop-session

@@ -1,6 +1,4 @@
-use Rattle.std.proofs.Common.{◌∙◌, ◌<◌, ◌/◌, ◌%◌, ◌++◌, ◌∷◌, arith}
-use Rattle.std.specs.Prelude.{decimal}
-use Rattle.std.proofs.lemmas.Result.{IfOk-weaker}
+use Rattle.portal_print.proofs.Common.{◌∙◌, ◌<◌, ◌/◌, ◌%◌, ◌++◌, ◌∷◌, arith, decimal, IfOk-weaker}
 use Rattle.portal_print.proofs.Columns.{right-column, two-places, amount-column}
 use Rattle.portal_print.proofs.amounts.amount_column.Goals as goal
 

@@ -1,6 +1,4 @@
-use Rattle.std.proofs.Common.{◌∙◌, ◌<◌, ◌/◌, ◌%◌, ◌++◌, ◌∷◌, arith}
-use Rattle.std.specs.Prelude.{decimal}
-use Rattle.std.proofs.lemmas.Result.{IfOk-weaker}
+use Rattle.portal_print.proofs.Common.{◌∙◌, ◌<◌, ◌/◌, ◌%◌, ◌++◌, ◌∷◌, arith, decimal, IfOk-weaker}
 use Rattle.portal_print.proofs.Columns.{two-places}
 use Rattle.portal_print.proofs.amounts.amount_text.Goals as goal
 

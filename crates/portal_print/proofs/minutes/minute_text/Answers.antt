@@ -1,5 +1,4 @@
-use Rattle.std.proofs.Common.{◌∙◌}
-use Rattle.std.proofs.lemmas.Result.{IfOk-weaker}
+use Rattle.portal_print.proofs.Common.{◌∙◌, IfOk-weaker}
 use Rattle.portal_print.proofs.ShownTimes.{minute-parts}
 use Rattle.portal_print.proofs.minutes.minute_text.Goals as goal
 

@@ -1,9 +1,4 @@
-use Rattle.std.proofs.Common.{◌∙◌, ◌++◌, ap, List, ℕ}
-use Rattle.std.specs.Prelude.{string_bytes}
-use Rattle.std.specs.List.{flat_map}
-use Rattle.portal_print.specs.PrintFile.{limit_text}
-use Rattle.portal_print.specs.Amount.{amount_text}
-use Rattle.portal_print.specs.Private.Written.{Shared, header_row, code_row}
+use Rattle.portal_print.proofs.Common.{◌∙◌, ◌++◌, ap, List, ℕ, string_bytes, flat_map, limit_text, amount_text, Shared, header_row, code_row}
 use Rattle.portal_print.proofs.PrintLines.{shared, print-file, shared-same, ok-or}
 use Rattle.portal_files.specs.declared.fault.FileFault.TheVariants.{Memory}
 use Rattle.portal_print.proofs.print_file.print_batch.Goals as goal

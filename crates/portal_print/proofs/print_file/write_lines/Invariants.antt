@@ -1,6 +1,4 @@
-use Rattle.std.proofs.Common.{◌≡◌, ◌++◌, take}
-use Rattle.std.specs.List.{flat_map}
-use Rattle.portal_print.specs.Private.Written.{IsReady, written, shared_of, header_row, code_row}
+use Rattle.portal_print.proofs.Common.{◌≡◌, ◌++◌, take, flat_map, IsReady, written, shared_of, header_row, code_row}
 use Rattle.portal_print.proofs.print_file.write_lines.Given as goal
 
 abbrev pub invariant-loop-code : goal.invariant-loop-code

@@ -1,6 +1,4 @@
-use Rattle.std.proofs.Common.{◌∙◌}
-use Rattle.std.specs.Prelude.{decimal}
-use Rattle.std.proofs.lemmas.Result.{IfOk-weaker}
+use Rattle.portal_print.proofs.Common.{◌∙◌, decimal, IfOk-weaker}
 use Rattle.portal_print.proofs.Columns.{right-column}
 use Rattle.portal_print.proofs.ReportLines.{number-line}
 use Rattle.portal_print.proofs.report.number_line.Goals as goal

@@ -1,6 +1,5 @@
-use Rattle.std.proofs.Common.{◌≡◌, ◌∙◌, ◌++◌, List, ap, take, subst, string_bytes}
+use Rattle.portal_print.proofs.Common.{◌≡◌, ◌∙◌, ◌++◌, List, ap, take, subst, string_bytes, DayTakings}
 use Rattle.std.proofs.lemmas.List.{take_all}
-use Rattle.portal_days.specs.declared.takings.DayTakings.{DayTakings}
 use Rattle.portal_print.proofs.ReportLines.{IsSoFar, more-so_far, whole-report}
 use Rattle.portal_print.proofs.report.takings_text.Goals as goal
 

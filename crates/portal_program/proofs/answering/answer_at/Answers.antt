@@ -1,6 +1,4 @@
-use Rattle.std.proofs.Common.{Ok, ap, ◌∙◌}
-use Rattle.portal_ledger.specs.States.{running}
-use Rattle.portal_program.specs.Answering.{status_for}
+use Rattle.portal_program.proofs.Common.{Ok, ap, ◌∙◌, status_for}
 use Rattle.portal_program.proofs.answering.answer_at.Goals as goal
 
 pub returns-in-Ok-clause-served : goal.returns-in-Ok-clause-served

@@ -1,10 +1,4 @@
-use Rattle.std.proofs.Common.{[], inl, subst}
-use Rattle.portal_files.specs.SettingsFile.{SettingsValue}
-use Rattle.portal_ledger.specs.States.{running}
-use Rattle.portal_desk.specs.Calls.{is_over}
-use Rattle.portal_http.specs.Exchanges.{between}
-use Rattle.portal_http.specs.Runs.{Served}
-use Rattle.portal_program.specs.Answering.{EndsAnswering}
+use Rattle.portal_program.proofs.Common.{[], inl, subst, SettingsValue, running, is_over, between, Served, EndsAnswering}
 use Rattle.portal_program.proofs.answering.answer_fresh.Goals as goal
 
 pub returns-in-Ok : goal.returns-in-Ok

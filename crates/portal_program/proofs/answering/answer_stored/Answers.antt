@@ -1,10 +1,4 @@
-use Rattle.std.proofs.Common.{◌≡◌, ◌∙◌, inl, inr, subst}
-use Rattle.portal_files.specs.SettingsFile.{SettingsValue}
-use Rattle.portal_ledger.specs.States.{running}
-use Rattle.portal_desk.specs.Calls.{is_over}
-use Rattle.portal_http.specs.Exchanges.{between}
-use Rattle.portal_http.specs.Runs.{Served}
-use Rattle.portal_program.specs.Answering.{EndsAnswering}
+use Rattle.portal_program.proofs.Common.{inl, subst, SettingsValue, running, is_over, between, Served, EndsAnswering}
 use Rattle.portal_program.proofs.answering.answer_stored.Goals as goal
 
 pub returns-in-Ok : goal.returns-in-Ok
@@ -22,7 +16,7 @@ returns-in-Ok g c =
         c.close_desk.ensures,
         (call.ensures.wire.0, call.result, call.ensures.wire.1, ends.ensures),
         λ honest.
-            let was = call.ensures.honest honest in (
+            let was = call.ensures.settings.honest honest in (
               was,
               c.in-Ok.ensures.found was,
               λ L shows.

@@ -1,6 +1,4 @@
-use Rattle.std.proofs.Common.{inl, inr}
-use Rattle.std.proofs.KnownBytes.{Keeps-refl}
-use Rattle.portal_ledger.specs.States.{running}
+use Rattle.portal_program.proofs.Common.{inl, inr, Keeps-refl, running}
 use Rattle.portal_program.proofs.asking.ask.Goals as goal
 
 pub returns-in-Err-clause-over : goal.returns-in-Err-clause-over
@@ -23,7 +21,7 @@ returns-in-Ok-clause-over g c =
         c.close_desk.ensures,
         call.ensures.ends,
         λ honest.
-            let was = call.ensures.honest honest in (
+            let was = call.ensures.settings.honest honest in (
               was,
               c.in-Ok.ensures.found was,
               λ L shows.
@@ -51,9 +49,9 @@ returns-in-Ok-clause-exact g c =
       c.close_desk.ensures,
       (
         call.ensures.exact.0,
-        call.ensures.exact.1,
+        call.ensures.exact.2,
         λ honest.
-            let was = call.ensures.honest honest in
-            (was, λ L shows. c.in-Ok.ensures.stands L shows was, call.ensures.exact.2 honest),
+            let was = call.ensures.settings.honest honest in
+            (was, λ L shows. c.in-Ok.ensures.stands L shows was, call.ensures.exact.1 honest),
       ),
     )

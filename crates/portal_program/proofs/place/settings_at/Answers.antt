@@ -1,14 +1,13 @@
-use Rattle.std.proofs.Common.{List, ℕ, inl, inr, subst}
-use Rattle.portal_files.specs.SettingsFile.{IsSettingsFile}
+use Rattle.portal_program.proofs.Common.{List, ℕ, inl, inr, subst, IsSettingsFile}
 use Rattle.portal_program.proofs.place.settings_at.Goals as goal
 
 pub returns-in-Err-Bad-clause-none : goal.returns-in-Err-Bad-clause-none
 returns-in-Err-Bad-clause-none g c = λ same.
     let none = c.in-Err-Bad.ensures.bad c.in-Err-Bad.field-0-is in
-    (c.in-Ok.bytes.items, c.in-Ok.ensures.bytes, subst (λ (bytes : List ℕ). (s : _) → ¬ IsSettingsFile bytes s) c.as_slice.ensures.value none)
+    (c.in_ok-bytes.bytes.items, c.in_ok-bytes.ensures.bytes, subst (λ (bytes : List ℕ). (s : _) → ¬ IsSettingsFile bytes s) c.as_slice.ensures.value none)
 
 pub returns-in-Err-Bad-clause-missed : goal.returns-in-Err-Bad-clause-missed
 returns-in-Err-Bad-clause-missed g c =
     let none = c.in-Err-Bad.ensures.bad c.in-Err-Bad.field-0-is in
     inr
-    (inl (c.plain.ensures.fault, (c.in-Ok.bytes.items, c.in-Ok.ensures.bytes, subst (λ (bytes : List ℕ). (s : _) → ¬ IsSettingsFile bytes s) c.as_slice.ensures.value none)))
+    (inl (c.plain.ensures.fault, (c.in_ok-bytes.bytes.items, c.in_ok-bytes.ensures.bytes, subst (λ (bytes : List ℕ). (s : _) → ¬ IsSettingsFile bytes s) c.as_slice.ensures.value none)))

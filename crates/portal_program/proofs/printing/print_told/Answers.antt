@@ -1,6 +1,4 @@
-use Rattle.std.proofs.Common.{List, ℕ, subst}
-use Rattle.portal_ledger.specs.Calls.{ReadsThat}
-use Rattle.portal_program.specs.Asking.{IsBatchFile}
+use Rattle.portal_program.proofs.Common.{List, ℕ, subst, ReadsThat, IsBatchFile}
 use Rattle.portal_program.proofs.printing.print_told.Goals as goal
 
 pub returns-in-Ok-clause-print : goal.returns-in-Ok-clause-print

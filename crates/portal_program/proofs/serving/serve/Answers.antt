@@ -1,6 +1,4 @@
-use Rattle.std.proofs.Common.{inl, inr}
-use Rattle.std.proofs.KnownBytes.{Keeps-refl}
-use Rattle.portal_ledger.specs.States.{running}
+use Rattle.portal_program.proofs.Common.{inl, inr, Keeps-refl, running}
 use Rattle.portal_program.proofs.serving.serve.Goals as goal
 
 pub returns-in-Err : goal.returns-in-Err
@@ -21,7 +19,7 @@ returns-in-Ok g c =
         c.close_desk.ensures,
         call.ensures.printed,
         λ honest.
-            let was = call.ensures.honest honest in (
+            let was = call.ensures.settings.honest honest in (
               was,
               c.in-Ok.ensures.found was,
               λ L shows.
@@ -38,7 +36,7 @@ returns-in-Ok g c =
         c.close_desk.ensures,
         call.ensures.printed,
         λ honest.
-            let was = call.ensures.honest honest in (
+            let was = call.ensures.settings.honest honest in (
               was,
               c.in-Ok.ensures.found was,
               λ L shows.

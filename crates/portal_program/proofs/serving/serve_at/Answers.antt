@@ -1,6 +1,4 @@
-use Rattle.std.proofs.Common.{[], inl, inr, refl, arith}
-use Rattle.std.proofs.KnownBytes.{Keeps-refl}
-use Rattle.portal_ends.specs.declared.fault.Fault.TheVariants.{NoMemory}
+use Rattle.portal_program.proofs.Common.{[], inl, inr, refl, arith, Keeps-refl, NoMemory}
 use Rattle.portal_program.proofs.serving.serve_at.Goals as goal
 
 pub returns-in_default-clause-printed : goal.returns-in_default-clause-printed
@@ -20,7 +18,7 @@ returns-clause-printed g c = inl c.serve.ensures.printed
 
 pub returns-clause-served : goal.returns-clause-served
 returns-clause-served g c = λ honest old stands.
-    let it = c.serve.ensures.served honest old stands in (it.0, it.1, it.2)
+    let it = c.serve.ensures.served honest old stands in (it.0, it.1, it.2.0)
 
 pub returns-in_default-clause-turns : goal.returns-in_default-clause-turns
 returns-in_default-clause-turns g c = λ honest old stands.

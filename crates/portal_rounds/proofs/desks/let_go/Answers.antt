@@ -1,6 +1,4 @@
-use Rattle.std.proofs.Math.Logic.{∥∥₁_map}
-use Rattle.sqlite.specs.Files.{over_files}
-use Rattle.portal_store.specs.DeskAt.{DeskMayLeave}
+use Rattle.portal_rounds.proofs.Common.{∥∥₁_map, over_files, DeskMayLeave}
 use Rattle.portal_tables.specs.Images.{ImageHolds}
 use Rattle.portal_tables.specs.TablesAt.{ConnMayLeave, Files as Tables}
 use Rattle.portal_rounds.proofs.RoundLemmas.{desk_leaves, state_left}

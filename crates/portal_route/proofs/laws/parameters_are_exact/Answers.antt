@@ -1,6 +1,5 @@
-use Rattle.std.proofs.Common.{◌≡◌, ℕ, List, [], ◌∷◌, codes}
+use Rattle.portal_route.proofs.Common.{◌≡◌, ℕ, List, [], ◌∷◌, codes, IsSegment, print_path, voucher_path}
 use Rattle.portal_route.specs.Targets.{after, parameter_of}
-use Rattle.portal_route.specs.Laws.{IsSegment, print_path, voucher_path}
 use Rattle.portal_route.proofs.TargetLemmas.{before_segment, before_last}
 use Rattle.portal_route.proofs.laws.parameters_are_exact.Goals as goal
 

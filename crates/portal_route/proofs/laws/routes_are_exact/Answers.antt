@@ -1,14 +1,9 @@
-use Rattle.std.proofs.Common.{◌≡◌, inl, inr, ℕ, ◌<◌, Bool, true, false, cond, List, [], ◌∷◌, ◌++◌, Option, Some, None, codes, refl, sym, ap, ◌∙◌, subst, arith, append-nil}
-use Rattle.std.specs.Prelude.{All, option_map}
+use Rattle.portal_route.proofs.Common.{◌≡◌, inl, inr, ℕ, ◌<◌, Bool, true, false, cond, List, [], ◌∷◌, ◌++◌, Option, Some, None, codes, refl, sym, ap, ◌∙◌, subst, arith, append-nil, All, option_map, RowsOf, RouteOf, Route, IsPlain, IsSegment, IsPathOf, print_path, voucher_path}
 use Rattle.matchit.proofs.OnLiterals.{matchit_on_literals}
-use Rattle.matchit.specs.Rows.{RowsOf}
-use Rattle.matchit.specs.Router.{RouteOf}
 use Rattle.matchit.specs.Seek.{first}
-use Rattle.portal_route.specs.declared.Route.{Route}
 use Rattle.portal_route.specs.declared.Route.TheVariants.{Captive, Redeem, Plans, Batches, Print, Sales, Refunds, Closes, Voucher, Takings, Reports, Sessions}
 use Rattle.portal_route.specs.Targets.{is_full, is_path}
 use Rattle.portal_route.specs.Table.{place_route, route_of, route_in, table}
-use Rattle.portal_route.specs.Laws.{IsPlain, IsSegment, IsPathOf, print_path, voucher_path}
 use Rattle.portal_route.proofs.SeekLemmas.{seek-front, seek-print, seek-last}
 use Rattle.portal_route.proofs.SoundLemmas.{Found, Matches, seek-sound, literal-whole, literal-front, parameter-then}
 use Rattle.portal_route.proofs.TargetLemmas.{full_after}

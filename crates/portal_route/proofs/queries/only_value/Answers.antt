@@ -1,6 +1,5 @@
-use Rattle.std.proofs.Common.{◌≡◌, ◌++◌, List, ℕ, Option, refl, ap, ◌∙◌, subst, sym}
-use Rattle.std.specs.Borrow.{Bor}
-use Rattle.portal_route.specs.Queries.{values_of, value_of}
+use Rattle.portal_route.proofs.Common.{◌≡◌, ◌++◌, List, ℕ, Option, refl, ap, ◌∙◌, subst, sym, Bor, value_of}
+use Rattle.portal_route.specs.Queries.{values_of}
 use Rattle.portal_route.proofs.QueryLemmas.{fewer, first, other, none_before, one_before, or_empty, compared, seen, values_left, now_of}
 use Rattle.portal_route.proofs.queries.only_value.Goals as goal
 

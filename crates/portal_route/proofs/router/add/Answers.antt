@@ -1,10 +1,6 @@
-use Rattle.std.proofs.Common.{◌≡◌}
-use Rattle.std.specs.Prelude.{Result, Ok, Err, OnOk}
-use Rattle.matchit.specs.Rows.{RowsOf}
-use Rattle.matchit.specs.Router.{RouteOf, InsertsRead}
+use Rattle.portal_route.proofs.Common.{◌≡◌, Result, Ok, Err, OnOk, RowsOf, RouteOf, InsertsRead, Route}
 use Rattle.matchit.specs.Route.{Scan, parse_route}
 use Rattle.matchit.specs.declared.error.InsertError.{InsertError}
-use Rattle.portal_route.specs.declared.Route.{Route}
 use Rattle.portal_route.specs.Table.{place_read, place_route}
 use Rattle.portal_route.proofs.router.add.Goals as goal
 

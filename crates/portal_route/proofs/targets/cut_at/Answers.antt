@@ -1,5 +1,4 @@
-use Rattle.std.proofs.Common.{◌≡◌, ℕ, List, Some, true, false, ◌==◌, get_or, sym, ap, ◌∙◌, arith}
-use Rattle.std.proofs.lemmas.Bool.Decides.{nat_tests}
+use Rattle.portal_route.proofs.Common.{◌≡◌, ℕ, List, Some, true, false, ◌==◌, get_or, sym, ap, ◌∙◌, arith, nat_tests}
 use Rattle.portal_route.proofs.TargetLemmas.{found, passed, never, back_found, back_passed, after_end}
 use Rattle.portal_route.proofs.targets.cut_at.Goals as goal
 

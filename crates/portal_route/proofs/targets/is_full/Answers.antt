@@ -1,5 +1,4 @@
-use Rattle.std.proofs.Common.{◌≡◌, ◌+◌, Bool, true, false, ◌==◌, get_or, drop, sym, ap, ◌∙◌, arith}
-use Rattle.std.proofs.lemmas.Bool.Decides.{nat_tests}
+use Rattle.portal_route.proofs.Common.{◌≡◌, ◌+◌, Bool, true, false, ◌==◌, get_or, drop, sym, ap, ◌∙◌, arith, nat_tests}
 use Rattle.portal_route.specs.Targets.{is_full}
 use Rattle.portal_route.proofs.TargetLemmas.{stops_at, slash_at, sign_at, full_end}
 use Rattle.portal_route.proofs.targets.is_full.Goals as goal

@@ -1,8 +1,4 @@
-use Rattle.std.proofs.Common.{Ok, sym, subst, map, take}
-use Rattle.std.proofs.lemmas.List.{take_all}
-use Rattle.portal_codes.specs.Code.{text_of}
-use Rattle.portal_model.specs.Rows.{new_counts}
-use Rattle.portal_rows.specs.Steps.{Writes, with_counts}
+use Rattle.portal_rows.proofs.Common.{Ok, sym, subst, map, take, take_all, text_of, new_counts, Writes, with_counts}
 use Rattle.portal_rows.proofs.Compose.{counts_none, counts_then, more_mapped}
 use Rattle.portal_rows.proofs.WritesLemmas.{writes_none, writes_by}
 use Rattle.portal_rows.proofs.commands.insert_counts.Goals as goal

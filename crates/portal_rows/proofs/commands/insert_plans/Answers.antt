@@ -1,6 +1,4 @@
-use Rattle.std.proofs.Common.{Ok, sym, subst, take}
-use Rattle.std.proofs.lemmas.List.{take_all}
-use Rattle.portal_rows.specs.Steps.{Writes, with_plans}
+use Rattle.portal_rows.proofs.Common.{Ok, sym, subst, take, take_all, Writes, with_plans}
 use Rattle.portal_rows.proofs.Compose.{plans_none, plans_then, more_items}
 use Rattle.portal_rows.proofs.WritesLemmas.{writes_none, writes_by}
 use Rattle.portal_rows.proofs.commands.insert_plans.Goals as goal

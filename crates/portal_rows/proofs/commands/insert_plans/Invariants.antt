@@ -1,5 +1,4 @@
-use Rattle.std.proofs.Common.{take, Ok}
-use Rattle.portal_rows.specs.Steps.{Writes, with_plans}
+use Rattle.portal_rows.proofs.Common.{take, Ok, Writes, with_plans}
 use Rattle.portal_rows.proofs.commands.insert_plans.Given as goal
 
 abbrev pub invariant-loop-plan : goal.invariant-loop-plan

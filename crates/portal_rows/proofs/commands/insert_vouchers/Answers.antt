@@ -1,8 +1,4 @@
-use Rattle.std.proofs.Common.{◌≡◌, Ok, arith, sym, subst, map, take, length, length-take}
-use Rattle.std.proofs.lemmas.List.{take_all, length-map}
-use Rattle.portal_codes.specs.Code.{text_of}
-use Rattle.portal_model.specs.Rows.{new_vouchers}
-use Rattle.portal_rows.specs.Steps.{Writes, with_vouchers}
+use Rattle.portal_rows.proofs.Common.{◌≡◌, Ok, arith, sym, subst, map, take, length, length-take, take_all, length-map, text_of, new_vouchers, Writes, with_vouchers}
 use Rattle.portal_rows.proofs.Compose.{vouchers_none, vouchers_then, more_mapped}
 use Rattle.portal_rows.proofs.WritesLemmas.{writes_none, writes_by}
 use Rattle.portal_rows.proofs.commands.insert_vouchers.Goals as goal

@@ -1,7 +1,4 @@
-use Rattle.std.proofs.Common.{map, take, Ok}
-use Rattle.portal_codes.specs.Code.{text_of}
-use Rattle.portal_model.specs.Rows.{new_vouchers}
-use Rattle.portal_rows.specs.Steps.{Writes, with_vouchers}
+use Rattle.portal_rows.proofs.Common.{map, take, Ok, text_of, new_vouchers, Writes, with_vouchers}
 use Rattle.portal_rows.proofs.commands.insert_vouchers.Given as goal
 
 abbrev pub invariant-loop-place : goal.invariant-loop-place

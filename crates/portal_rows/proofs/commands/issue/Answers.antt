@@ -1,7 +1,4 @@
-use Rattle.std.proofs.Common.{◌<◌, ◌^◌, Ok, sym, subst, length, map}
-use Rattle.portal_codes.specs.Code.{text_of}
-use Rattle.portal_model.specs.Rows.{new_vouchers, new_counts}
-use Rattle.portal_rows.specs.Steps.{Writes, with_vouchers, with_counts}
+use Rattle.portal_rows.proofs.Common.{◌<◌, ◌^◌, Ok, sym, subst, length, map, text_of, new_vouchers, new_counts, Writes, with_vouchers, with_counts}
 use Rattle.portal_rows.proofs.WritesLemmas.{writes_then}
 use Rattle.portal_rows.proofs.commands.issue.Goals as goal
 

@@ -1,5 +1,4 @@
-use Rattle.std.proofs.Common.{Ok, subst}
-use Rattle.portal_rows.specs.Steps.{Writes, with_plans}
+use Rattle.portal_rows.proofs.Common.{Ok, subst, Writes, with_plans}
 use Rattle.portal_rows.proofs.WritesLemmas.{writes_then}
 use Rattle.portal_rows.proofs.commands.load.Goals as goal
 

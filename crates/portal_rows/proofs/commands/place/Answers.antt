@@ -1,6 +1,4 @@
-use Rattle.std.proofs.Common.{subst}
-use Rattle.portal_model.specs.Rows.{TotalRow}
-use Rattle.portal_rows.specs.Steps.{Writes, with_total}
+use Rattle.portal_rows.proofs.Common.{subst, TotalRow, Writes, with_total}
 use Rattle.portal_rows.proofs.WritesLemmas.{writes_then}
 use Rattle.portal_rows.proofs.commands.place.Goals as goal
 

@@ -1,6 +1,5 @@
-use Rattle.std.proofs.Common.{◌≡◌, ℕ, sym, subst, ◌∙◌, ◌+◌, ap}
+use Rattle.portal_rows.proofs.Common.{◌≡◌, ℕ, sym, subst, ◌∙◌, ◌+◌, ap, Writes, with_numbers}
 use Rattle.portal_model.specs.Change.{sessions_after}
-use Rattle.portal_rows.specs.Steps.{Writes, with_numbers}
 use Rattle.portal_rows.proofs.WritesLemmas.{writes_then}
 use Rattle.portal_rows.proofs.commands.redeem.Goals.{in-Some, in-None}
 use Rattle.portal_rows.proofs.commands.redeem.Goals as goal

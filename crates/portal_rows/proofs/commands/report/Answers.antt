@@ -1,8 +1,6 @@
-use Rattle.std.proofs.Common.{Ok, subst}
-use Rattle.portal_model.specs.Rows.{total_row}
+use Rattle.portal_rows.proofs.Common.{Ok, subst, total_row, Writes, with_use}
 use Rattle.portal_model.specs.declared.record.Session.{Session}
 use Rattle.portal_rows.specs.Commands.{left_of}
-use Rattle.portal_rows.specs.Steps.{Writes, with_use}
 use Rattle.portal_rows.proofs.WritesLemmas.{writes_then}
 use Rattle.portal_rows.proofs.commands.report.Goals as goal
 

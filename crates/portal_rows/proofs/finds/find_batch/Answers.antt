@@ -1,42 +1,11 @@
-use Rattle.std.proofs.Common.{refl, sym, ap, ◌∙◌, slice_get}
-use Rattle.std.proofs.lemmas.Result.{err_from_is_err_and}
-use Rattle.sqlite.specs.declared.types.Value.TheVariants.{Text}
+use Rattle.portal_rows.proofs.Common.{refl, Text, same_text, text_itself, batch_cells, IsOwnBatch}
 use Rattle.portal_model.specs.declared.record.Batch.{Batch}
-use Rattle.portal_sql.proofs.Keys.{finds_some, finds_none, same_text, text_itself}
-use Rattle.portal_rows.specs.Contents.{batch_cells}
-use Rattle.portal_sql.proofs.LooksLemmas.{looks_read}
-use Rattle.portal_rows.specs.Holds.{HasTables}
-use Rattle.portal_rows.specs.Foreign.{IsOwnBatch}
-use Rattle.portal_rows.proofs.Foreign.{of_first}
 use Rattle.portal_rows.proofs.Cells.{exact_batch}
+use Rattle.portal_rows.proofs.Finding.{finds_first, by_key}
 use Rattle.portal_rows.proofs.finds.find_batch.Goals as goal
 
-pub returns-in-Some : goal.returns-in-Some
-returns-in-Some g c = record {
-  found = λ clean t h.
-      let got = ap (λ xs. slice_get xs 0) (sym c.deref.ensures.value) ∙ sym c.in-Some.ensures.value in
-      finds_some batch_cells 0 (λ (x : Batch). x.id) c.args.id.now Text (λ x. refl) same_text text_itself 5 (λ x. refl) exact_batch t.batches _ (c.in_ok-rows.ensures.rows clean t h)
-      c.in-Some.row.now c.in_ok-batch_of-in-Some.field-0 got c.in_ok-batch_of-in-Some.ensures.cells;
-  looks = c.in_ok-rows.ensures.looks;
-  foreign = λ clean t h own. tt;
-}
-
-pub returns-in_err-batch_of-in-Some : goal.returns-in_err-batch_of-in-Some
-returns-in_err-batch_of-in-Some g c =
-    let told = err_from_is_err_and c.from_residual-in_err-batch_of-in-Some.result c.from_residual-in_err-batch_of-in-Some.ensures.1 in
-    record {
-      found = λ clean t h. rw told.1 tt;
-      looks = looks_read HasTables _ _ _ c.in_ok-rows.ensures.looks;
-      foreign = λ clean t h own.
-          let got = ap (λ xs. slice_get xs 0) (sym c.deref.ensures.value) ∙ sym c.in-Some.ensures.value in
-          rw (told.1, told.2) (of_first batch_cells 5 (λ x. refl) IsOwnBatch t.batches own _ _ (c.in_ok-rows.ensures.rows clean t h) c.in-Some.row.now got c.in_err-batch_of-in-Some.ensures.own);
-    }
-
 pub returns : goal.returns
-returns g c = record {
-  found = λ clean t h.
-      let got = ap (λ xs. slice_get xs 0) (sym c.deref.ensures.value) ∙ sym c.in-None.ensures.value in
-      finds_none batch_cells 0 (λ (x : Batch). x.id) c.args.id.now Text (λ x. refl) same_text text_itself 5 (λ x. refl) exact_batch t.batches _ (c.in_ok-rows.ensures.rows clean t h) got;
-  looks = c.in_ok-rows.ensures.looks;
-  foreign = λ clean t h own. tt;
-}
+returns g c =
+    finds_first g.S.Store c.in_ok-rows.ensures.looks
+    (λ clean t h. by_key batch_cells 5 (λ x. refl) exact_batch (λ (x : Batch). x) IsOwnBatch 0 (λ (x : Batch). x.id) c.args.id.now Text (λ x. refl) same_text text_itself t.batches _ _ (c.in_ok-rows.ensures.rows clean t h) (λ x is. is) (λ is. is))
+    c.deref.ensures.value c.first_of.ensures

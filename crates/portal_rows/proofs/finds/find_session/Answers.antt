@@ -1,43 +1,10 @@
-use Rattle.std.proofs.Common.{refl, sym, ap, ◌∙◌, slice_get}
-use Rattle.std.proofs.lemmas.Result.{err_from_is_err_and}
-use Rattle.portal_model.specs.Rows.{SessionRow}
-use Rattle.portal_sql.specs.Stored.{number}
-use Rattle.portal_sql.proofs.Keys.{finds_some, finds_none, same_number, number_itself}
-use Rattle.portal_rows.specs.Contents.{session_cells}
-use Rattle.portal_sql.proofs.LooksLemmas.{looks_read}
-use Rattle.portal_rows.specs.Holds.{HasTables}
-use Rattle.portal_rows.specs.Read.{session_read}
-use Rattle.portal_rows.specs.Foreign.{IsOwnSession}
-use Rattle.portal_rows.proofs.Foreign.{of_first}
+use Rattle.portal_rows.proofs.Common.{refl, SessionRow, number, same_number, number_itself, session_cells, IsOwnSession, session_read}
 use Rattle.portal_rows.proofs.Cells.{exact_session}
+use Rattle.portal_rows.proofs.Finding.{finds_first, by_key}
 use Rattle.portal_rows.proofs.finds.find_session.Goals as goal
 
-pub returns-in-Some-clause-reads : goal.returns-in-Some-clause-reads
-returns-in-Some-clause-reads g c = record {
-  found = λ clean t h.
-      let got = ap (λ xs. slice_get xs 0) (sym c.deref.ensures.value) ∙ sym c.in-Some.ensures.value in
-      finds_some session_cells 0 (λ (x : SessionRow). x.number) c.args.number number (λ x. refl) same_number number_itself 6 (λ x. refl) exact_session t.sessions _ (c.in_ok-rows.ensures.rows clean t h)
-      c.in-Some.row.now (session_read c.in_ok-session_of-in-Some.field-0) got c.in_ok-session_of-in-Some.ensures.cells;
-  looks = c.in_ok-rows.ensures.looks;
-  foreign = λ clean t h own. tt;
-}
-
-pub returns-in_err-session_of-in-Some-clause-reads : goal.returns-in_err-session_of-in-Some-clause-reads
-returns-in_err-session_of-in-Some-clause-reads g c =
-    let told = err_from_is_err_and c.from_residual-in_err-session_of-in-Some.result c.from_residual-in_err-session_of-in-Some.ensures.1 in
-    record {
-      found = λ clean t h. rw told.1 tt;
-      looks = looks_read HasTables _ _ _ c.in_ok-rows.ensures.looks;
-      foreign = λ clean t h own.
-          let got = ap (λ xs. slice_get xs 0) (sym c.deref.ensures.value) ∙ sym c.in-Some.ensures.value in
-          rw (told.1, told.2) (of_first session_cells 6 (λ x. refl) IsOwnSession t.sessions own _ _ (c.in_ok-rows.ensures.rows clean t h) c.in-Some.row.now got c.in_err-session_of-in-Some.ensures.own);
-    }
-
 pub returns-clause-reads : goal.returns-clause-reads
-returns-clause-reads g c = record {
-  found = λ clean t h.
-      let got = ap (λ xs. slice_get xs 0) (sym c.deref.ensures.value) ∙ sym c.in-None.ensures.value in
-      finds_none session_cells 0 (λ (x : SessionRow). x.number) c.args.number number (λ x. refl) same_number number_itself 6 (λ x. refl) exact_session t.sessions _ (c.in_ok-rows.ensures.rows clean t h) got;
-  looks = c.in_ok-rows.ensures.looks;
-  foreign = λ clean t h own. tt;
-}
+returns-clause-reads g c =
+    finds_first g.S.Store c.in_ok-rows.ensures.looks
+    (λ clean t h. by_key session_cells 6 (λ x. refl) exact_session session_read IsOwnSession 0 (λ (x : SessionRow). x.number) c.args.number number (λ x. refl) same_number number_itself t.sessions _ _ (c.in_ok-rows.ensures.rows clean t h) (λ x is. is) (λ is. is))
+    c.deref.ensures.value c.first_of.ensures

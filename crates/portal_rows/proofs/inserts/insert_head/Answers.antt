@@ -1,17 +1,9 @@
-use Rattle.std.proofs.Common.{w64, refl}
-use Rattle.std.proofs.lemmas.Int.{to_z_pos}
-use Rattle.sqlite.specs.Held.{state}
-use Rattle.portal_rows.specs.Steps.{first_head}
-use Rattle.portal_rows.proofs.InsertSteps.{add_head_inside}
-use Rattle.portal_sql.proofs.InsideLemmas.{on_failed, inside_one}
+use Rattle.portal_rows.proofs.Common.{w64, refl, to_z_pos, first_head}
+use Rattle.portal_rows.proofs.InsertSteps.{add_head}
+use Rattle.portal_rows.proofs.WritesLemmas.{writes_run}
 use Rattle.portal_rows.proofs.inserts.insert_head.Goals as goal
 
 pub returns : goal.returns
 returns g c =
-    inside_one g.S.Store _ _ _ _ _ c.execute.ensures.same_reference c.execute.ensures.ended c.execute.ensures.runs c.execute.ensures.survives
-    (λ clean inside.
-    add_head_inside (state g.S.Store c.args.tx.now.conn.now) (state g.S.Store c.execute.new.self.conn.now) (first_head c.args.layout) (refl, refl, refl, refl) c.in_ok-execute.field-0
-    (rw (c.params-to_sql.ensures, to_z_pos w64 c.args.layout c.requires) at (c.in_ok-execute.ensures.runs clean inside)))
-
-pub returns-in_err-execute : goal.returns-in_err-execute
-returns-in_err-execute g c = inside_one g.S.Store _ _ _ _ _ c.execute.ensures.same_reference c.execute.ensures.ended c.execute.ensures.runs c.execute.ensures.survives (λ clean inside. on_failed c.from_residual.result _ _ c.from_residual.ensures.1)
+    writes_run g.S.Store (add_head (first_head c.args.layout) (refl, refl, refl, refl))
+    (rw (c.params-to_sql.ensures, to_z_pos w64 c.args.layout c.requires) at c.write.ensures)

@@ -1,5 +1,4 @@
-use Rattle.std.proofs.Common.{◌≡◌, sym, ◌∙◌, true≢false}
-use Rattle.std.proofs.lemmas.Slice.Eq.{bytes_eq-Decides}
+use Rattle.portal_rows.proofs.Common.{◌≡◌, sym, ◌∙◌, true≢false, bytes_eq-Decides}
 use Rattle.portal_rows.proofs.Printed.{code_reads, code_printed}
 use Rattle.portal_rows.proofs.kept.printed_code.Goals as goal
 

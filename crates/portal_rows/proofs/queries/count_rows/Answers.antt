@@ -1,13 +1,8 @@
-use Rattle.sqlite.specs.Held.{state}
 use Rattle.portal_codes.specs.Code.{text_of}
-use Rattle.portal_sql.proofs.FindLemmas.{ok_then}
-use Rattle.portal_sql.proofs.LooksLemmas.{looks_weaker}
-use Rattle.portal_rows.specs.Holds.{HasTables}
 use Rattle.portal_rows.proofs.Reading.{count_rows_are, count_plain}
+use Rattle.portal_rows.proofs.SelectsLemmas.{selects_by}
 use Rattle.portal_rows.proofs.queries.count_rows.Goals as goal
 
 pub returns : goal.returns
-returns g c = record {
-  rows = λ clean t h. ok_then c.read_all.result (λ rows shown. count_rows_are (state g.S.Store c.args.conn.now) (state g.S.Store c.read_all.new.conn) (text_of c.args.code.now) rows.items shown t h) (rw (c.params-to_sql.ensures, c.as_bytes.ensures, c.text-text.ensures.value) at (c.read_all.ensures.shown clean));
-  looks = looks_weaker _ HasTables count_plain c.read_all.result _ _ c.read_all.ensures.looks;
-}
+returns g c =
+    selects_by g.S.Store _ _ c.read_all.result (λ rows. rows.items) count_plain (λ rows. count_rows_are _ _ (text_of c.args.code.now) rows.items) (λ clean. rw (c.params-to_sql.ensures, c.as_bytes.ensures, c.text-text.ensures.value) at (c.read_all.ensures.shown clean)) c.read_all.ensures.looks

@@ -1,10 +1,4 @@
-use Rattle.std.proofs.Common.{Some, sym, subst}
-use Rattle.std.proofs.lemmas.Result.{err_from_is_err_and}
-use Rattle.portal_ledger.specs.RequestRow.{RequestRow, text_of_caller}
-use Rattle.portal_sql.specs.Finds.{Finds}
-use Rattle.portal_sql.proofs.LooksLemmas.{looks_read}
-use Rattle.portal_rows.specs.Holds.{HasTables}
-use Rattle.portal_rows.specs.Requests.{key_of}
+use Rattle.portal_rows.proofs.Common.{Some, sym, subst, err_from_is_err_and, RequestRow, text_of_caller, Finds, looks_read, HasTables, key_of}
 use Rattle.portal_rows.proofs.requests.find_kept.Goals as goal
 
 pub returns-in_err-read_request-in-Some-clause-reads : goal.returns-in_err-read_request-in-Some-clause-reads

@@ -1,12 +1,4 @@
-use Rattle.std.proofs.Common.{refl, sym, ap, ◌∙◌, slice_get}
-use Rattle.std.proofs.lemmas.Result.{err_from_is_err_and}
-use Rattle.sqlite.specs.declared.types.Value.TheVariants.{Text}
-use Rattle.portal_ledger.specs.RequestRow.{RequestRow}
-use Rattle.portal_sql.proofs.LooksLemmas.{looks_read}
-use Rattle.portal_rows.specs.Contents.{request_cells}
-use Rattle.portal_rows.specs.Keyed.{has_keys}
-use Rattle.portal_rows.specs.Holds.{HasTables}
-use Rattle.portal_rows.specs.Requests.{key_of, request_read}
+use Rattle.portal_rows.proofs.Common.{refl, sym, ap, ◌∙◌, slice_get, err_from_is_err_and, Text, RequestRow, looks_read, request_cells, has_keys, HasTables, key_of, request_read}
 use Rattle.portal_rows.proofs.RequestCells.{exact_request}
 use Rattle.portal_rows.proofs.Pairs.{tested_some, tested_none, pair_only, pair_meets}
 use Rattle.portal_rows.proofs.requests.find_request.Goals as goal

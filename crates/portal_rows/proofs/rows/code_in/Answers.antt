@@ -1,6 +1,4 @@
-use Rattle.std.proofs.Common.{◌≡◌, sym, subst, ◌∙◌, true≢false}
-use Rattle.std.proofs.lemmas.Slice.Eq.{bytes_eq-Decides}
-use Rattle.portal_codes.specs.Code.{Spells}
+use Rattle.portal_rows.proofs.Common.{◌≡◌, sym, subst, ◌∙◌, true≢false, bytes_eq-Decides, Spells}
 use Rattle.portal_rows.proofs.Printed.{code_reads, code_printed}
 use Rattle.portal_rows.proofs.rows.code_in.Goals as goal
 

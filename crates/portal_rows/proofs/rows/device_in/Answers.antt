@@ -1,6 +1,4 @@
-use Rattle.std.proofs.Common.{◌≡◌, sym, subst, ◌∙◌, true≢false}
-use Rattle.std.proofs.lemmas.Slice.Eq.{bytes_eq-Decides}
-use Rattle.portal_model.specs.Device.{SpellsDevice}
+use Rattle.portal_rows.proofs.Common.{◌≡◌, sym, subst, ◌∙◌, true≢false, bytes_eq-Decides, SpellsDevice}
 use Rattle.portal_rows.proofs.Printed.{device_reads, device_printed}
 use Rattle.portal_rows.proofs.rows.device_in.Goals as goal
 

@@ -1,17 +1,10 @@
-use Rattle.std.proofs.Common.{◌<◌, ◌^◌, w64, arith}
-use Rattle.std.proofs.lemmas.Int.{to_z_pos}
-use Rattle.sqlite.specs.Held.{state}
-use Rattle.portal_rows.proofs.UpdateSteps.{set_closed_inside}
-use Rattle.portal_sql.proofs.InsideLemmas.{on_failed, inside_one}
+use Rattle.portal_rows.proofs.Common.{◌<◌, ◌^◌, w64, arith, to_z_pos}
+use Rattle.portal_rows.proofs.UpdateSteps.{set_closed}
+use Rattle.portal_rows.proofs.WritesLemmas.{writes_run}
 use Rattle.portal_rows.proofs.updates.set_closed.Goals as goal
 
 pub returns : goal.returns
 returns g c =
     let moment : c.get.result < 2 ^ 63 = omega arith in
-    inside_one g.S.Store _ _ _ _ _ c.execute.ensures.same_reference c.execute.ensures.ended c.execute.ensures.runs c.execute.ensures.survives
-    (λ clean inside.
-    set_closed_inside (state g.S.Store c.args.tx.now.conn.now) (state g.S.Store c.execute.new.self.conn.now) c.args.number c.args.at c.in_ok-execute.field-0
-    (rw (c.params-to_sql.ensures, c.params-to_sql-2.ensures, to_z_pos w64 c.args.number c.requires, to_z_pos w64 c.get.result moment, c.get.ensures.value) at (c.in_ok-execute.ensures.runs clean inside)))
-
-pub returns-in_err-execute : goal.returns-in_err-execute
-returns-in_err-execute g c = inside_one g.S.Store _ _ _ _ _ c.execute.ensures.same_reference c.execute.ensures.ended c.execute.ensures.runs c.execute.ensures.survives (λ clean inside. on_failed c.from_residual.result _ _ c.from_residual.ensures.1)
+    writes_run g.S.Store (set_closed c.args.number c.args.at)
+    (rw (c.params-to_sql.ensures, c.params-to_sql-2.ensures, to_z_pos w64 c.args.number c.requires, to_z_pos w64 c.get.result moment, c.get.ensures.value) at c.write.ensures)

@@ -1,9 +1,4 @@
-use Rattle.std.proofs.Common.{◌≡◌, List, Option, length}
-use Rattle.portal_ledger.specs.States.{State}
-use Rattle.portal_ends.specs.declared.fault.Fault.{Fault}
-use Rattle.portal_http.specs.Runs.{Run}
-use Rattle.portal_serve.specs.Serving.{Serves, SaysOfEach}
-use Rattle.portal_serve.specs.Turns.{host_of, Turns}
+use Rattle.portal_serve.proofs.Common.{◌≡◌, List, Option, length, State, Fault, Run, Serves, SaysOfEach, host_of, Turns}
 use Rattle.portal_serve.proofs.serving.serve_turns.Given as goal
 
 -- at most one request a turn was carried out
@@ -16,5 +11,5 @@ invariant-loop-turn g l = record {
       → (new : State) × g.D.Desk.stands l.desk new × Serves l._turn (λ arrivals responses. Run (g.D.Desk.settings l.fn.desk) old arrivals responses new);
   turns : g.D.Desk.is_honest l.desk → (old : State) → g.D.Desk.stands l.fn.desk old
       → (new : State) × g.D.Desk.stands l.desk new
-      × Turns (host_of g.H.Host.accepts g.H.Host.stamps g.H.Host.closes g.H.Host.pauses g.H.Reader.Read.remaining g.H.Writer.Write.contents) (g.D.Desk.settings l.fn.desk) l._turn l.fn.host old l.host new l.has_failed;
+      × Turns (host_of g.H.Host g.H.Reader.Read g.H.Writer.Write) (g.D.Desk.settings l.fn.desk) l._turn l.fn.host old l.host new l.has_failed;
 }

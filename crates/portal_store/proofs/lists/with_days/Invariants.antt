@@ -1,5 +1,4 @@
-use Rattle.std.proofs.Common.{◌≡◌, take}
-use Rattle.portal_store.specs.Paid.{paid_days}
+use Rattle.portal_store.proofs.Common.{◌≡◌, take, paid_days}
 use Rattle.portal_store.proofs.lists.with_days.Given as goal
 
 abbrev pub invariant-loop-at : goal.invariant-loop-at

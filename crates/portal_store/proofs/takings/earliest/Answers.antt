@@ -1,5 +1,4 @@
-use Rattle.std.proofs.Common.{pos, ◌-ℤ◌, ◌*ℤ◌, ◌≤ℤ◌, arith}
-use Rattle.std.proofs.lemmas.Int.{ints}
+use Rattle.portal_store.proofs.Common.{pos, ◌-ℤ◌, ◌*ℤ◌, ◌≤ℤ◌, arith, ints}
 use Rattle.portal_store.proofs.TakingLemmas.{not_before}
 use Rattle.portal_store.proofs.takings.earliest.Goals as goal
 

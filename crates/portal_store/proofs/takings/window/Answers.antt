@@ -1,7 +1,4 @@
-use Rattle.std.proofs.Common.{◌≡◌, ◌≤◌, inl, inr, ◌≤ℤ◌, arith, rules, subst, sym}
-use Rattle.std.specs.Prelude.{max}
-use Rattle.std.proofs.lemmas.Int.{ints}
-use Rattle.portal_files.specs.LocalDay.{local_day_of}
+use Rattle.portal_store.proofs.Common.{◌≡◌, ◌≤◌, inl, inr, ◌≤ℤ◌, arith, rules, subst, sym, max, ints, local_day_of}
 use Rattle.portal_store.proofs.TakingLemmas.{at_most}
 use Rattle.portal_store.proofs.takings.window.Goals as goal
 

@@ -1,11 +1,5 @@
-use Rattle.std.proofs.Common.{ℕ, inl, inr, true, false, IsTrue, sym, subst, ◌∙◌, rules}
-use Rattle.sqlite.specs.Held.{state}
-use Rattle.sqlite.specs.Schema.{Schema}
-use Rattle.sqlite.proofs.StateLemmas.{survives_weaker}
-use Rattle.portal_rows.specs.Holds.{Places, Stand, this_layout}
+use Rattle.portal_tables.proofs.Common.{ℕ, inl, inr, true, false, IsTrue, sym, subst, ◌∙◌, rules, state, Schema, survives_weaker, Places, Stand, this_layout, others_none, SparesOurTables}
 use Rattle.portal_layouts.proofs.IndexedLemmas.{as_indexed}
-use Rattle.portal_rows.proofs.OthersLemmas.{others_none}
-use Rattle.portal_tables.specs.Adopting.{SparesOurTables}
 use Rattle.portal_tables.proofs.AdoptLemmas.{whole_spares}
 use Rattle.portal_tables.proofs.adoption.complete.Goals as goal
 

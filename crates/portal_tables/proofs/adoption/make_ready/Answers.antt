@@ -1,6 +1,4 @@
-use Rattle.std.proofs.Common.{inl, inr, sym, subst, ◌∙◌}
-use Rattle.sqlite.proofs.StateLemmas.{survives_weaker}
-use Rattle.portal_tables.specs.Stores.{IsBare, IsNamed}
+use Rattle.portal_tables.proofs.Common.{inl, inr, sym, subst, ◌∙◌, survives_weaker, IsBare, IsNamed}
 use Rattle.portal_tables.proofs.adoption.make_ready.Goals as goal
 
 pub returns-in_ok-resume-clause-why : goal.returns-in_ok-resume-clause-why

@@ -1,6 +1,4 @@
-use Rattle.std.proofs.Common.{subst, sym}
-use Rattle.sqlite.specs.Held.{state}
-use Rattle.portal_layouts.specs.Layouts.{Answers}
+use Rattle.portal_tables.proofs.Common.{subst, sym, state, Answers}
 use Rattle.portal_tables.proofs.AdoptLemmas.{tells_by}
 use Rattle.portal_tables.proofs.adoption.read_layout.Goals as goal
 

@@ -1,13 +1,6 @@
-use Rattle.std.proofs.Common.{IsTrue, sym, subst, ◌∙◌, arith, rules}
-use Rattle.sqlite.specs.Held.{state}
-use Rattle.sqlite.specs.State.{HasCleanDisk}
-use Rattle.sqlite.proofs.StateLemmas.{survives_weaker, survives_then}
-use Rattle.portal_sql.proofs.HarmlessLemmas.{as_before}
-use Rattle.portal_layouts.specs.Creates.{IsFree, new_store}
-use Rattle.portal_rows.specs.Holds.{LeftHolds}
-use Rattle.portal_rows.specs.Others.{LeftOthers}
+use Rattle.portal_tables.proofs.Common.{IsTrue, sym, subst, ◌∙◌, arith, rules, state, HasCleanDisk, survives_weaker, survives_then, as_before, new_store, LeftHolds, LeftOthers, SparesOurTables}
+use Rattle.portal_layouts.specs.Creates.{IsFree}
 use Rattle.portal_layouts.proofs.FreeLemmas.{free_is}
-use Rattle.portal_tables.specs.Adopting.{SparesOurTables}
 use Rattle.portal_tables.proofs.AdoptLemmas.{free_spares}
 use Rattle.portal_tables.proofs.adoption.start.Goals as goal
 
@@ -15,7 +8,7 @@ pub returns-in-Ok-clause-made : goal.returns-in-Ok-clause-made
 returns-in-Ok-clause-made g c clean =
     let roomy : IsTrue c.is_room.result = search rules in
     let free = subst IsFree c.schema.ensures.value (free_is c.schema.result.now (sym c.is_room.ensures ∙ roomy)) in
-    (c.in-Ok.ensures.made clean free, c.in-Ok.ensures.others clean free, c.in-Ok.ensures.committed clean)
+    (let did = c.in-Ok.ensures.done clean in (did.made free, did.others free, did.committed))
 
 pub returns-in-Ok-clause-spared : goal.returns-in-Ok-clause-spared
 returns-in-Ok-clause-spared g c =

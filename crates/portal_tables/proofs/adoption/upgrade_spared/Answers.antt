@@ -1,6 +1,4 @@
-use Rattle.std.proofs.Common.{IsTrue, sym, subst, ◌∙◌, rules}
-use Rattle.sqlite.proofs.StateLemmas.{survives_weaker}
-use Rattle.portal_tables.specs.Adopting.{SparesOurTables}
+use Rattle.portal_tables.proofs.Common.{IsTrue, sym, subst, ◌∙◌, rules, survives_weaker, SparesOurTables}
 use Rattle.portal_tables.proofs.adoption.upgrade_spared.Goals as goal
 
 pub returns-clause-spared : goal.returns-clause-spared

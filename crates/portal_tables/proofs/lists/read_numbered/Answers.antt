@@ -1,16 +1,7 @@
-use Rattle.std.proofs.Common.{◌≡◌, ◌++◌, ◌∙◌, Vec, Global, Option, None, ap, ap₂, sym, append-nil, arith, rules}
-use Rattle.std.specs.List.{filter_map}
+use Rattle.portal_tables.proofs.Common.{◌≡◌, ◌++◌, ◌∙◌, Vec, Global, Option, None, ap, ap₂, sym, append-nil, arith, rules, filter_map, take_all, state, HasCleanDisk, Session, reads_none, reads_then, HasTables, open_numbered}
 use Rattle.std.specs.Option.{option_to_list}
-use Rattle.std.proofs.lemmas.List.{take_all}
-use Rattle.sqlite.specs.Held.{state}
-use Rattle.sqlite.specs.State.{HasCleanDisk}
-use Rattle.portal_model.specs.declared.record.Session.{Session}
-use Rattle.portal_sql.specs.Looks.{Looks}
-use Rattle.portal_sql.proofs.LooksLemmas.{reads_none, reads_then, looks_then, looks_read}
-use Rattle.portal_rows.specs.Holds.{HasTables}
-use Rattle.portal_tables.specs.Lists.{open_numbered}
 use Rattle.portal_tables.proofs.ListSteps.{filter_map_more}
-use Rattle.portal_tables.proofs.ShownLemmas.{shown_after, open_after}
+use Rattle.portal_tables.proofs.ShownLemmas.{made_fails, next_fails, shown_after, open_after}
 use Rattle.portal_tables.proofs.lists.read_numbered.Goals.{in-Some+in_ok-push, in_default}
 use Rattle.portal_tables.proofs.lists.read_numbered.Goals as goal
 
@@ -51,15 +42,8 @@ returns g c = record {
 }
 
 pub returns-in_err-session : goal.returns-in_err-session
-returns-in_err-session g c = record {
-  found = search rules;
-  looks =
-      let failed : Looks HasTables c.from_residual.result (state g.S.Store c.loop-number.conn) (state g.S.Store c.read_open.new.conn) = search rules in
-      looks_then HasTables _ _ _ _ c.loop-number.invariant.looks failed;
-}
+returns-in_err-session g c = next_fails g.S.Store _ c.from_residual.result c.from_residual.ensures.1 c.loop-number.invariant.looks c.in_err-session.ensures.looks
 
 pub returns-in_err-push : goal.returns-in_err-push
-returns-in_err-push g c = record {
-  found = search rules;
-  looks = looks_read HasTables _ _ _ (reads_then HasTables _ _ _ c.loop-number.invariant.looks c.in_ok-session.ensures.looks);
-}
+returns-in_err-push g c =
+    made_fails g.S.Store _ c.from_residual-in_err-push.result c.from_residual-in_err-push.ensures.1 (reads_then HasTables _ _ _ c.loop-number.invariant.looks c.in_ok-session.ensures.looks)

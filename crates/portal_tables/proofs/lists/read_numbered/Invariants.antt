@@ -1,10 +1,4 @@
-use Rattle.std.proofs.Common.{◌≡◌, take}
-use Rattle.std.specs.List.{filter_map}
-use Rattle.sqlite.specs.Held.{state}
-use Rattle.portal_sql.specs.Looks.{Reads}
-use Rattle.portal_rows.specs.Holds.{HasTables}
-use Rattle.portal_tables.specs.Lists.{open_numbered}
-use Rattle.portal_tables.specs.Shown.{OfShown}
+use Rattle.portal_tables.proofs.Common.{◌≡◌, take, filter_map, state, Reads, HasTables, open_numbered, OfShown}
 use Rattle.portal_tables.proofs.lists.read_numbered.Given as goal
 
 abbrev pub invariant-loop-number : goal.invariant-loop-number

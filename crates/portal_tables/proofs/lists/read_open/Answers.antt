@@ -1,6 +1,4 @@
-use Rattle.std.proofs.Common.{◌≡◌, Some, None, ap, sym, ◌∙◌, cond, rules}
-use Rattle.portal_model.specs.declared.record.Session.{Session}
-use Rattle.portal_model.specs.History.{kept_if, is_open_at}
+use Rattle.portal_tables.proofs.Common.{◌≡◌, Some, None, ap, sym, ◌∙◌, cond, rules, Session, kept_if, is_open_at}
 use Rattle.portal_tables.proofs.lists.read_open.Goals as goal
 
 pub returns-then-is_open : goal.returns-then-is_open

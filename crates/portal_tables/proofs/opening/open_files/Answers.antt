@@ -1,10 +1,10 @@
-use Rattle.sqlite_store.specs.Laws.{settled_at}
+use Rattle.portal_tables.proofs.Common.{IfErr-weaker, settled_at, ok_both}
 use Rattle.portal_tables.proofs.OpeningLemmas.{leftover_shows, opens}
 use Rattle.portal_tables.proofs.opening.open_files.Goals as goal
 
-pub returns-in-Ok-clause-opened : goal.returns-in-Ok-clause-opened
-returns-in-Ok-clause-opened g c h shown clean =
-    opens h c.args.files c.in-Ok.conn (λ db. settled_at c.in-Ok.conn.store g.met.D.Disk.seen_may_stay db) shown (c.in-Ok.ensures.opened clean) (c.in-Ok.ensures.found clean)
+pub returns-clause-opened : goal.returns-clause-opened
+returns-clause-opened g c h shown =
+    ok_both c.open_files.result (λ conn opened found clean. opens h c.args.files conn (λ db. settled_at conn.store g.met.D.Disk.seen_may_stay db) shown (opened clean) (found clean)) c.open_files.ensures.opened c.open_files.ensures.found
 
-pub returns-in-Err-clause-unopened : goal.returns-in-Err-clause-unopened
-returns-in-Err-clause-unopened g c h at clean = leftover_shows h c.args.files c.in-Err.fault.1 at (c.in-Err.ensures.unharmed clean)
+pub returns-clause-unopened : goal.returns-clause-unopened
+returns-clause-unopened g c h at = IfErr-weaker c.open_files.result _ _ (λ e left clean. leftover_shows h c.args.files e.1 at (left clean)) c.open_files.ensures.unharmed

@@ -1,12 +1,5 @@
-use Rattle.std.proofs.Common.{◌++◌, ◌∷◌, [], ◌∙◌, ℕ, Some, map, ap, ap₂, sym}
-use Rattle.std.specs.Prelude.{bytes_eq}
-use Rattle.std.specs.HashMap.{get_by}
-use Rattle.std.proofs.lemmas.List.{map-append}
-use Rattle.portal_lists.specs.Lists.{sale_read}
-use Rattle.portal_lists.specs.declared.lists.KeptSale.{KeptSale}
+use Rattle.portal_tables.proofs.Common.{◌++◌, ◌∷◌, [], ◌∙◌, ℕ, Some, map, ap, ap₂, sym, bytes_eq, get_by, map-append, sale_read, KeptSale, paid, is_priced}
 use Rattle.portal_rows.proofs.Compose.{more_mapped}
-use Rattle.portal_tables.specs.Lists.{paid}
-use Rattle.portal_tables.specs.Prices.{is_priced}
 use Rattle.portal_tables.proofs.prices.priced_sales.Goals as goal
 
 pub loop-sale-preserved : goal.loop-sale-preserved

@@ -1,10 +1,4 @@
-use Rattle.std.proofs.Common.{◌≡◌, ℕ, Some, map, take}
-use Rattle.std.specs.Prelude.{bytes_eq}
-use Rattle.std.specs.HashMap.{get_by}
-use Rattle.portal_lists.specs.Lists.{sale_read}
-use Rattle.portal_lists.specs.declared.lists.KeptSale.{KeptSale}
-use Rattle.portal_tables.specs.Lists.{paid}
-use Rattle.portal_tables.specs.Prices.{is_priced}
+use Rattle.portal_tables.proofs.Common.{◌≡◌, ℕ, Some, map, take, bytes_eq, get_by, sale_read, KeptSale, paid, is_priced}
 use Rattle.portal_tables.proofs.prices.priced_sales.Given as goal
 
 abbrev pub invariant-loop-sale : goal.invariant-loop-sale

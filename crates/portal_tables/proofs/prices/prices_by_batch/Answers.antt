@@ -1,9 +1,5 @@
-use Rattle.std.proofs.Common.{◌≡◌, ◌∙◌, ◌+◌, ◌++◌, ◌∷◌, [], ℕ, List, Some, ap, ap₂, sym, subst, take, cond, true, false, is_some, Bor, BuildHasherDefault, FoldHasher, rules}
-use Rattle.std.specs.Prelude.{bytes_eq}
-use Rattle.std.specs.HashMap.{HashMap, get_by}
-use Rattle.std.proofs.lemmas.List.{take_more}
+use Rattle.portal_tables.proofs.Common.{◌≡◌, ◌∙◌, ◌+◌, ◌++◌, ◌∷◌, [], ℕ, List, Some, ap, ap₂, sym, subst, take, cond, true, false, is_some, Bor, BuildHasherDefault, FoldHasher, rules, bytes_eq, HashMap, get_by, take_more, ArePrices}
 use Rattle.std.proofs.lemmas.Map.Text.{hash_map_updates_str}
-use Rattle.portal_tables.specs.Prices.{ArePrices}
 use Rattle.portal_tables.proofs.PriceLemmas.{price_stays, price_added}
 use Rattle.portal_tables.proofs.prices.prices_by_batch.Goals as goal
 use Rattle.portal_tables.proofs.prices.prices_by_batch.Goals.{then-not-contains_key+in_ok-insert, else-not-contains_key}

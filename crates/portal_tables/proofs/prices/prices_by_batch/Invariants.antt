@@ -1,7 +1,4 @@
-use Rattle.std.proofs.Common.{ℕ, List, take}
-use Rattle.std.specs.Prelude.{bytes_eq}
-use Rattle.std.specs.HashMap.{get_by}
-use Rattle.portal_tables.specs.Prices.{ArePrices}
+use Rattle.portal_tables.proofs.Common.{ℕ, List, take, bytes_eq, get_by, ArePrices}
 use Rattle.portal_tables.proofs.prices.prices_by_batch.Given as goal
 
 abbrev pub invariant-loop-batch : goal.invariant-loop-batch

@@ -1,11 +1,4 @@
-use Rattle.std.proofs.Common.{arith}
-use Rattle.sqlite.specs.Held.{state}
-use Rattle.sqlite.specs.State.{HasCleanDisk}
-use Rattle.sqlite.proofs.StateLemmas.{survives_then}
-use Rattle.portal_sql.proofs.HarmlessLemmas.{as_before}
-use Rattle.portal_sql.proofs.StandsAtLemmas.{again_at}
-use Rattle.portal_layouts.specs.Brings.{MayUpgrade, number_of}
-use Rattle.portal_tables.specs.Older.{ShowsIn}
+use Rattle.portal_tables.proofs.Common.{arith, state, HasCleanDisk, survives_then, as_before, again_at, MayUpgrade, number_of, ShowsIn}
 use Rattle.portal_tables.proofs.Upgrading.{upgraded_at, left_in_either}
 use Rattle.portal_tables.proofs.upgrade.upgrade.Goals as goal
 

@@ -1,9 +1,8 @@
-use Rattle.std.proofs.Common.{ap, sym, ◌∙◌, subst}
+use Rattle.portal_head.proofs.Common.{ap, sym, ◌∙◌, subst, IsOccurrence}
 use Rattle.portal_head.specs.Fields.{values_of}
 use Rattle.portal_head.proofs.FieldLemmas.{named_at, other_at, none_left, once, again}
 use Rattle.portal_head.proofs.fields.Fields.occurrence.Goals as goal
 use Rattle.portal_head.proofs.fields.Fields.occurrence.Goals.{then-is_same_name+in-Absent, then-is_same_name+in_default, else-is_same_name}
-use Rattle.portal_head.specs.Steps.{IsOccurrence}
 
 pub loop-field-preserved : goal.loop-field-preserved
 loop-field-preserved c =

@@ -1,8 +1,6 @@
-use Rattle.std.proofs.Common.{◌≡◌, ℕ, List, ◌++◌, drop, map}
-use Rattle.httparse.specs.Spans.{header_bytes}
+use Rattle.portal_head.proofs.Common.{◌≡◌, ℕ, List, ◌++◌, drop, map, header_bytes, IsOccurrence}
 use Rattle.portal_head.specs.Fields.{values_of}
 use Rattle.portal_head.proofs.fields.Fields.occurrence.Given as goal
-use Rattle.portal_head.specs.Steps.{IsOccurrence}
 
 -- what was found is what the values so far make, and they begin all the values
 abbrev pub invariant-loop-field : goal.invariant-loop-field

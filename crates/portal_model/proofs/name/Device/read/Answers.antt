@@ -1,7 +1,6 @@
 use Rattle.std.proofs.Common.{◌≡◌, ◌≢◌, ℕ, List, length, arith, subst, refl, lit<, replicate, true, ◌⊎◌}
-use Rattle.std.proofs.lemmas.Result.{err_from_is_err_and}
 use Rattle.portal_model.specs.Device.{SpellsDevice}
-use Rattle.portal_model.proofs.Devices.{between, short-spells-none, unseparated-spells-none, unread-spells-none, read-spells}
+use Rattle.portal_model.proofs.Devices.{between, short-spells-none, unseparated-spells-none, unread, read-spells}
 use Rattle.portal_model.proofs.name.Device.read.Goals as goal
 
 abbrev NoneSpelled : List ℕ → Type 0
@@ -13,40 +12,22 @@ returns-then-signs-ne17-clause-err c =
     (refl, subst NoneSpelled c.as_bytes-signs.ensures.value (short-spells-none _ other))
 
 pub returns-in_err-octet-clause-err : goal.returns-in_err-octet-clause-err
-returns-in_err-octet-clause-err c =
-    let p = err_from_is_err_and c.from_residual.result c.from_residual.ensures.1 in
-    let e = c.in_err-octet.ensures.err in
-    rw (p.1, p.2) (e.0, subst NoneSpelled c.as_bytes-signs.ensures.value (unread-spells-none _ 0 (lit< tt) e.1))
+returns-in_err-octet-clause-err c = unread _ _ c.as_bytes-signs.ensures.value 0 (lit< tt) _ c.in_err-octet.ensures.err c.from_residual.result c.from_residual.ensures.1
 
 pub returns-in_err-octet-2-clause-err : goal.returns-in_err-octet-2-clause-err
-returns-in_err-octet-2-clause-err c =
-    let p = err_from_is_err_and c.from_residual-in_err-octet-2.result c.from_residual-in_err-octet-2.ensures.1 in
-    let e = c.in_err-octet-2.ensures.err in
-    rw (p.1, p.2) (e.0, subst NoneSpelled c.as_bytes-signs.ensures.value (unread-spells-none _ 1 (lit< tt) e.1))
+returns-in_err-octet-2-clause-err c = unread _ _ c.as_bytes-signs.ensures.value 1 (lit< tt) _ c.in_err-octet-2.ensures.err c.from_residual-in_err-octet-2.result c.from_residual-in_err-octet-2.ensures.1
 
 pub returns-in_err-octet-3-clause-err : goal.returns-in_err-octet-3-clause-err
-returns-in_err-octet-3-clause-err c =
-    let p = err_from_is_err_and c.from_residual-in_err-octet-3.result c.from_residual-in_err-octet-3.ensures.1 in
-    let e = c.in_err-octet-3.ensures.err in
-    rw (p.1, p.2) (e.0, subst NoneSpelled c.as_bytes-signs.ensures.value (unread-spells-none _ 2 (lit< tt) e.1))
+returns-in_err-octet-3-clause-err c = unread _ _ c.as_bytes-signs.ensures.value 2 (lit< tt) _ c.in_err-octet-3.ensures.err c.from_residual-in_err-octet-3.result c.from_residual-in_err-octet-3.ensures.1
 
 pub returns-in_err-octet-4-clause-err : goal.returns-in_err-octet-4-clause-err
-returns-in_err-octet-4-clause-err c =
-    let p = err_from_is_err_and c.from_residual-in_err-octet-4.result c.from_residual-in_err-octet-4.ensures.1 in
-    let e = c.in_err-octet-4.ensures.err in
-    rw (p.1, p.2) (e.0, subst NoneSpelled c.as_bytes-signs.ensures.value (unread-spells-none _ 3 (lit< tt) e.1))
+returns-in_err-octet-4-clause-err c = unread _ _ c.as_bytes-signs.ensures.value 3 (lit< tt) _ c.in_err-octet-4.ensures.err c.from_residual-in_err-octet-4.result c.from_residual-in_err-octet-4.ensures.1
 
 pub returns-in_err-octet-5-clause-err : goal.returns-in_err-octet-5-clause-err
-returns-in_err-octet-5-clause-err c =
-    let p = err_from_is_err_and c.from_residual-in_err-octet-5.result c.from_residual-in_err-octet-5.ensures.1 in
-    let e = c.in_err-octet-5.ensures.err in
-    rw (p.1, p.2) (e.0, subst NoneSpelled c.as_bytes-signs.ensures.value (unread-spells-none _ 4 (lit< tt) e.1))
+returns-in_err-octet-5-clause-err c = unread _ _ c.as_bytes-signs.ensures.value 4 (lit< tt) _ c.in_err-octet-5.ensures.err c.from_residual-in_err-octet-5.result c.from_residual-in_err-octet-5.ensures.1
 
 pub returns-in_err-octet-6-clause-err : goal.returns-in_err-octet-6-clause-err
-returns-in_err-octet-6-clause-err c =
-    let p = err_from_is_err_and c.from_residual-in_err-octet-6.result c.from_residual-in_err-octet-6.ensures.1 in
-    let e = c.in_err-octet-6.ensures.err in
-    rw (p.1, p.2) (e.0, subst NoneSpelled c.as_bytes-signs.ensures.value (unread-spells-none _ 5 (lit< tt) e.1))
+returns-in_err-octet-6-clause-err c = unread _ _ c.as_bytes-signs.ensures.value 5 (lit< tt) _ c.in_err-octet-6.ensures.err c.from_residual-in_err-octet-6.result c.from_residual-in_err-octet-6.ensures.1
 
 pub returns-then-not-is_separated-clause-err : goal.returns-then-not-is_separated-clause-err
 returns-then-not-is_separated-clause-err c =

@@ -1,9 +1,5 @@
-use Rattle.std.proofs.Common.{ap, sym, ◌∙◌}
-use Rattle.std.specs.Prelude.{option_map}
-use Rattle.matchit.specs.Rows.{RowsOf}
-use Rattle.matchit.specs.Router.{RouteOf}
+use Rattle.portal_route.proofs.Common.{ap, sym, ◌∙◌, option_map, RowsOf, RouteOf, Route}
 use Rattle.matchit.specs.Seek.{first}
-use Rattle.portal_route.specs.declared.Route.{Route}
 use Rattle.portal_route.specs.Table.{route_of}
 use Rattle.portal_route.proofs.router.Routes.at.Goals as goal
 

@@ -1,18 +1,6 @@
-use Rattle.std.proofs.Common.{◌≡◌, true}
-use Rattle.portal_store.proofs.ReadLemmas.{read, cannot}
-use Rattle.portal_store.proofs.StopLemmas.{faulted}
+use Rattle.portal_store.proofs.ReadLemmas.{counters_on}
 use Rattle.portal_store.proofs.desks.StoreDesk.check_counters.Goals as goal
 
-pub returns-in-Ok-clause-read : goal.returns-in-Ok-clause-read
-returns-in-Ok-clause-read g c honest old at =
-    read g.S.Store c.args.self.now.tables c.audit.new.self old (λ L. c.in-Ok.agrees ≡ true) (c.in-Ok.ensures.reads.found honest old at)
-
-pub returns-in-Err-clause-read : goal.returns-in-Err-clause-read
-returns-in-Err-clause-read g c honest old at =
-    cannot g.S.Store c.args.self.now.tables c.audit.new.self c.in-Err.fault c.refused.result old
-    (c.in-Err.ensures.reads.found honest old at) c.refused.ensures.memory c.refused.ensures.stopped
-
-pub returns-in-Err-clause-stops : goal.returns-in-Err-clause-stops
-returns-in-Err-clause-stops g c =
-    faulted c.args.self.now.tables.is_stopped c.audit.new.self.is_stopped c.in-Err.fault c.refused.result
-    c.in-Err.ensures.reads.stops c.refused.ensures.memory c.refused.ensures.stopped
+pub returns-clause-exact : goal.returns-clause-exact
+returns-clause-exact g c = λ honest.
+    counters_on g.S.Store c.args.self.now.tables _ c.audit.result c.map_err.result c.map_err.ensures.cases (c.audit.ensures.exact honest)

@@ -1,10 +1,5 @@
-use Rattle.std.proofs.Common.{◌≡◌, ◌++◌, take}
-use Rattle.portal_model.specs.Rows.{plans_of}
-use Rattle.portal_laws.specs.FromRows.{held_among}
-use Rattle.portal_ledger.specs.Ledger.{Ledger, history_of}
-use Rattle.portal_ledger.specs.States.{running}
-use Rattle.portal_tables.specs.TablesAt.{IsHonest, TablesAt}
-use Rattle.portal_store.specs.Rest.{KeepsRest}
+use Rattle.portal_store.proofs.Common.{◌≡◌, ◌++◌, take, plans_of, held_among, Ledger, history_of, running, IsHonest, KeepsRest}
+use Rattle.portal_tables.specs.TablesAt.{TablesAt}
 use Rattle.portal_store.proofs.desks.StoreDesk.hold.Given as goal
 
 abbrev pub invariant-loop-plan : goal.invariant-loop-plan

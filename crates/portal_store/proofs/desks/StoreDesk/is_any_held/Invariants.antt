@@ -1,9 +1,5 @@
-use Rattle.std.proofs.Common.{◌≡◌, false, take}
-use Rattle.portal_model.specs.Verdict.{any_held}
-use Rattle.portal_ledger.specs.Ledger.{Ledger, history_of}
-use Rattle.portal_ledger.specs.States.{running}
-use Rattle.portal_tables.specs.TablesAt.{IsHonest, TablesAt}
-use Rattle.portal_store.specs.Rest.{KeepsRest}
+use Rattle.portal_store.proofs.Common.{◌≡◌, false, take, any_held, Ledger, history_of, running, IsHonest, KeepsRest}
+use Rattle.portal_tables.specs.TablesAt.{TablesAt}
 use Rattle.portal_store.proofs.desks.StoreDesk.is_any_held.Given as goal
 
 abbrev pub invariant-loop-code : goal.invariant-loop-code

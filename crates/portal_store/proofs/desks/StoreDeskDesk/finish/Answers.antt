@@ -1,7 +1,4 @@
-use Rattle.std.proofs.Common.{Option, sym, subst}
-use Rattle.portal_ledger.specs.declared.marked.MarkedChanges.{MarkedChanges}
-use Rattle.portal_ledger.specs.Calls.{Fits}
-use Rattle.portal_open.specs.Open.{OpenAt}
+use Rattle.portal_store.proofs.Common.{Option, sym, subst, MarkedChanges, Fits, OpenAt}
 use Rattle.portal_store.proofs.KeptLemmas.{FollowsOn, keeps_all, keeps_on}
 use Rattle.portal_store.proofs.ReadLemmas.{cannot_keep}
 use Rattle.portal_store.proofs.StopLemmas.{faulted}

@@ -1,10 +1,5 @@
-use Rattle.std.proofs.Common.{◌≡◌, ◌≤◌, ℕ, Some, false, sym, subst, refl}
-use Rattle.sqlite.specs.Held.{state}
-use Rattle.portal_tables.specs.declared.adopt.Refused.{Refused}
+use Rattle.portal_tables.proofs.Common.{◌≡◌, ◌≤◌, ℕ, Some, false, sym, subst, refl, state, Refused, IsKnown, OthersTaken, this_layout, running}
 use Rattle.portal_tables.specs.declared.tables.Tables.{Tables}
-use Rattle.portal_tables.specs.Adopting.{IsKnown, OthersTaken}
-use Rattle.portal_rows.specs.Holds.{this_layout}
-use Rattle.portal_ledger.specs.States.{running}
 use Rattle.portal_tables.specs.TablesAt.{IsHonest, ConnIsHonest, TablesAt}
 use Rattle.portal_tables.proofs.AdoptedLemmas.{adopted, exact_known, exact_why, others_left, others_stay, refused, spares, kept_by, conn_honest, conn_clean, tables_honest, tables_clean}
 use Rattle.portal_tables.proofs.tables.Tables.adopt.Goals as goal

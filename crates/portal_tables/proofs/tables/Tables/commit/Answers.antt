@@ -1,4 +1,4 @@
-use Rattle.std.proofs.Common.{arith, refl, true}
+use Rattle.portal_tables.proofs.Common.{arith, refl, subst, true, state, Survives, Answer, kept_with_answer, Leads, MayLead}
 use Rattle.portal_tables.specs.declared.tables.Tables.{Tables}
 use Rattle.portal_tables.proofs.StandingLemmas.{stays_keep, keeps, doubts, halts, honest_by, honest_is}
 use Rattle.portal_tables.proofs.OthersLemmas.{others_stopped, others_halted, others_led, others_failed}
@@ -20,7 +20,8 @@ returns-in-Ok-clause-honest g c clean =
 pub returns-in-Ok-clause-commit : goal.returns-in-Ok-clause-commit
 returns-in-Ok-clause-commit g c clean old at e may =
     let new : Tables g.row.S.Denot = record { conn = c.keep.new.conn; is_stopped = c.args.self.now.is_stopped } in
-    keeps g.S.Store c.args.marked.now e c.args.self.now new c.if-self.false refl (λ db. g.met.S.Store.settled new.conn.store db) (c.in-Ok.ensures.done (honest_is g.S.Store new clean)) old at may
+    let done = subst (λ (a : Answer). Leads (kept_with_answer c.args.marked.now a) (state g.S.Store c.args.self.now.conn) (state g.S.Store new.conn)) c.answer-answer.ensures (c.in-Ok.ensures.done (honest_is g.S.Store new clean)) in
+    keeps g.S.Store c.args.marked.now e c.args.self.now new c.if-self.false refl (λ db. g.met.S.Store.settled new.conn.store db) done old at may
 
 pub returns-in-Err-clause-honest : goal.returns-in-Err-clause-honest
 returns-in-Err-clause-honest g c clean =
@@ -29,7 +30,8 @@ returns-in-Err-clause-honest g c clean =
 pub returns-in-Err-clause-commit : goal.returns-in-Err-clause-commit
 returns-in-Err-clause-commit g c clean old at e may =
     let new = c.fault.new.self in
-    doubts g.S.Store c.args.marked.now e c.args.self.now new c.keep.new.conn c.if-self.false clean c.in-Err.ensures.undone c.keep.ensures.crash c.fault.ensures.survives (λ db. g.met.S.Store.settled new.conn.store db)
+    let crash = subst (λ (a : Answer). Survives (state g.S.Store c.args.self.now.conn) (state g.S.Store c.keep.new.conn) (MayLead (kept_with_answer c.args.marked.now a) (state g.S.Store c.args.self.now.conn))) c.answer-answer.ensures c.keep.ensures.crash in
+    doubts g.S.Store c.args.marked.now e c.args.self.now new c.keep.new.conn c.if-self.false clean c.in-Err.ensures.undone crash c.fault.ensures.survives (λ db. g.met.S.Store.settled new.conn.store db)
     c.fault.result c.fault.ensures.told c.fault.ensures.same old at may
 
 pub returns-then-self-clause-others : goal.returns-then-self-clause-others
@@ -41,10 +43,12 @@ returns-then-not-is_autocommit-clause-others g c clean L at = others_halted g.S.
 pub returns-in-Ok-clause-others : goal.returns-in-Ok-clause-others
 returns-in-Ok-clause-others g c clean L at =
     let new : Tables g.row.S.Denot = record { conn = c.keep.new.conn; is_stopped = c.args.self.now.is_stopped } in
-    others_led g.S.Store c.args.marked.now L c.args.self.now new (λ db. g.met.S.Store.settled new.conn.store db) (c.in-Ok.ensures.done (honest_is g.S.Store new clean)) at
+    let done = subst (λ (a : Answer). Leads (kept_with_answer c.args.marked.now a) (state g.S.Store c.args.self.now.conn) (state g.S.Store new.conn)) c.answer-answer.ensures (c.in-Ok.ensures.done (honest_is g.S.Store new clean)) in
+    others_led g.S.Store c.args.marked.now L c.args.self.now new (λ db. g.met.S.Store.settled new.conn.store db) done at
 
 pub returns-in-Err-clause-others : goal.returns-in-Err-clause-others
 returns-in-Err-clause-others g c clean L at =
     let new = c.fault.new.self in
+    let crash = subst (λ (a : Answer). Survives (state g.S.Store c.args.self.now.conn) (state g.S.Store c.keep.new.conn) (MayLead (kept_with_answer c.args.marked.now a) (state g.S.Store c.args.self.now.conn))) c.answer-answer.ensures c.keep.ensures.crash in
     others_failed g.S.Store c.args.marked.now L c.args.self.now new c.keep.new.conn (λ db. g.met.S.Store.settled c.args.self.now.conn.store db) (λ db. g.met.S.Store.settled new.conn.store db) clean
-    c.in-Err.ensures.undone c.keep.ensures.crash c.fault.ensures.survives c.fault.result c.fault.ensures.told c.fault.ensures.same at
+    c.in-Err.ensures.undone crash c.fault.ensures.survives c.fault.result c.fault.ensures.told c.fault.ensures.same at

@@ -1,37 +1,11 @@
-use Rattle.std.proofs.Common.{◌≡◌, arith, refl, filter, rules}
-use Rattle.portal_model.specs.Captive.{all_sessions}
-use Rattle.portal_model.specs.History.{History, is_open_at}
-use Rattle.portal_tables.specs.declared.tables.Tables.{Tables}
-use Rattle.portal_tables.proofs.StandingLemmas.{stays_read, reads, fails, honest_by}
+use Rattle.portal_tables.proofs.StandingLemmas.{read_stopped, tells_history}
 use Rattle.portal_tables.proofs.tables.Tables.open_sessions.Goals as goal
 
-pub returns-then-self : goal.returns-then-self
-returns-then-self g c = record {
-  honest = search rules;
-  stopped = search rules;
-  stops = search rules;
-  found = λ clean old at. stays_read g.S.Store c.args.self.now old at c.if-self.true;
-}
+pub returns-in_err-check_working : goal.returns-in_err-check_working
+returns-in_err-check_working g c =
+    read_stopped g.S.Store c.args.self.now c.from_residual.result c.in_err-check_working.ensures c.from_residual.ensures.1
 
-pub returns-in-Ok : goal.returns-in-Ok
-returns-in-Ok g c = record {
-  honest = λ clean.
-      honest_by g.S.Store c.args.self.now (record { conn = c.read_open_sessions.new.conn; is_stopped = c.args.self.now.is_stopped }) (omega (arith, c.in-Ok.ensures.looks.crash.clean)) clean;
-  stopped = search rules;
-  stops = search rules;
-  found = λ clean old at.
-      let new : Tables g.row.S.Denot = record { conn = c.read_open_sessions.new.conn; is_stopped = c.args.self.now.is_stopped } in
-      reads g.S.Store c.args.self.now new c.if-self.false refl clean c.in-Ok.ensures.looks (λ (h : History). c.in-Ok.found.items ≡ filter (is_open_at c.args.t) (all_sessions h)) (λ clear live h shown. c.in-Ok.ensures.found clear live h shown) old at;
-}
-
-pub returns-in-Err : goal.returns-in-Err
-returns-in-Err g c = record {
-  honest = λ clean.
-      honest_by g.S.Store c.args.self.now c.fault.new.self (let one = c.in-Err.ensures.looks.crash.clean in omega (arith, one, c.fault.ensures.survives.clean)) clean;
-  stopped = search rules;
-  stops = search rules;
-  found = λ clean old at.
-      let new = c.fault.new.self in
-      fails g.S.Store c.args.self.now new c.read_open_sessions.new.conn c.if-self.false clean c.in-Err.ensures.looks c.fault.ensures.survives (λ db. g.met.S.Store.settled new.conn.store db)
-      c.fault.result c.fault.ensures.told c.fault.ensures.same old at;
-}
+pub returns : goal.returns
+returns g c =
+    tells_history g.S.Store c.args.self.now c.answer.new.self c.read_open_sessions-read.new.conn c.in_ok-check_working.ensures (λ db. g.met.S.Store.settled c.answer.new.self.conn.store db) _ c.read_open_sessions-read.result c.read_open_sessions-read.ensures.looks
+    c.read_open_sessions-read.ensures.found c.answer.ensures

@@ -1,0 +1,12 @@
+-- The words of other crates that the proofs cite, passed on from one place.
+pub use Rattle.std.proofs.Common.{Bool, List, None, Ok, Some, [], add-one, ap, append-nil, append_assoc, arith, below_more, cond, drop, drop-cons, eq-eqb, false, get_or, get_or-set_other, get_or-set_same, inl, inr, length, length-append, lit<, lit≤, map, refl, set, subst, suc, sym, take, true, zero, ℕ, ◌%◌, ◌*◌, ◌++◌, ◌+◌, ◌-◌, ◌/◌, ◌<◌, ◌∙◌, ◌∷◌, ◌≡◌, ◌≢◌, ◌≤◌, ◌⊎◌}
+pub use Rattle.std.proofs.Math.ListN.{length-set}
+pub use Rattle.std.proofs.lemmas.Bool.Decides.{leb_tells, nat_tests}
+pub use Rattle.std.proofs.lemmas.Grind.{common_steps}
+pub use Rattle.std.proofs.lemmas.List.{drop-replicate, drop-set-lt, drop_all, length-map, length-take-le, map-append, take-append-drop, take_all, take_more, take_more_set}
+pub use Rattle.std.proofs.lemmas.List.Elements.{All-append, All-cons, All-get_or, All-head, All-map, All-tail, All-take}
+pub use Rattle.std.specs.Char.{to_ascii_uppercase}
+pub use Rattle.std.specs.List.{list_all, position_or_len, range_with_len}
+pub use Rattle.std.specs.Prelude.{All, IsTrue, filter, nat_eq, nat_lt, not, position, replicate, ◌||◌}
+pub use Rattle.std.specs.Str.{IsAscii}
+pub use Rattle.portal_codes.specs.Code.{ExchangeIsDetected, IsCode, IsCodeUnder, IsHyphened, IsPadded, OneChangeIsDetected, PrintedTextSpells, SpellingIsUnique, Spells, alphabet, check_of, code_of_words, grouped, hyphened, is_separator, long_weights, padded, short_weights, sign_of, signs_in, text_of, weighted, weights_of}

@@ -1,0 +1,30 @@
+-- The words of other crates that the proofs cite, passed on from one place.
+pub use Rattle.std.proofs.Common.{Bool, List, None, Option, Some, [], ap, append_assoc, arith, drop, false, get_or, inl, inr, length, nat_eq, nat_le, refl, subst, suc, sym, take, true, ℕ, ◌++◌, ◌+◌, ◌-◌, ◌<◌, ◌∙◌, ◌∷◌, ◌≡◌, ◌≤◌, ◌⊎◌}
+pub use Rattle.std.specs.Io.KnownBytes.{Appends}
+pub use Rattle.std.specs.Prelude.{Err, IfErr, MatchOption, Ok, Result, Vec, codes, option_map, string_bytes, ⊤, ◌≢◌}
+pub use Rattle.std.specs.declared.alloc.Global.{Global}
+pub use Rattle.portal_checks.specs.Checks.{IsChecked, IsOfRequest, OrMemory}
+pub use Rattle.portal_checks.specs.declared.denials.Denied.{Denied}
+pub use Rattle.portal_checks.specs.declared.wanted.Wanted.{Wanted}
+pub use Rattle.portal_checks.specs.declared.wanted.Wanted.TheVariants.{Act, OpenSessions, Sheet, Takings}
+pub use Rattle.portal_desk.specs.Calls.{CannotAnswer, CannotKeep, Misses, Prepares, PreparesMarked, Refuses, Repeats, StaysStopped, TellsStop}
+pub use Rattle.portal_desk.specs.Sheets.{sheet_of, takings_over}
+pub use Rattle.portal_files.specs.SettingsFile.{SettingsValue}
+pub use Rattle.portal_head.specs.Bytes.{IsResponse, last_lines, media_type_of, phrase_of}
+pub use Rattle.portal_head.specs.declared.responses.ContentType.TheVariants.{CaptiveJson, Csv, Json, PlainText}
+pub use Rattle.portal_http.specs.Arrived.{Arrived}
+pub use Rattle.portal_http.specs.Headline.{Acknowledges, IsAccepted, IsFound, IsInDoubt, Leads, OneReading, Replies, Survives, is_ok, with_command}
+pub use Rattle.portal_http.specs.Replies.{IsCommand, IsRefusal, IsReply, IsTold, IsVerdict}
+pub use Rattle.portal_http.specs.Runs.{Run, Served, Step, Stops, bytes_of}
+pub use Rattle.portal_http.specs.Serving.{Finishes, Serves, ServesWanted, Tells}
+pub use Rattle.portal_ledger.specs.Ledger.{Accepted, IsSound, Ledger, held_in, history_of, new_by, repeat_in, taken_at}
+pub use Rattle.portal_ledger.specs.Mark.{Mark}
+pub use Rattle.portal_ledger.specs.States.{MayStand, State, running, stopped}
+pub use Rattle.portal_model.specs.Change.{answer_of}
+pub use Rattle.portal_model.specs.History.{History, voucher_of}
+pub use Rattle.portal_model.specs.Refusal.{status_of}
+pub use Rattle.portal_model.specs.Verdict.{verdict}
+pub use Rattle.portal_model.specs.declared.change.Answer.{Answer}
+pub use Rattle.portal_model.specs.declared.command.Command.{Command}
+pub use Rattle.portal_model.specs.declared.refusal.Refusal.{Refusal}
+pub use Rattle.portal_model.specs.declared.refusal.Refusal.TheVariants.{NoMemory, Stopped, UnknownBatch, UnknownCode}

@@ -1,0 +1,11 @@
+//! One response.
+ghost use Rattle.std.specs.Prelude.{◌≡◌};
+ghost use Rattle.portal_http.specs.Status.{status_shown};
+
+/// A response: its bytes, and the status that they show (RFC 9112 section 4).
+#[derive(Drop)]
+pub struct Response {
+    pub status: u16,
+    pub bytes: Vec<u8>,
+    ghost shown: { status ≡ status_shown bytes.items },
+}

@@ -1,0 +1,93 @@
+-- The words of other crates that the proofs cite, passed on from one place.
+pub use Rattle.std.proofs.Common.{All, Bool, Bor, BuildHasherDefault, Err, FoldHasher, Global, IfNone, IfSome, IsErrAnd, IsTrue, Less, List, None, Ok, Option, Ordering, Result, Some, Vec, [], add-one, ap, append-nil, ap₂, arith, bytes_eq, codes, cond, count_by, eq-eqb, false, filter, find, get_or, get_or-take, inl, inr, is_lt, is_none, is_some, length, lit<, lit≤, map, max, nat_cmp, nat_eq, nat_lt, ne_eqb, not, option_and_then, option_map, pos, refl, rules, slice_index, subst, suc, sum_by, sym, take, true, true≢false, unwrap_or, zero, zero-add, ℕ, ◌%◌, ◌&&◌, ◌*◌, ◌++◌, ◌+◌, ◌-ℤ◌, ◌-◌, ◌<◌, ◌^◌, ◌||◌, ◌∙◌, ◌∷◌, ◌≡◌, ◌≢◌, ◌≤◌, ◌⊎◌}
+pub use Rattle.std.proofs.Math.Logic.{∥∥₁_elim, ∥∥₁_map}
+pub use Rattle.std.proofs.lemmas.Bool.{cases_Bool, cases_eq}
+pub use Rattle.std.proofs.lemmas.Bool.Decides.{Decides-eqb, nat_tests}
+pub use Rattle.std.proofs.lemmas.Int.{ints}
+pub use Rattle.std.proofs.lemmas.List.{length-map, length-take, map-append, take_all, take_more}
+pub use Rattle.std.proofs.lemmas.List.Elements.{All-filter, All-from_recursion, All-head, All-map, All-tail, All-weaker, filter_map-append, recursion_from_All}
+pub use Rattle.std.proofs.lemmas.List.Sums.{sum_by-cons}
+pub use Rattle.std.proofs.lemmas.Result.{IfErr-weaker, IfOk-weaker, err_from_is_err_and}
+pub use Rattle.std.proofs.lemmas.Slice.Eq.{bytes_eq-Decides}
+pub use Rattle.std.specs.HashMap.{HashMap, get_by}
+pub use Rattle.std.specs.List.{AllByRecursion, cons_option, filter_map, list_any, range_with_len}
+pub use Rattle.std.specs.List.Sorted.{IsPermutation, IsSorted}
+pub use Rattle.std.specs.Option.{option_or}
+pub use Rattle.portal_codes.specs.Code.{IsCode, text_of}
+pub use Rattle.portal_laws.proofs.Numbers.{keys_apart, rows_are_numbered}
+pub use Rattle.portal_laws.proofs.Openings.{IsFirst, openings_first, session_at}
+pub use Rattle.portal_laws.proofs.Sessions.{counts_are_sums, last_session_is_row, session_is_row, totals_are_sums}
+pub use Rattle.portal_laws.proofs.Typed.{rows_are_typed}
+pub use Rattle.portal_layouts.specs.Brings.{HasUpgraded, MayUpgrade, number_of, upgraded}
+pub use Rattle.portal_layouts.specs.Creates.{is_free, new_store}
+pub use Rattle.portal_layouts.specs.Layouts.{Answers, IsOneRow, TellsLayout, is_any_named, is_whole}
+pub use Rattle.portal_layouts.specs.declared.layouts.OldLayout.{OldLayout}
+pub use Rattle.portal_layouts.specs.declared.layouts.OldLayout.TheVariants.{First, Fourth, Second, Third}
+pub use Rattle.portal_ledger.proofs.Ledgers.{kept_under, the_held_is_row, the_sound_is_legal}
+pub use Rattle.portal_ledger.specs.Ledger.{Accepted, IsSound, Ledger, all_rows_of, answer_in, held_in, history_of, is_under, kept_with, request_kept, requests_of}
+pub use Rattle.portal_ledger.specs.Mark.{IsCaller, Mark, same_caller, same_key}
+pub use Rattle.portal_ledger.specs.RequestRow.{IsKeptTyped, RequestRow, row_of_request, text_of_caller}
+pub use Rattle.portal_ledger.specs.States.{MayStand, running, stopped}
+pub use Rattle.portal_ledger.specs.declared.marked.MarkedChanges.{MarkedChanges}
+pub use Rattle.portal_ledger.specs.declared.request.KeptRequest.{KeptRequest}
+pub use Rattle.portal_lists.proofs.SameCode.{code_test, same_code}
+pub use Rattle.portal_lists.proofs.WholeReading.{first_held, first_there}
+pub use Rattle.portal_lists.specs.Lists.{Lists, ListsAs, by_number, by_place, by_refund, by_sale, is_left, is_within, may_be_open, numbers_open, refund_read, refund_shown, sale_read, sale_shown}
+pub use Rattle.portal_lists.specs.Sums.{summed}
+pub use Rattle.portal_lists.specs.declared.lists.KeptSale.{KeptSale}
+pub use Rattle.portal_model.specs.Captive.{all_sessions}
+pub use Rattle.portal_model.specs.Change.{answer_of, changes_of, close_change, head_after, issue_change, plan_among, redeem_change, refund_change, report_change, reported, sell_change, session_after}
+pub use Rattle.portal_model.specs.Device.{IsDevice, SpellsDevice, text_of_device}
+pub use Rattle.portal_model.specs.History.{Grant, History, Issued, batch_of, codes_of, entry, grants_of, head_of, is_below, is_open_at, issued_of, kept_if, last_session_of, limited, members, oldest, plan_of, session_of, session_row, voucher_of, voucher_row}
+pub use Rattle.portal_model.specs.Rows.{CountRow, GrantRow, Rows, SessionRow, TotalRow, VoucherRow, allowance_from, batch_among, batches_of, closed_if, count_among, count_from, count_of_place, counted_if, counts_of, joined, joined_session, last_among, last_session_from, lead, new_counts, new_grant, new_vouchers, openings, places_of, plans_of, refunded_if, remaining_of, row_among, row_of_place, rows_of, session_among, session_from, session_opened, sessions_of, sold_if, total_among, total_from, total_row, totalled_if, totals_of, used_if, voucher_from, vouchers_of}
+pub use Rattle.portal_model.specs.Verdict.{Follows, IsLegal, IsTyped, stands_twice}
+pub use Rattle.portal_model.specs.declared.change.Answer.{Answer}
+pub use Rattle.portal_model.specs.declared.change.Changes.{Changes}
+pub use Rattle.portal_model.specs.declared.plan.Plan.{Plan}
+pub use Rattle.portal_model.specs.declared.record.Batch.{Batch}
+pub use Rattle.portal_model.specs.declared.record.Session.{Session}
+pub use Rattle.portal_rows.proofs.OthersLemmas.{others_none}
+pub use Rattle.portal_rows.specs.Commands.{kept, kept_marked, kept_with_answer, left_of, with_mark}
+pub use Rattle.portal_rows.specs.Contents.{Contents, HeadRow}
+pub use Rattle.portal_rows.specs.First.{HasFirst}
+pub use Rattle.portal_rows.specs.Holds.{HasTables, Holds, HoldsIn, LeftHolds, Places, Stand, this_layout}
+pub use Rattle.portal_rows.specs.Others.{KeepsOthers, LeftOthers}
+pub use Rattle.portal_rows.specs.Read.{count_read, head_read, session_read, voucher_read}
+pub use Rattle.portal_rows.specs.Steps.{Leads, MayLead, ended_if, ends_row, with_moment, with_use}
+pub use Rattle.portal_rows.specs.declared.rows.Fault.{Fault}
+pub use Rattle.portal_rows.specs.declared.rows.KeptCount.{KeptCount}
+pub use Rattle.portal_rows.specs.declared.rows.KeptSession.{KeptSession}
+pub use Rattle.portal_rows.specs.declared.rows.KeptVoucher.{KeptVoucher}
+pub use Rattle.portal_rows.specs.declared.signs.Total.{Total}
+pub use Rattle.portal_sql.proofs.FindLemmas.{has_image, ok_both, ok_then}
+pub use Rattle.portal_sql.proofs.HarmlessLemmas.{as_before, both}
+pub use Rattle.portal_sql.proofs.Keys.{agree, has_mapped}
+pub use Rattle.portal_sql.proofs.LooksLemmas.{fails_then, fails_weaker, looks_weaker, reads_fails, reads_none, reads_then, reads_weaker, same_now, still_open}
+pub use Rattle.portal_sql.proofs.StandsAtLemmas.{again_at, at_open, left_still, shows_under, still_at}
+pub use Rattle.portal_sql.specs.Finds.{FindsLast}
+pub use Rattle.portal_sql.specs.Looks.{Fails, Looks, Reads}
+pub use Rattle.portal_sql.specs.StandsAt.{LeftShows, StandsAt}
+pub use Rattle.portal_sql.specs.States.{IsAsBefore, IsUndone}
+pub use Rattle.portal_tables.specs.Adopting.{Carries, FailsToAdopt, HeadIsNoView, IsBrought, IsCarried, IsCompleted, IsExact, IsKnown, IsReady, IsWhy, LeftCarried, MayAdopt, MayBeUpgraded, OthersTaken, SparesOurTables, Stays, TellsKnown}
+pub use Rattle.portal_tables.specs.Lists.{AreOrderedSales, AreRefunds, AreSales, is_paid_within, open_numbered, paid}
+pub use Rattle.portal_tables.specs.Older.{AreUnmarked, LeftInEither, ShowsIn}
+pub use Rattle.portal_tables.specs.Prices.{ArePrices, is_priced, price_among}
+pub use Rattle.portal_tables.specs.Shown.{IsRowOf, OfLedger, OfShown, ReadsShown, ShowsHistory, ShowsLedger, all_contents_of, contents_of, count_kept, grant_kept, head_kept, session_kept, voucher_kept}
+pub use Rattle.portal_tables.specs.Stores.{IsBare, IsNamed, ShowsOlder, StoreShows}
+pub use Rattle.portal_tables.specs.declared.adopt.Refused.{Refused}
+pub use Rattle.portal_tables.specs.declared.fault.StoreFault.{StoreFault}
+pub use Rattle.sqlite.proofs.ListingLemmas.{empty_is_sound}
+pub use Rattle.sqlite.proofs.StateLemmas.{survives_then, survives_weaker}
+pub use Rattle.sqlite.specs.Effect.{Database, IsDatabase}
+pub use Rattle.sqlite.specs.Files.{AreFoundIn, HoldsDatabase, IsCleanLeft, IsNothing, IsOpened, LeavesFiles, NamesSize, SaysSums, file_state, image_of, over_files}
+pub use Rattle.sqlite.specs.Held.{Held, state}
+pub use Rattle.sqlite.specs.Schema.{Schema}
+pub use Rattle.sqlite.specs.State.{HasCleanDisk, IsUnchanged, State, Survives}
+pub use Rattle.sqlite.specs.Tree.{IsAscending, Trees}
+pub use Rattle.sqlite_rules.proofs.ListLemmas.{all_has}
+pub use Rattle.sqlite_rules.specs.Lists.{Has}
+pub use Rattle.sqlite_store.specs.FileStore.{faults, is_shielded, recovers, view}
+pub use Rattle.sqlite_store.specs.Laws.{settled_at}
+pub use Rattle.sqlite_trees.proofs.ListLemmas.{IsPermutation-filter, all_weaker, along_permutation, ascending-filter, filter-filter, filter_all, filter_none, pull_back}
+pub use Rattle.sqlite_wal.specs.Files.{image_at, outcomes}
+pub use Rattle.sqlite_wal.specs.Recovery.{Image, IsIgnored, pages_after}
