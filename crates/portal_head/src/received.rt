@@ -104,11 +104,4 @@ impl Received {
     {
         self.last
     }
-
-    /// The bytes that came in.
-    pub fn into_bytes(self) -> Vec<u8>
-        ensures { result.items ≡ self.bytes }
-    {
-        self.bytes
-    }
 }

@@ -77,6 +77,17 @@ impl Codes {
         }
     }
 
+    /// The codes of a slice. Only out of memory is an error.
+    pub fn from_slice(alloc: Global, codes: &[Code]) -> Result<Codes, AllocError>
+        ensures { IfOk result (λ list. list ≡ codes.now) }
+    {
+        let mut list = Codes::new(alloc);
+        for code in codes {
+            list.push(*code)?;
+        }
+        Ok(list)
+    }
+
     /// The codes, in order.
     pub fn as_slice(&self) -> &[Code]
         ensures value { result.now ≡ self.now }

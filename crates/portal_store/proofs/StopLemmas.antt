@@ -23,9 +23,3 @@ module _ (old new : Bool) where
       → (fault ≡ Memory → r ≡ refusal.NoMemory) → (fault ≡ Stopped → r ≡ refusal.Stopped) → TellsStop old new r
   faulted fault r (inl it) memory over = inr (full r (memory it.0), it.1)
   faulted fault r (inr it) memory over = inl (over it.0, it.1)
-
-  -- what is kept under a key
-  pub repeated : (result : Result (Option Answer) Refusal) (kept : Option KeptRequest) (mark : Mark) → result ≡ repeat_of kept mark
-      → new ≡ old → KeepsStop old new result
-  repeated (Ok x) kept mark is same = same
-  repeated (Err r) kept mark is same = inr (repeat_is_no_stop kept mark r (sym is), same)

@@ -6,7 +6,6 @@ ghost use Rattle.portal_store.specs.Laws.{left_by, shown_sound};
 ghost use Rattle.portal_store.specs.OpenIs.{OpenIs};
 
 use crate::keeping::followed;
-use crate::lists::listed;
 use crate::reading::refused;
 use portal_codes::Code;
 use portal_core::{captive_of, effective};
@@ -18,6 +17,7 @@ use portal_ledger::marked::MarkedChanges;
 use portal_ledger::request::{RequestMark, mark_is_typed};
 use portal_model::captive::{Captive, OpenSession};
 use portal_model::command::Command;
+use portal_model::lists::Codes;
 use portal_model::moment::Moment;
 use portal_model::name::{Device, Id};
 use portal_model::record::Voucher;
@@ -80,7 +80,7 @@ impl<S: Alter> Desk for StoreDesk<S> {
         // the plan of a batch is always there
         let plan = self.find_plan(&batch.plan)?.ok_or(Refusal::UnknownBatch)?;
         let codes = self.find_codes(alloc, id)?;
-        let codes = listed(alloc, codes.as_slice())?;
+        let codes = Codes::from_slice(alloc, codes.as_slice())?;
         Ok(BatchSheet { batch, plan, codes })
     }
 

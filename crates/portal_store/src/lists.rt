@@ -13,7 +13,6 @@ use crate::reading::refused;
 use portal_codes::Code;
 use portal_days::{Day, DayRange};
 use portal_files::{Settings, local_day};
-use portal_model::lists::Codes;
 use portal_model::moment::Moment;
 use portal_model::name::Id;
 use portal_model::record::Session;
@@ -75,17 +74,6 @@ impl<S: Alter> StoreDesk<S> {
     {
         self.tables.audit().map_err(refused)
     }
-}
-
-/// The list of codes. Only want of memory is an error.
-pub(crate) fn listed(alloc: Global, codes: &[Code]) -> Result<Codes, AllocError>
-    ensures { IfOk result (λ list. list ≡ codes.now) }
-{
-    let mut list = Codes::new(alloc);
-    for code in codes {
-        list.push(*code)?;
-    }
-    Ok(list)
 }
 
 /// The payments with their civil days in the settings' zone. Only want of memory is an error.

@@ -13,7 +13,7 @@ use portal_model::name::Id;
 use portal_model::plan::Plan;
 use portal_model::record::Batch;
 use portal_model::refusal::Refusal;
-use std::alloc::{AllocError, Global};
+use std::alloc::Global;
 
 const SECONDS_PER_DAY: u64 = 86_400;
 
@@ -36,7 +36,7 @@ pub fn decide_issue(
         (issue_change plan id codes.now t) }
 {
     let batch = check_issue(plan, batch, taken, id, codes, t)?;
-    let codes = copied(alloc, codes)?;
+    let codes = Codes::from_slice(alloc, codes)?;
     Ok(Changes::Issuance(Issuance {
         at: t,
         batch,
@@ -94,14 +94,4 @@ fn stand_twice(codes: &[Code]) -> bool
         [] => false,
         [first, rest @ ..] => holds_code(rest, first) || stand_twice(rest),
     }
-}
-
-fn copied(alloc: Global, codes: &[Code]) -> Result<Codes, AllocError>
-    ensures { IfOk result (λ copy. copy ≡ codes.now) }
-{
-    let mut copy = Codes::new(alloc);
-    for code in codes {
-        copy.push(*code)?;
-    }
-    Ok(copy)
 }
