@@ -16,7 +16,7 @@ import typing
 
 from refusing import LIBRARY, environment
 
-TEST = "adopting::adopted_where_memory_was_wanting"
+TEST = "attaching::attached_after_out_of_memory"
 SAID = re.compile(r"handed back (\d), given up (\d)\n")
 # Every so many requests for memory are refused alone; every so many of these are refused with others, which are so far apart.
 STEP, FIRST_STEP, SECOND_STEP = 13, 40, 331

@@ -1,8 +1,8 @@
 //! The program `portal`: the voucher and session desk behind a captive portal.
 #![tactic(auto)]
 
-use portal_host::run_on_host;
-use portal_program::words::words_of;
+use portal_commands::words::words_of;
+use portal_os::run_on_host;
 use sqlite::Unknown;
 use std::process::ExitCode;
 

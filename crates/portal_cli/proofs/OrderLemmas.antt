@@ -11,9 +11,9 @@ use Rattle.clap.specs.declared.error.kind.ErrorKind.TheVariants.{DisplayHelp, Di
 use Rattle.portal_cli.specs.declared.order.Order.{Order}
 use Rattle.portal_cli.specs.declared.order.Order.TheVariants.{Serve, Answer, Print, Takings, Check}
 use Rattle.portal_cli.specs.declared.order.NoOrder.{NoOrder}
-use Rattle.portal_cli.specs.declared.order.NoOrder.TheVariants.{Help, Version, Fault, NoMemory}
+use Rattle.portal_cli.specs.declared.order.NoOrder.TheVariants.{Help, Version, Invalid, NoMemory}
 use Rattle.portal_cli.specs.CommandLine.{command_line}
-use Rattle.portal_cli.specs.Orders.{FindsNamed, FindsOrder, GivesFiles, GivesNumber, GivesText, IsAnswer, IsCheck, IsNoHelp, IsNone, IsNoOrder, IsOrder, IsPrint, IsServe, IsTakings, Tells, TellsKind, WritesNumber}
+use Rattle.portal_cli.specs.Orders.{FindsNamed, FindsOrder, GivesFiles, GivesNumber, GivesText, IsAnswerOrder, IsCheckOrder, IsNoHelp, IsNone, IsNoOrder, IsOrder, IsPrintOrder, IsServeOrder, IsTakingsOrder, GivesNoOrder, GivesKind, WritesNumber}
 
 twice : {A B C : Type 0} (f : B → C) (g : A → B) (o : Option A) → option_map f (option_map g o) ≡ option_map (λ x. f (g x)) o
 twice f g None = refl
@@ -73,29 +73,29 @@ module _ (rows : List Row) where
   abbrev NoText : Text → Type 0
   NoText name = (text : Bor Text) → GivesText name rows text → ⊥
 
-  pub serve_without : NoFiles ⊎ (NoNumber (codes "port") ⊎ NoNumber (codes "count")) → IsNone IsServe rows
+  pub serve_without : NoFiles ⊎ (NoNumber (codes "port") ⊎ NoNumber (codes "count")) → IsNone IsServeOrder rows
   serve_without without (Serve db settings port count) is = elim without [
     | inl files ↦ files db settings is.0
     | inr numbers ↦ elim numbers [ inl none ↦ none port is.1 | inr none ↦ none count is.2 ]
   ]
   serve_without without _ is = is
 
-  pub answer_without : NoNumber (codes "now") ⊎ NoText (codes "seed") → IsNone IsAnswer rows
+  pub answer_without : NoNumber (codes "now") ⊎ NoText (codes "seed") → IsNone IsAnswerOrder rows
   answer_without without (Answer db settings now seed) is = elim without [ inl none ↦ none now is.2 | inr none ↦ none seed is.3 ]
   answer_without without _ is = is
 
-  pub print_without : NoFiles ⊎ NoText (codes "batch") → IsNone IsPrint rows
+  pub print_without : NoFiles ⊎ NoText (codes "batch") → IsNone IsPrintOrder rows
   print_without without (Print db settings batch) is = elim without [ inl files ↦ files db settings is.0 | inr none ↦ none batch is.1 ]
   print_without without _ is = is
 
-  pub takings_without : NoFiles ⊎ (NoText (codes "from") ⊎ NoText (codes "to")) → IsNone IsTakings rows
+  pub takings_without : NoFiles ⊎ (NoText (codes "from") ⊎ NoText (codes "to")) → IsNone IsTakingsOrder rows
   takings_without without (Takings db settings from to) is = elim without [
     | inl files ↦ files db settings is.0
     | inr texts ↦ elim texts [ inl none ↦ none from is.1 | inr none ↦ none to is.2 ]
   ]
   takings_without without _ is = is
 
-  pub check_without : NoFiles → IsNone IsCheck rows
+  pub check_without : NoFiles → IsNone IsCheckOrder rows
   check_without without (Check db settings) is = without db settings is
   check_without without _ is = is
 
@@ -104,23 +104,23 @@ module _ (rows : List Row) where
 abbrev head : Text → ℕ
 head text = get_or text 0 0
 
-pub named_serve : (name : Text) (rows : List Row) (result : Option Order) → name ≡ codes "serve" → FindsOrder IsServe rows result → FindsNamed (Some (name, rows)) result
+pub named_serve : (name : Text) (rows : List Row) (result : Option Order) → name ≡ codes "serve" → FindsOrder IsServeOrder rows result → FindsNamed (Some (name, rows)) result
 named_serve name rows None same none = λ order is. elim is [ inl it ↦ none order it.1 | inr rest0 ↦ elim rest0 [ inl it ↦ (let bad : ◌≡◌ {A = ℕ} 115 97 = ap head (sym same ∙ it.0) in absurd (omega arith)) | inr rest1 ↦ elim rest1 [ inl it ↦ (let bad : ◌≡◌ {A = ℕ} 115 112 = ap head (sym same ∙ it.0) in absurd (omega arith)) | inr rest2 ↦ elim rest2 [ inl it ↦ (let bad : ◌≡◌ {A = ℕ} 115 116 = ap head (sym same ∙ it.0) in absurd (omega arith)) | inr rest3 ↦ (let it = rest3 in (let bad : ◌≡◌ {A = ℕ} 115 99 = ap head (sym same ∙ it.0) in absurd (omega arith))) ] ] ] ]
 named_serve name rows (Some order) same is = inl (same, is)
 
-pub named_answer : (name : Text) (rows : List Row) (result : Option Order) → name ≡ codes "answer" → FindsOrder IsAnswer rows result → FindsNamed (Some (name, rows)) result
+pub named_answer : (name : Text) (rows : List Row) (result : Option Order) → name ≡ codes "answer" → FindsOrder IsAnswerOrder rows result → FindsNamed (Some (name, rows)) result
 named_answer name rows None same none = λ order is. elim is [ inl it ↦ (let bad : ◌≡◌ {A = ℕ} 97 115 = ap head (sym same ∙ it.0) in absurd (omega arith)) | inr rest0 ↦ elim rest0 [ inl it ↦ none order it.1 | inr rest1 ↦ elim rest1 [ inl it ↦ (let bad : ◌≡◌ {A = ℕ} 97 112 = ap head (sym same ∙ it.0) in absurd (omega arith)) | inr rest2 ↦ elim rest2 [ inl it ↦ (let bad : ◌≡◌ {A = ℕ} 97 116 = ap head (sym same ∙ it.0) in absurd (omega arith)) | inr rest3 ↦ (let it = rest3 in (let bad : ◌≡◌ {A = ℕ} 97 99 = ap head (sym same ∙ it.0) in absurd (omega arith))) ] ] ] ]
 named_answer name rows (Some order) same is = inr (inl (same, is))
 
-pub named_print : (name : Text) (rows : List Row) (result : Option Order) → name ≡ codes "print" → FindsOrder IsPrint rows result → FindsNamed (Some (name, rows)) result
+pub named_print : (name : Text) (rows : List Row) (result : Option Order) → name ≡ codes "print" → FindsOrder IsPrintOrder rows result → FindsNamed (Some (name, rows)) result
 named_print name rows None same none = λ order is. elim is [ inl it ↦ (let bad : ◌≡◌ {A = ℕ} 112 115 = ap head (sym same ∙ it.0) in absurd (omega arith)) | inr rest0 ↦ elim rest0 [ inl it ↦ (let bad : ◌≡◌ {A = ℕ} 112 97 = ap head (sym same ∙ it.0) in absurd (omega arith)) | inr rest1 ↦ elim rest1 [ inl it ↦ none order it.1 | inr rest2 ↦ elim rest2 [ inl it ↦ (let bad : ◌≡◌ {A = ℕ} 112 116 = ap head (sym same ∙ it.0) in absurd (omega arith)) | inr rest3 ↦ (let it = rest3 in (let bad : ◌≡◌ {A = ℕ} 112 99 = ap head (sym same ∙ it.0) in absurd (omega arith))) ] ] ] ]
 named_print name rows (Some order) same is = inr (inr (inl (same, is)))
 
-pub named_takings : (name : Text) (rows : List Row) (result : Option Order) → name ≡ codes "takings" → FindsOrder IsTakings rows result → FindsNamed (Some (name, rows)) result
+pub named_takings : (name : Text) (rows : List Row) (result : Option Order) → name ≡ codes "takings" → FindsOrder IsTakingsOrder rows result → FindsNamed (Some (name, rows)) result
 named_takings name rows None same none = λ order is. elim is [ inl it ↦ (let bad : ◌≡◌ {A = ℕ} 116 115 = ap head (sym same ∙ it.0) in absurd (omega arith)) | inr rest0 ↦ elim rest0 [ inl it ↦ (let bad : ◌≡◌ {A = ℕ} 116 97 = ap head (sym same ∙ it.0) in absurd (omega arith)) | inr rest1 ↦ elim rest1 [ inl it ↦ (let bad : ◌≡◌ {A = ℕ} 116 112 = ap head (sym same ∙ it.0) in absurd (omega arith)) | inr rest2 ↦ elim rest2 [ inl it ↦ none order it.1 | inr rest3 ↦ (let it = rest3 in (let bad : ◌≡◌ {A = ℕ} 116 99 = ap head (sym same ∙ it.0) in absurd (omega arith))) ] ] ] ]
 named_takings name rows (Some order) same is = inr (inr (inr (inl (same, is))))
 
-pub named_check : (name : Text) (rows : List Row) (result : Option Order) → name ≡ codes "check" → FindsOrder IsCheck rows result → FindsNamed (Some (name, rows)) result
+pub named_check : (name : Text) (rows : List Row) (result : Option Order) → name ≡ codes "check" → FindsOrder IsCheckOrder rows result → FindsNamed (Some (name, rows)) result
 named_check name rows None same none = λ order is. elim is [ inl it ↦ (let bad : ◌≡◌ {A = ℕ} 99 115 = ap head (sym same ∙ it.0) in absurd (omega arith)) | inr rest0 ↦ elim rest0 [ inl it ↦ (let bad : ◌≡◌ {A = ℕ} 99 97 = ap head (sym same ∙ it.0) in absurd (omega arith)) | inr rest1 ↦ elim rest1 [ inl it ↦ (let bad : ◌≡◌ {A = ℕ} 99 112 = ap head (sym same ∙ it.0) in absurd (omega arith)) | inr rest2 ↦ elim rest2 [ inl it ↦ (let bad : ◌≡◌ {A = ℕ} 99 116 = ap head (sym same ∙ it.0) in absurd (omega arith)) | inr rest3 ↦ (let it = rest3 in none order it.1) ] ] ] ]
 named_check name rows (Some order) same is = inr (inr (inr (inr (same, is))))
 
@@ -132,19 +132,19 @@ named_otherwise name rows a b c d e = λ order is.
 pub ruleset named = (named_serve, named_answer, named_print, named_takings, named_check, named_otherwise)
 
 -- what is told of an error whose kind is among those that the words come to
-pub tells : (words : List Text) (kind : ErrorKind) (told : NoOrder) → TellsKind kind told
-    → (kind ≡ OutOfMemory) ⊎ IsAmong kind (fault_of command_line words) → Tells words told
+pub tells : (words : List Text) (kind : ErrorKind) (told : NoOrder) → GivesKind kind told
+    → (kind ≡ OutOfMemory) ⊎ IsAmong kind (fault_of command_line words) → GivesNoOrder words told
 tells words kind NoMemory is among = tt
 tells words kind (Help text) is (inl full) = let same : DisplayHelp ≡ OutOfMemory = sym is ∙ full in absurd (cc (same))
 tells words kind (Help text) is (inr here) = subst (λ (k : ErrorKind). IsAmong k (fault_of command_line words)) is here
 tells words kind Version is (inl full) = let same : DisplayVersion ≡ OutOfMemory = sym is ∙ full in absurd (cc (same))
 tells words kind Version is (inr here) = subst (λ (k : ErrorKind). IsAmong k (fault_of command_line words)) is here
-tells words kind (Fault text) is (inl full) = absurd (is.2 full)
-tells words kind (Fault text) is (inr here) = inl (kind, here, is.0, is.1)
+tells words kind (Invalid text) is (inl full) = absurd (is.2 full)
+tells words kind (Invalid text) is (inr here) = inl (kind, here, is.0, is.1)
 
 -- what is told where the words name no order
-pub told_none : (words : List Text) (told : NoOrder) → IsNoHelp told → IsNoOrder (subcommand_of command_line words) → Tells words told
+pub told_none : (words : List Text) (told : NoOrder) → IsNoHelp told → IsNoOrder (subcommand_of command_line words) → GivesNoOrder words told
 told_none words NoMemory is none = tt
 told_none words (Help text) is none = absurd is
 told_none words Version is none = absurd is
-told_none words (Fault text) is none = inr none
+told_none words (Invalid text) is none = inr none

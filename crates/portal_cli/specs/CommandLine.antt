@@ -13,8 +13,8 @@ db_option = record (new_rule (codes "db")) {
 }
 
 -- `--db PATH`, which may be left out
-abbrev pub own_db_option : Rule
-own_db_option = record (new_rule (codes "db")) {
+abbrev pub optional_db_option : Rule
+optional_db_option = record (new_rule (codes "db")) {
   long = Some (codes "db");
   value_names = 1;
 }
@@ -28,8 +28,8 @@ settings_option = record (new_rule (codes "settings")) {
 }
 
 -- `--settings PATH`, which may be left out
-abbrev pub own_settings_option : Rule
-own_settings_option = record (new_rule (codes "settings")) {
+abbrev pub optional_settings_option : Rule
+optional_settings_option = record (new_rule (codes "settings")) {
   long = Some (codes "settings");
   value_names = 1;
 }
@@ -70,22 +70,22 @@ seed_option = record (new_rule (codes "seed")) {
 }
 
 -- `BATCH`
-abbrev pub batch_word : Rule
-batch_word = record (new_rule (codes "batch")) {
+abbrev pub batch_argument : Rule
+batch_argument = record (new_rule (codes "batch")) {
   value_names = 1;
   required = true;
 }
 
 -- `FROM`
-abbrev pub from_word : Rule
-from_word = record (new_rule (codes "from")) {
+abbrev pub from_argument : Rule
+from_argument = record (new_rule (codes "from")) {
   value_names = 1;
   required = true;
 }
 
 -- `TO`
-abbrev pub to_word : Rule
-to_word = record (new_rule (codes "to")) {
+abbrev pub to_argument : Rule
+to_argument = record (new_rule (codes "to")) {
   value_names = 1;
   required = true;
 }
@@ -95,8 +95,8 @@ abbrev pub with_files : App → App
 with_files app = with_rule (with_rule app db_option) settings_option
 
 -- the same, where each may be left out
-abbrev pub with_own_files : App → App
-with_own_files app = with_rule (with_rule app own_db_option) own_settings_option
+abbrev pub with_optional_files : App → App
+with_optional_files app = with_rule (with_rule app optional_db_option) optional_settings_option
 
 -- `serve --db PATH --settings PATH --port N --count N`
 abbrev pub serve_subcommand : App
@@ -104,15 +104,15 @@ serve_subcommand = with_rule (with_rule (with_files (new_app (codes "serve"))) p
 
 -- `answer --db PATH --settings PATH --now N --seed HEX`
 abbrev pub answer_subcommand : App
-answer_subcommand = with_rule (with_rule (with_own_files (new_app (codes "answer"))) now_option) seed_option
+answer_subcommand = with_rule (with_rule (with_optional_files (new_app (codes "answer"))) now_option) seed_option
 
 -- `print BATCH --db PATH --settings PATH`
 abbrev pub print_subcommand : App
-print_subcommand = with_rule (with_files (new_app (codes "print"))) batch_word
+print_subcommand = with_rule (with_files (new_app (codes "print"))) batch_argument
 
 -- `takings FROM TO --db PATH --settings PATH`
 abbrev pub takings_subcommand : App
-takings_subcommand = with_rule (with_rule (with_files (new_app (codes "takings"))) from_word) to_word
+takings_subcommand = with_rule (with_rule (with_files (new_app (codes "takings"))) from_argument) to_argument
 
 -- `check --db PATH --settings PATH`
 abbrev pub check_subcommand : App
@@ -123,13 +123,13 @@ abbrev pub bare_command_line : App
 bare_command_line = on_top (λ s. record s { subcommand_required = true; has_version = true }) (new_app (codes "portal"))
 
 -- with the subcommands that answer requests
-abbrev pub answering_line : App
-answering_line = with_subcommand (with_subcommand bare_command_line serve_subcommand.top) answer_subcommand.top
+abbrev pub with_serving_subcommands : App
+with_serving_subcommands = with_subcommand (with_subcommand bare_command_line serve_subcommand.top) answer_subcommand.top
 
 -- and with those that print
-abbrev pub printing_line : App
-printing_line = with_subcommand (with_subcommand answering_line print_subcommand.top) takings_subcommand.top
+abbrev pub with_printing_subcommands : App
+with_printing_subcommands = with_subcommand (with_subcommand with_serving_subcommands print_subcommand.top) takings_subcommand.top
 
 -- the whole command line
 abbrev pub command_line : App
-command_line = with_subcommand printing_line check_subcommand.top
+command_line = with_subcommand with_printing_subcommands check_subcommand.top

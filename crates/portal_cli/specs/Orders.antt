@@ -8,7 +8,7 @@ use Rattle.clap.specs.declared.error.kind.ErrorKind.TheVariants.{DisplayHelp, Di
 use Rattle.portal_cli.specs.declared.order.Order.{Order}
 use Rattle.portal_cli.specs.declared.order.Order.TheVariants.{Serve, Answer, Print, Takings, Check}
 use Rattle.portal_cli.specs.declared.order.NoOrder.{NoOrder}
-use Rattle.portal_cli.specs.declared.order.NoOrder.TheVariants.{Help, Version, Fault, NoMemory}
+use Rattle.portal_cli.specs.declared.order.NoOrder.TheVariants.{Help, Version, Invalid, NoMemory}
 use Rattle.portal_cli.specs.CommandLine.{command_line}
 
 -- the text writes the number in decimal digits, with or without a plus before them
@@ -35,28 +35,28 @@ GivesFiles rows db settings = GivesText (codes "db") rows db × GivesText (codes
 
 -- ---- the order of each subcommand, by what was found for its options
 
-abbrev pub IsServe : List Row → Order → Type 0
-IsServe rows (Serve db settings port count) =
+abbrev pub IsServeOrder : List Row → Order → Type 0
+IsServeOrder rows (Serve db settings port count) =
     GivesFiles rows db settings × GivesNumber (codes "port") rows port × GivesNumber (codes "count") rows count
-IsServe rows _ = ⊥
+IsServeOrder rows _ = ⊥
 
-abbrev pub IsAnswer : List Row → Order → Type 0
-IsAnswer rows (Answer db settings now seed) =
+abbrev pub IsAnswerOrder : List Row → Order → Type 0
+IsAnswerOrder rows (Answer db settings now seed) =
     MayGive (codes "db") rows db × MayGive (codes "settings") rows settings × GivesNumber (codes "now") rows now × GivesText (codes "seed") rows seed
-IsAnswer rows _ = ⊥
+IsAnswerOrder rows _ = ⊥
 
-abbrev pub IsPrint : List Row → Order → Type 0
-IsPrint rows (Print db settings batch) = GivesFiles rows db settings × GivesText (codes "batch") rows batch
-IsPrint rows _ = ⊥
+abbrev pub IsPrintOrder : List Row → Order → Type 0
+IsPrintOrder rows (Print db settings batch) = GivesFiles rows db settings × GivesText (codes "batch") rows batch
+IsPrintOrder rows _ = ⊥
 
-abbrev pub IsTakings : List Row → Order → Type 0
-IsTakings rows (Takings db settings from to) =
+abbrev pub IsTakingsOrder : List Row → Order → Type 0
+IsTakingsOrder rows (Takings db settings from to) =
     GivesFiles rows db settings × GivesText (codes "from") rows from × GivesText (codes "to") rows to
-IsTakings rows _ = ⊥
+IsTakingsOrder rows _ = ⊥
 
-abbrev pub IsCheck : List Row → Order → Type 0
-IsCheck rows (Check db settings) = GivesFiles rows db settings
-IsCheck rows _ = ⊥
+abbrev pub IsCheckOrder : List Row → Order → Type 0
+IsCheckOrder rows (Check db settings) = GivesFiles rows db settings
+IsCheckOrder rows _ = ⊥
 
 -- no order is such a one
 abbrev pub IsNone : (List Row → Order → Type 0) → List Row → Type 0
@@ -70,11 +70,11 @@ FindsOrder Is rows result = MatchOption result (IsNone Is rows) (Is rows)
 abbrev pub IsOrder : Option (Text × List Row) → Order → Type 0
 IsOrder None order = ⊥
 IsOrder (Some found) order =
-    ((found.0 ≡ codes "serve") × IsServe found.1 order)
-    ⊎ (((found.0 ≡ codes "answer") × IsAnswer found.1 order)
-    ⊎ (((found.0 ≡ codes "print") × IsPrint found.1 order)
-    ⊎ (((found.0 ≡ codes "takings") × IsTakings found.1 order)
-    ⊎ ((found.0 ≡ codes "check") × IsCheck found.1 order))))
+    ((found.0 ≡ codes "serve") × IsServeOrder found.1 order)
+    ⊎ (((found.0 ≡ codes "answer") × IsAnswerOrder found.1 order)
+    ⊎ (((found.0 ≡ codes "print") × IsPrintOrder found.1 order)
+    ⊎ (((found.0 ≡ codes "takings") × IsTakingsOrder found.1 order)
+    ⊎ ((found.0 ≡ codes "check") × IsCheckOrder found.1 order))))
 
 -- the words name no order
 abbrev pub IsNoOrder : Option (Text × List Row) → Type 0
@@ -85,29 +85,29 @@ abbrev pub FindsNamed : Option (Text × List Row) → Option Order → Type 0
 FindsNamed found result = MatchOption result (IsNoOrder found) (IsOrder found)
 
 -- the words are right, and name that order
-abbrev pub Orders : List Text → Order → Type 0
-Orders words order = (fault_of command_line words ≡ []) × IsOrder (subcommand_of command_line words) order
+abbrev pub GivesOrder : List Text → Order → Type 0
+GivesOrder words order = (fault_of command_line words ≡ []) × IsOrder (subcommand_of command_line words) order
 
 -- Help, or the version, where that is the first thing that the words ask for; a fault where another thing is
 -- or they name no order. Out of memory may come at any words.
-abbrev pub Tells : List Text → NoOrder → Type 0
-Tells words NoMemory = ⊤
-Tells words (Help text) = IsAmong DisplayHelp (fault_of command_line words)
-Tells words Version = IsAmong DisplayVersion (fault_of command_line words)
-Tells words (Fault text) =
+abbrev pub GivesNoOrder : List Text → NoOrder → Type 0
+GivesNoOrder words NoMemory = ⊤
+GivesNoOrder words (Help text) = IsAmong DisplayHelp (fault_of command_line words)
+GivesNoOrder words Version = IsAmong DisplayVersion (fault_of command_line words)
+GivesNoOrder words (Invalid text) =
     ((kind : ErrorKind) × IsAmong kind (fault_of command_line words) × (kind ≢ DisplayHelp) × (kind ≢ DisplayVersion))
     ⊎ IsNoOrder (subcommand_of command_line words)
 
 -- what is told of an error of that kind
-abbrev pub TellsKind : ErrorKind → NoOrder → Type 0
-TellsKind kind NoMemory = ⊤
-TellsKind kind (Help text) = kind ≡ DisplayHelp
-TellsKind kind Version = kind ≡ DisplayVersion
-TellsKind kind (Fault text) = (kind ≢ DisplayHelp) × (kind ≢ DisplayVersion) × (kind ≢ OutOfMemory)
+abbrev pub GivesKind : ErrorKind → NoOrder → Type 0
+GivesKind kind NoMemory = ⊤
+GivesKind kind (Help text) = kind ≡ DisplayHelp
+GivesKind kind Version = kind ≡ DisplayVersion
+GivesKind kind (Invalid text) = (kind ≢ DisplayHelp) × (kind ≢ DisplayVersion) × (kind ≢ OutOfMemory)
 
 -- a fault, or out of memory
 abbrev pub IsNoHelp : NoOrder → Type 0
 IsNoHelp NoMemory = ⊤
 IsNoHelp (Help text) = ⊥
 IsNoHelp Version = ⊥
-IsNoHelp (Fault text) = ⊤
+IsNoHelp (Invalid text) = ⊤

@@ -2,11 +2,11 @@
 ghost use Rattle.std.specs.Prelude.{◌≡◌, false, IfOk};
 ghost use Rattle.clap.specs.Words.{app_of, rule_of, with_rule};
 ghost use Rattle.clap.specs.declared.builder.command.Command.TheViews.{out-Command as fields_of};
-ghost use Rattle.portal_cli.specs.CommandLine.{serve_subcommand, answer_subcommand, print_subcommand, takings_subcommand, check_subcommand, with_files, with_own_files, bare_command_line, answering_line, printing_line, command_line};
+ghost use Rattle.portal_cli.specs.CommandLine.{serve_subcommand, answer_subcommand, print_subcommand, takings_subcommand, check_subcommand, with_files, with_optional_files, bare_command_line, with_serving_subcommands, with_printing_subcommands, command_line};
 
 use crate::options::{
-    batch_word, count_option, db_option, from_word, now_option, own_db_option, own_settings_option,
-    port_option, seed_option, settings_option, to_word,
+    batch_argument, count_option, db_option, from_argument, now_option, optional_db_option,
+    optional_settings_option, port_option, seed_option, settings_option, to_argument,
 };
 use crate::texts::{
     answer_examples, check_examples, examples, print_examples, serve_examples, takings_examples,
@@ -16,7 +16,7 @@ use clap::{Arg, Command};
 use std::alloc::{AllocError, Global};
 
 /// A subcommand with two more options, which are its own.
-fn with_both<'a>(
+fn with_two_options<'a>(
     command: Command<'a>,
     first: Arg<'a>,
     second: Arg<'a>,
@@ -37,16 +37,20 @@ fn with_files<'a>(alloc: Global, command: Command<'a>) -> Result<Command<'a>, Al
     ensures subcommand { IfOk result (λ c. app_of c ≡ with_files (app_of command.entry)) }
     ensures here { IfOk result (λ c. (fields_of c).has_globals ≡ false) }
 {
-    with_both(command, db_option(alloc), settings_option(alloc))
+    with_two_options(command, db_option(alloc), settings_option(alloc))
 }
 
 /// A subcommand with `--db PATH` and `--settings PATH`, which may be left out.
-fn with_own_files<'a>(alloc: Global, command: Command<'a>) -> Result<Command<'a>, AllocError>
+fn with_optional_files<'a>(alloc: Global, command: Command<'a>) -> Result<Command<'a>, AllocError>
     requires { (fields_of command).has_globals ≡ false }
-    ensures subcommand { IfOk result (λ c. app_of c ≡ with_own_files (app_of command.entry)) }
+    ensures subcommand { IfOk result (λ c. app_of c ≡ with_optional_files (app_of command.entry)) }
     ensures here { IfOk result (λ c. (fields_of c).has_globals ≡ false) }
 {
-    with_both(command, own_db_option(alloc), own_settings_option(alloc))
+    with_two_options(
+        command,
+        optional_db_option(alloc),
+        optional_settings_option(alloc),
+    )
 }
 
 /// `serve --db PATH --settings PATH --port N --count N`.
@@ -58,7 +62,7 @@ fn serve_subcommand<'a>(alloc: Global) -> Result<Command<'a>, AllocError>
         .about("Serves connections on 127.0.0.1, one after another")
         .after_help(serve_examples());
     let command = with_files(alloc, command)?;
-    with_both(command, port_option(alloc), count_option(alloc))
+    with_two_options(command, port_option(alloc), count_option(alloc))
 }
 
 /// `answer --db PATH --settings PATH --now N --seed HEX`.
@@ -69,8 +73,8 @@ fn answer_subcommand<'a>(alloc: Global) -> Result<Command<'a>, AllocError>
     let command = Command::new(alloc, "answer")
         .about("Answers the request on standard input with a response on standard output")
         .after_help(answer_examples());
-    let command = with_own_files(alloc, command)?;
-    with_both(command, now_option(alloc), seed_option(alloc))
+    let command = with_optional_files(alloc, command)?;
+    with_two_options(command, now_option(alloc), seed_option(alloc))
 }
 
 /// `print BATCH --db PATH --settings PATH`.
@@ -81,7 +85,7 @@ fn print_subcommand<'a>(alloc: Global) -> Result<Command<'a>, AllocError>
     let command = Command::new(alloc, "print")
         .about("Prints the print file of a batch, as CSV")
         .after_help(print_examples());
-    with_files(alloc, command)?.arg(batch_word(alloc))
+    with_files(alloc, command)?.arg(batch_argument(alloc))
 }
 
 /// `takings FROM TO --db PATH --settings PATH`.
@@ -93,7 +97,7 @@ fn takings_subcommand<'a>(alloc: Global) -> Result<Command<'a>, AllocError>
         .about("Prints the takings of the days from FROM to TO")
         .after_help(takings_examples());
     let command = with_files(alloc, command)?;
-    with_both(command, from_word(alloc), to_word(alloc))
+    with_two_options(command, from_argument(alloc), to_argument(alloc))
 }
 
 /// `check --db PATH --settings PATH`.
@@ -119,8 +123,8 @@ fn bare_command_line<'a>(alloc: Global) -> Command<'a>
 }
 
 /// The program with the subcommands that answer requests.
-fn answering_line<'a>(alloc: Global) -> Result<Command<'a>, AllocError>
-    ensures { IfOk result (λ c. app_of c ≡ answering_line) }
+fn with_serving_subcommands<'a>(alloc: Global) -> Result<Command<'a>, AllocError>
+    ensures { IfOk result (λ c. app_of c ≡ with_serving_subcommands) }
 {
     bare_command_line(alloc)
         .subcommand(serve_subcommand(alloc)?)?
@@ -128,10 +132,10 @@ fn answering_line<'a>(alloc: Global) -> Result<Command<'a>, AllocError>
 }
 
 /// And with those that print.
-fn printing_line<'a>(alloc: Global) -> Result<Command<'a>, AllocError>
-    ensures { IfOk result (λ c. app_of c ≡ printing_line) }
+fn with_printing_subcommands<'a>(alloc: Global) -> Result<Command<'a>, AllocError>
+    ensures { IfOk result (λ c. app_of c ≡ with_printing_subcommands) }
 {
-    answering_line(alloc)?
+    with_serving_subcommands(alloc)?
         .subcommand(print_subcommand(alloc)?)?
         .subcommand(takings_subcommand(alloc)?)
 }
@@ -140,5 +144,5 @@ fn printing_line<'a>(alloc: Global) -> Result<Command<'a>, AllocError>
 pub fn command_line<'a>(alloc: Global) -> Result<Command<'a>, AllocError>
     ensures { IfOk result (λ c. app_of c ≡ command_line) }
 {
-    printing_line(alloc)?.subcommand(check_subcommand(alloc)?)
+    with_printing_subcommands(alloc)?.subcommand(check_subcommand(alloc)?)
 }

@@ -2,13 +2,13 @@
 #![tactic(auto)]
 
 mod command;
-mod found;
 mod line;
+mod matches;
 mod options;
 mod order;
 mod texts;
 mod version;
 
-pub use crate::line::read_words;
+pub use crate::line::parse_command_line;
 pub use crate::order::{NoOrder, Order};
 pub use crate::version::version_line;

@@ -1,10 +1,10 @@
 //! From words to an order.
 ghost use Rattle.std.specs.Prelude.{◌≡◌, Some, IfOk, IfErr, map};
 ghost use Rattle.clap.specs.Words.{found_of, kind_of, rows_of, subcommand_rows_of};
-ghost use Rattle.portal_cli.specs.Orders.{FindsNamed, Orders, Tells, TellsKind, IsNoHelp};
+ghost use Rattle.portal_cli.specs.Orders.{FindsNamed, GivesOrder, GivesNoOrder, GivesKind, IsNoHelp};
 
 use crate::command::command_line;
-use crate::found::{answer_of, check_of, print_of, serve_of, takings_of};
+use crate::matches::{answer_order, check_order, print_order, serve_order, takings_order};
 use crate::order::{NoOrder, Order};
 use clap::error::ErrorKind;
 use clap::{ArgMatches, Error};
@@ -13,19 +13,19 @@ use std::convert::AsStr;
 
 /// The order of a subcommand, by its name.
 #[tactic(auto, using(crate::proofs::OrderLemmas::named))]
-fn order_named<'a>(name: &str, found: &ArgMatches<'a>) -> Option<Order<'a>>
+fn order_by_name<'a>(name: &str, found: &ArgMatches<'a>) -> Option<Order<'a>>
     ensures { FindsNamed (Some (name.now, rows_of (found_of found.now))) result }
 {
     if name == "serve" {
-        serve_of(found)
+        serve_order(found)
     } else if name == "answer" {
-        answer_of(found)
+        answer_order(found)
     } else if name == "print" {
-        print_of(found)
+        print_order(found)
     } else if name == "takings" {
-        takings_of(found)
+        takings_order(found)
     } else if name == "check" {
-        check_of(found)
+        check_order(found)
     } else {
         None
     }
@@ -37,12 +37,12 @@ fn order_of<'a>(matches: &ArgMatches<'a>) -> Option<Order<'a>>
     ensures { FindsNamed (subcommand_rows_of matches.now) result }
 {
     let (name, found) = matches.subcommand()?;
-    order_named(name, found)
+    order_by_name(name, found)
 }
 
 /// Converts an error of clap into help, the version, a message or out of memory.
-fn told(alloc: Global, error: &Error) -> NoOrder
-    ensures { TellsKind (kind_of error.now) result }
+fn no_order_of(alloc: Global, error: &Error) -> NoOrder
+    ensures { GivesKind (kind_of error.now) result }
 {
     let Ok(text) = format!(in alloc; "{error}") else {
         return NoOrder::NoMemory;
@@ -51,16 +51,16 @@ fn told(alloc: Global, error: &Error) -> NoOrder
         ErrorKind::OutOfMemory => NoOrder::NoMemory,
         ErrorKind::DisplayHelp => NoOrder::Help(text),
         ErrorKind::DisplayVersion => NoOrder::Version,
-        _ => NoOrder::Fault(text),
+        _ => NoOrder::Invalid(text),
     }
 }
 
 /// The message where the words are right and name no subcommand.
-fn told_nothing(alloc: Global) -> NoOrder
+fn missing_subcommand(alloc: Global) -> NoOrder
     ensures { IsNoHelp result }
 {
     match String::from_str(alloc, "error: no subcommand given\n") {
-        Ok(text) => NoOrder::Fault(text),
+        Ok(text) => NoOrder::Invalid(text),
         Err(_) => NoOrder::NoMemory,
     }
 }
@@ -69,18 +69,18 @@ fn told_nothing(alloc: Global) -> NoOrder
 ///
 /// An `Err` is what the program says instead: help or the version where the words ask for it, what is
 /// wrong with them, or out of memory.
-pub fn read_words<'a, S: AsStr>(alloc: Global, words: &'a [S]) -> Result<Order<'a>, NoOrder>
-    ensures order { IfOk result (Orders (map S.text words.entry.now)) }
-    ensures told { IfErr result (Tells (map S.text words.entry.now)) }
+pub fn parse_command_line<'a, S: AsStr>(alloc: Global, words: &'a [S]) -> Result<Order<'a>, NoOrder>
+    ensures order { IfOk result (GivesOrder (map S.text words.entry.now)) }
+    ensures no_order { IfErr result (GivesNoOrder (map S.text words.entry.now)) }
 {
     let Ok(command) = command_line(alloc) else {
         return Err(NoOrder::NoMemory);
     };
     match command.try_get_matches_from(words) {
-        Err(error) => Err(told(alloc, &error)),
+        Err(error) => Err(no_order_of(alloc, &error)),
         Ok(matches) => match order_of(&matches) {
             Some(order) => Ok(order),
-            None => Err(told_nothing(alloc)),
+            None => Err(missing_subcommand(alloc)),
         },
     }
 }

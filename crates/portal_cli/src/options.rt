@@ -1,7 +1,7 @@
 //! The options of the subcommands.
 ghost use Rattle.std.specs.Prelude.{◌≡◌, false};
 ghost use Rattle.clap.specs.Words.{rule_of};
-ghost use Rattle.portal_cli.specs.CommandLine.{db_option, own_db_option, settings_option, own_settings_option, port_option, count_option, now_option, seed_option, batch_word, from_word, to_word};
+ghost use Rattle.portal_cli.specs.CommandLine.{db_option, optional_db_option, settings_option, optional_settings_option, port_option, count_option, now_option, seed_option, batch_argument, from_argument, to_argument};
 
 use clap::Arg;
 use clap::builder::ValueParser;
@@ -20,8 +20,8 @@ pub(crate) fn db_option<'a>(alloc: Global) -> Arg<'a>
 }
 
 /// `--db PATH`, which may be left out.
-pub(crate) fn own_db_option<'a>(alloc: Global) -> Arg<'a>
-    ensures option { rule_of result ≡ own_db_option }
+pub(crate) fn optional_db_option<'a>(alloc: Global) -> Arg<'a>
+    ensures option { rule_of result ≡ optional_db_option }
     ensures here { result.global ≡ false }
 {
     Arg::new(alloc, "db").long("db").value_name("PATH").help(
@@ -42,8 +42,8 @@ pub(crate) fn settings_option<'a>(alloc: Global) -> Arg<'a>
 }
 
 /// `--settings PATH`, which may be left out.
-pub(crate) fn own_settings_option<'a>(alloc: Global) -> Arg<'a>
-    ensures option { rule_of result ≡ own_settings_option }
+pub(crate) fn optional_settings_option<'a>(alloc: Global) -> Arg<'a>
+    ensures option { rule_of result ≡ optional_settings_option }
     ensures here { result.global ≡ false }
 {
     Arg::new(alloc, "settings")
@@ -104,8 +104,8 @@ pub(crate) fn seed_option<'a>(alloc: Global) -> Arg<'a>
 }
 
 /// `BATCH`.
-pub(crate) fn batch_word<'a>(alloc: Global) -> Arg<'a>
-    ensures option { rule_of result ≡ batch_word }
+pub(crate) fn batch_argument<'a>(alloc: Global) -> Arg<'a>
+    ensures option { rule_of result ≡ batch_argument }
     ensures here { result.global ≡ false }
 {
     Arg::new(alloc, "batch")
@@ -115,8 +115,8 @@ pub(crate) fn batch_word<'a>(alloc: Global) -> Arg<'a>
 }
 
 /// `FROM`.
-pub(crate) fn from_word<'a>(alloc: Global) -> Arg<'a>
-    ensures option { rule_of result ≡ from_word }
+pub(crate) fn from_argument<'a>(alloc: Global) -> Arg<'a>
+    ensures option { rule_of result ≡ from_argument }
     ensures here { result.global ≡ false }
 {
     Arg::new(alloc, "from")
@@ -126,8 +126,8 @@ pub(crate) fn from_word<'a>(alloc: Global) -> Arg<'a>
 }
 
 /// `TO`.
-pub(crate) fn to_word<'a>(alloc: Global) -> Arg<'a>
-    ensures option { rule_of result ≡ to_word }
+pub(crate) fn to_argument<'a>(alloc: Global) -> Arg<'a>
+    ensures option { rule_of result ≡ to_argument }
     ensures here { result.global ≡ false }
 {
     Arg::new(alloc, "to")

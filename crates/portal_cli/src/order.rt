@@ -47,7 +47,7 @@ pub enum NoOrder {
     /// The version (`version_line`), for standard output: the words ask for it.
     Version,
     /// What is wrong with the words, for standard error.
-    Fault(String),
+    Invalid(String),
     /// Out of memory.
     NoMemory,
 }

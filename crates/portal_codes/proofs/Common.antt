@@ -9,4 +9,4 @@ pub use Rattle.std.specs.Char.{to_ascii_uppercase}
 pub use Rattle.std.specs.List.{list_all, position_or_len, range_with_len}
 pub use Rattle.std.specs.Prelude.{All, IsTrue, filter, nat_eq, nat_lt, not, position, replicate, ◌||◌}
 pub use Rattle.std.specs.Str.{IsAscii}
-pub use Rattle.portal_codes.specs.Code.{ExchangeIsDetected, IsCode, IsCodeUnder, IsHyphened, IsPadded, OneChangeIsDetected, PrintedTextSpells, SpellingIsUnique, Spells, alphabet, check_of, code_of_words, grouped, hyphened, is_separator, long_weights, padded, short_weights, sign_of, signs_in, text_of, weighted, weights_of}
+pub use Rattle.portal_codes.specs.Code.{ExchangeIsDetected, IsCode, IsCodeUnder, IsTextWithHyphens, IsPadded, OneChangeIsDetected, PrintedTextSpells, SpellingIsUnique, Spells, alphabet, check_of, code_of_words, in_groups, with_hyphens, is_separator, long_weights, with_zeros, short_weights, character_of, characters_in, text_of, weighted_values, weights_of}

@@ -18,35 +18,37 @@
 ghost use Rattle.std.specs.Prelude.{bytes_eq, ◌≡◌, ◌+◌, ◌<◌, ◌≤◌, ℕ, List, All, IfOk, IfErr, IfSome, length, map, nat_eq, position, take, ◌⊎◌, ◌↔◌, IsTrue};
 ghost use Rattle.std.specs.Char.{to_ascii_uppercase};
 ghost use Rattle.std.specs.Str.{IsAscii};
-ghost use Rattle.portal_codes.specs.Code.{alphabet, code_of_words, sign_of, signs_in, text_of, weighted, weights_of, padded, Spells, SpellingIsUnique, PrintedTextSpells, OneChangeIsDetected, ExchangeIsDetected};
+ghost use Rattle.portal_codes.specs.Code.{alphabet, code_of_words, character_of, characters_in, text_of, weighted_values, weights_of, with_zeros, Spells, SpellingIsUnique, PrintedTextSpells, OneChangeIsDetected, ExchangeIsDetected};
 
 use std::marker::Model;
 
 mod keys;
 
 /// How many signs a short code has. The last is the check sign.
-pub const SIGNS: usize = 12;
+pub const CHARACTERS: usize = 12;
 
 /// How many signs a long code has.
-pub const LONG_SIGNS: usize = 16;
+pub const LONG_CHARACTERS: usize = 16;
 
 /// How many words make a short code: one for each sign of its body.
-pub const WORDS: usize = SIGNS - 1;
+pub const WORDS: usize = CHARACTERS - 1;
 
 /// How many words make a long code.
-pub const LONG_WORDS: usize = LONG_SIGNS - 1;
+pub const LONG_WORDS: usize = LONG_CHARACTERS - 1;
 
 /// How many bytes the printed text of a long code has: its signs, and a hyphen between two groups of four.
-pub const LONG_TEXT: usize = LONG_SIGNS + (LONG_SIGNS - 1) / 4;
+pub const LONG_TEXT: usize = LONG_CHARACTERS + (LONG_CHARACTERS - 1) / 4;
 
 /// The signs, in the order of their values.
 const ALPHABET: [u8; 31] = *b"23456789ABCDEFGHJKMNPQRSTUVWXYZ";
 
 /// The weight of each sign of a short code.
-const WEIGHTS: [u32; SIGNS] = [2, 3, 4, 5, 6, 7, 8, 9, 10, 11, 12, 1];
+const WEIGHTS: [u32; CHARACTERS] = [2, 3, 4, 5, 6, 7, 8, 9, 10, 11, 12, 1];
 
 /// The weight of each sign of a long code.
-const LONG_WEIGHTS: [u32; LONG_SIGNS] = [2, 3, 4, 5, 6, 7, 8, 9, 10, 11, 12, 13, 14, 15, 16, 1];
+const LONG_WEIGHTS: [u32; LONG_CHARACTERS] = [
+    2, 3, 4, 5, 6, 7, 8, 9, 10, 11, 12, 13, 14, 15, 16, 1,
+];
 
 /// The refusal of a text that spells no code.
 #[derive(Clone, Copy, Debug, PartialEq, Eq)]
@@ -58,13 +60,13 @@ pub struct BadCode;
 /// code begins with all values of a short one, the short one comes first.
 #[derive(Clone, Copy, Debug)]
 pub struct Code {
-    values: [u8; LONG_SIGNS],
+    values: [u8; LONG_CHARACTERS],
     len: usize,
 }
 
 impl Model for Code {
     ghost use Rattle.std.specs.Prelude.{List, ℕ, take, length};
-    ghost use Rattle.portal_codes.specs.Code.{IsPadded, padded};
+    ghost use Rattle.portal_codes.specs.Code.{IsPadded, with_zeros};
 
     ghost Value = { List ℕ };
 
@@ -72,7 +74,7 @@ impl Model for Code {
 
     ghost invariant = { λ c. IsPadded c.len c.values };
 
-    ghost inverse = { λ v. record { values = padded v; len = length v } };
+    ghost inverse = { λ v. record { values = with_zeros v; len = length v } };
 
     ghost inverse_ok = { λ a h. Prim.rw (h.zeros, h.shown) };
 }
@@ -86,15 +88,15 @@ pub struct CodeText {
 
 impl Model for CodeText {
     ghost use Rattle.std.specs.Prelude.{List, ℕ, take, length};
-    ghost use Rattle.portal_codes.specs.Code.{IsHyphened, hyphened};
+    ghost use Rattle.portal_codes.specs.Code.{IsTextWithHyphens, with_hyphens};
 
     ghost Value = { List ℕ };
 
     ghost view = { λ t. take t.len t.bytes };
 
-    ghost invariant = { λ t. IsHyphened t.len t.bytes };
+    ghost invariant = { λ t. IsTextWithHyphens t.len t.bytes };
 
-    ghost inverse = { λ v. record { bytes = hyphened v; len = length v } };
+    ghost inverse = { λ v. record { bytes = with_hyphens v; len = length v } };
 
     ghost inverse_ok = { λ a h. Prim.rw (h.hyphens, h.shown) };
 }
@@ -122,7 +124,7 @@ impl Code {
         ensures found { (code : List ℕ) → Spells text.now code → result ≡ Ok code }
         ensures err { IfErr result (λ _. (code : List ℕ) → ¬ Spells text.now code) }
     {
-        let (values, len) = read_values(text.as_bytes())?;
+        let (values, len) = read_characters(text.as_bytes())?;
         let remainder = weighted_sum(weights_of(len), &values[..len]) % 31;
         if remainder != 0 {
             return Err(BadCode);
@@ -138,7 +140,7 @@ impl Code {
         ensures value { result ≡ code_of_words words.now }
         ensures code { IsCode result }
     {
-        code_of(words)
+        code_from_slice(words)
     }
 
     /// Makes the long code of fifteen words, in the same way.
@@ -146,7 +148,7 @@ impl Code {
         ensures value { result ≡ code_of_words words.now }
         ensures code { IsCode result }
     {
-        code_of(words)
+        code_from_slice(words)
     }
 
     /// How many signs the code has: twelve, or sixteen.
@@ -174,7 +176,7 @@ impl Code {
     {
         let mut bytes = [b'-'; LONG_TEXT];
         for (i, value) in self.values[..self.len].iter().enumerate() {
-            bytes[i + i / 4] = sign_of(*value);
+            bytes[i + i / 4] = character_of(*value);
         }
         CodeText {
             bytes,
@@ -186,12 +188,12 @@ impl Code {
 ghost use Rattle.portal_codes.specs.Code.{IsCode};
 
 /// The code of eleven or fifteen words.
-fn code_of(words: &[u32]) -> Code
+fn code_from_slice(words: &[u32]) -> Code
     requires { (length words.now ≡ WORDS) ⊎ (length words.now ≡ LONG_WORDS) }
     ensures value { result ≡ code_of_words words.now }
     ensures code { IsCode result }
 {
-    let mut values = [0; LONG_SIGNS];
+    let mut values = [0; LONG_CHARACTERS];
     for (i, word) in words.iter().enumerate() {
         values[i] = (*word % 31) as u8;
     }
@@ -208,7 +210,7 @@ fn code_of(words: &[u32]) -> Code
 fn weights_of(signs: usize) -> &'static [u32]
     ensures { result.now ≡ weights_of signs }
 {
-    if signs == LONG_SIGNS {
+    if signs == LONG_CHARACTERS {
         &LONG_WEIGHTS
     } else {
         &WEIGHTS
@@ -216,18 +218,18 @@ fn weights_of(signs: usize) -> &'static [u32]
 }
 
 /// The value of a sign, a letter in either case, or None for a byte outside the alphabet.
-fn value_of(sign: u8) -> Option<usize>
-    ensures value { result ≡ position (λ listed. nat_eq listed (to_ascii_uppercase sign)) alphabet }
+fn value_of(character: u8) -> Option<usize>
+    ensures value { result ≡ position (λ listed. nat_eq listed (to_ascii_uppercase character)) alphabet }
     ensures below { IfSome result (λ value. value < 31) }
 {
-    let raised = sign.to_ascii_uppercase();
+    let raised = character.to_ascii_uppercase();
     ALPHABET.iter().position(|listed| *listed == raised)
 }
 
 /// The sign of a value.
-fn sign_of(value: u8) -> u8
+fn character_of(value: u8) -> u8
     requires { value < 31 }
-    ensures { result ≡ sign_of value }
+    ensures { result ≡ character_of value }
 {
     ALPHABET[usize::from(value)]
 }
@@ -237,7 +239,7 @@ fn weighted_sum(weights: &[u32], values: &[u8]) -> u32
     requires weights { All (λ weight. weight ≤ 16) weights.now }
     requires few { length values.now ≤ length weights.now }
     requires sixteen { length values.now ≤ 16 }
-    ensures { result ≡ weighted weights.now values.now }
+    ensures { result ≡ weighted_values weights.now values.now }
 {
     let mut sum = 0;
     for (i, value) in values.iter().enumerate() {
@@ -248,20 +250,20 @@ fn weighted_sum(weights: &[u32], values: &[u8]) -> u32
 
 /// The values of the signs in a text, and their number, where there are as many as a code has. Zeros
 /// follow them.
-fn read_values(text: &[u8]) -> Result<([u8; LONG_SIGNS], usize), BadCode>
+fn read_characters(text: &[u8]) -> Result<([u8; LONG_CHARACTERS], usize), BadCode>
     ensures length { IfOk result (λ read. (read.1 ≡ 12) ⊎ (read.1 ≡ 16)) }
-    ensures ok { IfOk result (λ read. signs_in text.now ≡ map sign_of (take read.1 read.0)) }
+    ensures ok { IfOk result (λ read. characters_in text.now ≡ map character_of (take read.1 read.0)) }
     ensures below { IfOk result (λ read. All (λ value. value < 31) read.0) }
-    ensures zeros { IfOk result (λ read. padded (take read.1 read.0) ≡ read.0) }
+    ensures zeros { IfOk result (λ read. with_zeros (take read.1 read.0) ≡ read.0) }
     ensures err { IfErr result (λ _. (code : List ℕ) → ¬ Spells text.now code) }
 {
-    let mut values = [0; LONG_SIGNS];
+    let mut values = [0; LONG_CHARACTERS];
     let mut count = 0;
     for byte in text {
         if *byte == b' ' || *byte == b'-' {
             continue;
         }
-        if count == LONG_SIGNS {
+        if count == LONG_CHARACTERS {
             return Err(BadCode);
         }
         let Some(value) = value_of(*byte) else {
@@ -270,17 +272,17 @@ fn read_values(text: &[u8]) -> Result<([u8; LONG_SIGNS], usize), BadCode>
         values[count] = value as u8;
         count += 1;
     }
-    if !is_length(count) {
+    if !is_code_length(count) {
         return Err(BadCode);
     }
     Ok((values, count))
 }
 
 /// Whether a code has so many signs.
-fn is_length(signs: usize) -> bool
+fn is_code_length(signs: usize) -> bool
     ensures { IsTrue result ↔ ((signs ≡ 12) ⊎ (signs ≡ 16)) }
 {
-    signs == SIGNS || signs == LONG_SIGNS
+    signs == CHARACTERS || signs == LONG_CHARACTERS
 }
 
 /// A law: a text spells at most one code.

@@ -7,14 +7,14 @@ use Rattle.portal_model.specs.declared.refusal.Refusal.TheVariants.{NoMemory, St
 -- It is accepted only where the verdict has nothing against it, and then it is the change. It is refused with what the verdict says, which is
 -- never that the desk has stopped.
 pub record IsDecision (result : Result Changes Refusal) (verdict : Option Refusal) (made : Option Changes) : Type 0 where
-  pub accepted : IfOk result (λ _. verdict ≡ None)
-  pub refused : IfErr result (λ r. verdict ≡ Some r)
+  pub accepts : IfOk result (λ _. verdict ≡ None)
+  pub refuses : IfErr result (λ r. verdict ≡ Some r)
   pub change : IfOk result (λ c. made ≡ Some c)
   pub own : IfErr result (λ r. r ≢ Stopped)
 
 -- the same of a decision that takes memory, which may be wanting
-pub record IsDecisionOrFull (result : Result Changes Refusal) (verdict : Option Refusal) (made : Option Changes) : Type 0 where
-  pub accepted : IfOk result (λ _. verdict ≡ None)
-  pub refused : IfErr result (λ r. (r ≡ NoMemory) ⊎ (verdict ≡ Some r))
+pub record IsDecisionOrNoMemory (result : Result Changes Refusal) (verdict : Option Refusal) (made : Option Changes) : Type 0 where
+  pub accepts : IfOk result (λ _. verdict ≡ None)
+  pub refuses : IfErr result (λ r. (r ≡ NoMemory) ⊎ (verdict ≡ Some r))
   pub change : IfOk result (λ c. made ≡ Some c)
   pub own : IfErr result (λ r. r ≢ Stopped)

@@ -12,7 +12,7 @@ mod redeem;
 
 pub use issue::decide_issue;
 pub use plans::decide_plans;
-use portal_model::change::{Changes, Closing, Repayment, Sale, Usage};
+use portal_model::change::{Changes, CloseChange, RefundChange, ReportChange, SellChange};
 use portal_model::moment::Moment;
 use portal_model::plan::Plan;
 use portal_model::record::{Session, Voucher};
@@ -34,7 +34,7 @@ pub fn decide_sell(voucher: Option<Voucher>, t: Moment) -> Result<Changes, Refus
     if t >= voucher.expires {
         return Err(Refusal::Expired);
     }
-    Ok(Changes::Sale(Sale { at: t, voucher }))
+    Ok(Changes::SellChange(SellChange { at: t, voucher }))
 }
 
 /// A report of bytes for the session of that number, also one that is closed or has ended.
@@ -46,7 +46,7 @@ pub fn decide_report(session: Option<Session>, bytes: u64, t: Moment) -> Result<
     let Some(session) = session else {
         return Err(Refusal::UnknownSession);
     };
-    Ok(Changes::Usage(Usage {
+    Ok(Changes::ReportChange(ReportChange {
         at: t,
         session,
         bytes,
@@ -79,7 +79,7 @@ pub fn decide_refund(voucher: Option<Voucher>, t: Moment) -> Result<Changes, Ref
     if voucher.redeemed >= u64::from(voucher.plan.uses) {
         return Err(Refusal::NothingLeft);
     }
-    Ok(Changes::Repayment(Repayment {
+    Ok(Changes::RefundChange(RefundChange {
         at: t,
         voucher,
         amount: amount_left(voucher.plan, voucher.redeemed),
@@ -96,5 +96,5 @@ pub fn decide_close(session: Option<Session>, t: Moment) -> Result<Changes, Refu
     if session.closed.is_some() {
         return Err(Refusal::ClosedAlready);
     }
-    Ok(Changes::Closing(Closing { at: t, session }))
+    Ok(Changes::CloseChange(CloseChange { at: t, session }))
 }

@@ -14,7 +14,8 @@ pub use portal_days::{Day, DayRange, DayTakings};
 pub use portal_ledger::{Caller, KeptRequest, RequestMark, RequestNumber, decide_repeat};
 pub use portal_model::captive::{Captive, OpenSession};
 pub use portal_model::change::{
-    Answer, Changes, Closing, Issuance, Loading, Redemption, Repayment, Sale, Usage,
+    Answer, Changes, CloseChange, IssueChange, LoadChange, RedeemChange, RefundChange,
+    ReportChange, SellChange,
 };
 pub use portal_model::command::Command;
 pub use portal_model::lists::{Codes, Plans};

@@ -8,7 +8,7 @@ pub use Rattle.std.proofs.lemmas.List.Elements.{All-more, All-weaker}
 pub use Rattle.std.proofs.lemmas.List.Sums.{count_by-le-length, count_by_more_no, count_by_more_yes, sum_by-cons, sum_by-le, sum_by-le-sum_by, sum_by_more}
 pub use Rattle.std.specs.List.{range_with_len}
 pub use Rattle.std.specs.Prelude.{All, count_by, sum_by}
-pub use Rattle.portal_days.specs.Private.DaySums.{HasRoom, day_sum, nothing, with_pair}
+pub use Rattle.portal_days.specs.Private.DaySums.{CanAddPair, day_sum, zero_sum, with_pair}
 pub use Rattle.portal_days.specs.Span.{Span, day_count, days_of}
 pub use Rattle.portal_days.specs.Takings.{AreAmounts, Pair, TotalsFit, amount_on, is_on, takings_on}
 pub use Rattle.portal_days.specs.declared.takings.DayTakings.{DayTakings}

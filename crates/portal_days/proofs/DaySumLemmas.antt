@@ -1,5 +1,5 @@
 -- What the pairs so far come to on a day: a pair more, and room for it.
-use Rattle.portal_days.proofs.Common.{◌≡◌, ℕ, ◌+◌, ◌-◌, ◌^◌, ◌<◌, ◌≤◌, ℤ, pos, ◌+ℤ◌, cond, List, ◌++◌, length, get_or, take, drop, map, ap, sym, ◌∙◌, arith, inl, inr, All, count_by, range_with_len, mul-le-mul_right, cases_Bool, cond-true, cond-false, length-take, take-append-le, take_all, All-weaker, count_by-le-length, count_by_more_no, count_by_more_yes, sum_by_more, sum_by-le, Span, day_count, days_of, Pair, is_on, amount_on, day_sum, nothing, with_pair, HasRoom, DayTakings}
+use Rattle.portal_days.proofs.Common.{◌≡◌, ℕ, ◌+◌, ◌-◌, ◌^◌, ◌<◌, ◌≤◌, ℤ, pos, ◌+ℤ◌, cond, List, ◌++◌, length, get_or, take, drop, map, ap, sym, ◌∙◌, arith, inl, inr, All, count_by, range_with_len, mul-le-mul_right, cases_Bool, cond-true, cond-false, length-take, take-append-le, take_all, All-weaker, count_by-le-length, count_by_more_no, count_by_more_yes, sum_by_more, sum_by-le, Span, day_count, days_of, Pair, is_on, amount_on, day_sum, zero_sum, with_pair, CanAddPair, DayTakings}
 use Rattle.std.proofs.lemmas.List.FromFn.{fill_by_all, get_or-map-range_with_len, length-map-range_with_len}
 use Rattle.std.proofs.lemmas.Simd.{map-map}
 use Rattle.portal_days.specs.declared.takings.DaySum.{DaySum}
@@ -28,7 +28,7 @@ amount_small day p h = elim (cases_Bool (is_on day p)) [
 
 -- fewer pairs than memory holds
 pub day_sum_room : (day : ℤ) (pairs : List Pair) (i : ℕ) → i < length pairs → length pairs < 2 ^ 64 → All (λ p. p.1 < 2 ^ 64) (take i pairs)
-    → HasRoom (day_sum (take i pairs) day)
+    → CanAddPair (day_sum (take i pairs) day)
 day_sum_room day pairs i h few small =
     let so_far = take i pairs in
     let len = length-take i pairs in
@@ -45,9 +45,9 @@ whole n xs ys h = take-append-le n ys (drop (length ys) xs) (omega arith) ∙ ta
 
 -- the sums of all days of the range
 pub sums_are : (pairs so_far : List Pair) (range : Span) (sums : List DaySum) → so_far ≡ pairs → length sums ≡ day_count range
-    → ((k : ℕ) → k < day_count range → get_or sums k nothing ≡ day_sum so_far (range.first +ℤ pos k)) → sums ≡ map (day_sum pairs) (days_of range)
+    → ((k : ℕ) → k < day_count range → get_or sums k zero_sum ≡ day_sum so_far (range.first +ℤ pos k)) → sums ≡ map (day_sum pairs) (days_of range)
 sums_are pairs so_far range sums all many each =
-    fill_by_all (λ k. day_sum so_far (range.first +ℤ pos k)) sums (day_count range) nothing many each
+    fill_by_all (λ k. day_sum so_far (range.first +ℤ pos k)) sums (day_count range) zero_sum many each
     ∙ sym (map-map (day_sum so_far) (λ k. range.first +ℤ pos k) (range_with_len 0 (day_count range)))
     ∙ ap (λ ps. map (day_sum ps) (days_of range)) all
 

@@ -104,7 +104,7 @@ impl DayRange {
     }
 
     /// How many days after the first the day is; `None` where it is not of the range.
-    pub(crate) fn place(&self, day: Day) -> Option<u32>
+    pub(crate) fn index_of(&self, day: Day) -> Option<u32>
         ensures within { IfSome result (λ k. k < day_count self.now) }
         ensures day { IfSome result (λ k. self.now.first +ℤ pos k ≡ day) }
         ensures outside { IfNone result

@@ -2,7 +2,7 @@
 ghost use Rattle.std.specs.Prelude.{◌≡◌, ◌^◌, ◌<◌, ◌+ℤ◌, ℕ, pos, IfOk, OnOk, length, map, slice_index_or};
 ghost use Rattle.portal_days.specs.Span.{day_count, days_of};
 ghost use Rattle.portal_days.specs.Takings.{takings_on, AreAmounts, TotalsFit};
-ghost use Rattle.portal_days.specs.Private.DaySums.{day_sum, nothing, with_pair, HasRoom};
+ghost use Rattle.portal_days.specs.Private.DaySums.{day_sum, zero_sum, with_pair, CanAddPair};
 
 use crate::calendar::{Day, DayRange};
 use std::alloc::{AllocError, Global};
@@ -32,13 +32,13 @@ struct DaySum {
 /// Adds a pair to the sum of its day. A pair of another day is left out.
 fn add_pair(sums: &mut [DaySum], range: DayRange, day: Day, amount: u64)
     requires days { length sums.old ≡ day_count range }
-    requires room { (k : ℕ) → k < day_count range → HasRoom (slice_index_or sums.old k nothing) }
+    requires can_add { (k : ℕ) → k < day_count range → CanAddPair (slice_index_or sums.old k zero_sum) }
     ensures days { length sums.new ≡ day_count range }
     ensures small { amount < 2 ^ 64 }
-    ensures added { (k : ℕ) → k < day_count range → slice_index_or sums.new k nothing
-        ≡ with_pair (range.first +ℤ pos k) (day, amount) (slice_index_or sums.old k nothing) }
+    ensures added { (k : ℕ) → k < day_count range → slice_index_or sums.new k zero_sum
+        ≡ with_pair (range.first +ℤ pos k) (day, amount) (slice_index_or sums.old k zero_sum) }
 {
-    if let Some(place) = range.place(day) {
+    if let Some(place) = range.index_of(day) {
         let sum = &mut sums[place as usize];
         sum.count += 1;
         sum.amount += u128::from(amount);

@@ -13,9 +13,9 @@ use Rattle.portal_model.specs.declared.record.Voucher.{Voucher}
 use Rattle.portal_model.specs.declared.refusal.Refusal.{Refusal}
 use Rattle.portal_model.specs.declared.refusal.Refusal.TheVariants.{UnknownPlan, UnknownCode, UnknownSession, PlanDiffers, BatchExists, CodeTaken, NotSold, SoldAlready, Refunded, Expired, UsedUp, NoExtend, ShapeDiffers, AllowanceFull, ClosedAlready, NothingLeft, MomentRange, NumbersFull, IdReused, Stopped}
 use Rattle.portal_model.specs.History.{History, expiry, plan_of, batch_of, voucher_of, session_of, last_session_of, head_of, kept_if, is_open_at}
-use Rattle.portal_model.specs.Verdict.{Check, first_refusal, differs, stands_twice, same_limits, is_past, greatest_moment, greatest_allowance, greatest_count, any_held, load_verdict, issue_verdict, sell_verdict, place_verdict, voucher_refusal, else_verdict, redeem_verdict, report_verdict, refund_verdict, close_verdict, verdict}
+use Rattle.portal_model.specs.Verdict.{Check, first_refusal, differs, has_duplicate, same_limits, is_past, greatest_moment, greatest_allowance, greatest_count, any_held, load_verdict, issue_verdict, sell_verdict, place_verdict, voucher_refusal, else_verdict, redeem_verdict, report_verdict, refund_verdict, close_verdict, verdict}
 use Rattle.portal_ledger.specs.declared.request.KeptRequest.{KeptRequest}
-use Rattle.portal_ledger.specs.Mark.{Mark, same_request}
+use Rattle.portal_ledger.specs.Fingerprint.{Fingerprint, same_request}
 use Rattle.portal_ledger.specs.Ledger.{repeat_of}
 
 -- a refusal that is not that of a desk that has stopped
@@ -56,7 +56,7 @@ load_own kept plans r is = first_own ((list_any (λ p. differs (kept p.id) p) pl
 issue_own : (plan : Option Plan) (batch : Option Batch) (taken : Bool) (codes : List (List ℕ)) (t : ℕ) (r : Refusal) → issue_verdict plan batch taken codes t ≡ Some r → is_own r ≡ true
 issue_own None batch taken codes t r is = one UnknownPlan r refl is
 issue_own (Some plan) batch taken codes t r is =
-    first_own ((is_some batch, BatchExists) ∷ (nat_lt greatest_moment (expiry t plan), MomentRange) ∷ (taken || stands_twice codes, CodeTaken) ∷ []) refl r is
+    first_own ((is_some batch, BatchExists) ∷ (nat_lt greatest_moment (expiry t plan), MomentRange) ∷ (taken || has_duplicate codes, CodeTaken) ∷ []) refl r is
 
 sell_own : (voucher : Option Voucher) (t : ℕ) (r : Refusal) → sell_verdict voucher t ≡ Some r → is_own r ≡ true
 sell_own None t r is = one UnknownCode r refl is
@@ -104,7 +104,7 @@ pub verdict_is_no_stop : (H : History) (command : Command) (t : ℕ) (r : Refusa
 verdict_is_no_stop H command t r is = own_is_no_stop r (verdict_own H command t r is)
 
 -- what is kept under a key refuses with one refusal alone
-pub repeat_is_no_stop : (kept : Option KeptRequest) (mark : Mark) (r : Refusal) → repeat_of kept mark ≡ Err r → r ≢ Stopped
+pub repeat_is_no_stop : (kept : Option KeptRequest) (mark : Fingerprint) (r : Refusal) → repeat_of kept mark ≡ Err r → r ≢ Stopped
 repeat_is_no_stop None mark r h = absurd (cc)
 repeat_is_no_stop (Some k) mark r h = by (same_request k.mark mark) h
   where

@@ -8,25 +8,25 @@ use Rattle.portal_model.specs.History.{History, effective_moment}
 use Rattle.portal_model.specs.Verdict.{verdict}
 use Rattle.portal_files.specs.SettingsFile.{SettingsValue}
 use Rattle.portal_ledger.specs.declared.marked.MarkedChanges.{MarkedChanges}
-use Rattle.portal_ledger.specs.Mark.{Mark}
-use Rattle.portal_ledger.specs.Ledger.{Accepted, Ledger, history_of, repeat_in, taken_at}
+use Rattle.portal_ledger.specs.Fingerprint.{Fingerprint}
+use Rattle.portal_ledger.specs.Ledger.{Accepted, Ledger, history_of, repeat_in, accepted_at}
 use Rattle.portal_ledger.specs.States.{State, running, stopped}
 use Rattle.portal_ledger.specs.Calls.{ReadsOf, ReadsThat, Fits, FailsToRead, FailsToKeep}
 use Rattle.portal_desk.specs.declared.prepared.Marked.{Marked}
 use Rattle.portal_desk.specs.declared.prepared.Marked.TheVariants.{Fresh, Kept}
 
 -- the desk has stopped
-abbrev pub is_over : State → Bool
-is_over (running L) = false
-is_over (stopped L doubt) = true
+abbrev pub is_stopped_state : State → Bool
+is_stopped_state (running L) = false
+is_stopped_state (stopped L doubt) = true
 
 -- Whether the desk has stopped, before a refusal and after it: after `Stopped` it has, and any other leaves that as it was.
-abbrev pub TellsStop : Bool → Bool → Refusal → Type 0
-TellsStop old new r = ((r ≡ Stopped) × (new ≡ true)) ⊎ ((r ≢ Stopped) × (new ≡ old))
+abbrev pub RefusalGivesStop : Bool → Bool → Refusal → Type 0
+RefusalGivesStop old new r = ((r ≡ Stopped) × (new ≡ true)) ⊎ ((r ≢ Stopped) × (new ≡ old))
 
 -- the same of a call, whatever the disk did: an answer leaves it as it was
 abbrev pub KeepsStop : {T : Type 0} → Bool → Bool → Result T Refusal → Type 0
-KeepsStop old new result = MatchResult result (λ _. new ≡ old) (TellsStop old new)
+KeepsStop old new result = MatchResult result (λ _. new ≡ old) (RefusalGivesStop old new)
 
 -- several calls of a desk: one that had stopped has stopped still
 abbrev pub StaysStopped : Bool → Bool → Type 0
@@ -35,12 +35,12 @@ StaysStopped old new = old ≡ true → new ≡ true
 -- A call of a desk, by the desk's own words for its settings, for an honest disk, for having stopped and for where it stands. Whatever the
 -- disk did, the settings stay, and the answer tells whether the desk has stopped. A disk that is honest after the call was so before it, and
 -- then the call leads from where the desk stood before to where it stands after.
-pub record Moves {D A : Type 0} (settings : D → SettingsValue) (is_honest : D → Type 0) (has_stopped : D → Bool) (stands : D → State → Type 0)
+pub record Moves {D A : Type 0} (settings : D → SettingsValue) (is_fault_free : D → Type 0) (has_stopped : D → Bool) (represents : D → State → Type 0)
     (old new : D) (result : Result A Refusal) (Step : State → State → Type 0) : Type 0 where
-  pub told : settings new ≡ settings old
-  pub honest : is_honest new → is_honest old
+  pub same_settings : settings new ≡ settings old
+  pub fault_free : is_fault_free new → is_fault_free old
   pub stops : KeepsStop (has_stopped old) (has_stopped new) result
-  pub step : is_honest new → (before : State) → stands old before → (after : State) × stands new after × Step before after
+  pub step : is_fault_free new → (before : State) → represents old before → (after : State) × represents new after × Step before after
 
 -- it answers what the history gives, and stays as it is
 abbrev pub Answers : {A : Type 0} → (History → A) → State → A → State → Type 0
@@ -51,41 +51,41 @@ abbrev pub CannotAnswer : State → Refusal → State → Type 0
 CannotAnswer old r new = FailsToRead NoMemory Stopped old r new
 
 -- it tells what is so of the history, and changes nothing; or it cannot answer
-abbrev pub Tells : {A : Type 0} → Result A Refusal → (A → History → Type 0) → State → State → Type 0
-Tells result Is old new =
+abbrev pub Returns : {A : Type 0} → Result A Refusal → (A → History → Type 0) → State → State → Type 0
+Returns result Is old new =
     MatchResult result (λ found. ReadsThat old (λ H. Is found H) new) (λ r. CannotAnswer old r new)
 
 -- the history gives nothing there, and that refusal says so; or it cannot answer
-abbrev pub Misses : {A : Type 0} → Refusal → (History → Option A) → State → Refusal → State → Type 0
-Misses unknown given old r new = ((r ≡ unknown) × Answers given old None new) ⊎ CannotAnswer old r new
+abbrev pub RefusesUnknown : {A : Type 0} → Refusal → (History → Option A) → State → Refusal → State → Type 0
+RefusesUnknown unknown given old r new = ((r ≡ unknown) × Answers given old None new) ⊎ CannotAnswer old r new
 
 -- it answers what the history gives there, or it refuses where that is nothing
 abbrev pub Finds : {A : Type 0} → Refusal → (History → Option A) → Result A Refusal → State → State → Type 0
 Finds unknown given result old new =
-    MatchResult result (λ found. Answers given old (Some found) new) (λ r. Misses unknown given old r new)
+    MatchResult result (λ found. Answers given old (Some found) new) (λ r. RefusesUnknown unknown given old r new)
 
 -- a command that is no repetition and that the verdict accepts, with what it changes and its mark; nothing is kept yet
-abbrev pub Prepares : State → Command → ℕ → Option Mark → MarkedChanges → State → Type 0
+abbrev pub Prepares : State → Command → ℕ → Option Fingerprint → MarkedChanges → State → Type 0
 Prepares old command moment mark marked new =
-    ReadsOf old (λ L. (repeat_in L mark ≡ Ok None) × Fits (running L) marked (taken_at L moment command mark)) new
+    ReadsOf old (λ L. (repeat_in L mark ≡ Ok None) × Fits (running L) marked (accepted_at L moment command mark)) new
 
 -- a repetition, with what its caller was told
-abbrev pub Repeats : State → Mark → Answer → State → Type 0
+abbrev pub Repeats : State → Fingerprint → Answer → State → Type 0
 Repeats old mark answer new = ReadsOf old (λ L. repeat_in L (Some mark) ≡ Ok (Some answer)) new
 
 -- a request that acts once: a new one, or a repetition
-abbrev pub PreparesMarked : State → Command → ℕ → Mark → Marked → State → Type 0
+abbrev pub PreparesMarked : State → Command → ℕ → Fingerprint → Marked → State → Type 0
 PreparesMarked old command moment mark (Fresh prepared) new = Prepares old command moment (Some mark) prepared new
 PreparesMarked old command moment mark (Kept answer) new = Repeats old mark answer new
 
 -- what the ledger has against a command: its number was used for another request, or else its verdict
-abbrev pub IsRefused : Ledger → Command → ℕ → Option Mark → Refusal → Type 0
+abbrev pub IsRefused : Ledger → Command → ℕ → Option Fingerprint → Refusal → Type 0
 IsRefused L command moment mark r =
     (repeat_in L mark ≡ Err r)
     ⊎ ((repeat_in L mark ≡ Ok None) × (verdict (history_of L) command (effective_moment (history_of L) moment) ≡ Some r))
 
 -- a command that is refused, or one that cannot be judged
-abbrev pub Refuses : State → Command → ℕ → Option Mark → Refusal → State → Type 0
+abbrev pub Refuses : State → Command → ℕ → Option Fingerprint → Refusal → State → Type 0
 Refuses old command moment mark r new = ReadsOf old (λ L. IsRefused L command moment mark r) new ⊎ CannotAnswer old r new
 
 -- a command is not kept, or it is in doubt

@@ -25,7 +25,7 @@ pub use Rattle.portal_files.specs.Takings.{ArePaid, RuleFixesDays, TakingsAreAdd
 pub use Rattle.portal_model.specs.IdText.{IsIdText}
 pub use Rattle.portal_model.specs.Payments.{Payment, by_day, payment, refunds_of, sales_of}
 pub use Rattle.portal_model.specs.Terms.{AreTerms, IsPlanOf}
-pub use Rattle.portal_model.specs.Verdict.{ids_stand_twice}
+pub use Rattle.portal_model.specs.Verdict.{has_duplicate_id}
 pub use Rattle.portal_model.specs.declared.plan.Plan.{Plan}
 pub use Rattle.toml.proofs.Views.{items_view-push, table_get}
 pub use Rattle.toml.specs.Data.{Data, Items, Members, array, as_array, as_bool, as_str, boolean, get_member, integer, item, member, no_items, no_members, push_item, string, table}

@@ -9,4 +9,4 @@ pub mod SampleZone
 pub mod ShownDays
 pub mod Rules
 pub mod Added
-pub mod WorkedTakings
+pub mod TakingsVectors

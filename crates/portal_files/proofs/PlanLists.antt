@@ -1,5 +1,5 @@
 -- The array of a plans file, and the list of its plans.
-use Rattle.portal_files.proofs.Common.{◌≡◌, ℕ, ◌+◌, ◌<◌, Bool, true, ◌||◌, List, [], ◌∷◌, ◌++◌, length, get_or, drop, codes, map, Option, Some, None, option_map, Vec, zero, suc, Ordering, Less, Equal, Greater, nat_cmp, is_eq, Bor, refl, ap, sym, ◌∙◌, arith, IfSome, bytes_eq, list_any, ids_stand_twice, match_ordering, Plan, IsPlanData, ArePlanTables, member_count, Data, array, Items, no_items, item, Members, no_members, member, get_member, push_item, as_array, view, items_view, array_view, Value}
+use Rattle.portal_files.proofs.Common.{◌≡◌, ℕ, ◌+◌, ◌<◌, Bool, true, ◌||◌, List, [], ◌∷◌, ◌++◌, length, get_or, drop, codes, map, Option, Some, None, option_map, Vec, zero, suc, Ordering, Less, Equal, Greater, nat_cmp, is_eq, Bor, refl, ap, sym, ◌∙◌, arith, IfSome, bytes_eq, list_any, has_duplicate_id, match_ordering, Plan, IsPlanData, ArePlanTables, member_count, Data, array, Items, no_items, item, Members, no_members, member, get_member, push_item, as_array, view, items_view, array_view, Value}
 use Rattle.std.proofs.Common.{Global}
 use Rattle.std.proofs.lemmas.List.{drop_more}
 use Rattle.std.specs.Cmp.Lexicographic.{slice_cmp}
@@ -66,11 +66,11 @@ tables-length [] (p ∷ ps) all = absurd all
 tables-length (v ∷ vs) [] all = absurd all
 tables-length (v ∷ vs) (p ∷ ps) all = omega (arith, tables-length vs ps all.1)
 
-pub ids_stand_twice-drop : (plans : List Plan) (i : ℕ) (p : Plan) → i < length plans → p ≡ get_or plans i p
-    → ids_stand_twice (drop i plans) ≡ (list_any (bytes_eq p.id) (map (λ q. q.id) (drop (i + 1) plans)) || ids_stand_twice (drop (i + 1) plans))
-ids_stand_twice-drop plans i p h is =
-    ap ids_stand_twice (drop_more plans i p h)
-    ∙ ap (λ x. list_any (bytes_eq x.id) (map (λ q. q.id) (drop (i + 1) plans)) || ids_stand_twice (drop (i + 1) plans)) (sym is)
+pub has_duplicate_id-drop : (plans : List Plan) (i : ℕ) (p : Plan) → i < length plans → p ≡ get_or plans i p
+    → has_duplicate_id (drop i plans) ≡ (list_any (bytes_eq p.id) (map (λ q. q.id) (drop (i + 1) plans)) || has_duplicate_id (drop (i + 1) plans))
+has_duplicate_id-drop plans i p h is =
+    ap has_duplicate_id (drop_more plans i p h)
+    ∙ ap (λ x. list_any (bytes_eq x.id) (map (λ q. q.id) (drop (i + 1) plans)) || has_duplicate_id (drop (i + 1) plans)) (sym is)
 
 -- a test of each element's image
 pub list_any-map : {A B : Type 0} (f : B → Bool) (g : A → B) (xs : List A) → list_any (λ x. f (g x)) xs ≡ list_any f (map g xs)

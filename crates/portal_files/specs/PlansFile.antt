@@ -1,7 +1,7 @@
 -- What a plans file says.
 use Rattle.std.specs.Prelude.{◌≡◌, ℕ, ◌+◌, ◌≤◌, false, List, [], ◌∷◌, length, codes, pos, IsUtf8, Some}
 use Rattle.portal_model.specs.declared.plan.Plan.{Plan}
-use Rattle.portal_model.specs.Verdict.{ids_stand_twice}
+use Rattle.portal_model.specs.Verdict.{has_duplicate_id}
 use Rattle.toml.specs.Data.{Data, string, integer, boolean, array, table, Items, no_items, item, Members, no_members, member, get_member}
 use Rattle.toml.specs.Parse.{parse_document}
 
@@ -40,4 +40,4 @@ pub record IsPlansFile (bytes : List ℕ) (plans : List Plan) : Type 0 where
   pub tables : ArePlanTables items plans
   pub least : 1 ≤ length plans
   pub most : length plans ≤ 500
-  pub distinct : ids_stand_twice plans ≡ false
+  pub distinct : has_duplicate_id plans ≡ false

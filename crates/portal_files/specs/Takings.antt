@@ -8,7 +8,7 @@ use Rattle.portal_days.specs.declared.takings.DayTakings.{DayTakings}
 use Rattle.portal_model.specs.declared.command.Command.TheVariants.{Refund}
 use Rattle.portal_model.specs.History.{History, entry}
 use Rattle.portal_model.specs.Payments.{Payment, sales_of, refunds_of, by_day}
-use Rattle.portal_model.specs.Worked.{hour, code2, code3, loaded, sold_at, gig_redeemed}
+use Rattle.portal_model.specs.TestVectors.{hour, code2, code3, history_with_plans, sold_at, gig_redeemed}
 use Rattle.portal_files.specs.LocalDay.{local_day_of}
 
 -- the payments whose moment falls on that civil day of the zone
@@ -47,19 +47,19 @@ RuleFixesDays = (rule : List ℕ) (zone other : TimeZone) → IsPosixZone rule z
 -- Worked takings
 
 -- so many sales and refunds on the day, and what they come to
-abbrev pub taken : ℤ → ℕ → ℕ → ℕ → ℕ → DayTakings
-taken day sold sales refunded refunds = record { day = day; sold = sold; sales = sales; refunded = refunded; refunds = refunds }
+abbrev pub takings_with : ℤ → ℕ → ℕ → ℕ → ℕ → DayTakings
+takings_with day sold sales refunded refunds = record { day = day; sold = sold; sales = sales; refunded = refunded; refunds = refunds }
 
 -- an hour that was sold on 2020-03-01 at 23:30 UTC was sold on 2020-03-02 in central Europe, an hour ahead in winter
 abbrev pub TakingsLocalDay : Type 0
 TakingsLocalDay = (zone : TimeZone) → IsPosixZone (codes "CET-1CEST,M3.5.0,M10.5.0/3") zone →
-    let H = sold_at 1583105400 (codes "b1") hour code3 loaded in
-    (takings_of zone H (pos 18322) ≡ taken (pos 18322) 0 0 0 0)
-    × (takings_of zone H (pos 18323) ≡ taken (pos 18323) 1 300 0 0)
+    let H = sold_at 1583105400 (codes "b1") hour code3 history_with_plans in
+    (takings_of zone H (pos 18322) ≡ takings_with (pos 18322) 0 0 0 0)
+    × (takings_of zone H (pos 18323) ≡ takings_with (pos 18323) 1 300 0 0)
 
 -- a gibibyte that was sold on 1970-01-01, and refunded after one of its three uses on the day after
 abbrev pub TakingsRefundDay : Type 0
 TakingsRefundDay = (zone : TimeZone) → IsPosixZone (codes "UTC0") zone →
     let H = entry 86400 (Refund code2) ∷ gig_redeemed in
-    (takings_of zone H (pos 0) ≡ taken (pos 0) 1 500 0 0)
-    × (takings_of zone H (pos 1) ≡ taken (pos 1) 0 0 1 333)
+    (takings_of zone H (pos 0) ≡ takings_with (pos 0) 1 500 0 0)
+    × (takings_of zone H (pos 1) ≡ takings_with (pos 1) 0 0 1 333)

@@ -16,7 +16,7 @@ use portal_model::moment::Moment;
 use std::alloc::{AllocError, Global};
 
 /// The instant of a moment.
-fn instant(t: Moment) -> Timestamp
+fn timestamp_of(t: Moment) -> Timestamp
     ensures at { result.nanosecond ≡ pos t *ℤ pos 1000000000 }
     ensures limit { t ≤ 253370764799 }
 {
@@ -28,7 +28,7 @@ pub fn local_time(settings: &Settings, t: Moment) -> DateTime
     ensures time { civil_seconds result ≡ local_seconds settings.now.zone t }
     ensures limit { t ≤ 253370764799 }
 {
-    settings.zone().to_datetime(instant(t))
+    settings.zone().to_datetime(timestamp_of(t))
 }
 
 /// The civil day that a calendar in the settings' zone shows at the moment. It takes no memory.

@@ -33,7 +33,7 @@ pub fn takings_are_added()
 
 /// Worked takings: a sale before midnight in UTC that is one after midnight in the settings' zone, and a
 /// refund on the day after its sale.
-pub fn worked_takings()
+pub fn takings_vectors_hold()
     ensures takings_local_day { TakingsLocalDay }
     ensures takings_refund_day { TakingsRefundDay }
 {}

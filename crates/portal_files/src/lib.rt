@@ -15,8 +15,8 @@ mod sheet;
 pub use days::{day_text, local_day, local_time, read_day};
 pub use fault::FileFault;
 pub use laws::{
-    file_fixes_plans, file_fixes_settings, rule_fixes_days, takings_are_added, text_names_day,
-    worked_takings,
+    file_fixes_plans, file_fixes_settings, rule_fixes_days, takings_are_added,
+    takings_vectors_hold, text_names_day,
 };
 pub use plans::read_plans;
 pub use settings::Settings;

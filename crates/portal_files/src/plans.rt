@@ -5,7 +5,7 @@ ghost use Rattle.std.specs.List.{list_any};
 ghost use Rattle.toml.specs.Data.{array, Items, member, no_members};
 ghost use Rattle.toml.specs.View.{view, table_view, array_view, items_view};
 ghost use Rattle.portal_model.specs.declared.plan.Plan.{Plan};
-ghost use Rattle.portal_model.specs.Verdict.{ids_stand_twice};
+ghost use Rattle.portal_model.specs.Verdict.{has_duplicate_id};
 ghost use Rattle.portal_files.specs.PlansFile.{IsPlanTable, IsPlanData, ArePlanTables, IsPlansFile};
 
 use crate::document::read_document;
@@ -37,7 +37,7 @@ fn read_plan(table: &Table) -> Option<Plan>
 }
 
 /// The plan of a value, if the value is a plan's table.
-fn read_member(value: &Value) -> Option<Plan>
+fn read_plan_value(value: &Value) -> Option<Plan>
     ensures some { IfSome result (IsPlanData (view value.now)) }
     ensures none { result ≡ None → (p : Plan) → IsPlanData (view value.now) p → ⊥ }
 {
@@ -45,7 +45,7 @@ fn read_member(value: &Value) -> Option<Plan>
 }
 
 /// The array under `plan`, where the table has no other key.
-fn plan_values(table: &Table) -> Option<&Array>
+fn plan_array(table: &Table) -> Option<&Array>
     ensures some { IfSome result
         (λ a. table_view table.now ≡ member (codes "plan") (array (array_view a.now)) no_members) }
     ensures none { result ≡ None → (items : Items)
@@ -66,7 +66,7 @@ fn has_id(plans: &[Plan], id: Id) -> bool
 
 /// Whether two of the plans have one id.
 fn has_repeated_id(plans: &[Plan]) -> bool
-    ensures { result ≡ ids_stand_twice plans.now }
+    ensures { result ≡ has_duplicate_id plans.now }
 {
     for i in 0..plans.len() {
         let plan = plans[i];
@@ -79,14 +79,14 @@ fn has_repeated_id(plans: &[Plan]) -> bool
 }
 
 /// The plans of the values, in order.
-fn read_members(alloc: Global, values: &[Value]) -> Result<Plans, FileFault>
+fn read_plan_values(alloc: Global, values: &[Value]) -> Result<Plans, FileFault>
     ensures ok { IfOk result (λ plans. ArePlanTables (items_view values.now) plans) }
     ensures bad { IfErr result (λ e. e ≡ FileFault.Bad
         → (plans : List Plan) → ArePlanTables (items_view values.now) plans → ⊥) }
 {
     let mut plans = Plans::new(alloc);
     for value in values {
-        let Some(plan) = read_member(value) else {
+        let Some(plan) = read_plan_value(value) else {
             return Err(FileFault::Bad);
         };
         plans.push(plan)?;
@@ -103,7 +103,7 @@ pub fn read_plans(alloc: Global, bytes: &[u8]) -> Result<Plans, FileFault>
         → (plans : List Plan) → IsPlansFile bytes.now plans → ⊥) }
 {
     let table = read_document(alloc, bytes)?;
-    let Some(array) = plan_values(&table) else {
+    let Some(array) = plan_array(&table) else {
         return Err(FileFault::Bad);
     };
     let values = array.as_slice();
@@ -113,7 +113,7 @@ pub fn read_plans(alloc: Global, bytes: &[u8]) -> Result<Plans, FileFault>
     if values.len() > 500 {
         return Err(FileFault::Bad);
     }
-    let plans = read_members(alloc, values)?;
+    let plans = read_plan_values(alloc, values)?;
     if has_repeated_id(plans.as_slice()) {
         return Err(FileFault::Bad);
     }

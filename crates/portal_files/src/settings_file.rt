@@ -35,7 +35,7 @@ fn are_visible(bytes: &[u8]) -> bool
 }
 
 /// Whether the first eight bytes are the scheme.
-fn is_secure(bytes: &[u8]) -> bool
+fn has_https_scheme(bytes: &[u8]) -> bool
     requires { 8 ≤ length bytes.now }
     ensures { result ≡ bytes_eq (take 8 bytes.now) (codes "https://") }
 {
@@ -47,7 +47,7 @@ fn is_url(text: &str) -> bool
     ensures { result ≡ is_url text.now }
 {
     let bytes = text.as_bytes();
-    bytes.len() >= 9 && bytes.len() <= 2048 && are_visible(bytes) && is_secure(bytes)
+    bytes.len() >= 9 && bytes.len() <= 2048 && are_visible(bytes) && has_https_scheme(bytes)
 }
 
 fn is_token(text: &str) -> bool
@@ -126,7 +126,7 @@ fn key_count(venue_url: Option<&str>) -> usize
 }
 
 /// The values of a settings table, if the table has just their keys.
-fn texts_of<'a>(table: &'a Table) -> Option<Texts<'a>>
+fn texts_of_table<'a>(table: &'a Table) -> Option<Texts<'a>>
     ensures some { IfSome result (λ t. IsSettingsTable (table_view table.now) (value_of t)) }
     ensures none { result ≡ None → (s : SettingsValue) → IsSettingsTable (table_view table.now) s → ⊥ }
 {
@@ -150,7 +150,7 @@ fn texts_of<'a>(table: &'a Table) -> Option<Texts<'a>>
     })
 }
 
-fn copied(alloc: Global, text: Option<&str>) -> Result<Option<String>, AllocError>
+fn copy_of_text(alloc: Global, text: Option<&str>) -> Result<Option<String>, AllocError>
     ensures { IfOk result (λ o. option_map string_bytes o ≡ option_map (λ u. u.now) text.entry) }
 {
     match text {
@@ -160,11 +160,11 @@ fn copied(alloc: Global, text: Option<&str>) -> Result<Option<String>, AllocErro
 }
 
 /// Settings of their own memory.
-fn owned(alloc: Global, texts: Texts<'_>) -> Result<Settings, AllocError>
+fn owned_settings(alloc: Global, texts: Texts<'_>) -> Result<Settings, AllocError>
     ensures { IfOk result (λ s. s ≡ value_of texts.entry) }
 {
     let portal_url = String::from_str(alloc, texts.portal_url)?;
-    let venue_url = copied(alloc, texts.venue_url)?;
+    let venue_url = copy_of_text(alloc, texts.venue_url)?;
     let desk_token = String::from_str(alloc, texts.desk_token)?;
     let gateway_token = String::from_str(alloc, texts.gateway_token)?;
     Ok(Settings {
@@ -188,8 +188,8 @@ pub fn read_settings(alloc: Global, bytes: &[u8]) -> Result<Settings, FileFault>
         → (s : SettingsValue) → IsSettingsFile bytes.now s → ⊥) }
 {
     let table = read_document(alloc, bytes)?;
-    let texts = texts_of(&table).ok_or(FileFault::Bad)?;
-    Ok(owned(alloc, texts)?)
+    let texts = texts_of_table(&table).ok_or(FileFault::Bad)?;
+    Ok(owned_settings(alloc, texts)?)
 }
 
 /// The sample settings: zone `UTC0`, portal `https://wifi.example/portal`, tokens `desk-token` and

@@ -3,23 +3,23 @@ pub use Rattle.std.proofs.Common.{Bool, List, None, Option, Some, [], ap, append
 pub use Rattle.std.specs.Io.KnownBytes.{Appends}
 pub use Rattle.std.specs.Prelude.{Err, IfErr, MatchOption, Ok, Result, Vec, codes, option_map, string_bytes, ⊤, ◌≢◌}
 pub use Rattle.std.specs.declared.alloc.Global.{Global}
-pub use Rattle.portal_checks.specs.Checks.{IsChecked, IsOfRequest, OrMemory}
-pub use Rattle.portal_checks.specs.declared.denials.Denied.{Denied}
-pub use Rattle.portal_checks.specs.declared.wanted.Wanted.{Wanted}
-pub use Rattle.portal_checks.specs.declared.wanted.Wanted.TheVariants.{Act, OpenSessions, Sheet, Takings}
-pub use Rattle.portal_desk.specs.Calls.{CannotAnswer, CannotKeep, Misses, Prepares, PreparesMarked, Refuses, Repeats, StaysStopped, TellsStop}
+pub use Rattle.portal_http_request.specs.Checks.{IsChecked, IsOfRequest, OrMemory}
+pub use Rattle.portal_http_request.specs.declared.rejection.Rejection.{Rejection}
+pub use Rattle.portal_http_request.specs.declared.operation.Operation.{Operation}
+pub use Rattle.portal_http_request.specs.declared.operation.Operation.TheVariants.{Act, OpenSessions, Sheet, Takings}
+pub use Rattle.portal_desk.specs.Calls.{CannotAnswer, CannotKeep, RefusesUnknown, Prepares, PreparesMarked, Refuses, Repeats, StaysStopped, RefusalGivesStop}
 pub use Rattle.portal_desk.specs.Sheets.{sheet_of, takings_over}
 pub use Rattle.portal_files.specs.SettingsFile.{SettingsValue}
-pub use Rattle.portal_head.specs.Bytes.{IsResponse, last_lines, media_type_of, phrase_of}
-pub use Rattle.portal_head.specs.declared.responses.ContentType.TheVariants.{CaptiveJson, Csv, Json, PlainText}
+pub use Rattle.portal_http_message.specs.Bytes.{IsResponse, last_lines, media_type_of, phrase_of}
+pub use Rattle.portal_http_message.specs.declared.responses.ContentType.TheVariants.{CaptiveJson, Csv, Json, PlainText}
 pub use Rattle.portal_http.specs.Arrived.{Arrived}
-pub use Rattle.portal_http.specs.Headline.{Acknowledges, IsAccepted, IsFound, IsInDoubt, Leads, OneReading, Replies, Survives, is_ok, with_command}
-pub use Rattle.portal_http.specs.Replies.{IsCommand, IsRefusal, IsReply, IsTold, IsVerdict}
-pub use Rattle.portal_http.specs.Runs.{Run, Served, Step, Stops, bytes_of}
-pub use Rattle.portal_http.specs.Serving.{Finishes, Serves, ServesWanted, Tells}
-pub use Rattle.portal_ledger.specs.Ledger.{Accepted, IsSound, Ledger, held_in, history_of, new_by, repeat_in, taken_at}
-pub use Rattle.portal_ledger.specs.Mark.{Mark}
-pub use Rattle.portal_ledger.specs.States.{MayStand, State, running, stopped}
+pub use Rattle.portal_http.specs.Headline.{Acknowledges, IsAccepted, IsFound, IsInDoubt, Leads, AcknowledgedIsUnique, Replies, Survives, is_ok, with_command}
+pub use Rattle.portal_http.specs.Replies.{IsCommand, IsRefusal, IsReply, IsQueryReply, IsVerdict}
+pub use Rattle.portal_http.specs.Runs.{Run, ServesInOrder, Step, Stops, bytes_of_responses}
+pub use Rattle.portal_http.specs.Serving.{Finishes, ServesCommand, ServesOperation, GivesRefusal}
+pub use Rattle.portal_ledger.specs.Ledger.{Accepted, IsSound, Ledger, held_in, history_of, newly_accepted, repeat_in, accepted_at}
+pub use Rattle.portal_ledger.specs.Fingerprint.{Fingerprint}
+pub use Rattle.portal_ledger.specs.States.{MayBeFound, State, running, stopped}
 pub use Rattle.portal_model.specs.Change.{answer_of}
 pub use Rattle.portal_model.specs.History.{History, voucher_of}
 pub use Rattle.portal_model.specs.Refusal.{status_of}

@@ -1,12 +1,12 @@
 -- An exchange as a run of at most one request.
-use Rattle.portal_http.proofs.Common.{◌≡◌, ℕ, List, [], ◌∷◌, length, take, refl, sym, subst, Option, Result, Ok, Err, Appends, State, SettingsValue, Arrived, Step, Served}
+use Rattle.portal_http.proofs.Common.{◌≡◌, ℕ, List, [], ◌∷◌, length, take, refl, sym, subst, Option, Result, Ok, Err, Appends, State, SettingsValue, Arrived, Step, ServesInOrder}
 use Rattle.std.specs.Io.KnownBytes.{Keeps}
 use Rattle.std.proofs.Math.Seq.{take-length}
 use Rattle.portal_http.specs.declared.exchanges.Done.{Done}
 use Rattle.portal_http.specs.declared.exchanges.Cause.{Cause}
 use Rattle.portal_http.specs.declared.exchanges.Cause.TheVariants.{Read, NoRoom, Write}
 use Rattle.portal_http.specs.declared.exchanges.Cut.{Cut}
-use Rattle.portal_http.specs.Exchanges.{Wire, HasNoRoom, Carries, CutsOff, EndsExchange}
+use Rattle.portal_http.specs.Exchanges.{Wire, IsOutOfMemory, ReadsAndServes, CutsOff, EndsExchange}
 
 -- ---- a run of at most one request
 
@@ -15,18 +15,18 @@ whole_goes_out old new response h = subst (Appends old new) (sym (take-length re
 
 -- the step of a request is a run of it
 pub one_served : (settings : SettingsValue) (old new : State) (a arrived : Arrived) (response : List ℕ) → arrived ≡ a
-    → Step settings old arrived response new → Served settings old (a ∷ []) (response ∷ []) new
+    → Step settings old arrived response new → ServesInOrder settings old (a ∷ []) (response ∷ []) new
 one_served settings old new a arrived response same step = (new, subst (λ (x : Arrived). Step settings old x response new) same step, refl)
 
 -- there was no room: nothing was done
 pub no_room : (IsRun : List Arrived → List (List ℕ) → Type 0) (wire : Wire) (moment : ℕ) (seed : List ℕ) (cut : Cut)
-    → cut ≡ record { cause = NoRoom; written = 0; whole = 0 } → HasNoRoom wire → Keeps wire.sent wire.sent_after → IsRun [] []
+    → cut ≡ record { cause = NoRoom; written = 0; whole = 0 } → IsOutOfMemory wire → Keeps wire.sent wire.sent_after → IsRun [] []
     → CutsOff wire moment seed IsRun cut.cause cut.written cut.whole
 no_room IsRun wire moment seed cut same full kept none = rw same (refl, refl, full, kept, none)
 
 -- what such a run is, told otherwise
 module _ (IsRun Other : List Arrived → List (List ℕ) → Type 0) (also : (xs : List Arrived) (rs : List (List ℕ)) → IsRun xs rs → Other xs rs) (wire : Wire) (moment : ℕ) (seed : List ℕ) where
-  carries_also : (response : List ℕ) (written : ℕ) → Carries wire moment seed IsRun response written → Carries wire moment seed Other response written
+  carries_also : (response : List ℕ) (written : ℕ) → ReadsAndServes wire moment seed IsRun response written → ReadsAndServes wire moment seed Other response written
   carries_also response written (received, reads, is_run, out) =
       (received, reads, also (record { moment = moment; seed = seed; bytes = received.bytes } ∷ []) (response ∷ []) is_run, out)
 

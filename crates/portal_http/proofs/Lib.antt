@@ -4,6 +4,6 @@ pub mod ServeLemmas
 pub mod RunLemmas
 pub mod Lines
 pub mod HeadlineLemmas
-pub mod LifeLemmas
+pub mod ExecutionLemmas
 pub mod Readings
 pub mod ExchangeLemmas

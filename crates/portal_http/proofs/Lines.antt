@@ -14,7 +14,7 @@ use Rattle.portal_model.specs.declared.captive.OpenSession.{OpenSession}
 use Rattle.portal_model.specs.declared.record.Voucher.{Voucher}
 use Rattle.portal_files.specs.declared.sheet.BatchSheet.{BatchSheet}
 use Rattle.portal_json.specs.Bodies.{error_body}
-use Rattle.portal_head.specs.Bytes.{head_bytes}
+use Rattle.portal_http_message.specs.Bytes.{head_bytes}
 use Rattle.portal_http.specs.Replies.{IsError, IsState, IsSheet, IsVoucher, IsTakings, AreSessions, IsAnswer}
 
 -- the body of the refusal of a desk that stopped

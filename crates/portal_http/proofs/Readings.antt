@@ -1,11 +1,11 @@
 -- Requests and their responses settle what was acknowledged, and what is in doubt.
-use Rattle.portal_http.proofs.Common.{◌≡◌, inl, inr, ℕ, List, [], ◌∷◌, Bool, true, false, Option, sym, ap, subst, ◌∙◌, Result, Ok, Command, Mark, Accepted, Ledger, taken_at, SettingsValue, Wanted, Act, Denied, Arrived, IsChecked, is_ok, with_command, Acknowledges, Leads, IsAccepted, IsInDoubt, OneReading}
+use Rattle.portal_http.proofs.Common.{◌≡◌, inl, inr, ℕ, List, [], ◌∷◌, Bool, true, false, Option, sym, ap, subst, ◌∙◌, Result, Ok, Command, Fingerprint, Accepted, Ledger, accepted_at, SettingsValue, Operation, Act, Rejection, Arrived, IsChecked, is_ok, with_command, Acknowledges, Leads, IsAccepted, IsInDoubt, AcknowledgedIsUnique}
 use Rattle.std.specs.Bool.{MatchBool}
-use Rattle.portal_checks.specs.Laws.{ChecksAreExact}
+use Rattle.portal_http_request.specs.Laws.{ChecksAreExact}
 
 -- with its command, where it was answered 200
 abbrev Adds : SettingsValue → Ledger → Arrived → Ledger → Type 0
-Adds settings L a after = (wanted : Result Wanted Denied) × IsChecked settings a.seed a.bytes wanted × (after ≡ with_command L wanted a.moment)
+Adds settings L a after = (operation : Result Operation Rejection) × IsChecked settings a.seed a.bytes operation × (after ≡ with_command L operation a.moment)
 
 module _ (checked_once : ChecksAreExact) where
   -- the ledger after one request
@@ -14,7 +14,7 @@ module _ (checked_once : ChecksAreExact) where
   acknowledged_once settings L a r one other = go (is_ok r)
     where
       go : (b : Bool) → MatchBool b (Adds settings L a one) (one ≡ L) → MatchBool b (Adds settings L a other) (other ≡ L) → one ≡ other
-      go true (w, checked, is) (v, checked2, also) = is ∙ ap (λ (x : Result Wanted Denied). with_command L x a.moment) (checked_once settings a.seed a.bytes w v checked checked2) ∙ sym also
+      go true (w, checked, is) (v, checked2, also) = is ∙ ap (λ (x : Result Operation Rejection). with_command L x a.moment) (checked_once settings a.seed a.bytes w v checked checked2) ∙ sym also
       go false is also = is ∙ sym also
 
   leads_once : (settings : SettingsValue) (L : Ledger) (arrivals : List Arrived) (responses : List (List ℕ)) (last other : Ledger)
@@ -27,11 +27,11 @@ module _ (checked_once : ChecksAreExact) where
       leads_once settings is.0 rest rs last other is.3 (subst (λ (K : Ledger). Leads settings K rest rs other) (sym same) also.3)
 
   -- the command and the mark of a request
-  abbrev command_in : Command → Option Mark → Result Wanted Denied → Command
+  abbrev command_in : Command → Option Fingerprint → Result Operation Rejection → Command
   command_in command mark (Ok (Act c m)) = c
   command_in command mark _ = command
 
-  abbrev mark_in : Command → Option Mark → Result Wanted Denied → Option Mark
+  abbrev mark_in : Command → Option Fingerprint → Result Operation Rejection → Option Fingerprint
   mark_in command mark (Ok (Act c m)) = m
   mark_in command mark _ = mark
 
@@ -40,7 +40,7 @@ module _ (checked_once : ChecksAreExact) where
       let same = checked_once settings a.seed a.bytes (Ok (Act c m)) (Ok (Act d n)) checked checked2 in
       let command : c ≡ d = ap (command_in c m) same in
       let mark : m ≡ n = ap (mark_in c m) same in
-      is ∙ ap (λ (x : Command). taken_at L a.moment x m) command ∙ ap (λ (x : Option Mark). taken_at L a.moment d x) mark ∙ sym also
+      is ∙ ap (λ (x : Command). accepted_at L a.moment x m) command ∙ ap (λ (x : Option Fingerprint). accepted_at L a.moment d x) mark ∙ sym also
 
   doubt_once : (settings : SettingsValue) (L : Ledger) (arrivals : List Arrived) (responses : List (List ℕ)) (own other : Accepted)
       → IsInDoubt settings L arrivals responses own → IsInDoubt settings L arrivals responses other → own ≡ other
@@ -53,5 +53,5 @@ module _ (checked_once : ChecksAreExact) where
       let same = acknowledged_once settings L a r is.1 also.1 is.2 also.2 in
       doubt_once settings is.1 rest rs own other is.3 (subst (λ (K : Ledger). IsInDoubt settings K rest rs other) (sym same) also.3)
 
-  pub one_reading : OneReading
-  one_reading = record { leads = leads_once; in_doubt = doubt_once }
+  pub acknowledged_is_unique : AcknowledgedIsUnique
+  acknowledged_is_unique = record { leads = leads_once; in_doubt = doubt_once }

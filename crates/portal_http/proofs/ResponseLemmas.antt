@@ -1,11 +1,11 @@
 -- The body of a response, by what was written, and the status that its bytes show.
 use Rattle.portal_http.proofs.Common.{◌≡◌, ℕ, List, ◌++◌, None, Option, ap, ◌∙◌, refl, subst, Result, Ok, Err, Refusal, Stopped, status_of, IsResponse}
 use Rattle.std.specs.Fmt.{digits}
-use Rattle.portal_head.specs.declared.responses.ContentType.{ContentType}
-use Rattle.portal_head.specs.Bytes.{head_bytes}
+use Rattle.portal_http_message.specs.declared.responses.ContentType.{ContentType}
+use Rattle.portal_http_message.specs.Bytes.{head_bytes}
 use Rattle.portal_http.specs.declared.reply.Response.{Response}
 use Rattle.portal_http.specs.Responses.{Responds}
-use Rattle.portal_http.specs.Status.{status_shown}
+use Rattle.portal_http.specs.Status.{status_in}
 
 -- a response of the status 200 with that body
 abbrev pub IsOkResponse : ContentType → ℕ → List ℕ → List ℕ → Type 0
@@ -25,20 +25,20 @@ with_text Is content_type moment body text (Err r) so same is = record { ok = tt
 
 -- ---- the status that a response shows
 
-accepted_line : (phrase date media_type : List ℕ) (size : ℕ) (last body : List ℕ) → status_shown (head_bytes 200 phrase date media_type size last ++ body) ≡ 200
+accepted_line : (phrase date media_type : List ℕ) (size : ℕ) (last body : List ℕ) → status_in (head_bytes 200 phrase date media_type size last ++ body) ≡ 200
 unfolding head_bytes digits
 accepted_line phrase date media_type size last body = refl
 
 refused_line : (r : Refusal) (phrase date media_type : List ℕ) (size : ℕ) (last body : List ℕ)
-    → status_shown (head_bytes (status_of r) phrase date media_type size last ++ body) ≡ status_of r
+    → status_in (head_bytes (status_of r) phrase date media_type size last ++ body) ≡ status_of r
 unfolding head_bytes digits
 refused_line Stopped phrase date media_type size last body = refl
 refused_line _ phrase date media_type size last body = refl
 
 pub accepted_shown : (moment : ℕ) (content_type : ContentType) (allow : Option (List ℕ)) (body response : List ℕ)
-    → IsResponse 200 moment content_type allow body response → status_shown response ≡ 200
-accepted_shown moment content_type allow body response (date, dated, same) = ap status_shown same ∙ accepted_line _ _ _ _ _ _
+    → IsResponse 200 moment content_type allow body response → status_in response ≡ 200
+accepted_shown moment content_type allow body response (date, dated, same) = ap status_in same ∙ accepted_line _ _ _ _ _ _
 
 pub refused_shown : (r : Refusal) (moment : ℕ) (content_type : ContentType) (allow : Option (List ℕ)) (body response : List ℕ)
-    → IsResponse (status_of r) moment content_type allow body response → status_shown response ≡ status_of r
-refused_shown r moment content_type allow body response (date, dated, same) = ap status_shown same ∙ refused_line r _ _ _ _ _ _
+    → IsResponse (status_of r) moment content_type allow body response → status_in response ≡ status_of r
+refused_shown r moment content_type allow body response (date, dated, same) = ap status_in same ∙ refused_line r _ _ _ _ _ _

@@ -12,64 +12,64 @@ use Rattle.portal_ledger.specs.declared.marked.MarkedChanges.{MarkedChanges}
 use Rattle.portal_files.specs.SettingsFile.{SettingsValue}
 use Rattle.portal_desk.specs.declared.Desk.{Ghosts}
 use Rattle.portal_desk.specs.Calls.{StaysStopped}
-use Rattle.portal_checks.specs.declared.wanted.Wanted.{Wanted}
+use Rattle.portal_http_request.specs.declared.operation.Operation.{Operation}
 use Rattle.portal_http.specs.declared.exchanges.Done.{Done}
 use Rattle.portal_http.specs.declared.exchanges.Cut.{Cut}
 use Rattle.portal_http.specs.Arrived.{Arrived}
-use Rattle.portal_http.specs.Runs.{Served, bytes_of}
-use Rattle.portal_http.specs.Serving.{Finishes, ServesWanted}
+use Rattle.portal_http.specs.Runs.{ServesInOrder, bytes_of_responses}
+use Rattle.portal_http.specs.Serving.{Finishes, ServesOperation}
 use Rattle.portal_http.specs.Headline.{Survives}
 use Rattle.portal_http.specs.Exchanges.{Wire, EndsExchange}
 
 -- As long as the desk is honest, it leads from each state that the desk stands at to one that it stands at then, as Does says.
-pub record Moves {D : Type 0} (g : Ghosts D) (Does : State → State → Type 0) (old new : D) : Type 0 where
-  pub told : g.settings new ≡ g.settings old
-  pub honest : g.is_honest new → g.is_honest old
+pub record MovesState {D : Type 0} (g : Ghosts D) (Does : State → State → Type 0) (old new : D) : Type 0 where
+  pub same_settings : g.settings new ≡ g.settings old
+  pub fault_free : g.is_fault_free new → g.is_fault_free old
   pub stays : StaysStopped (g.has_stopped old) (g.has_stopped new)
-  pub step : g.is_honest new → (before : State) → g.stands old before → (after : State) × g.stands new after × Does before after
+  pub step : g.is_fault_free new → (before : State) → g.represents old before → (after : State) × g.represents new after × Does before after
 
 -- what is wanted is carried out, or there was no memory for it, with a response of those bytes
-abbrev pub ServesAt : {D : Type 0} → Ghosts D → Wanted → ℕ → List ℕ → D → D → Type 0
-ServesAt g asked moment bytes old new = Moves g (λ before after. ServesWanted (g.settings old) asked before moment bytes after) old new
+abbrev pub ServesAt : {D : Type 0} → Ghosts D → Operation → ℕ → List ℕ → D → D → Type 0
+ServesAt g asked moment bytes old new = MovesState g (λ before after. ServesOperation (g.settings old) asked before moment bytes after) old new
 
 -- a command that was prepared is kept and answered, or it is not
 pub record FinishesAt {D : Type 0} (g : Ghosts D) (prepared : MarkedChanges) (moment : ℕ) (bytes : List ℕ) (old new : D) : Type 0 where
-  pub told : g.settings new ≡ g.settings old
-  pub honest : g.is_honest new → g.is_honest old
+  pub same_settings : g.settings new ≡ g.settings old
+  pub fault_free : g.is_fault_free new → g.is_fault_free old
   pub stays : StaysStopped (g.has_stopped old) (g.has_stopped new)
-  pub finished : g.is_honest new → (L : Ledger) → g.stands old (running L) → (a : Accepted) → Fits (running L) prepared a
-      → (after : State) × g.stands new after × Finishes L a (answer_of prepared.changes) moment bytes after
+  pub finishes : g.is_fault_free new → (L : Ledger) → g.represents old (running L) → (a : Accepted) → Fits (running L) prepared a
+      → (after : State) × g.represents new after × Finishes L a (answer_of prepared.changes) moment bytes after
 
 -- the first requests were served, with the responses that were added: all of them, or not all at an error
 abbrev pub AddsResponses : SettingsValue → State → List Arrived → List (Vec ℕ Global) → List (Vec ℕ Global) → Result (Unit {0}) Refusal → State → Type 0
 AddsResponses settings before arrivals out out_after result after =
-    (responses : List (Vec ℕ Global)) × (out_after ≡ out ++ responses) × Served settings before arrivals (bytes_of responses) after
+    (responses : List (Vec ℕ Global)) × (out_after ≡ out ++ responses) × ServesInOrder settings before arrivals (bytes_of_responses responses) after
     × MatchResult result (λ _. length responses ≡ length arrivals) (λ _. length responses < length arrivals)
 
 -- A run of the requests, which adds one response for each that it serves.
 pub record RunsOn {D : Type 0} (g : Ghosts D) (arrivals : List Arrived) (old new : D) (out out_after : List (Vec ℕ Global))
     (result : Result (Unit {0}) Refusal) : Type 0 where
-  pub told : g.settings new ≡ g.settings old
+  pub same_settings : g.settings new ≡ g.settings old
   pub err : IfErr result (λ r. r ≡ NoMemory)
-  pub honest : g.is_honest new → g.is_honest old
+  pub fault_free : g.is_fault_free new → g.is_fault_free old
   pub stays : StaysStopped (g.has_stopped old) (g.has_stopped new)
-  pub served : g.is_honest new → (before : State) → g.stands old before
-      → (after : State) × (responses : List (Vec ℕ Global)) × g.stands new after × (out_after ≡ out ++ responses)
-      × Served (g.settings old) before arrivals (bytes_of responses) after
+  pub serves : g.is_fault_free new → (before : State) → g.represents old before
+      → (after : State) × (responses : List (Vec ℕ Global)) × g.represents new after × (out_after ≡ out ++ responses)
+      × ServesInOrder (g.settings old) before arrivals (bytes_of_responses responses) after
       × MatchResult result (λ _. length responses ≡ length arrivals) (λ _. length responses < length arrivals)
-  pub survives : g.is_honest new → (L : Ledger) → g.stands old (running L)
+  pub survives : g.is_fault_free new → (L : Ledger) → g.represents old (running L)
       → (responses : List (Vec ℕ Global)) × (out_after ≡ out ++ responses)
-      × Survives g.Files (g.may_leave new) g.shows (g.settings old) L arrivals (bytes_of responses)
+      × Survives g.Files (g.is_crash_state new) g.holds_ledger (g.settings old) L arrivals (bytes_of_responses responses)
 
 -- One exchange over a connection.
 pub record ExchangesOn {D : Type 0} (g : Ghosts D) (connection : Wire) (moment : ℕ) (seed : List ℕ) (old new : D) (result : Result Done Cut)
     : Type 0 where
-  pub told : g.settings new ≡ g.settings old
-  pub honest : g.is_honest new → g.is_honest old
+  pub same_settings : g.settings new ≡ g.settings old
+  pub fault_free : g.is_fault_free new → g.is_fault_free old
   pub stays : StaysStopped (g.has_stopped old) (g.has_stopped new)
   pub wire : EndsExchange connection moment seed (λ arrivals responses. ⊤) result
-  pub served : g.is_honest new → (before : State) → g.stands old before → (after : State) × g.stands new after
-      × EndsExchange connection moment seed (λ arrivals responses. Served (g.settings old) before arrivals responses after) result
-  pub survives : g.is_honest new → (L : Ledger) → g.stands old (running L)
+  pub serves : g.is_fault_free new → (before : State) → g.represents old before → (after : State) × g.represents new after
+      × EndsExchange connection moment seed (λ arrivals responses. ServesInOrder (g.settings old) before arrivals responses after) result
+  pub survives : g.is_fault_free new → (L : Ledger) → g.represents old (running L)
       → EndsExchange connection moment seed
-      (λ arrivals responses. Survives g.Files (g.may_leave new) g.shows (g.settings old) L arrivals responses) result
+      (λ arrivals responses. Survives g.Files (g.is_crash_state new) g.holds_ledger (g.settings old) L arrivals responses) result

@@ -3,17 +3,17 @@ use Rattle.std.specs.Prelude.{◌≡◌, ◌⊎◌, ℕ, ◌<◌, List, [], ◌�
 use Rattle.std.specs.Io.KnownBytes.{Appends, Keeps}
 use Rattle.portal_model.specs.declared.refusal.Refusal.{Refusal}
 use Rattle.portal_model.specs.Refusal.{status_of}
-use Rattle.portal_head.specs.declared.responses.ContentType.{ContentType}
-use Rattle.portal_head.specs.Bytes.{IsResponse}
-use Rattle.portal_head.specs.declared.received.ReadFault.TheVariants as fault
-use Rattle.portal_head.specs.Received.{Incoming}
-use Rattle.portal_head.specs.Reading.{ReadsRequestBytes, BreaksOff}
+use Rattle.portal_http_message.specs.declared.responses.ContentType.{ContentType}
+use Rattle.portal_http_message.specs.Bytes.{IsResponse}
+use Rattle.portal_http_message.specs.declared.received.ReadError.TheVariants as error
+use Rattle.portal_http_message.specs.Received.{Incoming}
+use Rattle.portal_http_message.specs.Reading.{ReadsRequestBytes, BreaksOff}
 use Rattle.portal_http.specs.declared.exchanges.Done.{Done}
 use Rattle.portal_http.specs.declared.exchanges.Cause.{Cause}
 use Rattle.portal_http.specs.declared.exchanges.Cause.TheVariants.{Read, NoRoom, Write}
 use Rattle.portal_http.specs.declared.exchanges.Cut.{Cut}
 use Rattle.portal_http.specs.Arrived.{Arrived}
-use Rattle.portal_http.specs.Status.{status_shown}
+use Rattle.portal_http.specs.Status.{status_in}
 
 -- what is known of the bytes that a peer has left to send and was sent, before and after
 pub record Wire : Type 0 where
@@ -27,37 +27,37 @@ abbrev pub between : Option (List ℕ) → Option (List ℕ) → Option (List �
 between unread unread_after sent sent_after = record { unread = unread; unread_after = unread_after; sent = sent; sent_after = sent_after }
 
 -- a response shows its status, be it 200 or a refusal's
-pub record StatusIsShown : Type 0 where
+pub record StatusIsInResponse : Type 0 where
   pub accepted : (moment : ℕ) (content_type : ContentType) (allow : Option (List ℕ)) (body response : List ℕ)
-      → IsResponse 200 moment content_type allow body response → status_shown response ≡ 200
+      → IsResponse 200 moment content_type allow body response → status_in response ≡ 200
   pub refused : (r : Refusal) (moment : ℕ) (content_type : ContentType) (allow : Option (List ℕ)) (body response : List ℕ)
-      → IsResponse (status_of r) moment content_type allow body response → status_shown response ≡ status_of r
+      → IsResponse (status_of r) moment content_type allow body response → status_in response ≡ status_of r
 
 -- A request is read, and no further than its reply needs. It is the one request of a run, and the first bytes of the one response go out.
-abbrev pub Carries : Wire → ℕ → List ℕ → (List Arrived → List (List ℕ) → Type 0) → List ℕ → ℕ → Type 0
-Carries wire moment seed IsRun response written =
+abbrev pub ReadsAndServes : Wire → ℕ → List ℕ → (List Arrived → List (List ℕ) → Type 0) → List ℕ → ℕ → Type 0
+ReadsAndServes wire moment seed IsRun response written =
     (received : Incoming) × ReadsRequestBytes wire.unread wire.unread_after received
     × IsRun (record { moment = moment; seed = seed; bytes = received.bytes } ∷ []) (response ∷ [])
     × Appends wire.sent wire.sent_after (take written response)
 
 -- there is no room for the request, or, once it is read, for any response
-abbrev pub HasNoRoom : Wire → Type 0
-HasNoRoom wire =
-    BreaksOff wire.unread wire.unread_after fault.NoRoom ⊎ ((received : Incoming) × ReadsRequestBytes wire.unread wire.unread_after received)
+abbrev pub IsOutOfMemory : Wire → Type 0
+IsOutOfMemory wire =
+    BreaksOff wire.unread wire.unread_after error.NoMemory ⊎ ((received : Incoming) × ReadsRequestBytes wire.unread wire.unread_after received)
 
 -- By the cause. At a failed read, and where there is no room, the run is one of no requests, and nothing goes out. At a failed write the
 -- request was carried out, and fewer bytes went out than the response has.
 abbrev pub CutsOff : Wire → ℕ → List ℕ → (List Arrived → List (List ℕ) → Type 0) → Cause → ℕ → ℕ → Type 0
 CutsOff wire moment seed IsRun Read written whole =
-    (written ≡ 0) × (whole ≡ 0) × BreaksOff wire.unread wire.unread_after fault.Read × Keeps wire.sent wire.sent_after × IsRun [] []
+    (written ≡ 0) × (whole ≡ 0) × BreaksOff wire.unread wire.unread_after error.Read × Keeps wire.sent wire.sent_after × IsRun [] []
 CutsOff wire moment seed IsRun NoRoom written whole =
-    (written ≡ 0) × (whole ≡ 0) × HasNoRoom wire × Keeps wire.sent wire.sent_after × IsRun [] []
+    (written ≡ 0) × (whole ≡ 0) × IsOutOfMemory wire × Keeps wire.sent wire.sent_after × IsRun [] []
 CutsOff wire moment seed IsRun Write written whole =
-    (response : List ℕ) × (whole ≡ length response) × (written < whole) × Carries wire moment seed IsRun response written
+    (response : List ℕ) × (whole ≡ length response) × (written < whole) × ReadsAndServes wire moment seed IsRun response written
 
 -- How an exchange ends, where `IsRun` says what a run of such requests with such responses is.
 abbrev pub EndsExchange : Wire → ℕ → List ℕ → (List Arrived → List (List ℕ) → Type 0) → Result Done Cut → Type 0
 EndsExchange wire moment seed IsRun (Ok done) =
-    (response : List ℕ) × (done.status ≡ status_shown response) × (done.written ≡ length response)
-    × Carries wire moment seed IsRun response (length response)
+    (response : List ℕ) × (done.status ≡ status_in response) × (done.written ≡ length response)
+    × ReadsAndServes wire moment seed IsRun response (length response)
 EndsExchange wire moment seed IsRun (Err cut) = CutsOff wire moment seed IsRun cut.cause cut.written cut.whole

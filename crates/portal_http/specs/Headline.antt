@@ -12,14 +12,14 @@ use Rattle.portal_model.specs.declared.command.Command.{Command}
 use Rattle.portal_model.specs.declared.refusal.Refusal.TheVariants.{NoMemory, Stopped}
 use Rattle.portal_model.specs.Rows.{rows_of}
 use Rattle.portal_model.specs.Verdict.{verdict, IsLegal}
-use Rattle.portal_laws.specs.Laws.{HasGrantsWithin}
-use Rattle.portal_ledger.specs.Mark.{Mark}
-use Rattle.portal_ledger.specs.Ledger.{Accepted, Ledger, history_of, repeat_in, taken_at, new_by, IsSound}
+use Rattle.portal_model_laws.specs.Laws.{HasGrantsWithin}
+use Rattle.portal_ledger.specs.Fingerprint.{Fingerprint}
+use Rattle.portal_ledger.specs.Ledger.{Accepted, Ledger, history_of, repeat_in, accepted_at, newly_accepted, IsSound}
 use Rattle.portal_files.specs.SettingsFile.{SettingsValue}
-use Rattle.portal_checks.specs.declared.wanted.Wanted.{Wanted}
-use Rattle.portal_checks.specs.declared.wanted.Wanted.TheVariants.{Act}
-use Rattle.portal_checks.specs.declared.denials.Denied.{Denied}
-use Rattle.portal_checks.specs.Checks.{IsChecked}
+use Rattle.portal_http_request.specs.declared.operation.Operation.{Operation}
+use Rattle.portal_http_request.specs.declared.operation.Operation.TheVariants.{Act}
+use Rattle.portal_http_request.specs.declared.rejection.Rejection.{Rejection}
+use Rattle.portal_http_request.specs.Checks.{IsChecked}
 use Rattle.portal_http.specs.Arrived.{Arrived}
 use Rattle.portal_http.specs.Replies.{IsRefusal, IsReply}
 
@@ -30,20 +30,20 @@ abbrev pub is_ok : List ℕ → Bool
 is_ok response = starts_with nat_eq response (codes "HTTP/1.1 200 ")
 
 -- the ledger with the command of a request, where the command is new; a repetition and a request of another kind add nothing
-abbrev pub with_command : Ledger → Result Wanted Denied → ℕ → Ledger
-with_command L (Ok (Act command mark)) moment = new_by (repeat_in L mark) (taken_at L moment command mark) ++ L
+abbrev pub with_command : Ledger → Result Operation Rejection → ℕ → Ledger
+with_command L (Ok (Act command mark)) moment = newly_accepted (repeat_in L mark) (accepted_at L moment command mark) ++ L
 with_command L _ moment = L
 
 -- the ledger after a request: with its command, where it was answered 200
 abbrev pub Acknowledges : SettingsValue → Ledger → Arrived → List ℕ → Ledger → Type 0
 Acknowledges settings L a response after = MatchBool (is_ok response)
-    ((wanted : Result Wanted Denied) × IsChecked settings a.seed a.bytes wanted × (after ≡ with_command L wanted a.moment))
+    ((operation : Result Operation Rejection) × IsChecked settings a.seed a.bytes operation × (after ≡ with_command L operation a.moment))
     (after ≡ L)
 
 -- the response is the reply that the ledger gives at the moment handed in, or that of `no_memory`, or that of `stopped`
 abbrev pub Replies : SettingsValue → Ledger → Arrived → List ℕ → Ledger → Type 0
 Replies settings L a response after =
-    ((wanted : Result Wanted Denied) × IsChecked settings a.seed a.bytes wanted × IsReply settings wanted L a.moment response after)
+    ((operation : Result Operation Rejection) × IsChecked settings a.seed a.bytes operation × IsReply settings operation L a.moment response after)
     ⊎ (IsRefusal NoMemory a.moment response ⊎ IsRefusal Stopped a.moment response)
 
 -- Requests and their responses, one after another: each response is as above, and the last ledger is the first with the acknowledged
@@ -60,8 +60,8 @@ Leads settings L (a ∷ rest) (r ∷ rs) last =
 -- the command of a request as it would be accepted, where it is a new one and the verdict accepts it
 abbrev pub IsAccepted : SettingsValue → Ledger → Arrived → Accepted → Type 0
 IsAccepted settings L a own =
-    (command : Command) × (mark : Option Mark) × IsChecked settings a.seed a.bytes (Ok (Act command mark))
-    × (own ≡ taken_at L a.moment command mark) × (repeat_in L mark ≡ Ok None) × (verdict (history_of L) command own.at ≡ None)
+    (command : Command) × (mark : Option Fingerprint) × IsChecked settings a.seed a.bytes (Ok (Act command mark))
+    × (own ≡ accepted_at L a.moment command mark) × (repeat_in L mark ≡ Ok None) × (verdict (history_of L) command own.at ≡ None)
 
 -- the command of the first request that was answered `stopped`, where the ledger so far accepts it
 abbrev pub IsInDoubt : SettingsValue → Ledger → List Arrived → List (List ℕ) → Accepted → Type 0
@@ -84,13 +84,13 @@ pub record IsFound (settings : SettingsValue) (L : Ledger) (arrivals : List Arri
 -- The requests that were answered led from the ledger to another one, and each set of files that a stop may leave shows what may be
 -- found then: that one, or it with the command in doubt, as above.
 abbrev pub Survives : (Files : Type 0) → (Files → Type 0) → (Files → Ledger → Type 0) → SettingsValue → Ledger → List Arrived → List (List ℕ) → Type 0
-Survives Files may_leave shows settings L arrivals responses =
+Survives Files is_crash_state holds_ledger settings L arrivals responses =
     let answered = take (length responses) arrivals in
     (last : Ledger) × Leads settings L answered responses last
-    × ((files : Files) → may_leave files → (found : Ledger) × shows files found × IsFound settings L answered responses last found)
+    × ((files : Files) → is_crash_state files → (found : Ledger) × holds_ledger files found × IsFound settings L answered responses last found)
 
 -- The page has one reading: the requests and their responses settle the ledger that they led to, and the command in doubt.
-pub record OneReading : Type 0 where
+pub record AcknowledgedIsUnique : Type 0 where
   pub leads : (settings : SettingsValue) (L : Ledger) (arrivals : List Arrived) (responses : List (List ℕ)) (last other : Ledger)
       → Leads settings L arrivals responses last → Leads settings L arrivals responses other → last ≡ other
   pub in_doubt : (settings : SettingsValue) (L : Ledger) (arrivals : List Arrived) (responses : List (List ℕ)) (own other : Accepted)

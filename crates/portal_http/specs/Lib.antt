@@ -4,7 +4,7 @@ pub mod Replies
 pub mod Runs
 pub mod Serving
 pub mod Headline
-pub mod Lives
+pub mod Executions
 pub mod Exchanges
 pub mod Responses
 pub mod Calls

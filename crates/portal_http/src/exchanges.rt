@@ -1,16 +1,16 @@
 //! One exchange with a peer: its request is read, carried out, and answered.
 ghost use Rattle.std.specs.Prelude.{◌≡◌, ◌≤◌, ⊤};
-ghost use Rattle.portal_http.specs.Runs.{Served};
-ghost use Rattle.portal_http.specs.Exchanges.{between, EndsExchange, StatusIsShown};
-ghost use Rattle.portal_http.specs.Status.{digit_shown, status_shown};
-ghost use Rattle.portal_http.specs.Calls.{ExchangesOn, Moves};
+ghost use Rattle.portal_http.specs.Runs.{ServesInOrder};
+ghost use Rattle.portal_http.specs.Exchanges.{between, EndsExchange, StatusIsInResponse};
+ghost use Rattle.portal_http.specs.Status.{digit_at, status_in};
+ghost use Rattle.portal_http.specs.Calls.{ExchangesOn, MovesState};
 
 use crate::arrivals::Arrival;
-use crate::serving::serve;
+use crate::serving::serve_request;
 use portal_desk::Desk;
-use portal_head::{ReadFault, read_request, write_response};
+use portal_http_message::{ReadError, read_request, write_response};
+use portal_http_routes::Routes;
 use portal_model::moment::Moment;
-use portal_route::Routes;
 use std::alloc::Global;
 use std::io::{Read, Write};
 
@@ -46,7 +46,7 @@ pub struct Cut {
 }
 
 /// A cut before anything was done.
-fn cut_before(cause: Cause) -> Cut
+fn cut_without_response(cause: Cause) -> Cut
     ensures { result ≡ record { cause = cause; written = 0; whole = 0 } }
 {
     Cut {
@@ -57,30 +57,30 @@ fn cut_before(cause: Cause) -> Cut
 }
 
 /// The digit that a response shows at a place.
-fn digit_shown(response: &[u8], place: usize) -> u16
-    ensures digit { result ≡ digit_shown response.now place }
+fn digit_at(response: &[u8], place: usize) -> u16
+    ensures digit { result ≡ digit_at response.now place }
     ensures small { result ≤ 255 }
 {
     match response.get(place) {
-        Some(sign) => u16::from(sign.saturating_sub(48)),
+        Some(character) => u16::from(character.saturating_sub(48)),
         None => 0,
     }
 }
 
 /// The status that a response shows (RFC 9112 section 4).
-pub fn status_shown(response: &[u8]) -> u16
-    ensures { result ≡ status_shown response.now }
+pub fn status_in(response: &[u8]) -> u16
+    ensures { result ≡ status_in response.now }
 {
-    100 * digit_shown(response, 9) + 10 * digit_shown(response, 10) + digit_shown(response, 11)
+    100 * digit_at(response, 9) + 10 * digit_at(response, 10) + digit_at(response, 11)
 }
 
 /// A law: a response shows its status.
-pub fn status_is_shown()
-    ensures { StatusIsShown }
+pub fn status_is_in_response()
+    ensures { StatusIsInResponse }
 {}
 
 /// The exchange, as far as the desk goes.
-fn carry_out<D: Desk, R: Read, W: Write>(
+fn read_serve_and_write<D: Desk, R: Read, W: Write>(
     alloc: Global,
     desk: &mut D,
     routes: &Routes,
@@ -89,22 +89,22 @@ fn carry_out<D: Desk, R: Read, W: Write>(
     reader: &mut R,
     writer: &mut W,
 ) -> Result<Done, Cut>
-    ensures desk { Moves D.Desk (λ old new. EndsExchange
+    ensures desk { MovesState D.Desk (λ old new. EndsExchange
         (between (R.remaining reader.old) (R.remaining reader.new)
         (W.contents writer.old) (W.contents writer.new)) moment seed
-        (λ arrivals responses. Served (D.settings desk.old) old arrivals responses new) result)
+        (λ arrivals responses. ServesInOrder (D.settings desk.old) old arrivals responses new) result)
         desk.old desk.new }
     ensures wire { EndsExchange (between (R.remaining reader.old) (R.remaining reader.new)
         (W.contents writer.old) (W.contents writer.new)) moment seed (λ arrivals responses. ⊤) result }
 {
     let received = match read_request(alloc, reader) {
         Ok(received) => received,
-        Err(ReadFault::Read) => return Err(cut_before(Cause::Read)),
-        Err(ReadFault::NoRoom) => return Err(cut_before(Cause::NoRoom)),
+        Err(ReadError::Read) => return Err(cut_without_response(Cause::Read)),
+        Err(ReadError::NoMemory) => return Err(cut_without_response(Cause::NoRoom)),
     };
     let arrival = Arrival::at(moment, seed, received);
-    let Ok(response) = serve(alloc, desk, routes, &arrival) else {
-        return Err(cut_before(Cause::NoRoom));
+    let Ok(response) = serve_request(alloc, desk, routes, &arrival) else {
+        return Err(cut_without_response(Cause::NoRoom));
     };
     let whole = response.bytes.len();
     match write_response(writer, response.bytes.as_slice()) {
@@ -112,9 +112,9 @@ fn carry_out<D: Desk, R: Read, W: Write>(
             status: response.status,
             written: whole,
         }),
-        Err(fault) => Err(Cut {
+        Err(error) => Err(Cut {
             cause: Cause::Write,
-            written: fault.written,
+            written: error.written,
             whole,
         }),
     }
@@ -146,5 +146,5 @@ pub fn exchange<D: Desk, R: Read, W: Write>(
     ensures { ExchangesOn D.Desk (between (R.remaining reader.old) (R.remaining reader.new)
         (W.contents writer.old) (W.contents writer.new)) moment seed desk.old desk.new result }
 {
-    carry_out(alloc, desk, routes, moment, seed, reader, writer)
+    read_serve_and_write(alloc, desk, routes, moment, seed, reader, writer)
 }

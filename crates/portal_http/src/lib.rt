@@ -3,13 +3,13 @@
 
 mod arrivals;
 pub mod exchanges;
-mod lives;
+mod executions;
 mod reply;
 mod responses;
 mod runs;
 mod serving;
 
 pub use arrivals::Arrival;
-pub use exchanges::{Cause, Cut, Done, exchange, status_is_shown, status_shown};
-pub use lives::{life_is_kept, one_reading};
+pub use exchanges::{Cause, Cut, Done, exchange, status_in, status_is_in_response};
+pub use executions::{acknowledged_is_unique, execution_is_kept};
 pub use runs::run;

@@ -1,11 +1,11 @@
 //! One response.
 ghost use Rattle.std.specs.Prelude.{◌≡◌};
-ghost use Rattle.portal_http.specs.Status.{status_shown};
+ghost use Rattle.portal_http.specs.Status.{status_in};
 
 /// A response: its bytes, and the status that they show (RFC 9112 section 4).
 #[derive(Drop)]
 pub struct Response {
     pub status: u16,
     pub bytes: Vec<u8>,
-    ghost shown: { status ≡ status_shown bytes.items },
+    ghost shown: { status ≡ status_in bytes.items },
 }

@@ -1,12 +1,12 @@
 //! A run of requests.
 ghost use Rattle.std.specs.Prelude.{◌≡◌, IfErr};
-ghost use Rattle.portal_http.specs.Calls.{AddsResponses, Moves, RunsOn};
+ghost use Rattle.portal_http.specs.Calls.{AddsResponses, MovesState, RunsOn};
 
 use crate::arrivals::Arrival;
-use crate::serving::serve;
+use crate::serving::serve_request;
 use portal_desk::Desk;
+use portal_http_routes::Routes;
 use portal_model::refusal::Refusal;
-use portal_route::Routes;
 use std::alloc::Global;
 
 /// Serves the requests in order and appends one response for each to `out`.
@@ -33,11 +33,11 @@ pub fn run<D: Desk>(
 ) -> Result<(), Refusal>
     ensures { RunsOn D.Desk arrivals.now desk.old desk.new out.old.items out.new.items result }
 {
-    serve_all(alloc, desk, routes, arrivals, out)
+    serve_each(alloc, desk, routes, arrivals, out)
 }
 
 /// The requests one after another, as `run` says.
-fn serve_all<D: Desk>(
+fn serve_each<D: Desk>(
     alloc: Global,
     desk: &mut D,
     routes: &Routes,
@@ -45,12 +45,12 @@ fn serve_all<D: Desk>(
     out: &mut Vec<Vec<u8>>,
 ) -> Result<(), Refusal>
     ensures err { IfErr result (λ r. r ≡ Refusal.NoMemory) }
-    ensures desk { Moves D.Desk (λ old new. AddsResponses (D.settings desk.old) old arrivals.now
+    ensures desk { MovesState D.Desk (λ old new. AddsResponses (D.settings desk.old) old arrivals.now
         out.old.items out.new.items result new) desk.old desk.new }
 {
     for arrival in arrivals {
         out.reserve(1)?;
-        let response = serve(alloc, desk, routes, arrival)?;
+        let response = serve_request(alloc, desk, routes, arrival)?;
         let Ok(()) = out.push(response.bytes) else {
             unreachable!()
         };

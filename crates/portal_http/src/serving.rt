@@ -1,31 +1,31 @@
 //! One request, from its bytes to its response.
 ghost use Rattle.std.specs.Prelude.{◌≡◌, ◌≢◌, ◌⊎◌, Some, None, IfErr, MatchResult};
 ghost use Rattle.portal_model.specs.Verdict.{IsWellFormed};
-ghost use Rattle.portal_checks.specs.declared.wanted.Wanted.TheVariants as wanted;
-ghost use Rattle.portal_checks.specs.Checks.{IsInOrder};
-ghost use Rattle.portal_http.specs.Replies.{IsRefusal, IsDenial};
+ghost use Rattle.portal_http_request.specs.declared.operation.Operation.TheVariants as operation;
+ghost use Rattle.portal_http_request.specs.Checks.{IsInOrder};
+ghost use Rattle.portal_http.specs.Replies.{IsRefusal, IsRejection};
 ghost use Rattle.portal_http.specs.Responses.{IsSpare};
 ghost use Rattle.portal_http.specs.Runs.{Step};
-ghost use Rattle.portal_http.specs.Serving.{Tells};
-ghost use Rattle.portal_http.specs.Calls.{FinishesAt, Moves, ServesAt};
+ghost use Rattle.portal_http.specs.Serving.{GivesRefusal};
+ghost use Rattle.portal_http.specs.Calls.{FinishesAt, MovesState, ServesAt};
 
 use crate::arrivals::Arrival;
 use crate::reply::Response;
 use crate::responses::{
-    answer_response, captive_response, denial_response, refusal_response, sessions_response,
+    answer_response, captive_response, refusal_response, rejection_response, sessions_response,
     sheet_response, takings_response, voucher_response,
 };
-use portal_checks::{Denied, Wanted, check_request};
 use portal_codes::Code;
 use portal_days::DayRange;
 use portal_desk::Desk;
 use portal_desk::prepared::{Marked, Prepared};
+use portal_http_request::{Operation, Rejection, check_request};
+use portal_http_routes::Routes;
 use portal_ledger::request::RequestMark;
 use portal_model::command::Command;
 use portal_model::moment::Moment;
 use portal_model::name::{Device, Id};
 use portal_model::refusal::Refusal;
-use portal_route::Routes;
 use std::alloc::Global;
 
 /// The two responses that may be wanted when there is no memory for one: they are made before the desk is
@@ -38,21 +38,21 @@ pub struct Spare {
 
 /// The response to a request that does not reach the desk, or that of `NoMemory` where there is no memory for
 /// it.
-fn denied(alloc: Global, moment: Moment, denied: Denied, spare: Spare) -> Response
+fn rejection_or_spare(alloc: Global, moment: Moment, rejected: Rejection, spare: Spare) -> Response
     requires { IsRefusal Refusal.NoMemory moment spare.no_memory.bytes.items }
-    ensures { IsDenial denied moment result.bytes.items
+    ensures { IsRejection rejected moment result.bytes.items
         ⊎ IsRefusal Refusal.NoMemory moment result.bytes.items }
 {
-    match denial_response(alloc, moment, denied) {
+    match rejection_response(alloc, moment, rejected) {
         Ok(response) => response,
         Err(_) => spare.no_memory,
     }
 }
 
 /// The response of a refusal of the desk, or that of `NoMemory` where there is no memory for it.
-fn told(alloc: Global, moment: Moment, refusal: Refusal, spare: Spare) -> Response
+fn refusal_or_spare(alloc: Global, moment: Moment, refusal: Refusal, spare: Spare) -> Response
     requires { IsSpare moment spare }
-    ensures { Tells refusal moment result.bytes.items }
+    ensures { GivesRefusal refusal moment result.bytes.items }
 {
     match refusal {
         Refusal::Stopped => spare.stopped,
@@ -64,7 +64,7 @@ fn told(alloc: Global, moment: Moment, refusal: Refusal, spare: Spare) -> Respon
 }
 
 /// The response to a command that was not kept: after `Stopped` it is in doubt, and else nothing has changed.
-fn unkept(refusal: Refusal, spare: Spare) -> Response
+fn commit_failure_response(refusal: Refusal, spare: Spare) -> Response
     ensures stopped { (refusal ≡ Refusal.Stopped) → result.bytes.items ≡ spare.stopped.bytes.items }
     ensures no_memory { (refusal ≢ Refusal.Stopped) → result.bytes.items ≡ spare.no_memory.bytes.items }
 {
@@ -75,7 +75,7 @@ fn unkept(refusal: Refusal, spare: Spare) -> Response
 }
 
 /// The captive state of a device.
-fn serve_state<D: Desk>(
+fn answer_state<D: Desk>(
     alloc: Global,
     desk: &mut D,
     moment: Moment,
@@ -83,19 +83,19 @@ fn serve_state<D: Desk>(
     spare: Spare,
 ) -> Response
     requires { IsSpare moment spare }
-    ensures { ServesAt D.Desk (wanted.State device) moment result.bytes.items desk.old desk.new }
+    ensures { ServesAt D.Desk (operation.State device) moment result.bytes.items desk.old desk.new }
 {
     match desk.state(moment, device) {
         Ok(captive) => match captive_response(alloc, desk.settings(), moment, &captive) {
             Ok(response) => response,
             Err(_) => spare.no_memory,
         },
-        Err(refusal) => told(alloc, moment, refusal, spare),
+        Err(refusal) => refusal_or_spare(alloc, moment, refusal, spare),
     }
 }
 
 /// The print file of a batch.
-fn serve_sheet<D: Desk>(
+fn answer_sheet<D: Desk>(
     alloc: Global,
     desk: &mut D,
     moment: Moment,
@@ -103,19 +103,19 @@ fn serve_sheet<D: Desk>(
     spare: Spare,
 ) -> Response
     requires { IsSpare moment spare }
-    ensures { ServesAt D.Desk (wanted.Sheet id) moment result.bytes.items desk.old desk.new }
+    ensures { ServesAt D.Desk (operation.Sheet id) moment result.bytes.items desk.old desk.new }
 {
     match desk.batch(alloc, &id) {
         Ok(sheet) => match sheet_response(alloc, desk.settings(), moment, &sheet) {
             Ok(response) => response,
             Err(_) => spare.no_memory,
         },
-        Err(refusal) => told(alloc, moment, refusal, spare),
+        Err(refusal) => refusal_or_spare(alloc, moment, refusal, spare),
     }
 }
 
 /// The state of a voucher.
-fn serve_voucher<D: Desk>(
+fn answer_voucher<D: Desk>(
     alloc: Global,
     desk: &mut D,
     moment: Moment,
@@ -123,19 +123,19 @@ fn serve_voucher<D: Desk>(
     spare: Spare,
 ) -> Response
     requires { IsSpare moment spare }
-    ensures { ServesAt D.Desk (wanted.Voucher code) moment result.bytes.items desk.old desk.new }
+    ensures { ServesAt D.Desk (operation.Voucher code) moment result.bytes.items desk.old desk.new }
 {
     match desk.voucher(&code) {
         Ok(voucher) => match voucher_response(alloc, moment, &voucher) {
             Ok(response) => response,
             Err(_) => spare.no_memory,
         },
-        Err(refusal) => told(alloc, moment, refusal, spare),
+        Err(refusal) => refusal_or_spare(alloc, moment, refusal, spare),
     }
 }
 
 /// The takings of a range of days.
-fn serve_takings<D: Desk>(
+fn answer_takings<D: Desk>(
     alloc: Global,
     desk: &mut D,
     moment: Moment,
@@ -143,33 +143,33 @@ fn serve_takings<D: Desk>(
     spare: Spare,
 ) -> Response
     requires { IsSpare moment spare }
-    ensures { ServesAt D.Desk (wanted.Takings range) moment result.bytes.items desk.old desk.new }
+    ensures { ServesAt D.Desk (operation.Takings range) moment result.bytes.items desk.old desk.new }
 {
     match desk.takings(alloc, range) {
         Ok(days) => match takings_response(alloc, moment, days.as_slice()) {
             Ok(response) => response,
             Err(_) => spare.no_memory,
         },
-        Err(refusal) => told(alloc, moment, refusal, spare),
+        Err(refusal) => refusal_or_spare(alloc, moment, refusal, spare),
     }
 }
 
 /// The open sessions.
-fn serve_sessions<D: Desk>(alloc: Global, desk: &mut D, moment: Moment, spare: Spare) -> Response
+fn answer_sessions<D: Desk>(alloc: Global, desk: &mut D, moment: Moment, spare: Spare) -> Response
     requires { IsSpare moment spare }
-    ensures { ServesAt D.Desk wanted.OpenSessions moment result.bytes.items desk.old desk.new }
+    ensures { ServesAt D.Desk operation.OpenSessions moment result.bytes.items desk.old desk.new }
 {
     match desk.open_now(alloc, moment) {
         Ok(sessions) => match sessions_response(alloc, moment, sessions.as_slice()) {
             Ok(response) => response,
             Err(_) => spare.no_memory,
         },
-        Err(refusal) => told(alloc, moment, refusal, spare),
+        Err(refusal) => refusal_or_spare(alloc, moment, refusal, spare),
     }
 }
 
 /// A command that was prepared. Its 200 response is made before the desk is asked to keep it.
-fn serve_prepared<D: Desk>(
+fn commit_prepared<D: Desk>(
     alloc: Global,
     desk: &mut D,
     moment: Moment,
@@ -183,13 +183,13 @@ fn serve_prepared<D: Desk>(
         Err(_) => spare.no_memory,
         Ok(response) => match desk.finish(prepared) {
             Ok(()) => response,
-            Err(refusal) => unkept(refusal, spare),
+            Err(refusal) => commit_failure_response(refusal, spare),
         },
     }
 }
 
 /// A command of a request without a number.
-fn serve_unmarked<D: Desk>(
+fn serve_plain<D: Desk>(
     alloc: Global,
     desk: &mut D,
     moment: Moment,
@@ -198,16 +198,16 @@ fn serve_unmarked<D: Desk>(
 ) -> Response
     requires well_formed { IsWellFormed command }
     requires spare { IsSpare moment spare }
-    ensures { ServesAt D.Desk (wanted.Act command None) moment result.bytes.items desk.old desk.new }
+    ensures { ServesAt D.Desk (operation.Act command None) moment result.bytes.items desk.old desk.new }
 {
     match desk.prepare(alloc, moment, command) {
-        Err(refusal) => told(alloc, moment, refusal, spare),
-        Ok(prepared) => serve_prepared(alloc, desk, moment, prepared, spare),
+        Err(refusal) => refusal_or_spare(alloc, moment, refusal, spare),
+        Ok(prepared) => commit_prepared(alloc, desk, moment, prepared, spare),
     }
 }
 
 /// A command of a request that acts once.
-fn serve_marked<D: Desk>(
+fn serve_idempotent<D: Desk>(
     alloc: Global,
     desk: &mut D,
     moment: Moment,
@@ -217,16 +217,16 @@ fn serve_marked<D: Desk>(
 ) -> Response
     requires well_formed { IsWellFormed command }
     requires spare { IsSpare moment spare }
-    ensures { ServesAt D.Desk (wanted.Act command (Some mark.now)) moment result.bytes.items
+    ensures { ServesAt D.Desk (operation.Act command (Some mark.now)) moment result.bytes.items
         desk.old desk.new }
 {
     match desk.prepare_marked(alloc, moment, command, mark) {
-        Err(refusal) => told(alloc, moment, refusal, spare),
+        Err(refusal) => refusal_or_spare(alloc, moment, refusal, spare),
         Ok(Marked::Kept(answer)) => match answer_response(alloc, moment, answer) {
             Ok(response) => response,
             Err(_) => spare.no_memory,
         },
-        Ok(Marked::Fresh(prepared)) => serve_prepared(alloc, desk, moment, prepared, spare),
+        Ok(Marked::Fresh(prepared)) => commit_prepared(alloc, desk, moment, prepared, spare),
     }
 }
 
@@ -245,32 +245,32 @@ fn spare_responses(alloc: Global, moment: Moment) -> Result<Result<Spare, Respon
 }
 
 /// What a request wants of the desk.
-fn serve_wanted<D: Desk>(
+fn serve_operation<D: Desk>(
     alloc: Global,
     desk: &mut D,
     moment: Moment,
-    wanted: Wanted,
+    operation: Operation,
     spare: Spare,
 ) -> Response
-    requires in_order { IsInOrder wanted }
+    requires in_order { IsInOrder operation }
     requires spare { IsSpare moment spare }
-    ensures { ServesAt D.Desk wanted moment result.bytes.items desk.old desk.new }
+    ensures { ServesAt D.Desk operation moment result.bytes.items desk.old desk.new }
 {
-    match wanted {
-        Wanted::State(device) => serve_state(alloc, desk, moment, device, spare),
-        Wanted::Sheet(id) => serve_sheet(alloc, desk, moment, id, spare),
-        Wanted::Voucher(code) => serve_voucher(alloc, desk, moment, code, spare),
-        Wanted::Takings(range) => serve_takings(alloc, desk, moment, range, spare),
-        Wanted::OpenSessions => serve_sessions(alloc, desk, moment, spare),
-        Wanted::Act(command, mark) => match mark {
-            None => serve_unmarked(alloc, desk, moment, command, spare),
-            Some(mark) => serve_marked(alloc, desk, moment, command, &mark, spare),
+    match operation {
+        Operation::State(device) => answer_state(alloc, desk, moment, device, spare),
+        Operation::Sheet(id) => answer_sheet(alloc, desk, moment, id, spare),
+        Operation::Voucher(code) => answer_voucher(alloc, desk, moment, code, spare),
+        Operation::Takings(range) => answer_takings(alloc, desk, moment, range, spare),
+        Operation::OpenSessions => answer_sessions(alloc, desk, moment, spare),
+        Operation::Act(command, mark) => match mark {
+            None => serve_plain(alloc, desk, moment, command, spare),
+            Some(mark) => serve_idempotent(alloc, desk, moment, command, &mark, spare),
         },
     }
 }
 
 /// One request, with the two responses that are made before it.
-fn serve_checked<D: Desk>(
+fn check_and_serve<D: Desk>(
     alloc: Global,
     desk: &mut D,
     routes: &Routes,
@@ -278,7 +278,7 @@ fn serve_checked<D: Desk>(
     spare: Spare,
 ) -> Response
     requires { IsSpare arrival.now.moment spare }
-    ensures { Moves D.Desk (λ old new. Step (D.settings desk.old) old arrival.now result.bytes.items new)
+    ensures { MovesState D.Desk (λ old new. Step (D.settings desk.old) old arrival.now result.bytes.items new)
         desk.old desk.new }
 {
     let moment = arrival.moment();
@@ -289,25 +289,25 @@ fn serve_checked<D: Desk>(
         arrival.seed(),
         arrival.received(),
     ) {
-        Err(refused) => denied(alloc, moment, refused, spare),
-        Ok(wanted) => serve_wanted(alloc, desk, moment, wanted, spare),
+        Err(refused) => rejection_or_spare(alloc, moment, refused, spare),
+        Ok(operation) => serve_operation(alloc, desk, moment, operation, spare),
     }
 }
 
 /// One request. An `Err` is `NoMemory`: no response could be made, and nothing has changed.
-pub fn serve<D: Desk>(
+pub fn serve_request<D: Desk>(
     alloc: Global,
     desk: &mut D,
     routes: &Routes,
     arrival: &Arrival,
 ) -> Result<Response, Refusal>
     ensures err { IfErr result (λ r. r ≡ Refusal.NoMemory) }
-    ensures desk { Moves D.Desk (λ old new. MatchResult result
+    ensures desk { MovesState D.Desk (λ old new. MatchResult result
         (λ response. Step (D.settings desk.old) old arrival.now response.bytes.items new) (λ _. new ≡ old))
         desk.old desk.new }
 {
     match spare_responses(alloc, arrival.moment())? {
-        Ok(spare) => Ok(serve_checked(alloc, desk, routes, arrival, spare)),
+        Ok(spare) => Ok(check_and_serve(alloc, desk, routes, arrival, spare)),
         Err(response) => Ok(response),
     }
 }

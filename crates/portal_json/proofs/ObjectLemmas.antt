@@ -1,5 +1,5 @@
 -- Objects whose keys are put in in byte order.
-use Rattle.portal_json.proofs.Common.{◌≡◌, Bool, true, false, ◌&&◌, List, [], ◌∷◌, ◌++◌, ℕ, Option, Some, None, Result, Ok, Err, refl, sym, ap, ◌∙◌, append_assoc, append-nil, IfOk, String, string_bytes, Data, member, no_members, object, put, compact_text, Keyed, members_in_order, put_some, put_all, object_of}
+use Rattle.portal_json.proofs.Common.{◌≡◌, Bool, true, false, ◌&&◌, List, [], ◌∷◌, ◌++◌, ℕ, Option, Some, None, Result, Ok, Err, refl, sym, ap, ◌∙◌, append_assoc, append-nil, IfOk, String, string_bytes, Data, member, no_members, object, put, compact_text, KeyedValue, members_in_order, put_some, put_all, object_of}
 use Rattle.std.specs.declared.alloc.Global.{Global}
 use Rattle.std.specs.declared.cmp.Ordering.{Ordering}
 use Rattle.std.specs.declared.cmp.Ordering.TheVariants.{Less, Equal, Greater}
@@ -7,17 +7,17 @@ use Rattle.std.specs.Ordering.{nat_cmp, is_gt, match_ordering}
 use Rattle.std.specs.Cmp.Lexicographic.{slice_cmp}
 
 -- the key comes after each of these
-abbrev is_after : List Keyed → List ℕ → Bool
+abbrev is_after : List KeyedValue → List ℕ → Bool
 is_after [] key = true
 is_after ((earlier, value) ∷ rest) key = is_gt (slice_cmp nat_cmp key earlier) && is_after rest key
 
 -- each of these keys comes after the ones before it
-abbrev are_after : List Keyed → List Keyed → Bool
+abbrev are_after : List KeyedValue → List KeyedValue → Bool
 are_after before [] = true
 are_after before ((key, value) ∷ rest) = is_after before key && are_after (before ++ (key, value) ∷ []) rest
 
 -- the keys stand in byte order
-abbrev pub are_rising : List Keyed → Bool
+abbrev pub are_rising : List KeyedValue → Bool
 are_rising keys = are_after [] keys
 
 both : (a b : Bool) → (a && b) ≡ true → (a ≡ true) × (b ≡ true)
@@ -30,7 +30,7 @@ greater Equal h = absurd (cc)
 greater Greater h = refl
 
 -- a key that comes after the others is put behind them
-put-last : (before : List Keyed) (key : List ℕ) (d : Data) → is_after before key ≡ true
+put-last : (before : List KeyedValue) (key : List ℕ) (d : Data) → is_after before key ≡ true
     → put key d (members_in_order before) ≡ members_in_order (before ++ (key, Some d) ∷ [])
 put-last [] key d h = refl
 put-last ((earlier, None) ∷ rest) key d h = put-last rest key d (both (is_gt (slice_cmp nat_cmp key earlier)) (is_after rest key) h).1
@@ -42,17 +42,17 @@ put-last ((earlier, Some e) ∷ rest) key d h =
     ∙ ap (member earlier e) (put-last rest key d parts.1)
 
 -- a key with no value changes nothing
-none-last : (before : List Keyed) (key : List ℕ) → members_in_order before ≡ members_in_order (before ++ (key, None) ∷ [])
+none-last : (before : List KeyedValue) (key : List ℕ) → members_in_order before ≡ members_in_order (before ++ (key, None) ∷ [])
 none-last [] key = refl
 none-last ((earlier, None) ∷ rest) key = none-last rest key
 none-last ((earlier, Some e) ∷ rest) key = ap (member earlier e) (none-last rest key)
 
-some-last : (before : List Keyed) (key : List ℕ) (value : Option Data) → is_after before key ≡ true
+some-last : (before : List KeyedValue) (key : List ℕ) (value : Option Data) → is_after before key ≡ true
     → put_some key value (members_in_order before) ≡ members_in_order (before ++ (key, value) ∷ [])
 some-last before key None h = none-last before key
 some-last before key (Some d) h = put-last before key d h
 
-put_all-after : (before keys : List Keyed) → are_after before keys ≡ true
+put_all-after : (before keys : List KeyedValue) → are_after before keys ≡ true
     → put_all keys (members_in_order before) ≡ members_in_order (before ++ keys)
 put_all-after before [] h = ap members_in_order (sym (append-nil before))
 put_all-after before ((key, value) ∷ rest) h =
@@ -62,7 +62,7 @@ put_all-after before ((key, value) ∷ rest) h =
     ∙ ap members_in_order (append_assoc before ((key, value) ∷ []) rest)
 
 -- keys put in in byte order make the object with these keys in this order
-pub put_all-rising : (keys : List Keyed) → are_rising keys ≡ true → object (put_all keys no_members) ≡ object_of keys
+pub put_all-rising : (keys : List KeyedValue) → are_rising keys ≡ true → object (put_all keys no_members) ≡ object_of keys
 put_all-rising keys h = ap object (put_all-after [] keys h)
 
 -- the text of a value is the text of an equal one

@@ -8,19 +8,19 @@ use Rattle.portal_model.specs.declared.captive.Captive.{Captive}
 use Rattle.portal_model.specs.declared.captive.OpenSession.{OpenSession}
 use Rattle.portal_model.specs.declared.record.Voucher.{Voucher}
 use Rattle.portal_model.specs.declared.change.Answer.{Answer}
-use Rattle.portal_model.specs.declared.change.Answer.TheVariants.{Plans, Issued, Sold, Redeemed, Reported, Refunded, Closed}
+use Rattle.portal_model.specs.declared.change.Answer.TheVariants.{LoadAnswer, IssueAnswer, SellAnswer, RedeemAnswer, ReportAnswer, RefundAnswer, CloseAnswer}
 use Rattle.portal_model.specs.declared.refusal.Refusal.{Refusal}
 use Rattle.portal_model.specs.Device.{text_of_device}
 use Rattle.portal_model.specs.Refusal.{word_of}
-use Rattle.portal_json.specs.Objects.{whole, whole_or_null, Keyed, object_of}
+use Rattle.portal_json.specs.Objects.{integer, integer_or_null, KeyedValue, object_of}
 
 -- the keys of a captive state, with the URLs of the portal and, where there is one, of the venue (RFC 8908, section 5)
-abbrev pub captive_keys : Captive → List ℕ → Option (List ℕ) → List Keyed
+abbrev pub captive_keys : Captive → List ℕ → Option (List ℕ) → List KeyedValue
 captive_keys state portal_url venue_url =
-    (codes "bytes-remaining", option_map whole state.bytes)
+    (codes "bytes-remaining", option_map integer state.bytes)
     ∷ (codes "can-extend-session", option_map boolean state.extend)
     ∷ (codes "captive", Some (boolean state.captive))
-    ∷ (codes "seconds-remaining", option_map whole state.seconds)
+    ∷ (codes "seconds-remaining", option_map integer state.seconds)
     ∷ (codes "user-portal-url", Some (string portal_url))
     ∷ (codes "venue-info-url", option_map string venue_url)
     ∷ []
@@ -31,19 +31,19 @@ captive_data state portal_url venue_url = object_of (captive_keys state portal_u
 
 -- the answer to a command
 abbrev pub answer_data : Answer → Data
-answer_data (Plans plans) = object_of ((codes "plans", Some (whole plans)) ∷ [])
-answer_data (Issued batch count expires) = object_of (
-    (codes "batch", Some (string batch)) ∷ (codes "count", Some (whole count)) ∷ (codes "expires", Some (whole expires)) ∷ [])
-answer_data (Sold code price) = object_of (
-    (codes "code", Some (string (text_of code))) ∷ (codes "price", Some (whole price)) ∷ [])
-answer_data (Redeemed extended session uses_left) = object_of (
-    (codes "extended", Some (boolean extended)) ∷ (codes "session", Some (whole session))
-    ∷ (codes "uses_left", Some (whole uses_left)) ∷ [])
-answer_data (Reported still_open session used) = object_of (
-    (codes "open", Some (boolean still_open)) ∷ (codes "session", Some (whole session)) ∷ (codes "used", Some (whole used)) ∷ [])
-answer_data (Refunded amount code) = object_of (
-    (codes "amount", Some (whole amount)) ∷ (codes "code", Some (string (text_of code))) ∷ [])
-answer_data (Closed session) = object_of ((codes "session", Some (whole session)) ∷ [])
+answer_data (LoadAnswer plans) = object_of ((codes "plans", Some (integer plans)) ∷ [])
+answer_data (IssueAnswer batch count expires) = object_of (
+    (codes "batch", Some (string batch)) ∷ (codes "count", Some (integer count)) ∷ (codes "expires", Some (integer expires)) ∷ [])
+answer_data (SellAnswer code price) = object_of (
+    (codes "code", Some (string (text_of code))) ∷ (codes "price", Some (integer price)) ∷ [])
+answer_data (RedeemAnswer extended session uses_left) = object_of (
+    (codes "extended", Some (boolean extended)) ∷ (codes "session", Some (integer session))
+    ∷ (codes "uses_left", Some (integer uses_left)) ∷ [])
+answer_data (ReportAnswer still_open session used) = object_of (
+    (codes "open", Some (boolean still_open)) ∷ (codes "session", Some (integer session)) ∷ (codes "used", Some (integer used)) ∷ [])
+answer_data (RefundAnswer amount code) = object_of (
+    (codes "amount", Some (integer amount)) ∷ (codes "code", Some (string (text_of code))) ∷ [])
+answer_data (CloseAnswer session) = object_of ((codes "session", Some (integer session)) ∷ [])
 
 -- a refusal
 abbrev pub error_data : Refusal → Data
@@ -52,15 +52,15 @@ error_data refusal = object_of ((codes "error", Some (string (word_of refusal)))
 -- the state of a voucher; null where it was not sold or not refunded
 abbrev pub voucher_data : Voucher → Data
 voucher_data v = object_of (
-    (codes "batch", Some (string v.batch)) ∷ (codes "code", Some (string (text_of v.code))) ∷ (codes "expires", Some (whole v.expires))
-    ∷ (codes "plan", Some (string v.plan.id)) ∷ (codes "redeemed", Some (whole v.redeemed)) ∷ (codes "refund", Some (whole_or_null v.refund))
-    ∷ (codes "sold", Some (whole_or_null v.sold)) ∷ (codes "uses", Some (whole v.plan.uses)) ∷ [])
+    (codes "batch", Some (string v.batch)) ∷ (codes "code", Some (string (text_of v.code))) ∷ (codes "expires", Some (integer v.expires))
+    ∷ (codes "plan", Some (string v.plan.id)) ∷ (codes "redeemed", Some (integer v.redeemed)) ∷ (codes "refund", Some (integer_or_null v.refund))
+    ∷ (codes "sold", Some (integer_or_null v.sold)) ∷ (codes "uses", Some (integer v.plan.uses)) ∷ [])
 
 -- the keys of an open session
-abbrev pub session_keys : OpenSession → List Keyed
+abbrev pub session_keys : OpenSession → List KeyedValue
 session_keys s =
-    (codes "bytes-remaining", option_map whole s.bytes) ∷ (codes "device", Some (string (text_of_device s.device)))
-    ∷ (codes "seconds-remaining", option_map whole s.seconds) ∷ (codes "session", Some (whole s.number)) ∷ []
+    (codes "bytes-remaining", option_map integer s.bytes) ∷ (codes "device", Some (string (text_of_device s.device)))
+    ∷ (codes "seconds-remaining", option_map integer s.seconds) ∷ (codes "session", Some (integer s.number)) ∷ []
 
 -- an open session
 abbrev pub session_data : OpenSession → Data

@@ -12,8 +12,8 @@ use Rattle.portal_json.specs.declared.orders.BatchOrder.{BatchOrder}
 use Rattle.portal_json.specs.declared.orders.ReportOrder.{ReportOrder}
 
 -- the body is UTF-8 and JSON, and that is its value
-abbrev pub Reads : List ℕ → Data → Type 0
-Reads body value = IsUtf8 body × (read body ≡ Some value)
+abbrev pub ReadsJson : List ℕ → Data → Type 0
+ReadsJson body value = IsUtf8 body × (read body ≡ Some value)
 
 -- the text under a key, where the value is an object that has a text there
 abbrev pub text_at : List ℕ → Data → Option (List ℕ)
@@ -61,5 +61,5 @@ IsCloseOrder value session = number_at (codes "session") value ≡ Some session
 -- what the body's value gives; bad_request where the body has none; or want of memory
 abbrev pub FromBody : {A : Type 0} → (Data → Result A Refusal → Type 0) → List ℕ → Result A Refusal → Type 0
 FromBody Of body result =
-    ((value : Data) × Reads body value × Of value result)
-    ⊎ ((((value : Data) → ¬ (Reads body value)) × (result ≡ Err BadRequest)) ⊎ (result ≡ Err NoMemory))
+    ((value : Data) × ReadsJson body value × Of value result)
+    ⊎ ((((value : Data) → ¬ (ReadsJson body value)) × (result ≡ Err BadRequest)) ⊎ (result ≡ Err NoMemory))

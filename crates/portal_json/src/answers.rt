@@ -3,7 +3,7 @@ ghost use Rattle.std.specs.Prelude.{◌≡◌, IfOk, IfErr, string_bytes};
 ghost use Rattle.serde_json.specs.View.{view};
 ghost use Rattle.portal_json.specs.Bodies.{answer_data, error_data, answer_body, error_body};
 
-use crate::objects::{as_text, written};
+use crate::objects::{as_text, text_of_value};
 use portal_model::change::Answer;
 use portal_model::refusal::Refusal;
 use serde_json::{Value, json};
@@ -13,31 +13,31 @@ fn answer_value(alloc: Global, answer: Answer) -> Result<Value, AllocError>
     ensures { IfOk result (λ v. view v ≡ answer_data answer) }
 {
     match answer {
-        Answer::Plans { plans } => json!(in alloc; {"plans": plans}),
-        Answer::Issued {
+        Answer::LoadAnswer { plans } => json!(in alloc; {"plans": plans}),
+        Answer::IssueAnswer {
             batch,
             count,
             expires,
         } => { json!(in alloc; {"batch": batch.text(), "count": count, "expires": expires.get()}) }
-        Answer::Sold { code, price } => {
+        Answer::SellAnswer { code, price } => {
             let code = code.text();
             json!(in alloc; {"code": as_text(code.as_bytes()), "price": price})
         }
-        Answer::Redeemed {
+        Answer::RedeemAnswer {
             extended,
             session,
             uses_left,
         } => { json!(in alloc; {"extended": extended, "session": session, "uses_left": uses_left}) }
-        Answer::Reported {
+        Answer::ReportAnswer {
             still_open,
             session,
             used,
         } => { json!(in alloc; {"open": still_open, "session": session, "used": used}) }
-        Answer::Refunded { amount, code } => {
+        Answer::RefundAnswer { amount, code } => {
             let code = code.text();
             json!(in alloc; {"amount": amount, "code": as_text(code.as_bytes())})
         }
-        Answer::Closed { session } => json!(in alloc; {"session": session}),
+        Answer::CloseAnswer { session } => json!(in alloc; {"session": session}),
     }
 }
 
@@ -48,7 +48,7 @@ pub fn answer_text(alloc: Global, answer: Answer) -> Result<String, Refusal>
     ensures err { IfErr result (λ refusal. refusal ≡ Refusal.NoMemory) }
 {
     let value = answer_value(alloc, answer)?;
-    written(alloc, &value)
+    text_of_value(alloc, &value)
 }
 
 fn error_value(alloc: Global, refusal: Refusal) -> Result<Value, AllocError>
@@ -64,5 +64,5 @@ pub fn error_text(alloc: Global, refusal: Refusal) -> Result<String, Refusal>
     ensures err { IfErr result (λ refusal. refusal ≡ Refusal.NoMemory) }
 {
     let value = error_value(alloc, refusal)?;
-    written(alloc, &value)
+    text_of_value(alloc, &value)
 }

@@ -5,7 +5,7 @@ ghost use Rattle.serde_json.specs.Data.{object, no_members};
 ghost use Rattle.portal_json.specs.Objects.{put_all};
 ghost use Rattle.portal_json.specs.Bodies.{captive_keys, captive_body};
 
-use crate::objects::{flag, number, put_some, text, written};
+use crate::objects::{boolean_if_some, integer_if_some, put_some, text, text_of_value};
 use portal_model::captive::Captive;
 use portal_model::refusal::Refusal;
 use serde_json::{Map, Value};
@@ -23,19 +23,29 @@ fn captive_value(
     let portal_url = text(alloc, Some(portal_url))?;
     let venue_url = text(alloc, venue_url)?;
     let mut members = Map::new(alloc);
-    put_some(alloc, &mut members, "bytes-remaining", number(state.bytes))?;
+    put_some(
+        alloc,
+        &mut members,
+        "bytes-remaining",
+        integer_if_some(state.bytes),
+    )?;
     put_some(
         alloc,
         &mut members,
         "can-extend-session",
-        flag(state.extend),
+        boolean_if_some(state.extend),
     )?;
-    put_some(alloc, &mut members, "captive", flag(Some(state.captive)))?;
+    put_some(
+        alloc,
+        &mut members,
+        "captive",
+        boolean_if_some(Some(state.captive)),
+    )?;
     put_some(
         alloc,
         &mut members,
         "seconds-remaining",
-        number(state.seconds),
+        integer_if_some(state.seconds),
     )?;
     put_some(alloc, &mut members, "user-portal-url", portal_url)?;
     put_some(alloc, &mut members, "venue-info-url", venue_url)?;
@@ -58,5 +68,5 @@ pub fn captive_text(
     ensures err { IfErr result (λ refusal. refusal ≡ Refusal.NoMemory) }
 {
     let value = captive_value(alloc, state, portal_url, venue_url)?;
-    written(alloc, &value)
+    text_of_value(alloc, &value)
 }

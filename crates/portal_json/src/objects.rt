@@ -3,7 +3,7 @@ ghost use Rattle.std.specs.Prelude.{◌≡◌, false, IfOk, IfErr, OnOk, IsAscii
 ghost use Rattle.serde_json.specs.Data.{boolean, string};
 ghost use Rattle.serde_json.specs.View.{view, members_view};
 ghost use Rattle.serde_json.specs.Written.{compact_text, has_float};
-ghost use Rattle.portal_json.specs.Objects.{whole, whole_or_null, put_some};
+ghost use Rattle.portal_json.specs.Objects.{integer, integer_or_null, put_some};
 
 use portal_model::refusal::Refusal;
 use serde_json::{Map, Value};
@@ -27,14 +27,14 @@ pub fn put_some(
 }
 
 /// A whole number, where there is one.
-pub fn number(value: Option<u64>) -> Option<Value>
-    ensures { option_map view result ≡ option_map whole value }
+pub fn integer_if_some(value: Option<u64>) -> Option<Value>
+    ensures { option_map view result ≡ option_map integer value }
 {
     value.map(|number| Value::from(number))
 }
 
 /// A truth value, where there is one.
-pub fn flag(value: Option<bool>) -> Option<Value>
+pub fn boolean_if_some(value: Option<bool>) -> Option<Value>
     ensures { option_map view result ≡ option_map boolean value }
 {
     value.map(|flag| Value::Bool(flag))
@@ -51,8 +51,8 @@ pub fn text(alloc: Global, value: Option<&str>) -> Result<Option<Value>, AllocEr
 }
 
 /// A whole number, or null where there is none.
-pub fn number_or_null(value: Option<u64>) -> Value
-    ensures { view result ≡ whole_or_null value }
+pub fn integer_or_null(value: Option<u64>) -> Value
+    ensures { view result ≡ integer_or_null value }
 {
     value.map_or(Value::Null, |number| Value::from(number))
 }
@@ -66,7 +66,7 @@ pub fn as_text(bytes: &[u8]) -> &str
 }
 
 /// The text of a value, with no space between its signs.
-pub fn written(alloc: Global, value: &Value) -> Result<String, Refusal>
+pub fn text_of_value(alloc: Global, value: &Value) -> Result<String, Refusal>
     requires { has_float (view value.now) ≡ false }
     ensures ok { IfOk result (λ text. string_bytes text ≡ compact_text (view value.now)) }
     ensures err { IfErr result (λ refusal. refusal ≡ Refusal.NoMemory) }

@@ -8,7 +8,7 @@ ghost use Rattle.std.specs.Prelude.{◌≡◌, ℕ, ◌⊎◌, List, codes, IfOk
 ghost use Rattle.serde_json.specs.Data.{Data};
 ghost use Rattle.serde_json.specs.View.{view};
 ghost use Rattle.portal_model.specs.IdText.{IsIdText};
-ghost use Rattle.portal_json.specs.Orders.{Reads, text_at, number_at, Exactly, CodeOrder, IsBatchOrder, IsReportOrder, IsCloseOrder, FromBody};
+ghost use Rattle.portal_json.specs.Orders.{ReadsJson, text_at, number_at, Exactly, CodeOrder, IsBatchOrder, IsReportOrder, IsCloseOrder, FromBody};
 
 use portal_codes::Code;
 use portal_model::name::Id;
@@ -41,8 +41,8 @@ const GREATEST: u64 = 9_223_372_036_854_775_807;
 
 /// The JSON value of a body.
 fn read_value(alloc: Global, body: &[u8]) -> Result<Value, Refusal>
-    ensures ok { IfOk result (λ v. Reads body.now (view v)) }
-    ensures err { IfErr result (λ r. ((r ≡ Refusal.BadRequest) × ((value : Data) → ¬ (Reads body.now value)))
+    ensures ok { IfOk result (λ v. ReadsJson body.now (view v)) }
+    ensures err { IfErr result (λ r. ((r ≡ Refusal.BadRequest) × ((value : Data) → ¬ (ReadsJson body.now value)))
         ⊎ (r ≡ Refusal.NoMemory)) }
 {
     Value::from_slice(alloc, body).map_err(|error| if error.is_memory() {
@@ -53,14 +53,14 @@ fn read_value(alloc: Global, body: &[u8]) -> Result<Value, Refusal>
 }
 
 /// The text under a key.
-fn text_in<'v>(value: &'v Value, key: &str) -> Option<&'v str>
+fn text_member<'v>(value: &'v Value, key: &str) -> Option<&'v str>
     ensures { option_map (λ text. text.now) result ≡ text_at key.now (view value.now) }
 {
     value.get(key).and_then(Value::as_str)
 }
 
 /// The whole number under a key, of at most `GREATEST`.
-fn number_in(value: &Value, key: &str) -> Option<u64>
+fn integer_member(value: &Value, key: &str) -> Option<u64>
     ensures { result ≡ number_at key.now (view value.now) }
 {
     let number = value.get(key).and_then(Value::as_u64)?;
@@ -72,52 +72,52 @@ fn number_in(value: &Value, key: &str) -> Option<u64>
 }
 
 /// The id under a key.
-fn id_in(value: &Value, key: &str) -> Option<Id>
+fn id_member(value: &Value, key: &str) -> Option<Id>
     ensures some { IfSome result (λ id. (text_at key.now (view value.now) ≡ Some id) × IsIdText id) }
     ensures none { IfNone result
         ((id : List ℕ) → text_at key.now (view value.now) ≡ Some id → ¬ (IsIdText id)) }
 {
-    Id::read(text_in(value, key)?)
+    Id::read(text_member(value, key)?)
 }
 
 /// The code under `code`.
-fn code_in(value: &Value) -> Result<Code, Refusal>
+fn code_member(value: &Value) -> Result<Code, Refusal>
     ensures { CodeOrder (view value.now) result }
 {
-    let text = text_in(value, "code").ok_or(Refusal::BadRequest)?;
+    let text = text_member(value, "code").ok_or(Refusal::BadRequest)?;
     Code::read(text).map_err(|_| Refusal::BadCode)
 }
 
-fn batch_in(value: &Value) -> Result<BatchOrder, Refusal>
+fn batch_order_of(value: &Value) -> Result<BatchOrder, Refusal>
     ensures { Exactly (IsBatchOrder (view value.now)) result }
 {
-    let batch = id_in(value, "batch").ok_or(Refusal::BadRequest)?;
-    let plan = id_in(value, "plan").ok_or(Refusal::BadRequest)?;
-    match number_in(value, "count") {
+    let batch = id_member(value, "batch").ok_or(Refusal::BadRequest)?;
+    let plan = id_member(value, "plan").ok_or(Refusal::BadRequest)?;
+    match integer_member(value, "count") {
         Some(count @ 1..=500) => Ok(BatchOrder { batch, plan, count }),
         _ => Err(Refusal::BadRequest),
     }
 }
 
-fn report_in(value: &Value) -> Result<ReportOrder, Refusal>
+fn report_order_of(value: &Value) -> Result<ReportOrder, Refusal>
     ensures { Exactly (IsReportOrder (view value.now)) result }
 {
-    let session = number_in(value, "session").ok_or(Refusal::BadRequest)?;
-    let bytes = number_in(value, "bytes").ok_or(Refusal::BadRequest)?;
+    let session = integer_member(value, "session").ok_or(Refusal::BadRequest)?;
+    let bytes = integer_member(value, "bytes").ok_or(Refusal::BadRequest)?;
     Ok(ReportOrder { session, bytes })
 }
 
-fn session_in(value: &Value) -> Result<u64, Refusal>
+fn session_member(value: &Value) -> Result<u64, Refusal>
     ensures { Exactly (IsCloseOrder (view value.now)) result }
 {
-    number_in(value, "session").ok_or(Refusal::BadRequest)
+    integer_member(value, "session").ok_or(Refusal::BadRequest)
 }
 
 /// The code of a body.
 fn read_code(alloc: Global, body: &[u8]) -> Result<Code, Refusal>
     ensures { FromBody CodeOrder body.now result }
 {
-    code_in(&read_value(alloc, body)?)
+    code_member(&read_value(alloc, body)?)
 }
 
 /// The code that a guest redeems, from `{"code": ..}`. Refused: `BadRequest`, and `BadCode` where
@@ -147,7 +147,7 @@ pub fn read_refund(alloc: Global, body: &[u8]) -> Result<Code, Refusal>
 pub fn read_batch(alloc: Global, body: &[u8]) -> Result<BatchOrder, Refusal>
     ensures { FromBody (λ value. Exactly (IsBatchOrder value)) body.now result }
 {
-    batch_in(&read_value(alloc, body)?)
+    batch_order_of(&read_value(alloc, body)?)
 }
 
 /// The gateway's report, from `{"session": .., "bytes": ..}`. Refused: `BadRequest`; `NoMemory`
@@ -155,7 +155,7 @@ pub fn read_batch(alloc: Global, body: &[u8]) -> Result<BatchOrder, Refusal>
 pub fn read_report(alloc: Global, body: &[u8]) -> Result<ReportOrder, Refusal>
     ensures { FromBody (λ value. Exactly (IsReportOrder value)) body.now result }
 {
-    report_in(&read_value(alloc, body)?)
+    report_order_of(&read_value(alloc, body)?)
 }
 
 /// The number of the session that is closed, from `{"session": ..}`. Refused: `BadRequest`;
@@ -163,5 +163,5 @@ pub fn read_report(alloc: Global, body: &[u8]) -> Result<ReportOrder, Refusal>
 pub fn read_close(alloc: Global, body: &[u8]) -> Result<u64, Refusal>
     ensures { FromBody (λ value. Exactly (IsCloseOrder value)) body.now result }
 {
-    session_in(&read_value(alloc, body)?)
+    session_member(&read_value(alloc, body)?)
 }

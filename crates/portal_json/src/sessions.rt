@@ -5,7 +5,7 @@ ghost use Rattle.serde_json.specs.View.{view};
 ghost use Rattle.portal_json.specs.Objects.{put_all};
 ghost use Rattle.portal_json.specs.Bodies.{session_keys, session_data, sessions_data, sessions_body};
 
-use crate::objects::{as_text, number, put_some, text, written};
+use crate::objects::{as_text, integer_if_some, put_some, text, text_of_value};
 use portal_model::captive::OpenSession;
 use portal_model::refusal::Refusal;
 use serde_json::{Map, Value};
@@ -14,23 +14,28 @@ use std::alloc::{AllocError, Global};
 fn session_object(alloc: Global, session: &OpenSession) -> Result<Value, AllocError>
     ensures { IfOk result (λ v. view v ≡ object (put_all (session_keys session.now) no_members)) }
 {
-    let signs = session.device.text();
-    let device = text(alloc, Some(as_text(&signs)))?;
+    let characters = session.device.text();
+    let device = text(alloc, Some(as_text(&characters)))?;
     let mut members = Map::new(alloc);
     put_some(
         alloc,
         &mut members,
         "bytes-remaining",
-        number(session.bytes),
+        integer_if_some(session.bytes),
     )?;
     put_some(alloc, &mut members, "device", device)?;
     put_some(
         alloc,
         &mut members,
         "seconds-remaining",
-        number(session.seconds),
+        integer_if_some(session.seconds),
     )?;
-    put_some(alloc, &mut members, "session", number(Some(session.number)))?;
+    put_some(
+        alloc,
+        &mut members,
+        "session",
+        integer_if_some(Some(session.number)),
+    )?;
     Ok(Value::Object(members))
 }
 
@@ -69,5 +74,5 @@ pub fn sessions_text(alloc: Global, sessions: &[OpenSession]) -> Result<String, 
     ensures err { IfErr result (λ refusal. refusal ≡ Refusal.NoMemory) }
 {
     let value = sessions_value(alloc, sessions)?;
-    written(alloc, &value)
+    text_of_value(alloc, &value)
 }

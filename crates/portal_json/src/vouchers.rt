@@ -3,7 +3,7 @@ ghost use Rattle.std.specs.Prelude.{◌≡◌, IfOk, IfErr, string_bytes};
 ghost use Rattle.serde_json.specs.View.{view};
 ghost use Rattle.portal_json.specs.Bodies.{voucher_data, voucher_body};
 
-use crate::objects::{as_text, number_or_null, written};
+use crate::objects::{as_text, integer_or_null, text_of_value};
 use portal_model::moment::Moment;
 use portal_model::record::Voucher;
 use portal_model::refusal::Refusal;
@@ -11,7 +11,7 @@ use serde_json::{Value, json};
 use std::alloc::{AllocError, Global};
 
 /// The seconds of a moment, where there is one.
-fn seconds(moment: Option<Moment>) -> Option<u64>
+fn seconds_of_moment(moment: Option<Moment>) -> Option<u64>
     ensures { result ≡ moment }
 {
     moment.map(|moment| moment.get())
@@ -27,8 +27,8 @@ fn voucher_value(alloc: Global, voucher: &Voucher) -> Result<Value, AllocError>
         "expires": voucher.expires.get(),
         "plan": voucher.plan.id.text(),
         "redeemed": voucher.redeemed,
-        "refund": number_or_null(voucher.refund),
-        "sold": number_or_null(seconds(voucher.sold)),
+        "refund": integer_or_null(voucher.refund),
+        "sold": integer_or_null(seconds_of_moment(voucher.sold)),
         "uses": voucher.plan.uses
     })
 }
@@ -42,5 +42,5 @@ pub fn voucher_text(alloc: Global, voucher: &Voucher) -> Result<String, Refusal>
     ensures err { IfErr result (λ refusal. refusal ≡ Refusal.NoMemory) }
 {
     let value = voucher_value(alloc, voucher)?;
-    written(alloc, &value)
+    text_of_value(alloc, &value)
 }

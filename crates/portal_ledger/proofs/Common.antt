@@ -3,16 +3,16 @@ pub use Rattle.std.proofs.Common.{Bool, Err, List, None, Ok, Option, Result, Som
 pub use Rattle.std.proofs.lemmas.List.Elements.{All-append, All-cons, All-nil}
 pub use Rattle.std.specs.Option.{option_or, option_to_list}
 pub use Rattle.std.specs.Prelude.{All, bytes_eq, find, option_and_then, option_map, replicate, ◌&&◌}
-pub use Rattle.portal_laws.proofs.Basics.{and-true, by_map, bytes_refl, bytes_same, cond-true, or-none, or-some, some-of-map, some-same, true-and}
-pub use Rattle.portal_ledger.specs.Ledger.{Accepted, IsFree, IsSound, Ledger, MayFollow, answer_in, held_in, history_of, is_under, kept_with, new_by, repeat_in, repeat_of, request_among, request_kept, request_row, requests_of, taken_at}
-pub use Rattle.portal_ledger.specs.Mark.{IsFilledUp, IsNumberText, Mark, filled_up, is_number_sign, same_caller, same_key, same_request}
-pub use Rattle.portal_ledger.specs.RequestRow.{AnswerCells, IsAnswerTyped, IsKeptTyped, RequestRow, cells_of, truth}
-pub use Rattle.portal_ledger.specs.Runs.{AllHandedIn, AreHandedIn, AreOne, Asked, Call, IsAnswered, IsAsked, IsHandedIn, IsJudged, IsKept, IsMarked, IsReply, Life, Run, Step, Stops, Told, acknowledged, acts, answers_here, answers_of, answers_over, answers_to, asks, is_asked_under, kept_after, no_memory, refuses, stops, tells}
-pub use Rattle.portal_ledger.specs.States.{MayStand, State, running, stopped}
+pub use Rattle.portal_model_laws.proofs.Basics.{and-true, by_map, bytes_refl, bytes_same, cond-true, or-none, or-some, some-of-map, some-same, true-and}
+pub use Rattle.portal_ledger.specs.Ledger.{Accepted, IsKeyFree, IsSound, Ledger, MayFollow, answer_in, held_in, history_of, is_under, kept_with, newly_accepted, repeat_in, repeat_of, request_among, request_kept, request_row, requests_of, accepted_at}
+pub use Rattle.portal_ledger.specs.Fingerprint.{IsPaddedKey, IsKeyText, Fingerprint, key_with_zeros, is_key_character, same_caller, same_key, same_request}
+pub use Rattle.portal_ledger.specs.RequestRow.{AnswerCells, IsAnswerTyped, IsKeptTyped, RequestRow, cells_of, boolean}
+pub use Rattle.portal_ledger.specs.Runs.{AllAreCalls, AreCalls, AreAllEqual, CallRequest, Call, RepliesByKey, IsCallRequest, IsCall, RepliesByVerdict, IsKeptByExecution, IsFingerprintIfSome, IsCallReply, Execution, CallRun, CallStep, CallStops, CallResponse, acknowledged_of, acts, answers_of_call, answers_of, answers_of_execution, answers_of_session, asks, is_request_under, ledger_after, no_memory, refuses, stops, command_answer}
+pub use Rattle.portal_ledger.specs.States.{MayBeFound, State, running, stopped}
 pub use Rattle.portal_ledger.specs.declared.caller.Caller.{Caller}
 pub use Rattle.portal_ledger.specs.declared.caller.Caller.TheVariants.{Desk, Gateway, Guest}
 pub use Rattle.portal_ledger.specs.declared.request.KeptRequest.{KeptRequest}
-pub use Rattle.portal_model.proofs.Padding.{signs-utf8, take-front, zeros-after}
+pub use Rattle.portal_model.proofs.Padding.{characters-utf8, take-front, zeros-after}
 pub use Rattle.portal_model.specs.Change.{answer_of, changes_of}
 pub use Rattle.portal_model.specs.History.{History, batch_of, effective_moment, head_of, last_moment, last_session_of, plan_of, session_of, voucher_of}
 pub use Rattle.portal_model.specs.Verdict.{IsTyped, any_held, close_verdict, greatest_moment, issue_verdict, redeem_verdict, refund_verdict, report_verdict, sell_verdict, verdict}

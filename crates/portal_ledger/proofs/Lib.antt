@@ -2,7 +2,7 @@ pub mod Common
 pub mod Filling
 pub mod Keys
 pub mod Ledgers
-pub mod Lives
+pub mod Executions
 pub mod Acknowledged
-pub mod Told
+pub mod KnownByRow
 pub mod Typed

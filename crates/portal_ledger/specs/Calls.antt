@@ -31,13 +31,13 @@ Keeps (stopped L doubt) a new = ⊥
 
 -- ---- faults: want of memory, and a fault of the store
 
-module _ {Fault : Type 0} (memory over : Fault) where
+module _ {RowError : Type 0} (memory over : RowError) where
   -- A call that reads does not answer: want of memory leaves all as it is, a fault of the store stops it, and what has stopped stays so.
-  abbrev pub FailsToRead : State → Fault → State → Type 0
+  abbrev pub FailsToRead : State → RowError → State → Type 0
   FailsToRead (running L) fault new = ((fault ≡ memory) × (new ≡ running L)) ⊎ ((fault ≡ over) × (new ≡ stopped L None))
   FailsToRead (stopped L doubt) fault new = (fault ≡ over) × (new ≡ stopped L doubt)
 
   -- The command is not kept, or it is in doubt.
-  abbrev pub FailsToKeep : State → Accepted → Fault → State → Type 0
+  abbrev pub FailsToKeep : State → Accepted → RowError → State → Type 0
   FailsToKeep (running L) a fault new = ((fault ≡ memory) × (new ≡ running L)) ⊎ ((fault ≡ over) × (new ≡ stopped L (Some a)))
   FailsToKeep (stopped L doubt) a fault new = (fault ≡ over) × (new ≡ stopped L doubt)

@@ -7,20 +7,20 @@ use Rattle.portal_ledger.specs.declared.marked.MarkedChanges.{MarkedChanges}
 use Rattle.portal_ledger.specs.declared.request.KeptRequest.{KeptRequest}
 use Rattle.portal_model.specs.declared.refusal.Refusal.{Refusal}
 use Rattle.portal_model.specs.declared.refusal.Refusal.TheVariants.{IdReused}
-use Rattle.portal_ledger.specs.Mark.{Mark, IsMark, same_key, same_request}
+use Rattle.portal_ledger.specs.Fingerprint.{Fingerprint, IsFingerprint, same_key, same_request}
 use Rattle.portal_model.specs.History.{entry, History, effective_moment}
 use Rattle.portal_model.specs.Verdict.{Follows}
 use Rattle.portal_model.specs.Change.{changes_of, answer_of}
-use Rattle.portal_model.specs.Rows.{Rows, rows_of, lead}
+use Rattle.portal_model.specs.Rows.{Rows, rows_of, rows_after_changes}
 
 -- an accepted command, with its moment, and with the mark of its request where that had one
 pub record Accepted : Type 0 where
   pub at : ℕ
   pub command : Command
-  pub mark : Option Mark
+  pub mark : Option Fingerprint
 
-abbrev pub accepted : ℕ → Command → Option Mark → Accepted
-accepted t command mark = record { at = t; command = command; mark = mark }
+abbrev pub accepted_command : ℕ → Command → Option Fingerprint → Accepted
+accepted_command t command mark = record { at = t; command = command; mark = mark }
 
 -- the accepted commands with their marks, the newest first
 abbrev pub Ledger : Type 0
@@ -38,7 +38,7 @@ abbrev pub answer_in : History → Accepted → Option Answer
 answer_in H a = option_map answer_of (changes_of H a.command a.at)
 
 -- a request with its answer
-abbrev pub kept_with : Mark → Answer → KeptRequest
+abbrev pub kept_with : Fingerprint → Answer → KeptRequest
 kept_with mark answer = record { mark = mark; answer = answer }
 
 -- the request of the command, with what its caller was told
@@ -51,49 +51,49 @@ requests_of [] = []
 requests_of (a ∷ L) = requests_of L ++ option_to_list (request_kept (history_of L) a)
 
 -- the command was accepted under the key of that mark
-abbrev pub is_under : Mark → Option Mark → Bool
+abbrev pub is_under : Fingerprint → Option Fingerprint → Bool
 is_under mark None = false
 is_under mark (Some own) = same_key own mark
 
 -- the request that is held under the key of that mark
-abbrev pub held_in : Ledger → Mark → Option KeptRequest
+abbrev pub held_in : Ledger → Fingerprint → Option KeptRequest
 held_in [] mark = None
 held_in (a ∷ L) mark = option_or (held_in L mark) (cond (is_under mark a.mark) (request_kept (history_of L) a) None)
 
 -- the same among the rows
-abbrev pub request_among : List KeptRequest → Mark → Option KeptRequest
+abbrev pub request_among : List KeptRequest → Fingerprint → Option KeptRequest
 request_among rows mark = find (λ k. same_key k.mark mark) rows
 
 -- What a request under a held key is answered: the kept answer where it is the same request, and a refusal where it is another. None: the key is not held.
-abbrev pub repeat_of : Option KeptRequest → Mark → Result (Option Answer) Refusal
+abbrev pub repeat_of : Option KeptRequest → Fingerprint → Result (Option Answer) Refusal
 repeat_of None mark = Ok None
 repeat_of (Some k) mark = cond (same_request k.mark mark) (Ok (Some k.answer)) (Err IdReused)
 
 -- the answer that is held for a request with the mark, or a refusal; a request without one is never repeated
-abbrev pub repeat_in : Ledger → Option Mark → Result (Option Answer) Refusal
+abbrev pub repeat_in : Ledger → Option Fingerprint → Result (Option Answer) Refusal
 repeat_in L None = Ok None
 repeat_in L (Some mark) = repeat_of (held_in L mark) mark
 
 -- the command of a request as it would be accepted: at the effective moment
-abbrev pub taken_at : Ledger → ℕ → Command → Option Mark → Accepted
-taken_at L moment command mark = accepted (effective_moment (history_of L) moment) command mark
+abbrev pub accepted_at : Ledger → ℕ → Command → Option Fingerprint → Accepted
+accepted_at L moment command mark = accepted_command (effective_moment (history_of L) moment) command mark
 
 -- the command that a 200 acknowledges as a new one: it is new where nothing was held under its key, and a repetition adds none
-abbrev pub new_by : Result (Option Answer) Refusal → Accepted → List Accepted
-new_by (Ok None) a = a ∷ []
-new_by _ a = []
+abbrev pub newly_accepted : Result (Option Answer) Refusal → Accepted → List Accepted
+newly_accepted (Ok None) a = a ∷ []
+newly_accepted _ a = []
 
 -- Legal ledgers
 
 -- a mark whose key is not held yet, or none
-abbrev pub IsFree : Ledger → Option Mark → Type 0
-IsFree L None = Unit {0}
-IsFree L (Some mark) = IsMark mark × (held_in L mark ≡ None)
+abbrev pub IsKeyFree : Ledger → Option Fingerprint → Type 0
+IsKeyFree L None = Unit {0}
+IsKeyFree L (Some mark) = IsFingerprint mark × (held_in L mark ≡ None)
 
 -- the command may follow, under that mark
 pub record MayFollow (L : Ledger) (a : Accepted) : Type 0 where
   pub follows : Follows (history_of L) a.at a.command
-  pub free : IsFree L a.mark
+  pub free : IsKeyFree L a.mark
 
 -- each may follow those before it
 abbrev pub IsSound : Ledger → Type 0
@@ -115,5 +115,5 @@ abbrev pub request_row : MarkedChanges → Option KeptRequest
 request_row m = option_map (λ mark. kept_with mark (answer_of m.changes)) m.mark
 
 -- what the changes make of the rows: those of the command, and a row of portal_requests where there is a mark
-abbrev pub lead_all : MarkedChanges → AllRows → AllRows
-lead_all m r = record { rows = lead m.changes r.rows; requests = r.requests ++ option_to_list (request_row m) }
+abbrev pub all_rows_after_changes : MarkedChanges → AllRows → AllRows
+all_rows_after_changes m r = record { rows = rows_after_changes m.changes r.rows; requests = r.requests ++ option_to_list (request_row m) }

@@ -1,8 +1,8 @@
-pub mod Mark
+pub mod Fingerprint
 pub mod Ledger
 pub mod States
 pub mod Calls
 pub mod Runs
 pub mod RequestRow
 pub mod Laws
-pub mod Worked
+pub mod TestVectors

@@ -3,11 +3,11 @@ use Rattle.std.specs.Prelude.{ℕ, Bool, true, false, List, codes, Option, Some,
 use Rattle.portal_codes.specs.Code.{IsCode, text_of}
 use Rattle.portal_model.specs.Device.{text_of_device}
 use Rattle.portal_model.specs.declared.change.Answer.{Answer}
-use Rattle.portal_model.specs.declared.change.Answer.TheVariants.{Plans, Issued, Sold, Redeemed, Reported, Refunded, Closed}
+use Rattle.portal_model.specs.declared.change.Answer.TheVariants.{LoadAnswer, IssueAnswer, SellAnswer, RedeemAnswer, ReportAnswer, RefundAnswer, CloseAnswer}
 use Rattle.portal_ledger.specs.declared.caller.Caller.{Caller}
 use Rattle.portal_ledger.specs.declared.caller.Caller.TheVariants.{Desk, Gateway, Guest}
 use Rattle.portal_ledger.specs.declared.request.KeptRequest.{KeptRequest}
-use Rattle.portal_ledger.specs.Mark.{IsMark}
+use Rattle.portal_ledger.specs.Fingerprint.{IsFingerprint}
 
 -- an answer, in the columns of its kind
 pub record AnswerCells : Type 0 where
@@ -20,28 +20,28 @@ pub record AnswerCells : Type 0 where
 abbrev pub cells : ℕ → Option (List ℕ) → ℕ → Option ℕ → Option ℕ → AnswerCells
 cells kind word n1 n2 n3 = record { kind = kind; word = word; n1 = n1; n2 = n2; n3 = n3 }
 
-abbrev pub truth : Bool → ℕ
-truth true = 1
-truth false = 0
+abbrev pub boolean : Bool → ℕ
+boolean true = 1
+boolean false = 0
 
 abbrev pub cells_of : Answer → AnswerCells
-cells_of (Plans plans) = cells 1 None plans None None
-cells_of (Issued batch count expires) = cells 2 (Some batch) count (Some expires) None
-cells_of (Sold code price) = cells 3 (Some (text_of code)) price None None
-cells_of (Redeemed extended session uses_left) = cells 4 None session (Some uses_left) (Some (truth extended))
-cells_of (Reported still_open session used) = cells 5 None session (Some used) (Some (truth still_open))
-cells_of (Refunded amount code) = cells 6 (Some (text_of code)) amount None None
-cells_of (Closed session) = cells 7 None session None None
+cells_of (LoadAnswer plans) = cells 1 None plans None None
+cells_of (IssueAnswer batch count expires) = cells 2 (Some batch) count (Some expires) None
+cells_of (SellAnswer code price) = cells 3 (Some (text_of code)) price None None
+cells_of (RedeemAnswer extended session uses_left) = cells 4 None session (Some uses_left) (Some (boolean extended))
+cells_of (ReportAnswer still_open session used) = cells 5 None session (Some used) (Some (boolean still_open))
+cells_of (RefundAnswer amount code) = cells 6 (Some (text_of code)) amount None None
+cells_of (CloseAnswer session) = cells 7 None session None None
 
 -- the code of an answer is one
 abbrev pub IsAnswerTyped : Answer → Type 0
-IsAnswerTyped (Sold code price) = IsCode code
-IsAnswerTyped (Refunded amount code) = IsCode code
+IsAnswerTyped (SellAnswer code price) = IsCode code
+IsAnswerTyped (RefundAnswer amount code) = IsCode code
 IsAnswerTyped _ = Unit {0}
 
 -- the mark is one that a program can make, and the code of the answer is one
 pub record IsKeptTyped (k : KeptRequest) : Type 0 where
-  pub mark : IsMark k.mark
+  pub mark : IsFingerprint k.mark
   pub answer : IsAnswerTyped k.answer
 
 -- who asked, in a text

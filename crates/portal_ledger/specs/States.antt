@@ -8,7 +8,7 @@ pub data State : Type 0 where
   stopped : Ledger → Option Accepted → State
 
 -- what a reopening may find
-abbrev pub MayStand : State → Ledger → Type 0
-MayStand (running L) found = found ≡ L
-MayStand (stopped L None) found = found ≡ L
-MayStand (stopped L (Some a)) found = (found ≡ L) ⊎ (found ≡ a ∷ L)
+abbrev pub MayBeFound : State → Ledger → Type 0
+MayBeFound (running L) found = found ≡ L
+MayBeFound (stopped L None) found = found ≡ L
+MayBeFound (stopped L (Some a)) found = (found ≡ L) ⊎ (found ≡ a ∷ L)

@@ -4,7 +4,7 @@
 //! caller was told, so that the same request is answered so again.
 ghost use Rattle.std.specs.Prelude.{◌≡◌, IfOk, IfErr, IfSome, None, bytes_eq, codes};
 ghost use Rattle.std.specs.List.{list_all};
-ghost use Rattle.portal_ledger.specs.Mark.{IsCaller, IsMark, IsNumberText, is_number_sign, same_caller, same_key, same_request};
+ghost use Rattle.portal_ledger.specs.Fingerprint.{IsCaller, IsFingerprint, IsKeyText, is_key_character, same_caller, same_key, same_request};
 
 use crate::caller::Caller;
 use portal_model::change::Answer;
@@ -21,15 +21,15 @@ pub struct RequestNumber {
 
 impl Model for RequestNumber {
     ghost use Rattle.std.specs.Prelude.{List, ℕ};
-    ghost use Rattle.portal_ledger.specs.Mark.{filled_up, IsFilledUp};
+    ghost use Rattle.portal_ledger.specs.Fingerprint.{key_with_zeros, IsPaddedKey};
 
     ghost Value = { List ℕ };
 
     ghost view = { λ a. Rattle.std.specs.Prelude.take a.len a.bytes };
 
-    ghost invariant = { λ a. IsFilledUp a.len a.bytes };
+    ghost invariant = { λ a. IsPaddedKey a.len a.bytes };
 
-    ghost inverse = { λ v. record { bytes = filled_up v; len = Rattle.std.specs.Prelude.length v } };
+    ghost inverse = { λ v. record { bytes = key_with_zeros v; len = Rattle.std.specs.Prelude.length v } };
 
     ghost inverse_ok = { λ a h. Prim.rw (h.zeros, h.shown) };
 }
@@ -38,23 +38,23 @@ impl RequestNumber {
     /// The number that a text is, where it is one.
     pub fn read(text: &str) -> Option<RequestNumber>
         ensures value { IfSome result (λ number. number ≡ text.now) }
-        ensures some { IfSome result (λ _. IsNumberText text.now) }
-        ensures none { result ≡ None → IsNumberText text.now → ⊥ }
+        ensures some { IfSome result (λ _. IsKeyText text.now) }
+        ensures none { result ≡ None → IsKeyText text.now → ⊥ }
     {
-        let signs = text.as_bytes();
-        let len = signs.len();
-        if len == 0 || len > 36 || !are_signs(signs) {
+        let characters = text.as_bytes();
+        let len = characters.len();
+        if len == 0 || len > 36 || !are_key_bytes(characters) {
             return None;
         }
         let mut bytes = [0u8; 36];
-        bytes[..len].copy_from_slice(signs);
+        bytes[..len].copy_from_slice(characters);
         Some(RequestNumber { bytes, len })
     }
 
     /// The text of the number, from which it reads back.
     pub fn text(&self) -> &str
         ensures value { result.now ≡ self.now }
-        ensures number { IsNumberText self.now }
+        ensures number { IsKeyText self.now }
     {
         str::from_utf8(&self.bytes[..self.len]).unwrap()
     }
@@ -67,14 +67,14 @@ impl RequestNumber {
     }
 }
 
-fn are_signs(bytes: &[u8]) -> bool
-    ensures { result ≡ list_all is_number_sign bytes.now }
+fn are_key_bytes(bytes: &[u8]) -> bool
+    ensures { result ≡ list_all is_key_character bytes.now }
 {
-    bytes.iter().all(|b| is_sign(*b))
+    bytes.iter().all(|b| is_key_byte(*b))
 }
 
-fn is_sign(b: u8) -> bool
-    ensures { result ≡ is_number_sign b }
+fn is_key_byte(b: u8) -> bool
+    ensures { result ≡ is_key_character b }
 {
     b.is_ascii_uppercase() || b.is_ascii_lowercase() || b.is_ascii_digit() || b == b'-'
 }
@@ -97,9 +97,9 @@ pub struct RequestMark {
 
 impl Model for RequestMark {
     ghost use Rattle.std.specs.String.{string_bytes};
-    ghost use Rattle.portal_ledger.specs.Mark.{Mark};
+    ghost use Rattle.portal_ledger.specs.Fingerprint.{Fingerprint};
 
-    ghost Value = { Mark };
+    ghost Value = { Fingerprint };
 
     ghost view = { λ m. record {
       caller = m.caller;
@@ -155,7 +155,7 @@ impl RequestMark {
     pub fn has_key_of(&self, other: &RequestMark) -> bool
         ensures { result ≡ same_key self.now other.now }
     {
-        is_same(&self.caller, &other.caller) && self.number.is(&other.number)
+        is_same_caller(&self.caller, &other.caller) && self.number.is(&other.number)
     }
 
     /// The requests are one: the same method, path and body.
@@ -170,8 +170,8 @@ impl RequestMark {
 
 /// Every mark is typed: its number is the text of one, its method and path are UTF-8, and the device of a
 /// guest is one. It does nothing but look at the values that tell so.
-pub fn mark_is_typed(mark: &RequestMark)
-    ensures { IsMark mark.now }
+pub fn fingerprint_is_typed(mark: &RequestMark)
+    ensures { IsFingerprint mark.now }
 {
     match &mark.caller {
         Caller::Guest(device) => {
@@ -185,19 +185,19 @@ pub fn mark_is_typed(mark: &RequestMark)
 }
 
 /// Two devices are one.
-fn is_device(a: &Device, b: &Device) -> bool
+fn is_same_device(a: &Device, b: &Device) -> bool
     ensures { result ≡ bytes_eq a.now b.now }
 {
     a == b
 }
 
-fn is_same(a: &Caller, b: &Caller) -> bool
+fn is_same_caller(a: &Caller, b: &Caller) -> bool
     ensures { result ≡ same_caller a.now b.now }
 {
     match (a, b) {
         (Caller::Desk, Caller::Desk) => true,
         (Caller::Gateway, Caller::Gateway) => true,
-        (Caller::Guest(a), Caller::Guest(b)) => is_device(a, b),
+        (Caller::Guest(a), Caller::Guest(b)) => is_same_device(a, b),
         _ => false,
     }
 }

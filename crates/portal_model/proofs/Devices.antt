@@ -10,15 +10,15 @@ use Rattle.std.proofs.lemmas.Result.{err_from_is_err_and}
 use Rattle.portal_model.specs.declared.refusal.Refusal.{Refusal}
 use Rattle.portal_model.specs.declared.refusal.Refusal.TheVariants.{BadDevice}
 use Rattle.std.proofs.lemmas.Slice.Eq.{text_from_reads}
-use Rattle.portal_model.specs.Device.{IsDevice, SpellsDevice, DeviceTextReadsBack, hex_sign, octet_text, text_with, text_of_device}
+use Rattle.portal_model.specs.Device.{IsDevice, SpellsDevice, DeviceTextReadsBack, hex_digit, octet_text, text_with, text_of_device}
 
 -- the signs between the octets
 abbrev pub between : List ℕ → List ℕ
 between text = get_or text 2 0 ∷ get_or text 5 0 ∷ get_or text 8 0 ∷ get_or text 11 0 ∷ get_or text 14 0 ∷ []
 
 -- the k-th octet stands in the text
-abbrev pub Stands : List ℕ → ℕ → ℕ → Type 0
-Stands text k octet = octet_text octet ≡ to_ascii_lowercase (get_or text (3 * k) 0) ∷ to_ascii_lowercase (get_or text (3 * k + 1) 0) ∷ []
+abbrev pub HasOctetText : List ℕ → ℕ → ℕ → Type 0
+HasOctetText text k octet = octet_text octet ≡ to_ascii_lowercase (get_or text (3 * k) 0) ∷ to_ascii_lowercase (get_or text (3 * k + 1) 0) ∷ []
 
 abbrev six : ℕ → ℕ → ℕ → ℕ → ℕ → ℕ → List ℕ
 six a b c d e f = a ∷ b ∷ c ∷ d ∷ e ∷ f ∷ []
@@ -29,13 +29,13 @@ all-six a b c d e f la lb lc ld le lf = All-from_recursion (λ (x : ℕ). x < 25
 -- what a text that spells a device looks like
 pub record Layout (text : List ℕ) (a b c d e f : ℕ) : Type 0 where
   pub len : length text ≡ 17
-  pub first : Stands text 0 a
-  pub second : Stands text 1 b
-  pub third : Stands text 2 c
-  pub fourth : Stands text 3 d
-  pub fifth : Stands text 4 e
-  pub sixth : Stands text 5 f
-  pub signs : (between text ≡ replicate 5 58) ⊎ (between text ≡ replicate 5 45)
+  pub first : HasOctetText text 0 a
+  pub second : HasOctetText text 1 b
+  pub third : HasOctetText text 2 c
+  pub fourth : HasOctetText text 3 d
+  pub fifth : HasOctetText text 4 e
+  pub sixth : HasOctetText text 5 f
+  pub characters : (between text ≡ replicate 5 58) ⊎ (between text ≡ replicate 5 45)
 
 read-at : (text L : List ℕ) → str_to_ascii_lowercase text ≡ L → (k : ℕ) → to_ascii_lowercase (get_or text k 0) ≡ get_or L k 0
 read-at text L e k = sym (get_or-map to_ascii_lowercase text k 0) ∙ ap (λ (l : List ℕ). get_or l k 0) e
@@ -62,7 +62,7 @@ layout-with sep plain alike text a b c d e f h =
       fourth = cc;
       fifth = cc;
       sixth = cc;
-      signs = alike text (cc);
+      characters = alike text (cc);
     }
 
 same-colon : (c : ℕ) → to_ascii_lowercase c ≡ 58 → c ≡ 58
@@ -100,22 +100,22 @@ spells text a b c d e f is h =
     let s0 = at 2 in let s1 = at 5 in let s2 = at 8 in let s3 = at 11 in let s4 = at 14 in
     record {
       is_device = is;
-      written = elim h.signs as (λ _. (str_to_ascii_lowercase text ≡ text_with 58 (six a b c d e f)) ⊎ (str_to_ascii_lowercase text ≡ text_with 45 (six a b c d e f))) [
+      written = elim h.characters as (λ _. (str_to_ascii_lowercase text ≡ text_with 58 (six a b c d e f)) ⊎ (str_to_ascii_lowercase text ≡ text_with 45 (six a b c d e f))) [
         | inl w ↦ inl (text_from_reads _ _ (length-map text to_ascii_lowercase ∙ h.len) (cc, (cc, (cc, (cc, (cc, (cc, (cc, (cc, (cc, (cc, (cc, (cc, (cc, (cc, (cc, (cc, (cc, tt))))))))))))))))))
         | inr w ↦ inr (text_from_reads _ _ (length-map text to_ascii_lowercase ∙ h.len) (cc, (cc, (cc, (cc, (cc, (cc, (cc, (cc, (cc, (cc, (cc, (cc, (cc, (cc, (cc, (cc, (cc, tt))))))))))))))))))
       ];
     }
 
-hex-same : (x y : ℕ) → x < 16 → y < 16 → hex_sign x ≡ hex_sign y → x ≡ y
+hex-same : (x y : ℕ) → x < 16 → y < 16 → hex_digit x ≡ hex_digit y → x ≡ y
 hex-same x y hx hy e = grind (arith, nat_tests)
 
-octet-same : (x y : ℕ) → x < 256 → y < 256 → octet_text x ≡ octet_text y → x ≡ y
-octet-same x y hx hy e =
+read_octet-same : (x y : ℕ) → x < 256 → y < 256 → octet_text x ≡ octet_text y → x ≡ y
+read_octet-same x y hx hy e =
     let high : x / 16 ≡ y / 16 = hex-same (x / 16) (y / 16) (omega arith) (omega arith) (ap (λ (l : List ℕ). get_or l 0 0) e) in
     let low : x % 16 ≡ y % 16 = hex-same (x % 16) (y % 16) (omega arith) (omega arith) (ap (λ (l : List ℕ). get_or l 1 0) e) in
     omega arith
 
-lower-hex : (x : ℕ) → to_ascii_lowercase (hex_sign x) ≡ hex_sign x
+lower-hex : (x : ℕ) → to_ascii_lowercase (hex_digit x) ≡ hex_digit x
 lower-hex x = grind (arith, nat_tests)
 
 spelled-once : (text : List ℕ) (a b c d e f a' b' c' d' e' f' : ℕ) → SpellsDevice text (six a b c d e f) → SpellsDevice text (six a' b' c' d' e' f') → six a' b' c' d' e' f' ≡ six a b c d e f
@@ -124,12 +124,12 @@ spelled-once text a b c d e f a' b' c' d' e' f' h h' =
     let l' = layout text a' b' c' d' e' f' h' in
     let below = h.is_device.below in
     let below' = h'.is_device.below in
-    let e0 : a' ≡ a = octet-same a' a (below' 0 0 (omega arith)) (below 0 0 (omega arith)) (l'.first ∙ sym l.first) in
-    let e1 : b' ≡ b = octet-same b' b (below' 1 0 (omega arith)) (below 1 0 (omega arith)) (l'.second ∙ sym l.second) in
-    let e2 : c' ≡ c = octet-same c' c (below' 2 0 (omega arith)) (below 2 0 (omega arith)) (l'.third ∙ sym l.third) in
-    let e3 : d' ≡ d = octet-same d' d (below' 3 0 (omega arith)) (below 3 0 (omega arith)) (l'.fourth ∙ sym l.fourth) in
-    let e4 : e' ≡ e = octet-same e' e (below' 4 0 (omega arith)) (below 4 0 (omega arith)) (l'.fifth ∙ sym l.fifth) in
-    let e5 : f' ≡ f = octet-same f' f (below' 5 0 (omega arith)) (below 5 0 (omega arith)) (l'.sixth ∙ sym l.sixth) in
+    let e0 : a' ≡ a = read_octet-same a' a (below' 0 0 (omega arith)) (below 0 0 (omega arith)) (l'.first ∙ sym l.first) in
+    let e1 : b' ≡ b = read_octet-same b' b (below' 1 0 (omega arith)) (below 1 0 (omega arith)) (l'.second ∙ sym l.second) in
+    let e2 : c' ≡ c = read_octet-same c' c (below' 2 0 (omega arith)) (below 2 0 (omega arith)) (l'.third ∙ sym l.third) in
+    let e3 : d' ≡ d = read_octet-same d' d (below' 3 0 (omega arith)) (below 3 0 (omega arith)) (l'.fourth ∙ sym l.fourth) in
+    let e4 : e' ≡ e = read_octet-same e' e (below' 4 0 (omega arith)) (below 4 0 (omega arith)) (l'.fifth ∙ sym l.fifth) in
+    let e5 : f' ≡ f = read_octet-same f' f (below' 5 0 (omega arith)) (below 5 0 (omega arith)) (l'.sixth ∙ sym l.sixth) in
     cc
 
 own-text : (a b c d e f : ℕ) → IsDevice (six a b c d e f) → SpellsDevice (text_of_device (six a b c d e f)) (six a b c d e f)
@@ -151,7 +151,7 @@ short-spells-none text h device s =
 
 pub unseparated-spells-none : (text : List ℕ) → ¬ ((between text ≡ replicate 5 58) ⊎ (between text ≡ replicate 5 45)) → (device : List ℕ) → ¬ SpellsDevice text device
 unseparated-spells-none text h device s =
-    as-six (λ d. SpellsDevice text d → ⊥) (λ a b c d e f is w. h (layout text a b c d e f w).signs) device s.is_device s
+    as-six (λ d. SpellsDevice text d → ⊥) (λ a b c d e f is w. h (layout text a b c d e f w).characters) device s.is_device s
 
 -- no octet stands at that place of the text
 abbrev pub NoOctet : List ℕ → ℕ → Type 0
@@ -170,11 +170,11 @@ unread-spells-none text k small h device s = as-six (λ d. SpellsDevice text d �
     go (suc (suc (suc (suc (suc (suc n)))))) small none a b c d e f is l = absurd (omega arith)
 
 -- what the reader answers where an octet was not read
-pub unread : {A : Type 0} (text signs : List ℕ) → signs ≡ text → (k : ℕ) → k < 6 → (e : Refusal) → (e ≡ BadDevice) × NoOctet signs k → (result : Result A Refusal) → IsErrAnd result (λ x. x ≡ e)
+pub unread : {A : Type 0} (text characters : List ℕ) → characters ≡ text → (k : ℕ) → k < 6 → (e : Refusal) → (e ≡ BadDevice) × NoOctet characters k → (result : Result A Refusal) → IsErrAnd result (λ x. x ≡ e)
     → IfErr result (λ r. (r ≡ BadDevice) × ((device : List ℕ) → ¬ SpellsDevice text device))
-unread text signs same k small e refused result is =
+unread text characters same k small e refused result is =
     let p = err_from_is_err_and result is in
-    rw (p.1, p.2) (refused.0, subst (λ t. (device : List ℕ) → ¬ SpellsDevice t device) same (unread-spells-none signs k small refused.1))
+    rw (p.1, p.2) (refused.0, subst (λ t. (device : List ℕ) → ¬ SpellsDevice t device) same (unread-spells-none characters k small refused.1))
 
 -- what the reader returns is spelled
 pub read-spells : (text other : List ℕ) → text ≡ other → (a b c d e f : ℕ) → a < 256 → b < 256 → c < 256 → d < 256 → e < 256 → f < 256 → Layout text a b c d e f → SpellsDevice other (six a b c d e f)

@@ -9,8 +9,8 @@ use Rattle.std.proofs.lemmas.List.Sums.{AllPass-from_list_all}
 use Rattle.std.proofs.lemmas.Bool.Decides.{nat_tests}
 use Rattle.std.proofs.lemmas.Str.{IsUtf8-from_ascii}
 use Rattle.std.proofs.lemmas.Str.Ascii.{IsAscii-from_all}
-use Rattle.portal_model.specs.IdText.{IsIdText, is_id_sign}
-use Rattle.portal_model.specs.Names.{IsPadded, padded}
+use Rattle.portal_model.specs.IdText.{IsIdText, is_id_character}
+use Rattle.portal_model.specs.Names.{IsPadded, with_zeros}
 
 pub take-front : (xs ys : List ℕ) (n : ℕ) → n ≡ length xs → take n (xs ++ ys) ≡ xs
 take-front xs ys n e = ap (λ m. take m (xs ++ ys)) e ∙ take-append_seam xs ys
@@ -22,17 +22,17 @@ zeros-after limit xs n e = let none : ℕ = 0 in ap (λ m. xs ++ replicate (limi
 pub padded-front : (xs : List ℕ) (n : ℕ) → n ≡ length xs → n ≤ 32 → IsIdText xs → IsPadded n (xs ++ drop n (replicate 32 0))
 padded-front xs n e h is =
     let front : take n (xs ++ drop n (replicate 32 0)) ≡ xs = take-front xs (drop n (replicate 32 0)) n e in
-    record { fits = h; shown = ap length front ∙ sym e; zeros = ap padded front ∙ zeros-after 32 xs n e; text = subst IsIdText (sym front) is }
+    record { fits = h; shown = ap length front ∙ sym e; zeros = ap with_zeros front ∙ zeros-after 32 xs n e; text = subst IsIdText (sym front) is }
 
 -- a text of signs below 128 is UTF-8
-pub signs-utf8 : (is_sign : ℕ → Bool) → ((b : ℕ) → is_sign b ≡ true → b < 128) → (text : List ℕ) → list_all is_sign text ≡ true → IsUtf8 text
-signs-utf8 is_sign low text h = IsUtf8-from_ascii text (IsAscii-from_all text (λ i d k. low (get_or text i d) (AllPass-from_list_all is_sign text h i d k)))
+pub characters-utf8 : (is_id_byte : ℕ → Bool) → ((b : ℕ) → is_id_byte b ≡ true → b < 128) → (text : List ℕ) → list_all is_id_byte text ≡ true → IsUtf8 text
+characters-utf8 is_id_byte low text h = IsUtf8-from_ascii text (IsAscii-from_all text (λ i d k. low (get_or text i d) (AllPass-from_list_all is_id_byte text h i d k)))
 
-id_sign-ascii : (b : ℕ) → is_id_sign b ≡ true → b < 128
+id_sign-ascii : (b : ℕ) → is_id_character b ≡ true → b < 128
 id_sign-ascii b h = grind (arith, nat_tests)
 
 pub id-utf8 : (text : List ℕ) → IsIdText text → IsUtf8 text
-id-utf8 text h = signs-utf8 is_id_sign id_sign-ascii text h.signs
+id-utf8 text h = characters-utf8 is_id_character id_sign-ascii text h.characters
 
 pub ok-where : (A B : Type 0) (P : A → Type 0) (Q : B → Type 0) (U : Type 0) (r : Result A B) → MatchResult r P (λ e. ¬ U × Q e) → U → IsOk r
 ok-where A B P Q U (Ok x) h u = refl

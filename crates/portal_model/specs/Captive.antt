@@ -12,9 +12,9 @@ left_below done None = None
 left_below done (Some limit) = Some (limit - done)
 
 -- a guest with that open session, or with none
-abbrev pub told_of : ℕ → Option Session → Captive
-told_of t None = record { captive = true; seconds = None; bytes = None; extend = None }
-told_of t (Some s) = record {
+abbrev pub remaining_of_session : ℕ → Option Session → Captive
+remaining_of_session t None = record { captive = true; seconds = None; bytes = None; extend = None }
+remaining_of_session t (Some s) = record {
   captive = false;
   seconds = left_below t s.ends;
   bytes = left_below s.used s.allowance;
@@ -23,7 +23,7 @@ told_of t (Some s) = record {
 
 -- a guest whose device had that session last
 abbrev pub captive_state : ℕ → Option Session → Captive
-captive_state t last = told_of t (kept_if (is_open_at t) last)
+captive_state t last = remaining_of_session t (kept_if (is_open_at t) last)
 
 -- what the device is told where t is the moment handed in
 abbrev pub captive_of : History → List ℕ → ℕ → Captive

@@ -7,26 +7,26 @@ use Rattle.portal_model.specs.declared.record.Voucher.{Voucher}
 use Rattle.portal_model.specs.declared.record.Session.{Session}
 use Rattle.portal_model.specs.declared.record.Head.{Head}
 use Rattle.portal_model.specs.declared.change.Changes.{Changes}
-use Rattle.portal_model.specs.declared.change.Changes.TheVariants.{Loading, Issuance, Sale, Redemption, Usage, Repayment, Closing}
+use Rattle.portal_model.specs.declared.change.Changes.TheVariants.{LoadChange, IssueChange, SellChange, RedeemChange, ReportChange, RefundChange, CloseChange}
 use Rattle.portal_model.specs.declared.change.Answer.{Answer}
-use Rattle.portal_model.specs.declared.change.Answer.TheVariants.{Plans, Issued, Sold, Redeemed, Reported, Refunded, Closed}
-use Rattle.portal_model.specs.History.{History, limited, batch_row, plan_of, voucher_of, session_of, last_session_of, head_of, kept_if, is_open_at, amount_left}
+use Rattle.portal_model.specs.declared.change.Answer.TheVariants.{LoadAnswer, IssueAnswer, SellAnswer, RedeemAnswer, ReportAnswer, RefundAnswer, CloseAnswer}
+use Rattle.portal_model.specs.History.{History, limit_or_none, batch_row, plan_of, voucher_of, session_of, last_session_of, head_of, kept_if, is_open_at, amount_left}
 
 -- the limit, raised by that much
-abbrev pub raised : Option ℕ → ℕ → Option ℕ
-raised None more = None
-raised (Some limit) more = Some (limit + more)
+abbrev pub raised_by : Option ℕ → ℕ → Option ℕ
+raised_by None more = None
+raised_by (Some limit) more = Some (limit + more)
 
 -- the session that a redemption of that plan leaves: the open one extended, or a new one
 abbrev pub session_after : Head → Plan → Option Session → List ℕ → ℕ → Session
-session_after head plan (Some s) device t = record s { ends = raised s.ends plan.seconds; allowance = raised s.allowance plan.bytes }
+session_after head plan (Some s) device t = record s { ends = raised_by s.ends plan.seconds; allowance = raised_by s.allowance plan.bytes }
 session_after head plan None device t = record {
   number = head.sessions + 1;
   device = device;
   extend = plan.extend;
   opened = t;
-  ends = limited plan.seconds (t + plan.seconds);
-  allowance = limited plan.bytes plan.bytes;
+  ends = limit_or_none plan.seconds (t + plan.seconds);
+  allowance = limit_or_none plan.bytes plan.bytes;
   used = 0;
   closed = None;
 }
@@ -41,34 +41,34 @@ abbrev pub head_after : Head → Option Session → ℕ → Head
 head_after head running t = record { last = t; grants = head.grants + 1; sessions = sessions_after head.sessions running }
 
 -- the session, with a report of that many bytes
-abbrev pub reported : ℕ → Session → Session
-reported bytes s = record s { used = max bytes s.used }
+abbrev pub with_report : ℕ → Session → Session
+with_report bytes s = record s { used = max bytes s.used }
 
 -- the first of the plans with that id
 abbrev pub plan_among : List Plan → List ℕ → Option Plan
 plan_among plans id = find (λ p. bytes_eq p.id id) plans
 
 -- the listed plans that are not held
-abbrev pub added : (List ℕ → Option Plan) → List Plan → List Plan
-added held plans = filter (λ p. is_none (held p.id)) plans
+abbrev pub plans_to_add : (List ℕ → Option Plan) → List Plan → List Plan
+plans_to_add held plans = filter (λ p. is_none (held p.id)) plans
 
 -- What a decision changes, by the records that it read
 
 -- the plans that are new, of those listed
 abbrev pub load_change : (List ℕ → Option Plan) → List Plan → ℕ → Changes
-load_change held plans t = Loading (record { at = t; listed = length plans; added = added held plans })
+load_change held plans t = LoadChange (record { at = t; listed = length plans; added = plans_to_add held plans })
 
 -- the batch and its codes
 abbrev pub issue_change : Option Plan → List ℕ → List (List ℕ) → ℕ → Option Changes
-issue_change plan id codes t = option_map (λ p. Issuance (record { at = t; batch = batch_row t id (length codes) p; codes = codes })) plan
+issue_change plan id codes t = option_map (λ p. IssueChange (record { at = t; batch = batch_row t id (length codes) p; codes = codes })) plan
 
 -- the voucher, sold at t
 abbrev pub sell_change : Option Voucher → ℕ → Option Changes
-sell_change voucher t = option_map (λ v. Sale (record { at = t; voucher = v })) voucher
+sell_change voucher t = option_map (λ v. SellChange (record { at = t; voucher = v })) voucher
 
 -- the redemption of a voucher, beside the open session of the device
 abbrev pub redemption : Head → Option Session → List ℕ → ℕ → Voucher → Changes
-redemption head running device t v = Redemption (record { at = t; head = head; voucher = v; running = running; session = session_after head v.plan running device t })
+redemption head running device t v = RedeemChange (record { at = t; head = head; voucher = v; running = running; session = session_after head v.plan running device t })
 
 -- the same, from the last session of the device
 abbrev pub redeem_change : Head → Option Voucher → Option Session → List ℕ → ℕ → Option Changes
@@ -76,15 +76,15 @@ redeem_change head voucher last device t = option_map (redemption head (kept_if 
 
 -- the session, with the report
 abbrev pub report_change : Option Session → ℕ → ℕ → Option Changes
-report_change session bytes t = option_map (λ s. Usage (record { at = t; session = s; bytes = bytes })) session
+report_change session bytes t = option_map (λ s. ReportChange (record { at = t; session = s; bytes = bytes })) session
 
 -- the voucher, and the price of the uses that are left
 abbrev pub refund_change : Option Voucher → ℕ → Option Changes
-refund_change voucher t = option_map (λ v. Repayment (record { at = t; voucher = v; amount = amount_left v.plan v.redeemed })) voucher
+refund_change voucher t = option_map (λ v. RefundChange (record { at = t; voucher = v; amount = amount_left v.plan v.redeemed })) voucher
 
 -- the session, closed at t
 abbrev pub close_change : Option Session → ℕ → Option Changes
-close_change session t = option_map (λ s. Closing (record { at = t; session = s })) session
+close_change session t = option_map (λ s. CloseChange (record { at = t; session = s })) session
 
 -- what the command changes after the history
 abbrev pub changes_of : History → Command → ℕ → Option Changes
@@ -98,10 +98,10 @@ changes_of H (Close n) t = close_change (session_of H n) t
 
 -- what the caller is told
 abbrev pub answer_of : Changes → Answer
-answer_of (Loading c) = Plans c.listed
-answer_of (Issuance c) = Issued c.batch.id c.batch.size c.batch.expires
-answer_of (Sale c) = Sold c.voucher.code c.voucher.plan.price
-answer_of (Redemption c) = Redeemed (is_some c.running) c.session.number (c.voucher.plan.uses - c.voucher.redeemed - 1)
-answer_of (Usage c) = let after = reported c.bytes c.session in Reported (is_open_at c.at after) after.number after.used
-answer_of (Repayment c) = Refunded c.amount c.voucher.code
-answer_of (Closing c) = Closed c.session.number
+answer_of (LoadChange c) = LoadAnswer c.listed
+answer_of (IssueChange c) = IssueAnswer c.batch.id c.batch.size c.batch.expires
+answer_of (SellChange c) = SellAnswer c.voucher.code c.voucher.plan.price
+answer_of (RedeemChange c) = RedeemAnswer (is_some c.running) c.session.number (c.voucher.plan.uses - c.voucher.redeemed - 1)
+answer_of (ReportChange c) = let after = with_report c.bytes c.session in ReportAnswer (is_open_at c.at after) after.number after.used
+answer_of (RefundChange c) = RefundAnswer c.amount c.voucher.code
+answer_of (CloseChange c) = CloseAnswer c.session.number

@@ -63,26 +63,26 @@ pub record Place : Type 0 where
   pub place : ℕ
 
 -- the codes of a batch, from place n on
-abbrev pub placed : List ℕ → ℕ → List (List ℕ) → List Place
-placed b n [] = []
-placed b n (code ∷ codes) = record { code = code; batch = b; place = n } ∷ placed b (n + 1) codes
+abbrev pub places_from : List ℕ → ℕ → List (List ℕ) → List Place
+places_from b n [] = []
+places_from b n (code ∷ codes) = record { code = code; batch = b; place = n } ∷ places_from b (n + 1) codes
 
 -- what a voucher is from its issue on
-pub record Issued : Type 0 where
+pub record IssuedVoucher : Type 0 where
   pub batch : List ℕ
   pub place : ℕ
   pub plan : Plan
   pub expires : ℕ
 
 -- the voucher at that place of a batch that was issued at t
-abbrev pub issued_at : ℕ → List ℕ → ℕ → Plan → Issued
+abbrev pub issued_at : ℕ → List ℕ → ℕ → Plan → IssuedVoucher
 issued_at t b place plan = record { batch = b; place = place; plan = plan; expires = expiry t plan }
 
 -- from the issue that lists the code
-abbrev pub issued_of : History → List ℕ → Option Issued
+abbrev pub issued_of : History → List ℕ → Option IssuedVoucher
 issued_of [] code = None
 issued_of (entry t (Issue b p codes) ∷ H) code =
-    option_or (issued_of H code) (option_and_then (λ k. option_map (issued_at t b k.place) (plan_of H p)) (find (λ k. bytes_eq k.code code) (placed b 0 codes)))
+    option_or (issued_of H code) (option_and_then (λ k. option_map (issued_at t b k.place) (plan_of H p)) (find (λ k. bytes_eq k.code code) (places_from b 0 codes)))
 issued_of (_ ∷ H) code = issued_of H code
 
 -- the moment of its sale
@@ -102,23 +102,23 @@ abbrev pub amount_left : Plan → ℕ → ℕ
 amount_left plan redeemed = plan.price * (plan.uses - redeemed) / plan.uses
 
 -- a refund
-pub record Repaid : Type 0 where
+pub record RefundEntry : Type 0 where
   pub at : ℕ
   pub amount : ℕ
 
 -- the refund of a voucher that was redeemed that often
-abbrev pub repaid_at : ℕ → ℕ → Issued → Repaid
-repaid_at t redeemed v = record { at = t; amount = amount_left v.plan redeemed }
+abbrev pub refund_entry_at : ℕ → ℕ → IssuedVoucher → RefundEntry
+refund_entry_at t redeemed v = record { at = t; amount = amount_left v.plan redeemed }
 
 -- its refund: the moment, and the price of the uses that were left
-abbrev pub refund_of : History → List ℕ → Option Repaid
+abbrev pub refund_of : History → List ℕ → Option RefundEntry
 refund_of [] code = None
 refund_of (entry t (Refund c) ∷ H) code =
-    cond (bytes_eq c code) (option_map (repaid_at t (uses_of H code)) (issued_of H code)) (refund_of H code)
+    cond (bytes_eq c code) (option_map (refund_entry_at t (uses_of H code)) (issued_of H code)) (refund_of H code)
 refund_of (_ ∷ H) code = refund_of H code
 
 -- a voucher as it stands: sold, refunded and redeemed by the history
-abbrev pub voucher_row : History → List ℕ → Issued → Voucher
+abbrev pub voucher_row : History → List ℕ → IssuedVoucher → Voucher
 voucher_row H code v = record {
   code = code;
   batch = v.batch;
@@ -174,8 +174,8 @@ closed_of (entry t (Close m) ∷ H) n = cond (nat_eq m n) (Some t) (closed_of H 
 closed_of (_ ∷ H) n = closed_of H n
 
 -- a quantity that the plan limits, and none where the plan gives 0 of it
-abbrev pub limited : ℕ → ℕ → Option ℕ
-limited given total = cond (nat_eq given 0) None (Some total)
+abbrev pub limit_or_none : ℕ → ℕ → Option ℕ
+limit_or_none given total = cond (nat_eq given 0) None (Some total)
 
 -- session n as it stands, where these are its grants and the first one opened it: its end is the opening moment with the seconds of all grants, its allowance the bytes of all grants
 abbrev pub session_row : History → ℕ → List Grant → Grant → Session
@@ -184,8 +184,8 @@ session_row H n gs first = record {
   device = first.device;
   extend = first.plan.extend;
   opened = first.at;
-  ends = limited first.plan.seconds (first.at + sum_by (λ g. g.plan.seconds) gs);
-  allowance = limited first.plan.bytes (sum_by (λ g. g.plan.bytes) gs);
+  ends = limit_or_none first.plan.seconds (first.at + sum_by (λ g. g.plan.seconds) gs);
+  allowance = limit_or_none first.plan.bytes (sum_by (λ g. g.plan.bytes) gs);
   used = used_of H n;
   closed = closed_of H n;
 }
@@ -214,7 +214,7 @@ place_of gs (Some s) = s.number
 place_of gs None = greatest_session gs + 1
 
 -- the grants with one more, of the voucher redeemed by the device
-abbrev pub grant_at : ℕ → List ℕ → List ℕ → List Grant → Option Session → Issued → List Grant
+abbrev pub grant_at : ℕ → List ℕ → List ℕ → List Grant → Option Session → IssuedVoucher → List Grant
 grant_at t d c gs running v = record { session = place_of gs running; device = d; code = c; plan = v.plan; at = t } ∷ gs
 
 -- each redemption, the newest first: in the device's last session where that is open, and else in a new one

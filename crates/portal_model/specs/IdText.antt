@@ -3,11 +3,11 @@ use Rattle.std.specs.Prelude.{◌≡◌, ℕ, ◌≤◌, Bool, true, ◌||◌, �
 use Rattle.std.specs.List.{list_all}
 
 -- a small letter, a digit or a hyphen
-abbrev pub is_id_sign : ℕ → Bool
-is_id_sign b = (nat_le 97 b && nat_le b 122) || ((nat_le 48 b && nat_le b 57) || nat_eq b 45)
+abbrev pub is_id_character : ℕ → Bool
+is_id_character b = (nat_le 97 b && nat_le b 122) || ((nat_le 48 b && nat_le b 57) || nat_eq b 45)
 
 -- 1 to 32 of these signs
 pub record IsIdText (text : List ℕ) : Type 0 where
   pub least : 1 ≤ length text
   pub most : length text ≤ 32
-  pub signs : list_all is_id_sign text ≡ true
+  pub characters : list_all is_id_character text ≡ true

@@ -9,5 +9,5 @@ pub mod Change
 pub mod Rows
 pub mod Captive
 pub mod Payments
-pub mod Worked
-pub mod Judged
+pub mod TestVectors
+pub mod VerdictVectors

@@ -8,9 +8,9 @@ use Rattle.portal_model.specs.declared.record.Voucher.{Voucher}
 use Rattle.portal_model.specs.declared.record.Session.{Session}
 use Rattle.portal_model.specs.declared.record.Head.{Head}
 use Rattle.portal_model.specs.declared.change.Changes.{Changes}
-use Rattle.portal_model.specs.declared.change.Changes.TheVariants.{Loading, Issuance, Sale, Redemption, Usage, Repayment, Closing}
-use Rattle.portal_model.specs.History.{entry, History, plan_of, batch_row, Place, placed, Grant, grants_of, members, greatest_session, session_row, sold_of, uses_of, refund_of, used_of, closed_of, head_of, limited}
-use Rattle.portal_model.specs.Change.{added, head_after, reported, plan_among}
+use Rattle.portal_model.specs.declared.change.Changes.TheVariants.{LoadChange, IssueChange, SellChange, RedeemChange, ReportChange, RefundChange, CloseChange}
+use Rattle.portal_model.specs.History.{entry, History, plan_of, batch_row, Place, places_from, Grant, grants_of, members, greatest_session, session_row, sold_of, uses_of, refund_of, used_of, closed_of, head_of, limit_or_none}
+use Rattle.portal_model.specs.Change.{plans_to_add, head_after, with_report, plan_among}
 
 -- a row of portal_vouchers
 pub record VoucherRow : Type 0 where
@@ -66,7 +66,7 @@ pub record Rows : Type 0 where
 -- each plan, of the first file that lists it
 abbrev pub plans_of : History → List Plan
 plans_of [] = []
-plans_of (entry t (Load plans) ∷ H) = plans_of H ++ added (plan_of H) plans
+plans_of (entry t (Load plans) ∷ H) = plans_of H ++ plans_to_add (plan_of H) plans
 plans_of (_ ∷ H) = plans_of H
 
 -- each batch, in order of issue
@@ -78,7 +78,7 @@ batches_of (_ ∷ H) = batches_of H
 -- each issued code
 abbrev pub places_of : History → List Place
 places_of [] = []
-places_of (entry t (Issue b p codes) ∷ H) = places_of H ++ placed b 0 codes
+places_of (entry t (Issue b p codes) ∷ H) = places_of H ++ places_from b 0 codes
 places_of (_ ∷ H) = places_of H
 
 -- a voucher with its sale and its refund
@@ -176,8 +176,8 @@ total_from r s =
     let plan = plan_among r.plans s.plan in
     record {
       number = s.number;
-      ends = option_and_then (λ p. limited p.seconds (s.opened + sum_by (λ g. g.seconds) grants)) plan;
-      remaining = remaining_of s.used (option_and_then (λ p. limited p.bytes (sum_by (λ g. g.bytes) grants)) plan);
+      ends = option_and_then (λ p. limit_or_none p.seconds (s.opened + sum_by (λ g. g.seconds) grants)) plan;
+      remaining = remaining_of s.used (option_and_then (λ p. limit_or_none p.bytes (sum_by (λ g. g.bytes) grants)) plan);
     }
 
 -- those of each session
@@ -187,8 +187,8 @@ totals_from r = map (total_from r) r.sessions
 -- What an accepted command makes of the rows
 
 -- the head, with t as the last moment
-abbrev pub moved_to : ℕ → Head → Head
-moved_to t head = record head { last = t }
+abbrev pub with_last_moment : ℕ → Head → Head
+with_last_moment t head = record head { last = t }
 
 -- the rows of a new batch, from place n on
 abbrev pub new_vouchers : List ℕ → ℕ → List (List ℕ) → List VoucherRow
@@ -238,29 +238,29 @@ totals_after (Some running) s totals = map (totalled_if s) totals
 totals_after None s totals = totals ++ total_row s ∷ []
 
 -- what the changes make of the rows: some are added at the end, some are changed in their place
-abbrev pub lead : Changes → Rows → Rows
-lead (Loading c) r = record r { head = moved_to c.at r.head; plans = r.plans ++ c.added }
-lead (Issuance c) r = record r {
-  head = moved_to c.at r.head;
+abbrev pub rows_after_changes : Changes → Rows → Rows
+rows_after_changes (LoadChange c) r = record r { head = with_last_moment c.at r.head; plans = r.plans ++ c.added }
+rows_after_changes (IssueChange c) r = record r {
+  head = with_last_moment c.at r.head;
   batches = r.batches ++ c.batch ∷ [];
   vouchers = r.vouchers ++ new_vouchers c.batch.id 0 c.codes;
   counts = r.counts ++ new_counts c.codes;
 }
-lead (Sale c) r = record r { head = moved_to c.at r.head; vouchers = map (sold_if c.voucher.code c.at) r.vouchers }
-lead (Redemption c) r = record r {
+rows_after_changes (SellChange c) r = record r { head = with_last_moment c.at r.head; vouchers = map (sold_if c.voucher.code c.at) r.vouchers }
+rows_after_changes (RedeemChange c) r = record r {
   head = head_after r.head c.running c.at;
   sessions = r.sessions ++ new_session c.running c.voucher c.session;
   grants = r.grants ++ new_grant c.head c.voucher c.session c.at ∷ [];
   counts = map (counted_if c.voucher.code (c.voucher.redeemed + 1)) r.counts;
   totals = totals_after c.running c.session r.totals;
 }
-lead (Usage c) r = record r {
-  head = moved_to c.at r.head;
+rows_after_changes (ReportChange c) r = record r {
+  head = with_last_moment c.at r.head;
   sessions = map (used_if c.session.number (max c.bytes c.session.used)) r.sessions;
-  totals = map (totalled_if (reported c.bytes c.session)) r.totals;
+  totals = map (totalled_if (with_report c.bytes c.session)) r.totals;
 }
-lead (Repayment c) r = record r { head = moved_to c.at r.head; vouchers = map (refunded_if c.voucher.code c.at c.amount) r.vouchers }
-lead (Closing c) r = record r { head = moved_to c.at r.head; sessions = map (closed_if c.session.number c.at) r.sessions }
+rows_after_changes (RefundChange c) r = record r { head = with_last_moment c.at r.head; vouchers = map (refunded_if c.voucher.code c.at c.amount) r.vouchers }
+rows_after_changes (CloseChange c) r = record r { head = with_last_moment c.at r.head; sessions = map (closed_if c.session.number c.at) r.sessions }
 
 -- The records, read from the rows by their keys
 
@@ -277,8 +277,8 @@ abbrev pub count_among : List CountRow → List ℕ → Option CountRow
 count_among rows code = find (λ k. bytes_eq k.code code) rows
 
 -- a row of portal_vouchers with its count, its batch and its plan
-abbrev pub joined : VoucherRow → CountRow → Batch → Plan → Voucher
-joined row count batch plan = record {
+abbrev pub voucher_of_rows : VoucherRow → CountRow → Batch → Plan → Voucher
+voucher_of_rows row count batch plan = record {
   code = row.code;
   batch = row.batch;
   plan = plan;
@@ -291,7 +291,7 @@ joined row count batch plan = record {
 -- the voucher of that code
 abbrev pub voucher_from : Rows → List ℕ → Option Voucher
 voucher_from r code =
-    option_and_then (λ row. option_and_then (λ count. option_and_then (λ batch. option_map (joined row count batch) (plan_among r.plans batch.plan)) (batch_among r.batches row.batch)) (count_among r.counts code)) (row_among r.vouchers code)
+    option_and_then (λ row. option_and_then (λ count. option_and_then (λ batch. option_map (voucher_of_rows row count batch) (plan_among r.plans batch.plan)) (batch_among r.batches row.batch)) (count_among r.counts code)) (row_among r.vouchers code)
 
 -- the session's row
 abbrev pub session_among : List SessionRow → ℕ → Option SessionRow
@@ -306,8 +306,8 @@ abbrev pub allowance_from : Option ℤ → ℕ → Option ℕ
 allowance_from remaining used = option_map (λ left. nat_abs (left +ℤ pos used)) remaining
 
 -- a row of portal_sessions with its totals and its plan
-abbrev pub joined_session : SessionRow → TotalRow → Plan → Session
-joined_session row total plan = record {
+abbrev pub session_of_rows : SessionRow → TotalRow → Plan → Session
+session_of_rows row total plan = record {
   number = row.number;
   device = row.device;
   extend = plan.extend;
@@ -321,7 +321,7 @@ joined_session row total plan = record {
 -- the session of that number
 abbrev pub session_from : Rows → ℕ → Option Session
 session_from r number =
-    option_and_then (λ row. option_and_then (λ total. option_map (joined_session row total) (plan_among r.plans row.plan)) (total_among r.totals number)) (session_among r.sessions number)
+    option_and_then (λ row. option_and_then (λ total. option_map (session_of_rows row total) (plan_among r.plans row.plan)) (total_among r.totals number)) (session_among r.sessions number)
 
 -- the last made of the rows of a device
 abbrev pub last_among : List SessionRow → List ℕ → Option SessionRow

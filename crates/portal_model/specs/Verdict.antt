@@ -59,9 +59,9 @@ load_verdict kept plans = first_refusal ((list_any (λ p. differs (kept p.id) p)
 -- Issue
 
 -- some code, or some id, stands twice in the list
-abbrev pub stands_twice : List (List ℕ) → Bool
-stands_twice [] = false
-stands_twice (code ∷ codes) = list_any (bytes_eq code) codes || stands_twice codes
+abbrev pub has_duplicate : List (List ℕ) → Bool
+has_duplicate [] = false
+has_duplicate (code ∷ codes) = list_any (bytes_eq code) codes || has_duplicate codes
 
 -- whether a listed code is held
 abbrev pub any_held : History → List (List ℕ) → Bool
@@ -73,7 +73,7 @@ issue_verdict None batch taken codes t = Some UnknownPlan
 issue_verdict (Some plan) batch taken codes t = first_refusal (
     (is_some batch, BatchExists) ∷
     (nat_lt greatest_moment (expiry t plan), MomentRange) ∷
-    (taken || stands_twice codes, CodeTaken) ∷ [])
+    (taken || has_duplicate codes, CodeTaken) ∷ [])
 
 -- Sell
 
@@ -163,12 +163,12 @@ verdict H (Close n) t = close_verdict (session_of H n)
 -- Legal histories
 
 -- some id is listed twice
-abbrev pub ids_stand_twice : List Plan → Bool
-ids_stand_twice plans = stands_twice (map (λ p. p.id) plans)
+abbrev pub has_duplicate_id : List Plan → Bool
+has_duplicate_id plans = has_duplicate (map (λ p. p.id) plans)
 
 -- a command that a caller can hand in
 abbrev pub IsWellFormed : Command → Type 0
-IsWellFormed (Load plans) = (1 ≤ length plans) × (length plans ≤ 500) × (ids_stand_twice plans ≡ false)
+IsWellFormed (Load plans) = (1 ≤ length plans) × (length plans ≤ 500) × (has_duplicate_id plans ≡ false)
 IsWellFormed (Issue b p codes) = (1 ≤ length codes) × (length codes ≤ 500)
 IsWellFormed (Report n bytes) = bytes ≤ 9223372036854775807
 IsWellFormed _ = Unit {0}

@@ -12,18 +12,18 @@ use portal_codes::Code;
 /// What an accepted command changes, with its moment and the records that it was decided by.
 #[derive(Drop)]
 pub enum Changes {
-    Loading(Loading),
-    Issuance(Issuance),
-    Sale(Sale),
-    Redemption(Redemption),
-    Usage(Usage),
-    Repayment(Repayment),
-    Closing(Closing),
+    LoadChange(LoadChange),
+    IssueChange(IssueChange),
+    SellChange(SellChange),
+    RedeemChange(RedeemChange),
+    ReportChange(ReportChange),
+    RefundChange(RefundChange),
+    CloseChange(CloseChange),
 }
 
 /// The plans that were not held before, of those listed.
 #[derive(Drop)]
-pub struct Loading {
+pub struct LoadChange {
     pub at: Moment,
     pub listed: u64,
     pub added: Plans,
@@ -31,7 +31,7 @@ pub struct Loading {
 
 /// A new batch, with its codes.
 #[derive(Drop)]
-pub struct Issuance {
+pub struct IssueChange {
     pub at: Moment,
     pub batch: Batch,
     pub codes: Codes,
@@ -39,7 +39,7 @@ pub struct Issuance {
 
 /// The sale of a voucher that was not sold.
 #[derive(Clone, Copy, Debug, PartialEq, Eq)]
-pub struct Sale {
+pub struct SellChange {
     pub at: Moment,
     pub voucher: Voucher,
 }
@@ -47,7 +47,7 @@ pub struct Sale {
 /// A redemption: the head and the voucher before it, the open session that it extends, and the session
 /// after it.
 #[derive(Clone, Copy, Debug, PartialEq, Eq)]
-pub struct Redemption {
+pub struct RedeemChange {
     pub at: Moment,
     pub head: Head,
     pub voucher: Voucher,
@@ -57,7 +57,7 @@ pub struct Redemption {
 
 /// A report for a session, as the session was before.
 #[derive(Clone, Copy, Debug, PartialEq, Eq)]
-pub struct Usage {
+pub struct ReportChange {
     pub at: Moment,
     pub session: Session,
     pub bytes: u64,
@@ -65,7 +65,7 @@ pub struct Usage {
 
 /// The refund of a voucher that was not refunded.
 #[derive(Clone, Copy, Debug, PartialEq, Eq)]
-pub struct Repayment {
+pub struct RefundChange {
     pub at: Moment,
     pub voucher: Voucher,
     pub amount: u64,
@@ -73,7 +73,7 @@ pub struct Repayment {
 
 /// The close of a session that was not closed.
 #[derive(Clone, Copy, Debug, PartialEq, Eq)]
-pub struct Closing {
+pub struct CloseChange {
     pub at: Moment,
     pub session: Session,
 }
@@ -81,33 +81,33 @@ pub struct Closing {
 /// What the caller of an accepted command is told. Prices and amounts are in hundredths.
 #[derive(Clone, Copy, Debug, PartialEq, Eq)]
 pub enum Answer {
-    Plans {
+    LoadAnswer {
         plans: u64,
     },
-    Issued {
+    IssueAnswer {
         batch: Id,
         count: u64,
         expires: Moment,
     },
-    Sold {
+    SellAnswer {
         code: Code,
         price: u64,
     },
-    Redeemed {
+    RedeemAnswer {
         extended: bool,
         session: u64,
         uses_left: u64,
     },
-    Reported {
+    ReportAnswer {
         still_open: bool,
         session: u64,
         used: u64,
     },
-    Refunded {
+    RefundAnswer {
         amount: u64,
         code: Code,
     },
-    Closed {
+    CloseAnswer {
         session: u64,
     },
 }
@@ -118,48 +118,48 @@ impl Changes {
         ensures { result ≡ answer_of self.now }
     {
         match self {
-            Changes::Loading(c) => Answer::Plans { plans: c.listed },
-            Changes::Issuance(c) => Answer::Issued {
+            Changes::LoadChange(c) => Answer::LoadAnswer { plans: c.listed },
+            Changes::IssueChange(c) => Answer::IssueAnswer {
                 batch: c.batch.id,
                 count: c.batch.size,
                 expires: c.batch.expires,
             },
-            Changes::Sale(c) => Answer::Sold {
+            Changes::SellChange(c) => Answer::SellAnswer {
                 code: c.voucher.code,
                 price: u64::from(c.voucher.plan.price),
             },
-            Changes::Redemption(c) => Answer::Redeemed {
+            Changes::RedeemChange(c) => Answer::RedeemAnswer {
                 extended: c.running.is_some(),
                 session: c.session.number,
                 uses_left: u64::from(c.voucher.plan.uses)
                     .saturating_sub(c.voucher.redeemed)
                     .saturating_sub(1),
             },
-            Changes::Usage(c) => {
+            Changes::ReportChange(c) => {
                 let after = c.after();
-                Answer::Reported {
+                Answer::ReportAnswer {
                     still_open: is_open(&after, c.at),
                     session: after.number,
                     used: after.used,
                 }
             }
-            Changes::Repayment(c) => Answer::Refunded {
+            Changes::RefundChange(c) => Answer::RefundAnswer {
                 amount: c.amount,
                 code: c.voucher.code,
             },
-            Changes::Closing(c) => Answer::Closed {
+            Changes::CloseChange(c) => Answer::CloseAnswer {
                 session: c.session.number,
             },
         }
     }
 }
 
-impl Usage {
-    ghost use Rattle.portal_model.specs.Change.{reported};
+impl ReportChange {
+    ghost use Rattle.portal_model.specs.Change.{with_report};
 
     /// The session with the report.
     pub fn after(&self) -> Session
-        ensures { result ≡ reported self.now.bytes self.now.session }
+        ensures { result ≡ with_report self.now.bytes self.now.session }
     {
         Session {
             used: self.bytes.max(self.session.used),

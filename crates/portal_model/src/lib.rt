@@ -11,4 +11,4 @@ pub mod name;
 pub mod plan;
 pub mod record;
 pub mod refusal;
-pub mod worked;
+pub mod test_vectors;

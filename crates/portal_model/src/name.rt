@@ -3,8 +3,8 @@
 ghost use Rattle.std.specs.Prelude.{◌≡◌, ◌≢◌, ◌<◌, ◌≤◌, ℕ, List, [], ◌∷◌, IfOk, IfErr, IfSome, IfNone, None, IsTrue, ◌↔◌, ◌⊎◌, replicate, bytes_eq};
 ghost use Rattle.std.specs.List.{list_all};
 ghost use Rattle.std.specs.Char.{to_ascii_lowercase};
-ghost use Rattle.portal_model.specs.IdText.{IsIdText, is_id_sign};
-ghost use Rattle.portal_model.specs.Device.{IsDevice, SpellsDevice, DeviceTextReadsBack, hex_sign, octet_text, text_of_device};
+ghost use Rattle.portal_model.specs.IdText.{IsIdText, is_id_character};
+ghost use Rattle.portal_model.specs.Device.{IsDevice, SpellsDevice, DeviceTextReadsBack, hex_digit, octet_text, text_of_device};
 
 use crate::refusal::Refusal;
 use std::marker::Model;
@@ -18,7 +18,7 @@ pub struct Id {
 
 impl Model for Id {
     ghost use Rattle.std.specs.Prelude.{List, ℕ};
-    ghost use Rattle.portal_model.specs.Names.{padded, IsPadded};
+    ghost use Rattle.portal_model.specs.Names.{with_zeros, IsPadded};
 
     ghost Value = { List ℕ };
 
@@ -26,7 +26,7 @@ impl Model for Id {
 
     ghost invariant = { λ a. IsPadded a.len a.bytes };
 
-    ghost inverse = { λ v. record { bytes = padded v; len = Rattle.std.specs.Prelude.length v } };
+    ghost inverse = { λ v. record { bytes = with_zeros v; len = Rattle.std.specs.Prelude.length v } };
 
     ghost inverse_ok = { λ a h. Prim.rw (h.zeros, h.shown) };
 }
@@ -38,13 +38,13 @@ impl Id {
         ensures some { IfSome result (λ _. IsIdText text.now) }
         ensures none { result ≡ None → IsIdText text.now → ⊥ }
     {
-        let signs = text.as_bytes();
-        let len = signs.len();
-        if len == 0 || len > 32 || !are_signs(signs) {
+        let characters = text.as_bytes();
+        let len = characters.len();
+        if len == 0 || len > 32 || !are_id_bytes(characters) {
             return None;
         }
         let mut bytes = [0u8; 32];
-        bytes[..len].copy_from_slice(signs);
+        bytes[..len].copy_from_slice(characters);
         Some(Id { bytes, len })
     }
 
@@ -64,14 +64,14 @@ impl Id {
     }
 }
 
-fn are_signs(bytes: &[u8]) -> bool
-    ensures { result ≡ list_all is_id_sign bytes.now }
+fn are_id_bytes(bytes: &[u8]) -> bool
+    ensures { result ≡ list_all is_id_character bytes.now }
 {
-    bytes.iter().all(|b| is_sign(*b))
+    bytes.iter().all(|b| is_id_byte(*b))
 }
 
-fn is_sign(b: u8) -> bool
-    ensures { result ≡ is_id_sign b }
+fn is_id_byte(b: u8) -> bool
+    ensures { result ≡ is_id_character b }
 {
     b.is_ascii_lowercase() || b.is_ascii_digit() || b == b'-'
 }
@@ -92,7 +92,7 @@ impl Model for Device {
     ghost inverse = { λ v. record { octets = v } };
 }
 
-const HEX_SIGNS: [u8; 16] = *b"0123456789abcdef";
+const HEX_DIGITS: [u8; 16] = *b"0123456789abcdef";
 
 impl Device {
     /// The device that a text spells: six groups of two hexadecimal digits of either case, with a colon
@@ -102,20 +102,26 @@ impl Device {
         ensures err { IfErr result (λ r. (r ≡ Refusal.BadDevice)
             × ((device : List ℕ) → ¬ SpellsDevice text.now device)) }
     {
-        let signs = text.as_bytes();
-        if signs.len() != 17 {
+        let characters = text.as_bytes();
+        if characters.len() != 17 {
             return Err(Refusal::BadDevice);
         }
-        if !is_separated([signs[2], signs[5], signs[8], signs[11], signs[14]]) {
+        if !is_separated([
+            characters[2],
+            characters[5],
+            characters[8],
+            characters[11],
+            characters[14],
+        ]) {
             return Err(Refusal::BadDevice);
         }
         let octets = [
-            octet(signs[0], signs[1])?,
-            octet(signs[3], signs[4])?,
-            octet(signs[6], signs[7])?,
-            octet(signs[9], signs[10])?,
-            octet(signs[12], signs[13])?,
-            octet(signs[15], signs[16])?,
+            read_octet(characters[0], characters[1])?,
+            read_octet(characters[3], characters[4])?,
+            read_octet(characters[6], characters[7])?,
+            read_octet(characters[9], characters[10])?,
+            read_octet(characters[12], characters[13])?,
+            read_octet(characters[15], characters[16])?,
         ];
         Ok(Device { octets })
     }
@@ -127,23 +133,23 @@ impl Device {
     {
         let [a, b, c, d, e, f] = self.octets;
         [
-            hex_sign(a / 16),
-            hex_sign(a % 16),
+            hex_digit(a / 16),
+            hex_digit(a % 16),
             b':',
-            hex_sign(b / 16),
-            hex_sign(b % 16),
+            hex_digit(b / 16),
+            hex_digit(b % 16),
             b':',
-            hex_sign(c / 16),
-            hex_sign(c % 16),
+            hex_digit(c / 16),
+            hex_digit(c % 16),
             b':',
-            hex_sign(d / 16),
-            hex_sign(d % 16),
+            hex_digit(d / 16),
+            hex_digit(d % 16),
             b':',
-            hex_sign(e / 16),
-            hex_sign(e % 16),
+            hex_digit(e / 16),
+            hex_digit(e % 16),
             b':',
-            hex_sign(f / 16),
-            hex_sign(f % 16),
+            hex_digit(f / 16),
+            hex_digit(f % 16),
         ]
     }
 }
@@ -156,33 +162,33 @@ fn is_separated(between: [u8; 5]) -> bool
 }
 
 /// The sign of a hexadecimal digit.
-fn hex_sign(digit: u8) -> u8
+fn hex_digit(digit: u8) -> u8
     requires { digit < 16 }
-    ensures { result ≡ hex_sign digit }
+    ensures { result ≡ hex_digit digit }
 {
-    HEX_SIGNS[usize::from(digit)]
+    HEX_DIGITS[usize::from(digit)]
 }
 
 /// The value of a hexadecimal digit of either case.
-fn digit(sign: u8) -> Option<u8>
-    ensures some { IfSome result (λ v. (v < 16) × (hex_sign v ≡ to_ascii_lowercase sign)) }
-    ensures none { IfNone result ((v : ℕ) → v < 16 → hex_sign v ≢ to_ascii_lowercase sign) }
+fn value_of_digit(character: u8) -> Option<u8>
+    ensures some { IfSome result (λ v. (v < 16) × (hex_digit v ≡ to_ascii_lowercase character)) }
+    ensures none { IfNone result ((v : ℕ) → v < 16 → hex_digit v ≢ to_ascii_lowercase character) }
 {
-    match sign {
-        b'0'..=b'9' => Some(sign - b'0'),
-        b'a'..=b'f' => Some(sign - b'a' + 10),
-        b'A'..=b'F' => Some(sign - b'A' + 10),
+    match character {
+        b'0'..=b'9' => Some(character - b'0'),
+        b'a'..=b'f' => Some(character - b'a' + 10),
+        b'A'..=b'F' => Some(character - b'A' + 10),
         _ => None,
     }
 }
 
 /// The octet that two hexadecimal digits write.
-fn octet(high: u8, low: u8) -> Result<u8, Refusal>
+fn read_octet(high: u8, low: u8) -> Result<u8, Refusal>
     ensures ok { IfOk result (λ n. octet_text n ≡ to_ascii_lowercase high ∷ to_ascii_lowercase low ∷ []) }
     ensures err { IfErr result (λ r. (r ≡ Refusal.BadDevice)
         × ((n : ℕ) → n < 256 → octet_text n ≢ to_ascii_lowercase high ∷ to_ascii_lowercase low ∷ [])) }
 {
-    match (digit(high), digit(low)) {
+    match (value_of_digit(high), value_of_digit(low)) {
         (Some(high), Some(low)) => Ok(16 * high + low),
         _ => Err(Refusal::BadDevice),
     }

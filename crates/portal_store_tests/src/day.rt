@@ -161,7 +161,7 @@ pub const QUESTIONS: &[Question] = &[
 
 /// The bytes of a request, its moment and its two answers.
 #[derive(Drop)]
-pub struct Sent {
+pub struct SentRequest {
     pub at: u64,
     pub bytes: Vec<u8>,
     pub answer: String,
@@ -169,14 +169,14 @@ pub struct Sent {
 }
 
 /// The request, with that place as its number or without a number.
-fn request_of(alloc: Global, ask: &Ask, place: usize, is_numbered: bool) -> Option<Sent> {
+fn build_request(alloc: Global, ask: &Ask, place: usize, has_keys: bool) -> Option<SentRequest> {
     let caller = ask.caller;
-    let fields = if is_numbered {
+    let fields = if has_keys {
         format!(in alloc; "{caller}Portal-Request: n{place}\r\n").ok()?
     } else {
         String::from_str(alloc, caller).ok()?
     };
-    Some(Sent {
+    Some(SentRequest {
         at: ask.at,
         bytes: request(alloc, ask.line, fields.as_str(), ask.body.as_bytes())?,
         answer: String::from_str(alloc, ask.answer).ok()?,
@@ -185,16 +185,16 @@ fn request_of(alloc: Global, ask: &Ask, place: usize, is_numbered: bool) -> Opti
 }
 
 /// The requests, each with its place as its number or none with a number.
-pub fn all_sent(alloc: Global, asks: &[Ask], is_numbered: bool) -> Option<Vec<Sent>> {
+pub fn build_requests(alloc: Global, asks: &[Ask], has_keys: bool) -> Option<Vec<SentRequest>> {
     let mut all = Vec::new(alloc);
     for (place, ask) in asks.iter().enumerate() {
-        all.push(request_of(alloc, ask, place, is_numbered)?).ok()?;
+        all.push(build_request(alloc, ask, place, has_keys)?).ok()?;
     }
     Some(all)
 }
 
 /// The questions.
-pub fn all_questions(alloc: Global) -> Option<Vec<Sent>> {
+pub fn build_questions(alloc: Global) -> Option<Vec<SentRequest>> {
     let mut all = Vec::new(alloc);
     for (line, caller, answer) in QUESTIONS {
         let ask = Ask {
@@ -205,15 +205,15 @@ pub fn all_questions(alloc: Global) -> Option<Vec<Sent>> {
             answer: *answer,
             again: *answer,
         };
-        all.push(request_of(alloc, &ask, 0, false)?).ok()?;
+        all.push(build_request(alloc, &ask, 0, false)?).ok()?;
     }
     Some(all)
 }
 
 /// The commands, and then the questions.
-pub fn whole_day(alloc: Global, is_numbered: bool) -> Option<Vec<Sent>> {
-    let mut day = all_sent(alloc, COMMANDS, is_numbered)?;
-    for question in all_questions(alloc)? {
+pub fn build_day(alloc: Global, has_keys: bool) -> Option<Vec<SentRequest>> {
+    let mut day = build_requests(alloc, COMMANDS, has_keys)?;
+    for question in build_questions(alloc)? {
         day.push(question).ok()?;
     }
     Some(day)

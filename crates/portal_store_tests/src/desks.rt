@@ -3,26 +3,26 @@
 //!
 //! All of it is written for the desks of any place. Only `InMemory` and the last functions name the store.
 ghost use Rattle.std.specs.Prelude.{⊤};
-ghost use Rattle.portal_host.specs.Laws.{desk_is_honest};
+ghost use Rattle.portal_os.specs.Laws.{memory_desk_is_fault_free};
 
-use crate::day::{PLANS, all_questions};
-use crate::exchanges::{Met, Peer, meet, meet_all, whole_peer};
+use crate::day::{PLANS, build_questions};
+use crate::exchanges::{ExchangeResult, Peer, exchange_with_peer, exchange_with_peers, whole_peer};
 use crate::requests::{MOMENT, NO_ROUTE, REQUEST, STOPPED, UNROUTED};
 use crate::{serving, subcommands};
+use portal_commands::place::{Opened, Place};
+use portal_commands::trouble::Trouble;
 use portal_desk::Desk;
 use portal_desk::prepared::Prepared;
-use portal_ends::Fault;
+use portal_desk_store::StoreDesk;
+use portal_exit::ProgramError;
 use portal_files::{Settings, read_plans, sample_settings};
-use portal_host::HostFiles;
 use portal_http::{Arrival, run};
+use portal_http_routes::Routes;
 use portal_model::command::Command;
 use portal_model::moment::Moment;
 use portal_model::refusal::Refusal;
-use portal_program::place::{Opened, Place};
-use portal_program::trouble::Trouble;
-use portal_route::Routes;
-use portal_serve::Host;
-use portal_store::StoreDesk;
+use portal_os::HostFiles;
+use portal_server::Host;
 use sqlite::{MemStore, Unknown};
 use std::alloc::Global;
 use std::io::Write;
@@ -38,7 +38,7 @@ impl Place for InMemory {
 
     ghost reads = { λ _ _ _. ⊥ };
 
-    ghost shows = { λ _ _ _. ⊥ };
+    ghost holds_ledger = { λ _ _ _. ⊥ };
 
     ghost finds = { λ _ _ _. ⊤ };
 
@@ -54,10 +54,10 @@ impl Place for InMemory {
 
     ghost fails_to_make = { λ _. ⊤ };
 
-    ghost is_fresh_honest = { λ desk. desk_is_honest desk };
+    ghost is_fresh_fault_free = { λ desk. memory_desk_is_fault_free desk };
 
     fn read(&self, _alloc: Global, _path: &str) -> Result<Vec<u8>, Trouble> {
-        Err(Trouble::plain(Fault::File))
+        Err(Trouble::plain(ProgramError::File))
     }
 
     fn open(
@@ -67,7 +67,7 @@ impl Place for InMemory {
         _settings: Settings,
         _copies: bool,
     ) -> Result<Opened<StoreDesk<MemStore>>, Trouble> {
-        Err(Trouble::plain(Fault::File))
+        Err(Trouble::plain(ProgramError::File))
     }
 
     fn close(_alloc: Global, _path: &str, desk: StoreDesk<MemStore>) -> Result<(), Trouble> {
@@ -75,11 +75,14 @@ impl Place for InMemory {
         Ok(())
     }
 
-    fn open_fresh(alloc: Global, settings: Settings) -> Result<StoreDesk<MemStore>, Fault> {
-        HostFiles::<'static, Unknown>::open_fresh(alloc, settings)
+    fn open_desk_in_memory(
+        alloc: Global,
+        settings: Settings,
+    ) -> Result<StoreDesk<MemStore>, ProgramError> {
+        HostFiles::<'static, Unknown>::open_desk_in_memory(alloc, settings)
     }
 
-    fn close_fresh(desk: StoreDesk<MemStore>) {
+    fn close_desk_in_memory(desk: StoreDesk<MemStore>) {
         let _conn = desk.release();
     }
 }
@@ -87,11 +90,11 @@ impl Place for InMemory {
 /// A desk that was told nothing yet, with the sample settings.
 fn new_desk<P: Place>(alloc: Global) -> Option<P::Fresh> {
     let settings = sample_settings(alloc).ok()?;
-    P::open_fresh(alloc, settings).ok()
+    P::open_desk_in_memory(alloc, settings).ok()
 }
 
 /// Requests as they arrive at their moments.
-fn arrivals(alloc: Global, requests: &[(u64, &[u8])]) -> Option<Vec<Arrival>> {
+fn build_arrivals(alloc: Global, requests: &[(u64, &[u8])]) -> Option<Vec<Arrival>> {
     let mut arrivals = Vec::new(alloc);
     for (at, request) in requests {
         let bytes = request.to_vec(alloc).ok()?;
@@ -116,31 +119,31 @@ fn answers_at<P: Place>(
     let mut desk = new_desk::<P>(alloc)?;
     let _before = answers_of(alloc, &mut desk, before);
     let answers = answers_of(alloc, &mut desk, arrivals);
-    P::close_fresh(desk);
+    P::close_desk_in_memory(desk);
     answers
 }
 
-fn met_at<P: Place>(alloc: Global, peers: &[Peer<'_>]) -> Option<Vec<Met>> {
+fn exchange_at<P: Place>(alloc: Global, peers: &[Peer<'_>]) -> Option<Vec<ExchangeResult>> {
     let mut desk = new_desk::<P>(alloc)?;
-    let met = meet_all(alloc, &mut desk, peers);
-    P::close_fresh(desk);
+    let met = exchange_with_peers(alloc, &mut desk, peers);
+    P::close_desk_in_memory(desk);
     met
 }
 
-fn served_at<P: Place, H: Host, W: Write>(
+fn serve_new_desk<P: Place, H: Host, W: Write>(
     alloc: Global,
     host: &mut H,
     count: u64,
     output: &mut W,
 ) -> Option<(u8, Vec<u8>)> {
     let mut desk = new_desk::<P>(alloc)?;
-    let ended = serving::served(alloc, &mut desk, host, count, output);
-    P::close_fresh(desk);
+    let ended = serving::serve_with_errors(alloc, &mut desk, host, count, output);
+    P::close_desk_in_memory(desk);
     ended
 }
 
 /// A file of plans as it would be kept.
-fn plans_prepared<D: Desk>(alloc: Global, desk: &mut D) -> Option<Prepared> {
+fn prepare_plans<D: Desk>(alloc: Global, desk: &mut D) -> Option<Prepared> {
     let moment = Moment::new(0)?;
     match read_plans(alloc, PLANS.as_bytes()) {
         Ok(plans) => desk.prepare(alloc, moment, Command::Load { plans }).ok(),
@@ -150,9 +153,9 @@ fn plans_prepared<D: Desk>(alloc: Global, desk: &mut D) -> Option<Prepared> {
 
 /// Whether the desk stops where the same plans are prepared twice and kept twice: the store meets rows that
 /// it has.
-fn stops<D: Desk>(alloc: Global, desk: &mut D) -> Option<bool> {
-    let first = plans_prepared(alloc, desk)?;
-    let second = plans_prepared(alloc, desk)?;
+fn stops_after_duplicate<D: Desk>(alloc: Global, desk: &mut D) -> Option<bool> {
+    let first = prepare_plans(alloc, desk)?;
+    let second = prepare_plans(alloc, desk)?;
     let is_kept = desk.finish(first).is_ok();
     let is_refused = desk.finish(second).err() == Some(Refusal::Stopped);
     Some(is_kept && is_refused && desk.is_stopped())
@@ -165,7 +168,7 @@ fn is_answered<D: Desk>(
     request: &[u8],
     whole: &str,
 ) -> Option<bool> {
-    let met = meet(alloc, desk, routes, &whole_peer(MOMENT, request, 80_000))?;
+    let met = exchange_with_peer(alloc, desk, routes, &whole_peer(MOMENT, request, 80_000))?;
     Some(met.taken.as_slice() == whole.as_bytes())
 }
 
@@ -177,7 +180,7 @@ pub fn is_refused_by_stopped<D: Desk>(
     routes: &Routes,
     peer: &Peer<'_>,
 ) -> Option<bool> {
-    let met = meet(alloc, desk, routes, peer)?;
+    let met = exchange_with_peer(alloc, desk, routes, peer)?;
     let is_refused = met
         .taken
         .as_slice()
@@ -190,7 +193,7 @@ pub fn is_refused_by_stopped<D: Desk>(
 /// Whether a desk that has stopped answers each question so.
 fn are_refused_by_stopped<D: Desk>(alloc: Global, desk: &mut D) -> Option<bool> {
     let routes = Routes::new(alloc).ok()?;
-    for sent in &all_questions(alloc)? {
+    for sent in &build_questions(alloc)? {
         let peer = whole_peer(sent.at, sent.bytes.as_slice(), 80_000);
         if !is_refused_by_stopped(alloc, desk, &routes, &peer)? {
             return Some(false);
@@ -200,18 +203,18 @@ fn are_refused_by_stopped<D: Desk>(alloc: Global, desk: &mut D) -> Option<bool> 
 }
 
 /// Whether serving by a desk that has stopped ends, and each question and each subcommand says so.
-fn is_stopped_told<D: Desk>(alloc: Global, desk: &mut D) -> Option<bool> {
-    let is_stopped = stops(alloc, desk)?;
+fn stopped_desk_answers_stopped<D: Desk>(alloc: Global, desk: &mut D) -> Option<bool> {
+    let is_stopped = stops_after_duplicate(alloc, desk)?;
     let is_answered = are_refused_by_stopped(alloc, desk)?;
-    let is_served = serving::is_stopped_told(alloc, desk)?;
-    let is_said = subcommands::is_stopped_told(alloc, desk)?;
+    let is_served = serving::stopped_desk_ends_serve(alloc, desk)?;
+    let is_said = subcommands::subcommands_print_stopped(alloc, desk)?;
     Some(is_stopped && is_answered && is_served && is_said)
 }
 
-fn is_stopped_told_at<P: Place>(alloc: Global) -> Option<bool> {
+fn is_stop_reported_at<P: Place>(alloc: Global) -> Option<bool> {
     let mut desk = new_desk::<P>(alloc)?;
-    let is_told = is_stopped_told(alloc, &mut desk);
-    P::close_fresh(desk);
+    let is_told = stopped_desk_answers_stopped(alloc, &mut desk);
+    P::close_desk_in_memory(desk);
     is_told
 }
 
@@ -221,8 +224,8 @@ pub fn answers_in_memory(
     before: &[(u64, &[u8])],
     requests: &[(u64, &[u8])],
 ) -> Option<Vec<Vec<u8>>> {
-    let before = arrivals(alloc, before)?;
-    let arrivals = arrivals(alloc, requests)?;
+    let before = build_arrivals(alloc, before)?;
+    let arrivals = build_arrivals(alloc, requests)?;
     answers_at::<InMemory>(alloc, before.as_slice(), arrivals.as_slice())
 }
 
@@ -232,22 +235,22 @@ pub fn answer(alloc: Global, request: &[u8]) -> Option<Vec<u8>> {
 }
 
 /// One exchange of a new desk with each peer, in their order.
-pub fn met_in_memory(alloc: Global, peers: &[Peer<'_>]) -> Option<Vec<Met>> {
-    met_at::<InMemory>(alloc, peers)
+pub fn exchange_in_memory(alloc: Global, peers: &[Peer<'_>]) -> Option<Vec<ExchangeResult>> {
+    exchange_at::<InMemory>(alloc, peers)
 }
 
 /// Serves a host by a new desk, and gives the status with the faults that were printed.
-pub fn served_in_memory<H: Host, W: Write>(
+pub fn serve_in_memory<H: Host, W: Write>(
     alloc: Global,
     host: &mut H,
     count: u64,
     output: &mut W,
 ) -> Option<(u8, Vec<u8>)> {
-    served_at::<InMemory, H, W>(alloc, host, count, output)
+    serve_new_desk::<InMemory, H, W>(alloc, host, count, output)
 }
 
 /// Serving ends where the desk has stopped, and each request and each subcommand says so.
 #[test]
 fn stopped_desk(rt: HostRuntime) {
-    assert!(rt; is_stopped_told_at::<InMemory>(rt.alloc()) == Some(true));
+    assert!(rt; is_stop_reported_at::<InMemory>(rt.alloc()) == Some(true));
 }

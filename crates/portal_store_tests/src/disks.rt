@@ -1,8 +1,8 @@
 //! A store in files in memory, which are closed after each job, or which stop answering.
 //!
 //! Only the functions of this file name a connection over files.
-use crate::files::{Image, Limit, answer, remains};
-use crate::jobs::{Job, Told, run};
+use crate::files::{CrashPoint, Image, answer, crash_images};
+use crate::jobs::{Job, JobResult, run};
 use sqlite::{Connection, Files, Options};
 use sqlite_disk::Disk;
 use std::alloc::Global;
@@ -12,8 +12,8 @@ use std::test::Fail;
 /// still, and their bytes where the process ends and where the power fails. Then writes that were not synced
 /// are lost.
 #[derive(Drop)]
-pub struct Remains {
-    pub told: Told,
+pub struct CrashResult {
+    pub told: JobResult,
     pub is_closed: bool,
     pub answers: bool,
     pub ended: Image,
@@ -33,7 +33,7 @@ fn open<D: Disk + Drop>(
     alloc: Global,
     files: Files<D>,
     job: Job<'_>,
-) -> Result<(Told, bool, Files<D>), Fail> {
+) -> Result<(JobResult, bool, Files<D>), Fail> {
     if !files.may_be_used() {
         return Err("the files may not be used".into());
     }
@@ -42,7 +42,7 @@ fn open<D: Disk + Drop>(
             (told, Ok(files)) => Ok((told, true, files)),
             (told, Err((_, store))) => Ok((told, false, store.close())),
         },
-        Err((_, left)) => Ok((Told::Unopened, false, left.into_files())),
+        Err((_, left)) => Ok((JobResult::Unopened, false, left.into_files())),
     }
 }
 
@@ -69,7 +69,7 @@ impl InFiles {
     }
 
     /// Does the job with the store, and keeps the files.
-    pub fn visit(&mut self, job: Job<'_>) -> Result<Told, Fail> {
+    pub fn run_job(&mut self, job: Job<'_>) -> Result<JobResult, Fail> {
         let files = self.image.files(self.alloc)?;
         let (told, is_closed, files) = open(self.alloc, files, job)?;
         if !is_closed {
@@ -80,12 +80,12 @@ impl InFiles {
     }
 
     /// Does the job in files that stop so. What stands in these files stays.
-    pub fn stop(&self, job: Job<'_>, limit: Limit) -> Result<Remains, Fail> {
-        let files = self.image.stopping_files(self.alloc, limit)?;
+    pub fn run_and_crash(&self, job: Job<'_>, limit: CrashPoint) -> Result<CrashResult, Fail> {
+        let files = self.image.crashing_files(self.alloc, limit)?;
         let (told, is_closed, mut files) = open(self.alloc, files, job)?;
         let answers = answer(&mut files);
-        let (ended, failed) = remains(self.alloc, files)?;
-        Ok(Remains {
+        let (ended, failed) = crash_images(self.alloc, files)?;
+        Ok(CrashResult {
             told,
             is_closed,
             answers,

@@ -1,10 +1,10 @@
 //! Exchanges with peers that send and take in pieces, and that break off.
-use crate::desks::met_in_memory;
+use crate::desks::exchange_in_memory;
 use crate::requests::{CAPTIVE, MOMENT, REQUEST};
 use portal_desk::Desk;
 use portal_http::exchanges::{Cause, Cut, Done, exchange};
+use portal_http_routes::Routes;
 use portal_model::moment::Moment;
-use portal_route::Routes;
 use std::alloc::Global;
 use std::io::{self, Read, Write};
 
@@ -18,7 +18,7 @@ pub struct Sender<'b> {
 }
 
 /// One that sends all of these bytes.
-pub fn sends(bytes: &[u8], size: usize) -> Sender<'_> {
+pub fn new_sender(bytes: &[u8], size: usize) -> Sender<'_> {
     Sender {
         bytes,
         size,
@@ -41,7 +41,7 @@ impl<'b> Read for Sender<'b> {
     }
 }
 
-/// Keeps what it takes, at most `size` bytes a write, counts the writes, and once it took `room` bytes fails
+/// Keeps what it takes, at most `size` bytes a write, counts the writes, and once it took `bytes_before_cut` bytes fails
 /// or takes nothing.
 #[derive(Drop)]
 pub struct Taker {
@@ -53,7 +53,7 @@ pub struct Taker {
 }
 
 /// One that takes all there is.
-pub fn takes(alloc: Global, size: usize) -> Taker {
+pub fn new_taker(alloc: Global, size: usize) -> Taker {
     Taker {
         taken: Vec::new(alloc),
         size,
@@ -81,7 +81,7 @@ impl Write for Taker {
 }
 
 /// A peer that sends these bytes at a moment, so many at once, and takes so many at once. A read of it may
-/// fail (0: none), and once it took `room` bytes it fails, or takes nothing.
+/// fail (0: none), and once it took `bytes_before_cut` bytes it fails, or takes nothing.
 #[derive(Clone, Copy)]
 pub struct Peer<'b> {
     pub at: u64,
@@ -108,7 +108,7 @@ pub fn whole_peer(at: u64, bytes: &[u8], size: usize) -> Peer<'_> {
 
 /// What came of an exchange, the reads and the writes that were made, and what was taken.
 #[derive(Drop)]
-pub struct Met {
+pub struct ExchangeResult {
     pub ended: Result<Done, Cut>,
     pub reads: usize,
     pub writes: usize,
@@ -116,11 +116,16 @@ pub struct Met {
 }
 
 /// One exchange with the peer.
-pub fn meet<D: Desk>(alloc: Global, desk: &mut D, routes: &Routes, peer: &Peer<'_>) -> Option<Met> {
+pub fn exchange_with_peer<D: Desk>(
+    alloc: Global,
+    desk: &mut D,
+    routes: &Routes,
+    peer: &Peer<'_>,
+) -> Option<ExchangeResult> {
     let moment = Moment::new(peer.at)?;
-    let mut reader = sends(peer.bytes, peer.size);
+    let mut reader = new_sender(peer.bytes, peer.size);
     reader.fails_at = peer.fails_at;
-    let mut writer = takes(alloc, peer.takes);
+    let mut writer = new_taker(alloc, peer.takes);
     writer.room = peer.room;
     writer.fails = peer.fails;
     let ended = exchange(
@@ -132,7 +137,7 @@ pub fn meet<D: Desk>(alloc: Global, desk: &mut D, routes: &Routes, peer: &Peer<'
         &mut reader,
         &mut writer,
     );
-    Some(Met {
+    Some(ExchangeResult {
         ended,
         reads: reader.reads,
         writes: writer.writes,
@@ -141,17 +146,22 @@ pub fn meet<D: Desk>(alloc: Global, desk: &mut D, routes: &Routes, peer: &Peer<'
 }
 
 /// One exchange with each, in their order.
-pub fn meet_all<D: Desk>(alloc: Global, desk: &mut D, peers: &[Peer<'_>]) -> Option<Vec<Met>> {
+pub fn exchange_with_peers<D: Desk>(
+    alloc: Global,
+    desk: &mut D,
+    peers: &[Peer<'_>],
+) -> Option<Vec<ExchangeResult>> {
     let routes = Routes::new(alloc).ok()?;
     let mut met = Vec::new(alloc);
     for peer in peers {
-        met.push(meet(alloc, desk, &routes, peer)?).ok()?;
+        met.push(exchange_with_peer(alloc, desk, &routes, peer)?)
+            .ok()?;
     }
     Some(met)
 }
 
 /// Whether all of that response went out, and no more.
-pub fn is_done(met: &Met, status: u16, response: &[u8]) -> bool {
+pub fn is_done(met: &ExchangeResult, status: u16, response: &[u8]) -> bool {
     let done = Done {
         status,
         written: response.len(),
@@ -160,7 +170,7 @@ pub fn is_done(met: &Met, status: u16, response: &[u8]) -> bool {
 }
 
 /// Whether the exchange was cut off at a read, before anything was written.
-pub fn is_unread(met: &Met) -> bool {
+pub fn is_unread(met: &ExchangeResult) -> bool {
     let cut = Cut {
         cause: Cause::Read,
         written: 0,
@@ -170,7 +180,7 @@ pub fn is_unread(met: &Met) -> bool {
 }
 
 /// Whether the exchange was cut off once so many bytes of a response of that length were taken.
-pub fn is_unsent(met: &Met, written: usize, whole: usize) -> bool {
+pub fn is_unsent(met: &ExchangeResult, written: usize, whole: usize) -> bool {
     let cut = Cut {
         cause: Cause::Write,
         written,
@@ -191,10 +201,10 @@ const COUNTS: &[(usize, usize, usize, usize)] = &[
 ];
 
 /// The reads and the writes of an exchange in which the guest is told the captive state.
-fn counted(alloc: Global, size: usize, takes: usize) -> Option<(usize, usize)> {
+fn count_calls(alloc: Global, size: usize, takes: usize) -> Option<(usize, usize)> {
     let mut peer = whole_peer(MOMENT, REQUEST, size);
     peer.takes = takes;
-    let met = met_in_memory(alloc, &[peer])?.pop()?;
+    let met = exchange_in_memory(alloc, &[peer])?.pop()?;
     if is_done(&met, 200, CAPTIVE.as_bytes()) {
         Some((met.reads, met.writes))
     } else {
@@ -205,7 +215,7 @@ fn counted(alloc: Global, size: usize, takes: usize) -> Option<(usize, usize)> {
 #[test]
 fn reads_and_writes_counted(rt: HostRuntime) {
     for (size, takes, reads, writes) in COUNTS {
-        let counted = counted(rt.alloc(), *size, *takes);
+        let counted = count_calls(rt.alloc(), *size, *takes);
         assert!(rt; counted == Some((*reads, *writes)), "{size}");
     }
 }

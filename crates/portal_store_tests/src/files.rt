@@ -13,13 +13,13 @@ pub enum Part {
 
 /// A stop: the file answers so many calls, and none after.
 #[derive(Clone, Copy, Debug)]
-pub struct Limit {
+pub struct CrashPoint {
     pub part: Part,
     pub calls: u64,
 }
 
 /// The process ends, with no call refused before: what was kept stands in the log alone.
-pub const AT_END: Limit = Limit {
+pub const AT_END: CrashPoint = CrashPoint {
     part: Part::Log,
     calls: u64::MAX,
 };
@@ -34,7 +34,7 @@ pub struct Image {
 }
 
 /// A file in memory with these bytes, all of them synced.
-fn file(alloc: Global, bytes: &[u8], calls: u64) -> Result<FileDisk, Fail> {
+fn new_file(alloc: Global, bytes: &[u8], calls: u64) -> Result<FileDisk, Fail> {
     let mut file = Memory::new(alloc);
     file.write_at(0, bytes)?;
     file.sync()?;
@@ -83,7 +83,11 @@ impl Image {
     }
 
     /// Files with these bytes, which stop so.
-    pub fn stopping_files(&self, alloc: Global, limit: Limit) -> Result<Files<FileDisk>, Fail> {
+    pub fn crashing_files(
+        &self,
+        alloc: Global,
+        limit: CrashPoint,
+    ) -> Result<Files<FileDisk>, Fail> {
         match limit.part {
             Part::Log => self.files_up_to(alloc, limit.calls, u64::MAX),
             Part::Database => self.files_up_to(alloc, u64::MAX, limit.calls),
@@ -92,8 +96,8 @@ impl Image {
 
     fn files_up_to(&self, alloc: Global, log: u64, db: u64) -> Result<Files<FileDisk>, Fail> {
         Ok(Files {
-            log: file(alloc, &self.log, log)?,
-            db: file(alloc, &self.db, db)?,
+            log: new_file(alloc, &self.log, log)?,
+            db: new_file(alloc, &self.db, db)?,
         })
     }
 }
@@ -105,7 +109,7 @@ pub fn answer(files: &mut Files<FileDisk>) -> bool {
 
 /// What is left of files where the process ends, and where the power fails: then writes that were not synced
 /// are lost.
-pub fn remains(alloc: Global, files: Files<FileDisk>) -> Result<(Image, Image), Fail> {
+pub fn crash_images(alloc: Global, files: Files<FileDisk>) -> Result<(Image, Image), Fail> {
     let ended = Image::of(alloc, &files)?;
     let Files { mut log, mut db } = files;
     log.crash();

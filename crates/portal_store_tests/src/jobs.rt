@@ -1,17 +1,17 @@
 //! What is done with a store over files, which is closed then. A desk is closed as the program closes it.
-use crate::day::Sent;
+use crate::day::SentRequest;
 use crate::desks::is_refused_by_stopped;
-use crate::exchanges::{meet, whole_peer};
-use crate::sql::{execute_all, whole};
+use crate::exchanges::{exchange_with_peer, whole_peer};
+use crate::sql::{dump_database, execute_all};
 use portal_desk::Desk;
+use portal_desk_store::StoreDesk;
 use portal_files::{Settings, sample_settings};
-use portal_host::close_desk;
-use portal_http::exchanges::status_shown;
+use portal_http::exchanges::status_in;
+use portal_http_routes::Routes;
 use portal_model::refusal::Refusal;
-use portal_route::Routes;
-use portal_store::StoreDesk;
-use portal_tables::adopt::Refused;
-use portal_tables::fault::OpenFault;
+use portal_os::close_desk;
+use portal_tables::attaching::Refused;
+use portal_tables::errors::OpenFault;
 use sqlite::{Connection, Error, FileStore, Files};
 use sqlite_disk::Disk;
 use std::alloc::Global;
@@ -23,19 +23,19 @@ pub enum Job<'a> {
     Sql(&'a [&'a str]),
     /// A desk over the store is sent the requests until it stops. Each is answered as it says, and in the end
     /// the counters are what the rows come to.
-    Send(&'a [Sent]),
+    Send(&'a [SentRequest]),
     /// All that stands there is told.
     Whole,
 }
 
 /// What a job tells.
 #[derive(Drop)]
-pub enum Told {
+pub enum JobResult {
     Nothing,
     /// The files stopped answering before the store was open.
     Unopened,
     /// The store was not adopted.
-    Unadopted(OpenFault),
+    Unattached(OpenFault),
     /// So many requests were accepted, and whether the desk stopped then.
     Accepted(usize, bool),
     /// The request at that place was answered otherwise than it says; one more than there are stands for the
@@ -53,12 +53,12 @@ fn send_to<D: Desk>(
     alloc: Global,
     desk: &mut D,
     routes: &Routes,
-    requests: &[Sent],
+    requests: &[SentRequest],
 ) -> Option<Outcome> {
     for (place, sent) in requests.iter().enumerate() {
         let peer = whole_peer(sent.at, sent.bytes.as_slice(), 80_000);
-        let met = meet(alloc, desk, routes, &peer)?;
-        if status_shown(met.taken.as_slice()) == 503 {
+        let met = exchange_with_peer(alloc, desk, routes, &peer)?;
+        if status_in(met.taken.as_slice()) == 503 {
             let is_right = is_refused_by_stopped(alloc, desk, routes, &peer)?;
             return Some(if is_right {
                 Ok((place, true))
@@ -78,16 +78,16 @@ fn send_to<D: Desk>(
 }
 
 /// The same of all routes.
-fn send<D: Desk>(alloc: Global, desk: &mut D, requests: &[Sent]) -> Option<Outcome> {
+fn send<D: Desk>(alloc: Global, desk: &mut D, requests: &[SentRequest]) -> Option<Outcome> {
     let routes = Routes::new(alloc).ok()?;
     send_to(alloc, desk, &routes, requests)
 }
 
-fn told_of(outcome: Option<Outcome>) -> Told {
+fn result_of_outcome(outcome: Option<Outcome>) -> JobResult {
     match outcome {
-        Some(Ok((count, is_stopped))) => Told::Accepted(count, is_stopped),
-        Some(Err(place)) => Told::Otherwise(place),
-        None => Told::Nothing,
+        Some(Ok((count, is_stopped))) => JobResult::Accepted(count, is_stopped),
+        Some(Err(place)) => JobResult::Otherwise(place),
+        None => JobResult::Nothing,
     }
 }
 
@@ -95,30 +95,33 @@ fn told_of(outcome: Option<Outcome>) -> Told {
 pub type Closed<D> = Result<Files<D>, (Error, FileStore<D>)>;
 
 /// A desk over the store is sent the requests, and closed.
-fn with_settings<D: Disk + Drop>(
+fn send_with_settings<D: Disk + Drop>(
     alloc: Global,
     conn: Connection<FileStore<D>>,
     settings: Settings,
-    requests: &[Sent],
-) -> (Told, Closed<D>) {
+    requests: &[SentRequest],
+) -> (JobResult, Closed<D>) {
     match StoreDesk::adopt(conn, settings) {
         Ok(adopted) => {
             let mut desk = adopted;
             let outcome = send(alloc, &mut desk, requests);
-            (told_of(outcome), close_desk(desk))
+            (result_of_outcome(outcome), close_desk(desk))
         }
-        Err(Refused { fault, connection }) => (Told::Unadopted(fault), connection.close_files()),
+        Err(Refused { fault, connection }) => (
+            JobResult::Unattached(fault),
+            connection.close_files(),
+        ),
     }
 }
 
 /// The same by the sample settings.
-fn with_desk<D: Disk + Drop>(
+fn send_with_sample_settings<D: Disk + Drop>(
     alloc: Global,
     conn: Connection<FileStore<D>>,
-    requests: &[Sent],
-) -> Result<(Told, Closed<D>), Fail> {
+    requests: &[SentRequest],
+) -> Result<(JobResult, Closed<D>), Fail> {
     match sample_settings(alloc) {
-        Ok(settings) => Ok(with_settings(alloc, conn, settings, requests)),
+        Ok(settings) => Ok(send_with_settings(alloc, conn, settings, requests)),
         Err(fault) => {
             drop(conn);
             Err(fault.into())
@@ -131,17 +134,17 @@ pub fn run<D: Disk + Drop>(
     alloc: Global,
     conn: Connection<FileStore<D>>,
     job: Job<'_>,
-) -> Result<(Told, Closed<D>), Fail> {
+) -> Result<(JobResult, Closed<D>), Fail> {
     let mut conn = conn;
     match job {
         Job::Sql(texts) => {
             execute_all(&mut conn, texts)?;
-            Ok((Told::Nothing, conn.close_files()))
+            Ok((JobResult::Nothing, conn.close_files()))
         }
-        Job::Send(requests) => with_desk(alloc, conn, requests),
+        Job::Send(requests) => send_with_sample_settings(alloc, conn, requests),
         Job::Whole => {
-            let whole = whole(alloc, &mut conn).ok_or("the store is not read")?;
-            Ok((Told::Whole(whole), conn.close_files()))
+            let whole = dump_database(alloc, &mut conn).ok_or("the store is not read")?;
+            Ok((JobResult::Whole(whole), conn.close_files()))
         }
     }
 }

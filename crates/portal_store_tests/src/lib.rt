@@ -4,7 +4,9 @@
 #![tactic(auto)]
 
 #[cfg(test)]
-mod adopting;
+mod attaching;
+#[cfg(test)]
+mod crashes;
 #[cfg(test)]
 mod day;
 #[cfg(test)]
@@ -35,8 +37,6 @@ mod sales;
 mod serving;
 #[cfg(test)]
 mod sql;
-#[cfg(test)]
-mod stops;
 #[cfg(test)]
 mod subcommands;
 #[cfg(test)]

@@ -13,7 +13,7 @@ const LOG: &str = "file_at_the_path.db-wal";
 const NOWHERE: &str = "no_folder/file_at_the_path.db";
 
 /// Opens the file at a path, makes a table there, and closes the file. Whether that went well.
-fn is_made(rt: &HostRuntime, path: &str) -> bool {
+fn can_create_table(rt: &HostRuntime, path: &str) -> bool {
     match open_path(rt, path, Unknown) {
         Ok(opened) => {
             let mut conn = opened;
@@ -29,9 +29,9 @@ fn is_made(rt: &HostRuntime, path: &str) -> bool {
 
 /// The file that is opened is the one at the path, which is made if it is missing.
 #[test]
-fn file_at_the_path(rt: HostRuntime) -> Result<(), Fail> {
-    let is_made_nowhere = is_made(&rt, NOWHERE);
-    let is_made_there = is_made(&rt, PATH);
+fn opens_file_at_path(rt: HostRuntime) -> Result<(), Fail> {
+    let is_made_nowhere = can_create_table(&rt, NOWHERE);
+    let is_made_there = can_create_table(&rt, PATH);
     let bytes = fs::read(&rt, PATH);
     let _ = fs::remove_file(&rt, PATH);
     let _ = fs::remove_file(&rt, LOG);

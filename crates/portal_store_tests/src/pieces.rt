@@ -1,17 +1,17 @@
 //! Requests that come in pieces, and whose reads or writes fail: they are answered as a whole one is, before
 //! the last read nothing is carried out, and at a write all of it stands.
-use crate::day::{COMMANDS, Sent, all_sent, whole_day};
-use crate::desks::{answer, met_in_memory};
-use crate::exchanges::{Met, Peer, is_done, is_unread, is_unsent, whole_peer};
+use crate::day::{COMMANDS, SentRequest, build_day, build_requests};
+use crate::desks::{answer, exchange_in_memory};
+use crate::exchanges::{ExchangeResult, Peer, is_done, is_unread, is_unsent, whole_peer};
 use crate::requests::MOMENT;
-use portal_http::exchanges::status_shown;
+use portal_http::exchanges::status_in;
 use std::alloc::Global;
 
 /// Whether the exchange ended with a whole response that ends so.
-fn is_answered(met: &Met, end: &str) -> bool {
+fn is_answered(met: &ExchangeResult, end: &str) -> bool {
     let is_whole = match met.ended {
         Ok(done) => {
-            done.status == status_shown(met.taken.as_slice()) && done.written == met.taken.len()
+            done.status == status_in(met.taken.as_slice()) && done.written == met.taken.len()
         }
         Err(_) => false,
     };
@@ -20,7 +20,7 @@ fn is_answered(met: &Met, end: &str) -> bool {
 
 /// Whether each exchange is cut off where a read of its peer fails, and each other one answered as the next
 /// of the requests says. None is left.
-fn are_answered(met: &[Met], peers: &[Peer<'_>], day: &[Sent]) -> bool {
+fn are_answered(met: &[ExchangeResult], peers: &[Peer<'_>], day: &[SentRequest]) -> bool {
     let mut left = day.iter();
     for (met, peer) in met.iter().zip(peers) {
         let is_due = if peer.fails_at > 0 {
@@ -39,15 +39,15 @@ fn are_answered(met: &[Met], peers: &[Peer<'_>], day: &[Sent]) -> bool {
 }
 
 /// Whether the day is answered where each request comes in pieces of that size.
-fn is_day_answered(alloc: Global, size: usize, is_numbered: bool) -> Option<bool> {
-    let day = whole_day(alloc, is_numbered)?;
+fn is_day_answered(alloc: Global, size: usize, has_keys: bool) -> Option<bool> {
+    let day = build_day(alloc, has_keys)?;
     let mut peers: Vec<Peer<'_>> = Vec::new(alloc);
     for sent in &day {
         peers
             .push(whole_peer(sent.at, sent.bytes.as_slice(), size))
             .ok()?;
     }
-    let met = met_in_memory(alloc, peers.as_slice())?;
+    let met = exchange_in_memory(alloc, peers.as_slice())?;
     Some(are_answered(met.as_slice(), peers.as_slice(), day.as_slice()))
 }
 
@@ -62,7 +62,7 @@ fn day_in_pieces(rt: HostRuntime) {
 }
 
 #[test]
-fn numbered_day_in_pieces(rt: HostRuntime) {
+fn idempotent_day_in_pieces(rt: HostRuntime) {
     for size in [2usize, 80_000] {
         assert!(rt;
             is_day_answered(rt.alloc(), size, true) == Some(true),
@@ -73,8 +73,8 @@ fn numbered_day_in_pieces(rt: HostRuntime) {
 
 /// Whether the day is answered where before each request comes the same with each of its reads failing in
 /// turn.
-fn is_nothing_kept(alloc: Global, is_numbered: bool) -> Option<bool> {
-    let day = whole_day(alloc, is_numbered)?;
+fn commits_nothing(alloc: Global, has_keys: bool) -> Option<bool> {
+    let day = build_day(alloc, has_keys)?;
     let mut peers: Vec<Peer<'_>> = Vec::new(alloc);
     for sent in &day {
         let whole = whole_peer(sent.at, sent.bytes.as_slice(), 1);
@@ -83,22 +83,22 @@ fn is_nothing_kept(alloc: Global, is_numbered: bool) -> Option<bool> {
         }
         peers.push(whole).ok()?;
     }
-    let met = met_in_memory(alloc, peers.as_slice())?;
+    let met = exchange_in_memory(alloc, peers.as_slice())?;
     Some(are_answered(met.as_slice(), peers.as_slice(), day.as_slice()))
 }
 
 #[test]
 fn commands_cut_at_reads(rt: HostRuntime) {
-    assert!(rt; is_nothing_kept(rt.alloc(), false) == Some(true));
+    assert!(rt; commits_nothing(rt.alloc(), false) == Some(true));
 }
 
 #[test]
-fn numbered_commands_cut_at_reads(rt: HostRuntime) {
-    assert!(rt; is_nothing_kept(rt.alloc(), true) == Some(true));
+fn idempotent_commands_cut_at_reads(rt: HostRuntime) {
+    assert!(rt; commits_nothing(rt.alloc(), true) == Some(true));
 }
 
 /// The lengths of the responses to the commands.
-fn lengths(alloc: Global, day: &[Sent]) -> Option<Vec<usize>> {
+fn response_lengths(alloc: Global, day: &[SentRequest]) -> Option<Vec<usize>> {
     let mut peers: Vec<Peer<'_>> = Vec::new(alloc);
     for sent in day {
         peers
@@ -106,31 +106,33 @@ fn lengths(alloc: Global, day: &[Sent]) -> Option<Vec<usize>> {
             .ok()?;
     }
     let mut lengths = Vec::new(alloc);
-    for met in &met_in_memory(alloc, peers.as_slice())? {
+    for met in &exchange_in_memory(alloc, peers.as_slice())? {
         lengths.push(met.taken.len()).ok()?;
     }
     Some(lengths)
 }
 
 /// How much of a response is taken before it is cut off: so many sixteenths, short of the last byte.
-fn room(length: usize, part: usize) -> usize {
+fn bytes_before_cut(length: usize, part: usize) -> usize {
     let parts = (length / 16).saturating_mul(part);
     parts.min(length.saturating_sub(1))
 }
 
 /// Whether of each two exchanges the first was cut off in the response, and the second answered as the same
 /// request sent once more: under a number as before.
-fn are_kept(met: &[Met], lengths: &[usize], day: &[Sent], part: usize, is_numbered: bool) -> bool {
+fn stay_committed(
+    met: &[ExchangeResult],
+    lengths: &[usize],
+    day: &[SentRequest],
+    part: usize,
+    has_keys: bool,
+) -> bool {
     for ((two, length), sent) in met.chunks(2).zip(lengths).zip(day) {
         let [cut, whole] = two else {
             return false;
         };
-        let end = if is_numbered {
-            &sent.answer
-        } else {
-            &sent.again
-        };
-        if !is_unsent(cut, room(*length, part), *length) || !is_answered(whole, end) {
+        let end = if has_keys { &sent.answer } else { &sent.again };
+        if !is_unsent(cut, bytes_before_cut(*length, part), *length) || !is_answered(whole, end) {
             return false;
         }
     }
@@ -139,39 +141,45 @@ fn are_kept(met: &[Met], lengths: &[usize], day: &[Sent], part: usize, is_number
 
 /// Whether all stands of each command although its response was cut off once so many sixteenths of it were
 /// taken: a write failed, or took nothing.
-fn is_kept(alloc: Global, part: usize, is_numbered: bool) -> Option<bool> {
-    let day = all_sent(alloc, COMMANDS, is_numbered)?;
-    let lengths = lengths(alloc, day.as_slice())?;
+fn stays_committed(alloc: Global, part: usize, has_keys: bool) -> Option<bool> {
+    let day = build_requests(alloc, COMMANDS, has_keys)?;
+    let lengths = response_lengths(alloc, day.as_slice())?;
     let mut peers: Vec<Peer<'_>> = Vec::new(alloc);
     for (sent, length) in day.iter().zip(&lengths) {
         let whole = whole_peer(sent.at, sent.bytes.as_slice(), 4_096);
         let mut cut = whole;
-        cut.room = room(*length, part);
+        cut.room = bytes_before_cut(*length, part);
         cut.fails = part % 2 == 0;
         peers.push(cut).ok()?;
         peers.push(whole).ok()?;
     }
-    let met = met_in_memory(alloc, peers.as_slice())?;
-    Some(are_kept(
+    let met = exchange_in_memory(alloc, peers.as_slice())?;
+    Some(stay_committed(
         met.as_slice(),
         lengths.as_slice(),
         day.as_slice(),
         part,
-        is_numbered,
+        has_keys,
     ))
 }
 
 #[test]
 fn commands_cut_at_writes(rt: HostRuntime) {
     for part in 0..=16 {
-        assert!(rt; is_kept(rt.alloc(), part, false) == Some(true), "{part}");
+        assert!(rt;
+            stays_committed(rt.alloc(), part, false) == Some(true),
+            "{part}"
+        );
     }
 }
 
 #[test]
-fn numbered_commands_cut_at_writes(rt: HostRuntime) {
+fn idempotent_commands_cut_at_writes(rt: HostRuntime) {
     for part in [0usize, 7, 16] {
-        assert!(rt; is_kept(rt.alloc(), part, true) == Some(true), "{part}");
+        assert!(rt;
+            stays_committed(rt.alloc(), part, true) == Some(true),
+            "{part}"
+        );
     }
 }
 
@@ -305,7 +313,7 @@ const LIMITS: &[Hostile] = &[
 ];
 
 /// A request that is written out.
-fn written(row: &(&'static [u8], usize)) -> Hostile {
+fn hostile_request(row: &(&'static [u8], usize)) -> Hostile {
     let (front, reads) = *row;
     Hostile {
         front,
@@ -326,7 +334,7 @@ fn bytes_of(alloc: Global, row: &Hostile) -> Option<Vec<u8>> {
 }
 
 /// The sizes of the pieces in which a request is sent, the least first.
-fn sizes(length: usize) -> &'static [usize] {
+fn piece_sizes(length: usize) -> &'static [usize] {
     if length < 1_000 {
         &[1, 2, 7, 4_096, 80_000]
     } else {
@@ -335,7 +343,7 @@ fn sizes(length: usize) -> &'static [usize] {
 }
 
 /// The size of the pieces of which each fails in turn, and how many decide a request of that length.
-fn pieces(length: usize, reads: usize) -> (usize, usize) {
+fn piece_size_and_reads(length: usize, reads: usize) -> (usize, usize) {
     if length < 1_000 {
         (1, reads)
     } else {
@@ -344,16 +352,16 @@ fn pieces(length: usize, reads: usize) -> (usize, usize) {
 }
 
 /// Whether each exchange sent that response whole.
-fn are_done(met: &[Met], response: &[u8]) -> bool {
+fn are_done(met: &[ExchangeResult], response: &[u8]) -> bool {
     for met in met {
-        if !is_done(met, status_shown(response), response) {
+        if !is_done(met, status_in(response), response) {
             return false;
         }
     }
     true
 }
 
-fn are_unread(met: &[Met]) -> bool {
+fn are_unread(met: &[ExchangeResult]) -> bool {
     for met in met {
         if !is_unread(met) {
             return false;
@@ -368,13 +376,13 @@ fn is_same_in_pieces(alloc: Global, row: &Hostile) -> Option<bool> {
     let bytes = bytes_of(alloc, row)?;
     let response = answer(alloc, bytes.as_slice())?;
     let mut peers = Vec::new(alloc);
-    for size in sizes(bytes.len()) {
+    for size in piece_sizes(bytes.len()) {
         peers
             .push(whole_peer(MOMENT, bytes.as_slice(), *size))
             .ok()?;
     }
-    let met = met_in_memory(alloc, peers.as_slice())?;
-    let (_size, reads) = pieces(bytes.len(), row.reads);
+    let met = exchange_in_memory(alloc, peers.as_slice())?;
+    let (_size, reads) = piece_size_and_reads(bytes.len(), row.reads);
     let is_read = met.first()?.reads == reads;
     let is_same = met.len() == peers.len() && are_done(met.as_slice(), response.as_slice());
     Some(is_read && is_same)
@@ -384,7 +392,7 @@ fn is_same_in_pieces(alloc: Global, row: &Hostile) -> Option<bool> {
 fn hostile_requests_in_pieces(rt: HostRuntime) {
     for (place, row) in REQUESTS.iter().enumerate() {
         assert!(rt;
-            is_same_in_pieces(rt.alloc(), &written(row)) == Some(true),
+            is_same_in_pieces(rt.alloc(), &hostile_request(row)) == Some(true),
             "{place}"
         );
     }
@@ -401,13 +409,13 @@ fn limits_in_pieces(rt: HostRuntime) {
 /// made.
 fn is_cut_at_reads(alloc: Global, row: &Hostile) -> Option<bool> {
     let bytes = bytes_of(alloc, row)?;
-    let (size, reads) = pieces(bytes.len(), row.reads);
+    let (size, reads) = piece_size_and_reads(bytes.len(), row.reads);
     let whole = whole_peer(MOMENT, bytes.as_slice(), size);
     let mut peers: Vec<Peer<'_>> = Vec::new(alloc);
     for fails_at in 1..=reads.saturating_add(1) {
         peers.push(Peer { fails_at, ..whole }).ok()?;
     }
-    let met = met_in_memory(alloc, peers.as_slice())?;
+    let met = exchange_in_memory(alloc, peers.as_slice())?;
     let (unread, done) = (met.get(..reads)?, met.get(reads..)?);
     Some(done.len() == 1 && are_unread(unread) && done.first()?.ended.is_ok())
 }
@@ -416,7 +424,7 @@ fn is_cut_at_reads(alloc: Global, row: &Hostile) -> Option<bool> {
 fn hostile_requests_cut_at_reads(rt: HostRuntime) {
     for (place, row) in REQUESTS.iter().enumerate() {
         assert!(rt;
-            is_cut_at_reads(rt.alloc(), &written(row)) == Some(true),
+            is_cut_at_reads(rt.alloc(), &hostile_request(row)) == Some(true),
             "{place}"
         );
     }
@@ -444,7 +452,7 @@ fn is_cut_at_writes(alloc: Global, row: &Hostile) -> Option<bool> {
             peers.push(peer).ok()?;
         }
     }
-    let met = met_in_memory(alloc, peers.as_slice())?;
+    let met = exchange_in_memory(alloc, peers.as_slice())?;
     for (met, peer) in met.iter().zip(&peers) {
         let is_begun = response.as_slice().starts_with(met.taken.as_slice());
         if !is_begun || !is_unsent(met, peer.room, response.len()) {
@@ -458,7 +466,7 @@ fn is_cut_at_writes(alloc: Global, row: &Hostile) -> Option<bool> {
 fn hostile_requests_cut_at_writes(rt: HostRuntime) {
     for (place, row) in REQUESTS.iter().enumerate() {
         assert!(rt;
-            is_cut_at_writes(rt.alloc(), &written(row)) == Some(true),
+            is_cut_at_writes(rt.alloc(), &hostile_request(row)) == Some(true),
             "{place}"
         );
     }

@@ -1,13 +1,13 @@
 //! A place of one settings file, with the faults that it is to answer.
 ghost use Rattle.std.specs.Prelude.{⊤};
 
-use portal_ends::Fault;
+use portal_commands::place::{Files, Opened, Place};
+use portal_commands::serving::Network;
+use portal_commands::trouble::Trouble;
+use portal_exit::ProgramError;
 use portal_files::Settings;
 use portal_model::moment::Moment;
-use portal_program::place::{Files, Opened, Place};
-use portal_program::serving::Network;
-use portal_program::trouble::Trouble;
-use portal_serve::Host;
+use portal_server::Host;
 use std::alloc::Global;
 use std::io::{self, Read, Write};
 use std::marker::PhantomData;
@@ -41,8 +41,8 @@ pub const STUCK: Files<'static> = Files {
 pub struct Shelf {
     pub alloc: Global,
     pub text: &'static str,
-    pub reading: Option<Fault>,
-    pub opening: Option<Fault>,
+    pub reading: Option<ProgramError>,
+    pub opening: Option<ProgramError>,
 }
 
 /// A place at which all goes well.
@@ -79,7 +79,7 @@ impl<P: Place> Place for GivenPlace<P> {
 
     ghost reads = { λ _ _ _. ⊤ };
 
-    ghost shows = { λ _ _ _. ⊥ };
+    ghost holds_ledger = { λ _ _ _. ⊥ };
 
     ghost finds = { λ _ _ _. ⊤ };
 
@@ -95,20 +95,20 @@ impl<P: Place> Place for GivenPlace<P> {
 
     ghost fails_to_make = { λ _. ⊤ };
 
-    ghost is_fresh_honest = { λ desk. P.is_fresh_honest desk };
+    ghost is_fresh_fault_free = { λ desk. P.is_fresh_fault_free desk };
 
     fn read(&self, alloc: Global, path: &str) -> Result<Vec<u8>, Trouble> {
         if path != FILES.settings {
-            return Err(Trouble::plain(Fault::File));
+            return Err(Trouble::plain(ProgramError::File));
         }
         match self.shelf.reading {
-            Some(Fault::NoMemory) => return Err(Trouble::plain(Fault::NoMemory)),
-            Some(_) => return Err(Trouble::plain(Fault::File)),
+            Some(ProgramError::NoMemory) => return Err(Trouble::plain(ProgramError::NoMemory)),
+            Some(_) => return Err(Trouble::plain(ProgramError::File)),
             None => {}
         }
         match self.shelf.text.as_bytes().to_vec(alloc) {
             Ok(bytes) => Ok(bytes),
-            Err(_) => Err(Trouble::plain(Fault::NoMemory)),
+            Err(_) => Err(Trouble::plain(ProgramError::NoMemory)),
         }
     }
 
@@ -121,41 +121,41 @@ impl<P: Place> Place for GivenPlace<P> {
     ) -> Result<Opened<P::Fresh>, Trouble> {
         let is_new = path == NEW.db;
         if path != FILES.db && path != STUCK.db && !is_new {
-            return Err(Trouble::plain(Fault::File));
+            return Err(Trouble::plain(ProgramError::File));
         }
         match self.shelf.opening {
-            None => match P::open_fresh(alloc, settings) {
+            None => match P::open_desk_in_memory(alloc, settings) {
                 Ok(desk) => Ok(Opened { desk, is_new }),
-                Err(Fault::NoMemory) => Err(Trouble::plain(Fault::NoMemory)),
-                Err(_) => Err(Trouble::plain(Fault::File)),
+                Err(ProgramError::NoMemory) => Err(Trouble::plain(ProgramError::NoMemory)),
+                Err(_) => Err(Trouble::plain(ProgramError::File)),
             },
-            Some(Fault::NotOurs) => Err(Trouble::plain(Fault::NotOurs)),
-            Some(Fault::Newer) => Err(Trouble::plain(Fault::Newer)),
-            Some(Fault::NoMemory) => Err(Trouble::plain(Fault::NoMemory)),
-            Some(_) => Err(Trouble::plain(Fault::File)),
+            Some(ProgramError::NotOurs) => Err(Trouble::plain(ProgramError::NotOurs)),
+            Some(ProgramError::Newer) => Err(Trouble::plain(ProgramError::Newer)),
+            Some(ProgramError::NoMemory) => Err(Trouble::plain(ProgramError::NoMemory)),
+            Some(_) => Err(Trouble::plain(ProgramError::File)),
         }
     }
 
     fn close(alloc: Global, path: &str, desk: P::Fresh) -> Result<(), Trouble> {
-        P::close_fresh(desk);
+        P::close_desk_in_memory(desk);
         if path == STUCK.db {
             return Err(Trouble::of_file(alloc, path, "no room"));
         }
         Ok(())
     }
 
-    fn open_fresh(alloc: Global, settings: Settings) -> Result<P::Fresh, Fault> {
-        P::open_fresh(alloc, settings)
+    fn open_desk_in_memory(alloc: Global, settings: Settings) -> Result<P::Fresh, ProgramError> {
+        P::open_desk_in_memory(alloc, settings)
     }
 
-    fn close_fresh(desk: P::Fresh) {
-        P::close_fresh(desk);
+    fn close_desk_in_memory(desk: P::Fresh) {
+        P::close_desk_in_memory(desk);
     }
 }
 
 /// A loopback address of which a port can be had, or not. Each connection breaks before it is accepted.
 #[derive(Clone, Copy)]
-pub struct Line {
+pub struct TestNetwork {
     pub is_free: bool,
 }
 
@@ -200,8 +200,8 @@ impl Host for Broken {
         None
     }
 
-    fn moment_and_seed(&mut self) -> Result<(Moment, [u8; 32]), Fault> {
-        Err(Fault::File)
+    fn moment_and_seed(&mut self) -> Result<(Moment, [u8; 32]), ProgramError> {
+        Err(ProgramError::File)
     }
 
     fn close(&mut self, _reader: Nothing, _writer: Nothing) {}
@@ -209,16 +209,16 @@ impl Host for Broken {
     fn pause(&mut self) {}
 }
 
-impl Network for Line {
+impl Network for TestNetwork {
     type Bound = Broken;
 
     ghost listens = { λ _ _ _. ⊤ };
 
-    fn listen(&self, _port: u16) -> Result<Broken, Fault> {
+    fn listen(&self, _port: u16) -> Result<Broken, ProgramError> {
         if self.is_free {
             Ok(Broken)
         } else {
-            Err(Fault::Network)
+            Err(ProgramError::Network)
         }
     }
 }

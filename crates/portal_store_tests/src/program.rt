@@ -1,12 +1,12 @@
 //! The program over words, a reader and two writers: what goes out, and the status with which it ends.
 use crate::desks::InMemory;
-use crate::places::{Line, good_shelf};
+use crate::places::{TestNetwork, good_shelf};
 use crate::requests::{CAPTIVE, MOMENT, REQUEST};
-use portal_ends::Fault;
-use portal_program::answering::{Request, answer};
-use portal_program::place::Place;
-use portal_program::program::run_program;
-use portal_program::words::words_of;
+use portal_commands::answering::{AnswerOptions, answer};
+use portal_commands::place::Place;
+use portal_commands::program::run_program;
+use portal_commands::words::words_of;
+use portal_exit::ProgramError;
 use std::alloc::Global;
 use std::env::{Env, FillError};
 use std::io::{self, Error, ErrorKind, Read, Write};
@@ -90,7 +90,7 @@ impl<'w> Env for GivenWords<'w> {
 
 /// Whether the answer to what the reader gives ends with this status, and says just this beside what it
 /// writes.
-fn ends_at<P: Place, R: Read, W: Write>(
+fn answer_exits_at<P: Place, R: Read, W: Write>(
     alloc: Global,
     now: u64,
     seed: &str,
@@ -100,7 +100,7 @@ fn ends_at<P: Place, R: Read, W: Write>(
     said: &str,
 ) -> bool {
     let mut errors = Vec::new(alloc);
-    let request = Request {
+    let request = AnswerOptions {
         db: None,
         settings: None,
         now,
@@ -118,7 +118,7 @@ fn ends_at<P: Place, R: Read, W: Write>(
 }
 
 /// The same of the desks in memory.
-fn ends_so<R: Read, W: Write>(
+fn answer_exits_with<R: Read, W: Write>(
     alloc: Global,
     now: u64,
     seed: &str,
@@ -127,11 +127,11 @@ fn ends_so<R: Read, W: Write>(
     status: u8,
     said: &str,
 ) -> bool {
-    ends_at::<InMemory, R, W>(alloc, now, seed, input, output, status, said)
+    answer_exits_at::<InMemory, R, W>(alloc, now, seed, input, output, status, said)
 }
 
 /// The status with which the program ends, with such words and a guest's request.
-fn status_of<P: Place>(
+fn run_for_exit_code<P: Place>(
     alloc: Global,
     words: &[&str],
     output: &mut FailingWriter,
@@ -141,7 +141,7 @@ fn status_of<P: Place>(
     run_program(
         alloc,
         good_shelf(alloc).place::<P>(),
-        &Line { is_free: true },
+        &TestNetwork { is_free: true },
         words,
         &mut input,
         output,
@@ -157,35 +157,41 @@ fn is_framed(bytes: &[u8], front: &str, end: &str) -> bool {
 }
 
 /// Whether a request of which so many bytes are read ends so, and so many bytes are written.
-fn is_read(alloc: Global, reads_left: usize, status: u8, said: &str, written: usize) -> bool {
+fn ends_after_reads(
+    alloc: Global,
+    reads_left: usize,
+    status: u8,
+    said: &str,
+    written: usize,
+) -> bool {
     let mut input = FailingReader {
         bytes: REQUEST,
         reads_left,
     };
     let mut output = Vec::new(alloc);
-    let is_ended = ends_so(alloc, MOMENT, SEED, &mut input, &mut output, status, said);
+    let is_ended = answer_exits_with(alloc, MOMENT, SEED, &mut input, &mut output, status, said);
     is_ended && output.len() == written
 }
 
 #[test]
 fn requests_cut_off(rt: HostRuntime) {
     for reads_left in 0..70 {
-        let is_cut = is_read(rt.alloc(), reads_left, 3, "portal: cut\n", 0);
+        let is_cut = ends_after_reads(rt.alloc(), reads_left, 3, "portal: cut\n", 0);
         assert!(rt; is_cut, "after {reads_left} reads");
     }
-    assert!(rt; is_read(rt.alloc(), 70, 0, "", 224));
+    assert!(rt; ends_after_reads(rt.alloc(), 70, 0, "", 224));
 }
 
 /// Whether the response is begun, and it ends so, where there is room for so many bytes. Then a write fails,
 /// or takes nothing.
-fn is_written(alloc: Global, room: usize, fails: bool, status: u8, said: &str) -> bool {
+fn ends_at_room(alloc: Global, room: usize, fails: bool, status: u8, said: &str) -> bool {
     let mut input = REQUEST;
     let mut output = FailingWriter {
         taken: Vec::new(alloc),
         room,
         fails,
     };
-    let is_ended = ends_so(alloc, MOMENT, SEED, &mut input, &mut output, status, said);
+    let is_ended = answer_exits_with(alloc, MOMENT, SEED, &mut input, &mut output, status, said);
     is_ended
         && output.taken.len() == room
         && CAPTIVE.as_bytes().starts_with(output.taken.as_slice())
@@ -195,22 +201,22 @@ fn is_written(alloc: Global, room: usize, fails: bool, status: u8, said: &str) -
 fn responses_cut_off(rt: HostRuntime) {
     for room in 0..224 {
         assert!(rt;
-            is_written(rt.alloc(), room, true, 3, "portal: cut\n"),
+            ends_at_room(rt.alloc(), room, true, 3, "portal: cut\n"),
             "at {room}"
         );
     }
-    assert!(rt; is_written(rt.alloc(), 224, true, 0, ""));
+    assert!(rt; ends_at_room(rt.alloc(), 224, true, 0, ""));
 }
 
 #[test]
 fn responses_not_taken(rt: HostRuntime) {
     for room in 0..224 {
         assert!(rt;
-            is_written(rt.alloc(), room, false, 3, "portal: cut\n"),
+            ends_at_room(rt.alloc(), room, false, 3, "portal: cut\n"),
             "at {room}"
         );
     }
-    assert!(rt; is_written(rt.alloc(), 224, false, 0, ""));
+    assert!(rt; ends_at_room(rt.alloc(), 224, false, 0, ""));
 }
 
 /// Words, the room for the output, the status, and how the output and the errors begin.
@@ -309,7 +315,7 @@ fn is_ended(alloc: Global, call: &Call) -> bool {
         fails: true,
     };
     let mut errors = Vec::new(alloc);
-    let ended = status_of::<InMemory>(alloc, words, &mut output, &mut errors);
+    let ended = run_for_exit_code::<InMemory>(alloc, words, &mut output, &mut errors);
     ended == *status
         && is_framed(output.taken.as_slice(), wrote, "")
         && is_framed(errors.as_slice(), said, "")
@@ -323,7 +329,7 @@ fn words_to_status(rt: HostRuntime) {
 }
 
 /// How many words there are, and whether the second is an umlaut.
-fn read_words(alloc: Global, words: &[&[u8]]) -> Result<(usize, bool), Fault> {
+fn read_arguments(alloc: Global, words: &[&[u8]]) -> Result<(usize, bool), ProgramError> {
     let words = words_of(&(GivenWords { words }, alloc))?;
     let is_umlaut = match words.get(1) {
         Some(word) => word.as_str() == "ä",
@@ -335,9 +341,9 @@ fn read_words(alloc: Global, words: &[&[u8]]) -> Result<(usize, bool), Fault> {
 #[test]
 fn words_in_utf8(rt: HostRuntime) {
     let umlaut: &[&[u8]] = &[b"portal", b"\xc3\xa4", b""];
-    assert!(rt; read_words(rt.alloc(), umlaut) == Ok((3, true)));
+    assert!(rt; read_arguments(rt.alloc(), umlaut) == Ok((3, true)));
     let latin: &[&[u8]] = &[b"portal", b"\xe4"];
-    assert!(rt; read_words(rt.alloc(), latin) == Err(Fault::Usage));
+    assert!(rt; read_arguments(rt.alloc(), latin) == Err(ProgramError::Usage));
     let first: &[&[u8]] = &[b"\xff", b"answer"];
-    assert!(rt; read_words(rt.alloc(), first) == Err(Fault::Usage));
+    assert!(rt; read_arguments(rt.alloc(), first) == Err(ProgramError::Usage));
 }

@@ -2,7 +2,7 @@
 use crate::day::PLANS;
 use crate::desks::answers_in_memory;
 use crate::requests::{DESK, GUEST, REQUEST, request};
-use portal_http::exchanges::status_shown;
+use portal_http::exchanges::status_in;
 use std::alloc::Global;
 use std::str;
 
@@ -24,7 +24,7 @@ fn codes_in(alloc: Global, response: &[u8]) -> Option<Vec<String>> {
 }
 
 /// The codes of the batch, as another desk prints them.
-fn codes(alloc: Global, plans: &[u8], batch: &[u8]) -> Option<Vec<String>> {
+fn batch_codes(alloc: Global, plans: &[u8], batch: &[u8]) -> Option<Vec<String>> {
     let sheet = request(alloc, "GET /desk/batches/b1/print", DESK, b"")?;
     let requests: [(u64, &[u8]); 3] = [(1000, plans), (1000, batch), (1000, sheet.as_slice())];
     let response = answers_in_memory(alloc, &[], requests.as_slice())?.pop()?;
@@ -32,7 +32,7 @@ fn codes(alloc: Global, plans: &[u8], batch: &[u8]) -> Option<Vec<String>> {
 }
 
 /// The sale and the redemption of each code.
-fn sold_and_redeemed(alloc: Global, codes: &[String]) -> Option<Vec<Vec<u8>>> {
+fn sell_and_redeem_requests(alloc: Global, codes: &[String]) -> Option<Vec<Vec<u8>>> {
     let mut requests = Vec::new(alloc);
     for code in codes {
         let body = format!(in alloc; "{{\"code\":\"{code}\"}}").ok()?;
@@ -46,11 +46,11 @@ fn sold_and_redeemed(alloc: Global, codes: &[String]) -> Option<Vec<Vec<u8>>> {
 }
 
 /// How many responses of the run have the status 200, and the last response.
-fn run_of_all(alloc: Global) -> Option<(usize, Vec<u8>)> {
+fn run_all_requests(alloc: Global) -> Option<(usize, Vec<u8>)> {
     let plans = request(alloc, "POST /desk/plans", DESK, PLANS.as_bytes())?;
     let batch = request(alloc, "POST /desk/batches", DESK, BATCH)?;
-    let codes = codes(alloc, plans.as_slice(), batch.as_slice())?;
-    let sent = sold_and_redeemed(alloc, codes.as_slice())?;
+    let codes = batch_codes(alloc, plans.as_slice(), batch.as_slice())?;
+    let sent = sell_and_redeem_requests(alloc, codes.as_slice())?;
     let mut requests: Vec<(u64, &[u8])> = Vec::new(alloc);
     requests.push((1000, batch.as_slice())).ok()?;
     for bytes in &sent {
@@ -60,7 +60,7 @@ fn run_of_all(alloc: Global) -> Option<(usize, Vec<u8>)> {
     let mut responses = answers_in_memory(alloc, &[(0, plans.as_slice())], requests.as_slice())?;
     let mut accepted = 0usize;
     for response in &responses {
-        if status_shown(response.as_slice()) == 200 {
+        if status_in(response.as_slice()) == 200 {
             accepted = accepted.saturating_add(1);
         }
     }
@@ -74,7 +74,7 @@ const LAST: &str =
 
 #[test]
 fn run_of_202_requests(rt: HostRuntime) {
-    let (accepted, last) = run_of_all(rt.alloc()).expect(&rt, "a run");
+    let (accepted, last) = run_all_requests(rt.alloc()).expect(&rt, "a run");
     assert_eq!(rt; accepted, 202);
     assert!(rt; last.as_slice().ends_with(LAST.as_bytes()));
 }

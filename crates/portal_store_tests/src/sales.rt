@@ -1,7 +1,7 @@
 //! The two orders in which sales are listed: by moment and printed code, and as the vouchers were issued.
 use portal_model::moment::Moment;
-use portal_tables::adopt::Refused;
-use portal_tables::fault::StoreFault;
+use portal_tables::attaching::Refused;
+use portal_tables::errors::StoreFault;
 use portal_tables::tables::Tables;
 use sqlite::{Alter, Connection};
 use std::alloc::Global;
@@ -19,7 +19,7 @@ const SOLD: &str =
 /// Moments, each with an amount.
 type Amounts = Result<Vec<(Moment, u64)>, StoreFault>;
 
-fn tables_of<S: Alter + Drop>(conn: Connection<S>) -> Result<Tables<S>, Fail> {
+fn attach_tables<S: Alter + Drop>(conn: Connection<S>) -> Result<Tables<S>, Fail> {
     match Tables::adopt(conn) {
         Ok(tables) => Ok(tables),
         Err(Refused { fault, connection }) => {
@@ -40,7 +40,7 @@ fn read_sales<S: Alter>(
     Some((by_moment, tables.sales_as_issued(alloc, from, to)))
 }
 
-fn are(amounts: &Amounts, wanted: &[(u64, u64)]) -> bool {
+fn are_amounts(amounts: &Amounts, wanted: &[(u64, u64)]) -> bool {
     let Ok(amounts) = amounts else {
         return false;
     };
@@ -54,28 +54,28 @@ fn are(amounts: &Amounts, wanted: &[(u64, u64)]) -> bool {
 
 #[test]
 fn sales_in_both_orders(rt: HostRuntime) -> Result<(), Fail> {
-    let mut conn = tables_of(Connection::open_in_memory(rt.alloc())?)?.release();
+    let mut conn = attach_tables(Connection::open_in_memory(rt.alloc())?)?.release();
     conn.execute_batch(SOLD)?;
-    let mut tables = tables_of(conn)?;
+    let mut tables = attach_tables(conn)?;
     let all = read_sales(rt.alloc(), &mut tables, 0);
     let later = read_sales(rt.alloc(), &mut tables, 901);
     drop(tables.release());
     let (by_moment, as_issued) = all.ok_or("no moments")?;
     assert!(rt;
-        are(&by_moment, &[(900, 300), (1000, 500), (1000, 300)]),
+        are_amounts(&by_moment, &[(900, 300), (1000, 500), (1000, 300)]),
         "{by_moment:?}"
     );
     assert!(rt;
-        are(&as_issued, &[(1000, 300), (900, 300), (1000, 500)]),
+        are_amounts(&as_issued, &[(1000, 300), (900, 300), (1000, 500)]),
         "{as_issued:?}"
     );
     let (by_moment, as_issued) = later.ok_or("no moments")?;
     assert!(rt;
-        are(&by_moment, &[(1000, 500), (1000, 300)]),
+        are_amounts(&by_moment, &[(1000, 500), (1000, 300)]),
         "{by_moment:?}"
     );
     assert!(rt;
-        are(&as_issued, &[(1000, 300), (1000, 500)]),
+        are_amounts(&as_issued, &[(1000, 300), (1000, 500)]),
         "{as_issued:?}"
     );
     Ok(())

@@ -2,14 +2,14 @@
 //! taken.
 ghost use Rattle.std.specs.Prelude.{⊤};
 
-use crate::desks::served_in_memory;
-use crate::exchanges::{Sender, Taker, sends, takes};
+use crate::desks::serve_in_memory;
+use crate::exchanges::{Sender, Taker, new_sender, new_taker};
 use crate::requests::{BAD_REQUEST, CAPTIVE, MOMENT, REQUEST};
 use portal_desk::Desk;
-use portal_ends::Fault;
+use portal_exit::ProgramError;
+use portal_http_routes::Routes;
 use portal_model::moment::Moment;
-use portal_route::Routes;
-use portal_serve::{Host, bind_loopback, fresh_seed, moment_now, serve};
+use portal_server::{Host, bind_loopback, fresh_seed, moment_now, serve};
 use std::alloc::Global;
 use std::io::{self, ErrorKind, Write};
 use std::rt::Clock;
@@ -36,7 +36,7 @@ enum Peer {
 struct Script<'p> {
     alloc: Global,
     peers: &'p [Peer],
-    clock: Result<(), Fault>,
+    clock: Result<(), ProgramError>,
     accepts: usize,
     pauses: usize,
     sent: Vec<u8>,
@@ -61,8 +61,8 @@ impl<'p> Host for Script<'p> {
             return None;
         };
         self.peers = rest;
-        let mut reader = sends(REQUEST, 7);
-        let mut writer = takes(self.alloc, 90);
+        let mut reader = new_sender(REQUEST, 7);
+        let mut writer = new_taker(self.alloc, 90);
         match peer {
             Peer::Asks => {}
             Peer::Ends => reader.bytes = &REQUEST[..40],
@@ -73,11 +73,11 @@ impl<'p> Host for Script<'p> {
         Some((reader, writer))
     }
 
-    fn moment_and_seed(&mut self) -> Result<(Moment, [u8; 32]), Fault> {
+    fn moment_and_seed(&mut self) -> Result<(Moment, [u8; 32]), ProgramError> {
         match (self.clock, Moment::new(MOMENT)) {
             (Ok(()), Some(moment)) => Ok((moment, [0; 32])),
-            (Err(Fault::NoMemory), _) => Err(Fault::NoMemory),
-            _ => Err(Fault::File),
+            (Err(ProgramError::NoMemory), _) => Err(ProgramError::NoMemory),
+            _ => Err(ProgramError::File),
         }
     }
 
@@ -92,7 +92,7 @@ impl<'p> Host for Script<'p> {
 }
 
 /// A host of these peers.
-fn played(alloc: Global, peers: &[Peer], clock: Result<(), Fault>) -> Script<'_> {
+fn new_script(alloc: Global, peers: &[Peer], clock: Result<(), ProgramError>) -> Script<'_> {
     Script {
         alloc,
         peers,
@@ -104,7 +104,7 @@ fn played(alloc: Global, peers: &[Peer], clock: Result<(), Fault>) -> Script<'_>
 }
 
 /// Serves at port 8080, and gives the status with the faults that were printed.
-pub fn served<D: Desk, H: Host, W: Write>(
+pub fn serve_with_errors<D: Desk, H: Host, W: Write>(
     alloc: Global,
     desk: &mut D,
     host: &mut H,
@@ -120,7 +120,7 @@ pub fn served<D: Desk, H: Host, W: Write>(
 /// What came of serving: the status, how often a connection was asked for, what peers were sent, and what was
 /// printed.
 #[derive(Drop)]
-struct Ended {
+struct ExitResult {
     status: u8,
     accepts: usize,
     sent: Vec<u8>,
@@ -128,7 +128,7 @@ struct Ended {
     errors: Vec<u8>,
 }
 
-impl Ended {
+impl ExitResult {
     /// Whether it ended so, and printed that, the faults last.
     fn is(&self, status: u8, accepts: usize, output: &[u8], errors: &str) -> bool {
         self.status == status
@@ -139,18 +139,18 @@ impl Ended {
 }
 
 /// A new desk serves so many connections of the peers, and so many bytes of output are taken.
-fn outcome(
+fn run_and_collect(
     alloc: Global,
     peers: &[Peer],
-    clock: Result<(), Fault>,
+    clock: Result<(), ProgramError>,
     count: u64,
     room: usize,
-) -> Option<Ended> {
-    let mut host = played(alloc, peers, clock);
-    let mut output = takes(alloc, 10);
+) -> Option<ExitResult> {
+    let mut host = new_script(alloc, peers, clock);
+    let mut output = new_taker(alloc, 10);
     output.room = room;
-    let (status, errors) = served_in_memory(alloc, &mut host, count, &mut output)?;
-    Some(Ended {
+    let (status, errors) = serve_in_memory(alloc, &mut host, count, &mut output)?;
+    Some(ExitResult {
         status,
         accepts: host.accepts,
         sent: host.sent,
@@ -172,9 +172,9 @@ const GONE: &[(&[Peer], usize)] = &[
 
 /// How often a server pauses that serves these peers.
 fn pauses(alloc: Global, peers: &[Peer]) -> Option<usize> {
-    let mut host = played(alloc, peers, Ok(()));
-    let mut output = takes(alloc, 10);
-    let (status, _errors) = served_in_memory(alloc, &mut host, peers.len() as u64, &mut output)?;
+    let mut host = new_script(alloc, peers, Ok(()));
+    let mut output = new_taker(alloc, 10);
+    let (status, _errors) = serve_in_memory(alloc, &mut host, peers.len() as u64, &mut output)?;
     if status == 0 { Some(host.pauses) } else { None }
 }
 
@@ -199,7 +199,7 @@ const PEERS: &[Peer] = &[
 
 /// Whether each of these peers is sent what is due to it, and each that broke off is told of.
 fn are_served(alloc: Global) -> Option<bool> {
-    let ended = outcome(alloc, PEERS, Ok(()), 6, 1_000)?;
+    let ended = run_and_collect(alloc, PEERS, Ok(()), 6, 1_000)?;
     let begun = &CAPTIVE[..100];
     let sent = format!(in alloc; "{CAPTIVE}{BAD_REQUEST}{begun}{CAPTIVE}").ok()?;
     let errors = "portal: cut\nportal: network\nportal: cut\n";
@@ -212,23 +212,23 @@ fn peers_one_after_another(rt: HostRuntime) {
 }
 
 /// The clock, the connections to be served, and what comes of it with two peers: status, faults, connections.
-const ENDS: &[(Result<(), Fault>, u64, u8, &str, usize)] = &[
+const ENDS: &[(Result<(), ProgramError>, u64, u8, &str, usize)] = &[
     (Ok(()), 0, 0, "", 0),
     (Ok(()), 2, 0, "", 2),
-    (Err(Fault::File), 2, 3, "portal: file\n", 1),
-    (Err(Fault::NoMemory), 2, 3, "portal: no_memory\n", 1),
+    (Err(ProgramError::File), 2, 3, "portal: file\n", 1),
+    (Err(ProgramError::NoMemory), 2, 3, "portal: no_memory\n", 1),
 ];
 
 /// Whether serving two peers ends so.
 fn is_ended(
     alloc: Global,
-    clock: Result<(), Fault>,
+    clock: Result<(), ProgramError>,
     count: u64,
     status: u8,
     said: &str,
     accepts: usize,
 ) -> Option<bool> {
-    let ended = outcome(alloc, &[Peer::Asks, Peer::Asks], clock, count, 1_000)?;
+    let ended = run_and_collect(alloc, &[Peer::Asks, Peer::Asks], clock, count, 1_000)?;
     Some(ended.is(status, accepts, LISTENING, said))
 }
 
@@ -241,10 +241,10 @@ fn ends_of_serving(rt: HostRuntime) {
 }
 
 /// Whether a desk that has stopped ends the program before another connection is waited for.
-pub fn is_stopped_told<D: Desk>(alloc: Global, desk: &mut D) -> Option<bool> {
-    let mut host = played(alloc, &[Peer::Asks], Ok(()));
+pub fn stopped_desk_ends_serve<D: Desk>(alloc: Global, desk: &mut D) -> Option<bool> {
+    let mut host = new_script(alloc, &[Peer::Asks], Ok(()));
     let mut output = Vec::new(alloc);
-    let (status, errors) = served(alloc, desk, &mut host, 1, &mut output)?;
+    let (status, errors) = serve_with_errors(alloc, desk, &mut host, 1, &mut output)?;
     let is_printed = output.as_slice() == LISTENING
         && errors.as_slice() == b"portal: stopped\n".as_slice();
     Some(is_printed && status == 3 && host.accepts == 0)
@@ -252,7 +252,7 @@ pub fn is_stopped_told<D: Desk>(alloc: Global, desk: &mut D) -> Option<bool> {
 
 /// Whether nobody is served where so many bytes of the line that tells the port are taken, and no more.
 fn is_cut(alloc: Global, room: usize) -> Option<bool> {
-    let ended = outcome(alloc, &[Peer::Asks], Ok(()), 1, room)?;
+    let ended = run_and_collect(alloc, &[Peer::Asks], Ok(()), 1, room)?;
     Some(ended.is(3, 0, LISTENING.get(..room)?, "portal: cut\n"))
 }
 
@@ -264,15 +264,15 @@ fn line_cut_off(rt: HostRuntime) {
 }
 
 /// Whether a port that is taken cannot be had again.
-fn is_taken(rt: &HostRuntime) -> Option<bool> {
+fn is_port_taken(rt: &HostRuntime) -> Option<bool> {
     let listener = bind_loopback(rt, 0).ok()?;
     let port = listener.local_addr().ok()?.port();
-    Some(matches!(bind_loopback(rt, port), Err(Fault::Network)))
+    Some(matches!(bind_loopback(rt, port), Err(ProgramError::Network)))
 }
 
 #[test]
 fn port_taken_twice(rt: HostRuntime) {
-    assert!(rt; is_taken(&rt) == Some(true));
+    assert!(rt; is_port_taken(&rt) == Some(true));
 }
 
 /// A clock that answers so many seconds, or fails.
@@ -295,17 +295,17 @@ impl Clock for Fixed {
 }
 
 /// What the clock answers, in milliseconds, and the moment.
-const MOMENTS: &[(Result<u64, ErrorKind>, Result<u64, Fault>)] = &[
+const MOMENTS: &[(Result<u64, ErrorKind>, Result<u64, ProgramError>)] = &[
     (Ok(1_999), Ok(1)),
     (Ok(253_370_764_799_000), Ok(253_370_764_799)),
     (Ok(253_370_764_800_000), Ok(253_370_764_799)),
     (Ok(u64::MAX), Ok(253_370_764_799)),
     (Err(ErrorKind::InvalidData), Ok(0)),
-    (Err(ErrorKind::PermissionDenied), Err(Fault::File)),
-    (Err(ErrorKind::OutOfMemory), Err(Fault::NoMemory)),
+    (Err(ErrorKind::PermissionDenied), Err(ProgramError::File)),
+    (Err(ErrorKind::OutOfMemory), Err(ProgramError::NoMemory)),
 ];
 
-fn moment_of(answer: Result<Duration, ErrorKind>) -> Result<u64, Fault> {
+fn moment_of(answer: Result<Duration, ErrorKind>) -> Result<u64, ProgramError> {
     match moment_now(&Fixed { answer }) {
         Ok(moment) => Ok(moment.get()),
         Err(fault) => Err(fault),

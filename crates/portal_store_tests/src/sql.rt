@@ -20,7 +20,7 @@ fn write_rows<S: Alter>(conn: &mut Connection<S>, sql: &str, whole: &mut String)
 }
 
 /// The names of the tables of a store, in order.
-fn tables<S: Alter>(alloc: Global, conn: &mut Connection<S>) -> Option<Vec<String>> {
+fn table_names<S: Alter>(alloc: Global, conn: &mut Connection<S>) -> Option<Vec<String>> {
     let mut names = Vec::new(alloc);
     let sql = "SELECT name FROM sqlite_master WHERE type = 'table' ORDER BY name";
     for row in conn.query_all(sql, &[]).ok()? {
@@ -31,14 +31,14 @@ fn tables<S: Alter>(alloc: Global, conn: &mut Connection<S>) -> Option<Vec<Strin
 
 /// All that stands in a store: what its tables, indexes and views were made of, and each row of each table.
 /// `None` where it is not read, or there is no memory.
-pub fn whole<S: Alter>(alloc: Global, conn: &mut Connection<S>) -> Option<String> {
+pub fn dump_database<S: Alter>(alloc: Global, conn: &mut Connection<S>) -> Option<String> {
     let mut whole = String::new(alloc);
     write_rows(
         conn,
         "SELECT type, name, sql FROM sqlite_master ORDER BY name",
         &mut whole,
     )?;
-    for table in tables(alloc, conn)? {
+    for table in table_names(alloc, conn)? {
         let sql = format!(in alloc; "SELECT * FROM {table} ORDER BY 1").ok()?;
         writeln!(whole, "{table}").ok()?;
         write_rows(conn, sql.as_str(), &mut whole)?;

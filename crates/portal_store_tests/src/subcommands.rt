@@ -1,17 +1,17 @@
 //! The subcommands over a place: which fault comes first, what is printed, and the status.
 use crate::desks::InMemory;
-use crate::places::{FILES, Line, NEW, SETTINGS, STUCK, Shelf, good_shelf};
+use crate::places::{FILES, NEW, SETTINGS, STUCK, Shelf, TestNetwork, good_shelf};
 use crate::requests::{CAPTIVE, MOMENT};
+use portal_commands::answering::{AnswerOptions, answer, answer_at};
+use portal_commands::checking::{check, check_at};
+use portal_commands::place::{Files, Place};
+use portal_commands::printing::{print, print_at};
+use portal_commands::serving::{ServeOptions, serve};
+use portal_commands::takings::{read_range, takings, takings_at};
 use portal_desk::Desk;
-use portal_ends::Fault;
+use portal_exit::ProgramError;
+use portal_http_routes::Routes;
 use portal_model::moment::Moment;
-use portal_program::answering::{Request, answer, answer_at};
-use portal_program::checking::{check, check_at};
-use portal_program::place::{Files, Place};
-use portal_program::printing::{print, print_at};
-use portal_program::serving::{Listening, serve};
-use portal_program::takings::{read_range, takings, takings_at};
-use portal_route::Routes;
 use std::alloc::Global;
 
 const REQUEST: &str =
@@ -27,13 +27,13 @@ const REPORT: &str = "day            sold             sales refunded           r
 
 /// What a command printed, and its status.
 #[derive(Drop)]
-struct Ended {
+struct ExitResult {
     status: u8,
     output: Vec<u8>,
     errors: Vec<u8>,
 }
 
-impl Ended {
+impl ExitResult {
     /// Whether it ended with a status, and with these texts alone.
     fn is(&self, status: u8, output: &str, errors: &str) -> bool {
         self.status == status
@@ -44,7 +44,7 @@ impl Ended {
 
 /// A subcommand and its words.
 #[derive(Clone, Copy)]
-enum Asked<'w> {
+enum Subcommand<'w> {
     /// `answer`, its moment, its seed, and whether it is over files.
     Answer(u64, &'w str, bool),
     /// `print` and its batch.
@@ -57,10 +57,10 @@ enum Asked<'w> {
 }
 
 /// The status of `answer`, of the request of a guest.
-fn answered<P: Place>(
+fn answer_guest<P: Place>(
     alloc: Global,
     place: P,
-    request: &Request<'_>,
+    request: &AnswerOptions<'_>,
     output: &mut Vec<u8>,
     errors: &mut Vec<u8>,
 ) -> u8 {
@@ -69,8 +69,8 @@ fn answered<P: Place>(
 }
 
 /// What `answer` is asked for, over files or without.
-fn wanted(now: u64, seed: &str, has_files: bool) -> Request<'_> {
-    Request {
+fn answer_options(now: u64, seed: &str, has_files: bool) -> AnswerOptions<'_> {
+    AnswerOptions {
         db: if has_files { Some(FILES.db) } else { None },
         settings: if has_files {
             Some(FILES.settings)
@@ -83,41 +83,41 @@ fn wanted(now: u64, seed: &str, has_files: bool) -> Request<'_> {
 }
 
 /// The status of the subcommand over the files of the place.
-fn status_of<P: Place>(
+fn run_for_exit_code<P: Place>(
     alloc: Global,
     place: P,
-    asked: &Asked<'_>,
+    asked: &Subcommand<'_>,
     output: &mut Vec<u8>,
     errors: &mut Vec<u8>,
 ) -> u8 {
     match asked {
-        Asked::Answer(now, seed, has_files) => {
-            let request = wanted(*now, seed, *has_files);
-            answered(alloc, place, &request, output, errors)
+        Subcommand::Answer(now, seed, has_files) => {
+            let request = answer_options(*now, seed, *has_files);
+            answer_guest(alloc, place, &request, output, errors)
         }
-        Asked::Print(batch) => print(alloc, place, FILES, batch, output, errors),
-        Asked::Takings(from, to) => takings(alloc, place, FILES, from, to, output, errors),
-        Asked::Check => check(alloc, place, FILES, output, errors),
-        Asked::Serve(is_free) => {
-            let at = Listening { port: 80, count: 1 };
-            let network = Line { is_free: *is_free };
+        Subcommand::Print(batch) => print(alloc, place, FILES, batch, output, errors),
+        Subcommand::Takings(from, to) => takings(alloc, place, FILES, from, to, output, errors),
+        Subcommand::Check => check(alloc, place, FILES, output, errors),
+        Subcommand::Serve(is_free) => {
+            let at = ServeOptions { port: 80, count: 1 };
+            let network = TestNetwork { is_free: *is_free };
             serve(alloc, place, &network, FILES, at, output, errors)
         }
     }
 }
 
 /// What the subcommand prints over the shelf, and its status.
-fn outcome<P: Place>(shelf: &Shelf, asked: &Asked<'_>) -> Ended {
+fn run_and_collect<P: Place>(shelf: &Shelf, asked: &Subcommand<'_>) -> ExitResult {
     let mut output = Vec::new(shelf.alloc);
     let mut errors = Vec::new(shelf.alloc);
-    let status = status_of(
+    let status = run_for_exit_code(
         shelf.alloc,
         shelf.place::<P>(),
         asked,
         &mut output,
         &mut errors,
     );
-    Ended {
+    ExitResult {
         status,
         output,
         errors,
@@ -126,52 +126,73 @@ fn outcome<P: Place>(shelf: &Shelf, asked: &Asked<'_>) -> Ended {
 
 /// Whether the subcommand over the shelf, with desks in memory, ends with a status and with these texts
 /// alone.
-fn ends(shelf: &Shelf, asked: &Asked<'_>, status: u8, output: &str, errors: &str) -> bool {
-    outcome::<InMemory>(shelf, asked).is(status, output, errors)
+fn exits_with(
+    shelf: &Shelf,
+    asked: &Subcommand<'_>,
+    status: u8,
+    output: &str,
+    errors: &str,
+) -> bool {
+    run_and_collect::<InMemory>(shelf, asked).is(status, output, errors)
 }
 
 /// A settings file, the faults of reading it and of opening the database, and what is told first.
-const FAULTS: &[(&str, Option<Fault>, Option<Fault>, &str)] = &[
-    ("", Some(Fault::File), Some(Fault::Newer), "portal: file\n"),
+const ERRORS: &[(&str, Option<ProgramError>, Option<ProgramError>, &str)] = &[
     (
         "",
-        Some(Fault::NoMemory),
-        Some(Fault::Newer),
+        Some(ProgramError::File),
+        Some(ProgramError::Newer),
+        "portal: file\n",
+    ),
+    (
+        "",
+        Some(ProgramError::NoMemory),
+        Some(ProgramError::Newer),
         "portal: no_memory\n",
     ),
-    ("", None, Some(Fault::Newer), "portal: settings\n"),
+    ("", None, Some(ProgramError::Newer), "portal: settings\n"),
     (
         "zone = \"UTC0\"\n",
         None,
-        Some(Fault::Newer),
+        Some(ProgramError::Newer),
         "portal: settings\n",
     ),
-    (SETTINGS, None, Some(Fault::NotOurs), "portal: not_ours\n"),
-    (SETTINGS, None, Some(Fault::Newer), "portal: newer\n"),
-    (SETTINGS, None, Some(Fault::File), "portal: file\n"),
-    (SETTINGS, None, Some(Fault::NoMemory), "portal: no_memory\n"),
+    (
+        SETTINGS,
+        None,
+        Some(ProgramError::NotOurs),
+        "portal: not_ours\n",
+    ),
+    (SETTINGS, None, Some(ProgramError::Newer), "portal: newer\n"),
+    (SETTINGS, None, Some(ProgramError::File), "portal: file\n"),
+    (
+        SETTINGS,
+        None,
+        Some(ProgramError::NoMemory),
+        "portal: no_memory\n",
+    ),
 ];
 
 /// Subcommands over files.
-const OVER_FILES: &[Asked<'static>] = &[
-    Asked::Answer(MOMENT, SEED, true),
-    Asked::Print("b1"),
-    Asked::Print("no id"),
-    Asked::Takings("1970-01-02", "1970-01-02"),
-    Asked::Check,
-    Asked::Serve(false),
+const OVER_FILES: &[Subcommand<'static>] = &[
+    Subcommand::Answer(MOMENT, SEED, true),
+    Subcommand::Print("b1"),
+    Subcommand::Print("no id"),
+    Subcommand::Takings("1970-01-02", "1970-01-02"),
+    Subcommand::Check,
+    Subcommand::Serve(false),
 ];
 
 /// What the words say comes before any file.
-const BAD_WORDS: &[Asked<'static>] = &[
-    Asked::Answer(253_370_764_800, SEED, true),
-    Asked::Answer(MOMENT, "00", true),
-    Asked::Takings("1970-01-02", "1970-01-01"),
+const BAD_WORDS: &[Subcommand<'static>] = &[
+    Subcommand::Answer(253_370_764_800, SEED, true),
+    Subcommand::Answer(MOMENT, "00", true),
+    Subcommand::Takings("1970-01-02", "1970-01-01"),
 ];
 
-fn all_end(shelf: &Shelf, all: &[Asked<'_>], status: u8, errors: &str) -> bool {
+fn all_exit_with(shelf: &Shelf, all: &[Subcommand<'_>], status: u8, errors: &str) -> bool {
     for asked in all {
-        if !ends(shelf, asked, status, "", errors) {
+        if !exits_with(shelf, asked, status, "", errors) {
             return false;
         }
     }
@@ -180,42 +201,47 @@ fn all_end(shelf: &Shelf, all: &[Asked<'_>], status: u8, errors: &str) -> bool {
 
 /// Neither file is asked for where none is named.
 #[test]
-fn first_fault(rt: HostRuntime) {
-    for (n, (text, reading, opening, said)) in FAULTS.iter().enumerate() {
+fn first_error(rt: HostRuntime) {
+    for (n, (text, reading, opening, said)) in ERRORS.iter().enumerate() {
         let shelf = Shelf {
             alloc: rt.alloc(),
             text,
             reading: *reading,
             opening: *opening,
         };
-        assert!(rt; all_end(&shelf, OVER_FILES, 3, said), "fault {n}");
+        assert!(rt; all_exit_with(&shelf, OVER_FILES, 3, said), "fault {n}");
         assert!(rt;
-            all_end(&shelf, BAD_WORDS, 2, "portal: usage\n"),
+            all_exit_with(&shelf, BAD_WORDS, 2, "portal: usage\n"),
             "fault {n}"
         );
-        let without = Asked::Answer(MOMENT, SEED, false);
-        assert!(rt; ends(&shelf, &without, 0, CAPTIVE, ""), "fault {n}");
+        let without = Subcommand::Answer(MOMENT, SEED, false);
+        assert!(rt; exits_with(&shelf, &without, 0, CAPTIVE, ""), "fault {n}");
     }
 }
 
 /// Subcommands over files without a fault: the status, the output and the errors.
-const ENDS: &[(Asked<'static>, u8, &str, &str)] = &[
-    (Asked::Answer(MOMENT, SEED, true), 0, CAPTIVE, ""),
-    (Asked::Print("b1"), 1, "", "portal: unknown_batch\n"),
-    (Asked::Print(""), 1, "", "portal: unknown_batch\n"),
-    (Asked::Print("B1"), 1, "", "portal: unknown_batch\n"),
-    (Asked::Print("no id"), 1, "", "portal: unknown_batch\n"),
+const ENDS: &[(Subcommand<'static>, u8, &str, &str)] = &[
+    (Subcommand::Answer(MOMENT, SEED, true), 0, CAPTIVE, ""),
+    (Subcommand::Print("b1"), 1, "", "portal: unknown_batch\n"),
+    (Subcommand::Print(""), 1, "", "portal: unknown_batch\n"),
+    (Subcommand::Print("B1"), 1, "", "portal: unknown_batch\n"),
+    (Subcommand::Print("no id"), 1, "", "portal: unknown_batch\n"),
     (
-        Asked::Print("012345678901234567890123456789012"),
+        Subcommand::Print("012345678901234567890123456789012"),
         1,
         "",
         "portal: unknown_batch\n",
     ),
-    (Asked::Takings("1970-01-02", "1970-01-02"), 0, REPORT, ""),
-    (Asked::Check, 0, "ok\n", ""),
-    (Asked::Serve(false), 3, "", "portal: network\n"),
     (
-        Asked::Serve(true),
+        Subcommand::Takings("1970-01-02", "1970-01-02"),
+        0,
+        REPORT,
+        "",
+    ),
+    (Subcommand::Check, 0, "ok\n", ""),
+    (Subcommand::Serve(false), 3, "", "portal: network\n"),
+    (
+        Subcommand::Serve(true),
         0,
         "listening 127.0.0.1:80\n",
         "portal: network\n",
@@ -223,20 +249,23 @@ const ENDS: &[(Asked<'static>, u8, &str, &str)] = &[
 ];
 
 #[test]
-fn no_fault(rt: HostRuntime) {
+fn no_error(rt: HostRuntime) {
     let shelf = good_shelf(rt.alloc());
     for (n, (asked, status, output, errors)) in ENDS.iter().enumerate() {
-        assert!(rt; ends(&shelf, asked, *status, output, errors), "end {n}");
+        assert!(rt;
+            exits_with(&shelf, asked, *status, output, errors),
+            "end {n}"
+        );
     }
 }
 
 /// Whether `check` finds a good database in these files, and prints that on its errors.
-fn is_checked<P: Place>(alloc: Global, files: Files<'_>, said: &str) -> bool {
+fn check_succeeds<P: Place>(alloc: Global, files: Files<'_>, said: &str) -> bool {
     let mut output = Vec::new(alloc);
     let mut errors = Vec::new(alloc);
     let place = good_shelf(alloc).place::<P>();
     let status = check(alloc, place, files, &mut output, &mut errors);
-    let ended = Ended {
+    let ended = ExitResult {
         status,
         output,
         errors,
@@ -248,13 +277,13 @@ fn is_checked<P: Place>(alloc: Global, files: Files<'_>, said: &str) -> bool {
 #[test]
 fn new_and_not_closed(rt: HostRuntime) {
     let alloc = rt.alloc();
-    assert!(rt; is_checked::<InMemory>(alloc, FILES, ""));
-    assert!(rt; is_checked::<InMemory>(alloc, NEW, "portal: new database new.db\n"));
-    assert!(rt; is_checked::<InMemory>(alloc, STUCK, "portal: file\n  stuck.db: no room\n"));
+    assert!(rt; check_succeeds::<InMemory>(alloc, FILES, ""));
+    assert!(rt; check_succeeds::<InMemory>(alloc, NEW, "portal: new database new.db\n"));
+    assert!(rt; check_succeeds::<InMemory>(alloc, STUCK, "portal: file\n  stuck.db: no room\n"));
 }
 
 /// Whether these printed nothing but that the desk has stopped.
-fn is_said(status: u8, output: &[u8], errors: &[u8]) -> bool {
+fn is_stopped_output(status: u8, output: &[u8], errors: &[u8]) -> bool {
     status == 3 && output.is_empty() && errors == b"portal: stopped\n".as_slice()
 }
 
@@ -262,14 +291,14 @@ fn is_print_stopped<D: Desk>(alloc: Global, desk: &mut D) -> bool {
     let mut output = Vec::new(alloc);
     let mut errors = Vec::new(alloc);
     let status = print_at(alloc, desk, "b1", &mut output, &mut errors);
-    is_said(status, output.as_slice(), errors.as_slice())
+    is_stopped_output(status, output.as_slice(), errors.as_slice())
 }
 
 fn is_check_stopped<D: Desk>(alloc: Global, desk: &mut D) -> bool {
     let mut output = Vec::new(alloc);
     let mut errors = Vec::new(alloc);
     let status = check_at(alloc, desk, &mut output, &mut errors);
-    is_said(status, output.as_slice(), errors.as_slice())
+    is_stopped_output(status, output.as_slice(), errors.as_slice())
 }
 
 fn are_takings_stopped<D: Desk>(alloc: Global, desk: &mut D) -> Option<bool> {
@@ -277,7 +306,7 @@ fn are_takings_stopped<D: Desk>(alloc: Global, desk: &mut D) -> Option<bool> {
     let mut output = Vec::new(alloc);
     let mut errors = Vec::new(alloc);
     let status = takings_at(alloc, desk, range, &mut output, &mut errors);
-    Some(is_said(status, output.as_slice(), errors.as_slice()))
+    Some(is_stopped_output(status, output.as_slice(), errors.as_slice()))
 }
 
 /// The status of `answer` at the desk, where no byte of the response is lost.
@@ -300,7 +329,7 @@ fn answer_status<D: Desk>(alloc: Global, desk: &mut D, request: &str) -> Option<
 
 /// Whether each subcommand says that the desk has stopped. A request that does not reach it is answered as
 /// ever.
-pub fn is_stopped_told<D: Desk>(alloc: Global, desk: &mut D) -> Option<bool> {
+pub fn subcommands_print_stopped<D: Desk>(alloc: Global, desk: &mut D) -> Option<bool> {
     let are_said = is_print_stopped(alloc, desk)
         && is_check_stopped(alloc, desk)
         && are_takings_stopped(alloc, desk)?;

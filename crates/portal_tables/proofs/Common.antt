@@ -14,68 +14,68 @@ pub use Rattle.std.specs.List.{AllByRecursion, cons_option, filter_map, list_any
 pub use Rattle.std.specs.List.Sorted.{IsPermutation, IsSorted}
 pub use Rattle.std.specs.Option.{option_or}
 pub use Rattle.portal_codes.specs.Code.{IsCode, text_of}
-pub use Rattle.portal_laws.proofs.Numbers.{keys_apart, rows_are_numbered}
-pub use Rattle.portal_laws.proofs.Openings.{IsFirst, openings_first, session_at}
-pub use Rattle.portal_laws.proofs.Sessions.{counts_are_sums, last_session_is_row, session_is_row, totals_are_sums}
-pub use Rattle.portal_laws.proofs.Typed.{rows_are_typed}
-pub use Rattle.portal_layouts.specs.Brings.{HasUpgraded, MayUpgrade, number_of, upgraded}
-pub use Rattle.portal_layouts.specs.Creates.{is_free, new_store}
-pub use Rattle.portal_layouts.specs.Layouts.{Answers, IsOneRow, TellsLayout, is_any_named, is_whole}
-pub use Rattle.portal_layouts.specs.declared.layouts.OldLayout.{OldLayout}
-pub use Rattle.portal_layouts.specs.declared.layouts.OldLayout.TheVariants.{First, Fourth, Second, Third}
+pub use Rattle.portal_model_laws.proofs.Numbers.{keys_apart, rows_are_numbered}
+pub use Rattle.portal_model_laws.proofs.Openings.{IsFirst, openings_first, session_at}
+pub use Rattle.portal_model_laws.proofs.Sessions.{counts_are_sums, last_session_is_row, session_is_row, totals_are_sums}
+pub use Rattle.portal_model_laws.proofs.Typed.{rows_are_typed}
+pub use Rattle.portal_tables_schema.specs.Migrations.{HasMigrated, MayMigrate, version_number, migrated_rows}
+pub use Rattle.portal_tables_schema.specs.Creation.{are_names_free, new_store}
+pub use Rattle.portal_tables_schema.specs.SchemaVersions.{QueryAnswers, IsOneRow, GivesSchemaVersion, is_any_name_taken, is_usable_schema}
+pub use Rattle.portal_tables_schema.specs.declared.schema_versions.OldSchema.{OldSchema}
+pub use Rattle.portal_tables_schema.specs.declared.schema_versions.OldSchema.TheVariants.{First, Fourth, Second, Third}
 pub use Rattle.portal_ledger.proofs.Ledgers.{kept_under, the_held_is_row, the_sound_is_legal}
 pub use Rattle.portal_ledger.specs.Ledger.{Accepted, IsSound, Ledger, all_rows_of, answer_in, held_in, history_of, is_under, kept_with, request_kept, requests_of}
-pub use Rattle.portal_ledger.specs.Mark.{IsCaller, Mark, same_caller, same_key}
+pub use Rattle.portal_ledger.specs.Fingerprint.{IsCaller, Fingerprint, same_caller, same_key}
 pub use Rattle.portal_ledger.specs.RequestRow.{IsKeptTyped, RequestRow, row_of_request, text_of_caller}
-pub use Rattle.portal_ledger.specs.States.{MayStand, running, stopped}
+pub use Rattle.portal_ledger.specs.States.{MayBeFound, running, stopped}
 pub use Rattle.portal_ledger.specs.declared.marked.MarkedChanges.{MarkedChanges}
 pub use Rattle.portal_ledger.specs.declared.request.KeptRequest.{KeptRequest}
-pub use Rattle.portal_lists.proofs.SameCode.{code_test, same_code}
-pub use Rattle.portal_lists.proofs.WholeReading.{first_held, first_there}
-pub use Rattle.portal_lists.specs.Lists.{Lists, ListsAs, by_number, by_place, by_refund, by_sale, is_left, is_within, may_be_open, numbers_open, refund_read, refund_shown, sale_read, sale_shown}
-pub use Rattle.portal_lists.specs.Sums.{summed}
-pub use Rattle.portal_lists.specs.declared.lists.KeptSale.{KeptSale}
+pub use Rattle.portal_tables_queries.proofs.SameCode.{code_test, same_code}
+pub use Rattle.portal_tables_queries.proofs.WholeReading.{first_held, first_there}
+pub use Rattle.portal_tables_queries.specs.Lists.{Lists, ListsAs, by_number, by_place, by_refund, by_sale, is_left, is_within, may_be_open, numbers_open, refund_read, refund_columns, sale_read, sale_columns}
+pub use Rattle.portal_tables_queries.specs.Sums.{rows_for_sums}
+pub use Rattle.portal_tables_queries.specs.declared.lists.SaleValue.{SaleValue}
 pub use Rattle.portal_model.specs.Captive.{all_sessions}
-pub use Rattle.portal_model.specs.Change.{answer_of, changes_of, close_change, head_after, issue_change, plan_among, redeem_change, refund_change, report_change, reported, sell_change, session_after}
+pub use Rattle.portal_model.specs.Change.{answer_of, changes_of, close_change, head_after, issue_change, plan_among, redeem_change, refund_change, report_change, with_report, sell_change, session_after}
 pub use Rattle.portal_model.specs.Device.{IsDevice, SpellsDevice, text_of_device}
-pub use Rattle.portal_model.specs.History.{Grant, History, Issued, batch_of, codes_of, entry, grants_of, head_of, is_below, is_open_at, issued_of, kept_if, last_session_of, limited, members, oldest, plan_of, session_of, session_row, voucher_of, voucher_row}
-pub use Rattle.portal_model.specs.Rows.{CountRow, GrantRow, Rows, SessionRow, TotalRow, VoucherRow, allowance_from, batch_among, batches_of, closed_if, count_among, count_from, count_of_place, counted_if, counts_of, joined, joined_session, last_among, last_session_from, lead, new_counts, new_grant, new_vouchers, openings, places_of, plans_of, refunded_if, remaining_of, row_among, row_of_place, rows_of, session_among, session_from, session_opened, sessions_of, sold_if, total_among, total_from, total_row, totalled_if, totals_of, used_if, voucher_from, vouchers_of}
-pub use Rattle.portal_model.specs.Verdict.{Follows, IsLegal, IsTyped, stands_twice}
+pub use Rattle.portal_model.specs.History.{Grant, History, IssuedVoucher, batch_of, codes_of, entry, grants_of, head_of, is_below, is_open_at, issued_of, kept_if, last_session_of, limit_or_none, members, oldest, plan_of, session_of, session_row, voucher_of, voucher_row}
+pub use Rattle.portal_model.specs.Rows.{CountRow, GrantRow, Rows, SessionRow, TotalRow, VoucherRow, allowance_from, batch_among, batches_of, closed_if, count_among, count_from, count_of_place, counted_if, counts_of, voucher_of_rows, session_of_rows, last_among, last_session_from, rows_after_changes, new_counts, new_grant, new_vouchers, openings, places_of, plans_of, refunded_if, remaining_of, row_among, row_of_place, rows_of, session_among, session_from, session_opened, sessions_of, sold_if, total_among, total_from, total_row, totalled_if, totals_of, used_if, voucher_from, vouchers_of}
+pub use Rattle.portal_model.specs.Verdict.{Follows, IsLegal, IsTyped, has_duplicate}
 pub use Rattle.portal_model.specs.declared.change.Answer.{Answer}
 pub use Rattle.portal_model.specs.declared.change.Changes.{Changes}
 pub use Rattle.portal_model.specs.declared.plan.Plan.{Plan}
 pub use Rattle.portal_model.specs.declared.record.Batch.{Batch}
 pub use Rattle.portal_model.specs.declared.record.Session.{Session}
-pub use Rattle.portal_rows.proofs.OthersLemmas.{others_none}
-pub use Rattle.portal_rows.specs.Commands.{kept, kept_marked, kept_with_answer, left_of, with_mark}
-pub use Rattle.portal_rows.specs.Contents.{Contents, HeadRow}
-pub use Rattle.portal_rows.specs.First.{HasFirst}
-pub use Rattle.portal_rows.specs.Holds.{HasTables, Holds, HoldsIn, LeftHolds, Places, Stand, this_layout}
-pub use Rattle.portal_rows.specs.Others.{KeepsOthers, LeftOthers}
-pub use Rattle.portal_rows.specs.Read.{count_read, head_read, session_read, voucher_read}
-pub use Rattle.portal_rows.specs.Steps.{Leads, MayLead, ended_if, ends_row, with_moment, with_use}
-pub use Rattle.portal_rows.specs.declared.rows.Fault.{Fault}
-pub use Rattle.portal_rows.specs.declared.rows.KeptCount.{KeptCount}
-pub use Rattle.portal_rows.specs.declared.rows.KeptSession.{KeptSession}
-pub use Rattle.portal_rows.specs.declared.rows.KeptVoucher.{KeptVoucher}
-pub use Rattle.portal_rows.specs.declared.signs.Total.{Total}
-pub use Rattle.portal_sql.proofs.FindLemmas.{has_image, ok_both, ok_then}
-pub use Rattle.portal_sql.proofs.HarmlessLemmas.{as_before, both}
-pub use Rattle.portal_sql.proofs.Keys.{agree, has_mapped}
-pub use Rattle.portal_sql.proofs.LooksLemmas.{fails_then, fails_weaker, looks_weaker, reads_fails, reads_none, reads_then, reads_weaker, same_now, still_open}
-pub use Rattle.portal_sql.proofs.StandsAtLemmas.{again_at, at_open, left_still, shows_under, still_at}
-pub use Rattle.portal_sql.specs.Finds.{FindsLast}
-pub use Rattle.portal_sql.specs.Looks.{Fails, Looks, Reads}
-pub use Rattle.portal_sql.specs.StandsAt.{LeftShows, StandsAt}
-pub use Rattle.portal_sql.specs.States.{IsAsBefore, IsUndone}
-pub use Rattle.portal_tables.specs.Adopting.{Carries, FailsToAdopt, HeadIsNoView, IsBrought, IsCarried, IsCompleted, IsExact, IsKnown, IsReady, IsWhy, LeftCarried, MayAdopt, MayBeUpgraded, OthersTaken, SparesOurTables, Stays, TellsKnown}
-pub use Rattle.portal_tables.specs.Lists.{AreOrderedSales, AreRefunds, AreSales, is_paid_within, open_numbered, paid}
-pub use Rattle.portal_tables.specs.Older.{AreUnmarked, LeftInEither, ShowsIn}
-pub use Rattle.portal_tables.specs.Prices.{ArePrices, is_priced, price_among}
-pub use Rattle.portal_tables.specs.Shown.{IsRowOf, OfLedger, OfShown, ReadsShown, ShowsHistory, ShowsLedger, all_contents_of, contents_of, count_kept, grant_kept, head_kept, session_kept, voucher_kept}
-pub use Rattle.portal_tables.specs.Stores.{IsBare, IsNamed, ShowsOlder, StoreShows}
-pub use Rattle.portal_tables.specs.declared.adopt.Refused.{Refused}
-pub use Rattle.portal_tables.specs.declared.fault.StoreFault.{StoreFault}
+pub use Rattle.portal_tables_rows.proofs.OthersLemmas.{others_none}
+pub use Rattle.portal_tables_rows.specs.Commands.{after_changes, after_command, after_command_with, after_remainder, with_kept_request}
+pub use Rattle.portal_tables_rows.specs.Contents.{Contents, HeadRow}
+pub use Rattle.portal_tables_rows.specs.First.{HasFirst}
+pub use Rattle.portal_tables_rows.specs.Holds.{HasTables, Holds, HoldsIn, CrashStateHoldsRows, TablePlaces, TablesExist, this_schema_version}
+pub use Rattle.portal_tables_rows.specs.Others.{KeepsOthers, CrashStateHasOthers}
+pub use Rattle.portal_tables_rows.specs.Read.{count_read, head_read, session_read, voucher_read}
+pub use Rattle.portal_tables_rows.specs.Steps.{CommitsRows, MayCommitRows, with_ends_if, ends_row, with_moment, with_use}
+pub use Rattle.portal_tables_rows.specs.declared.rows.RowError.{RowError}
+pub use Rattle.portal_tables_rows.specs.declared.rows.CountValue.{CountValue}
+pub use Rattle.portal_tables_rows.specs.declared.rows.SessionValue.{SessionValue}
+pub use Rattle.portal_tables_rows.specs.declared.rows.VoucherValue.{VoucherValue}
+pub use Rattle.portal_tables_rows.specs.declared.column_values.Total.{Total}
+pub use Rattle.portal_tables_sql.proofs.FindLemmas.{has_image, ok_both, ok_then}
+pub use Rattle.portal_tables_sql.proofs.HarmlessLemmas.{as_before, both}
+pub use Rattle.portal_tables_sql.proofs.Keys.{agree, has_mapped}
+pub use Rattle.portal_tables_sql.proofs.LooksLemmas.{fails_then, fails_weaker, looks_weaker, reads_fails, reads_none, reads_then, reads_weaker, same_now, still_open}
+pub use Rattle.portal_tables_sql.proofs.RepresentsLemmas.{again_at, at_open, left_still, shows_under, still_at}
+pub use Rattle.portal_tables_sql.specs.Finds.{FindsLast}
+pub use Rattle.portal_tables_sql.specs.Looks.{Fails, Looks, ReadsOnly}
+pub use Rattle.portal_tables_sql.specs.Represents.{CrashStateHolds, Represents}
+pub use Rattle.portal_tables_sql.specs.States.{IsAsBefore, IsUndone}
+pub use Rattle.portal_tables.specs.Attaching.{KeepsOrMigrates, FailsToAttach, HeadIsNoView, IsMigrated, IsCarried, IsCompleted, IsExactCause, IsKnown, AreTablesReady, IsCauseIn, CrashStateCarries, MayAttach, MayBeMigrated, AttachesOthers, HasNoActionOnOurs, Stays, GivesKnownVersion}
+pub use Rattle.portal_tables.specs.PaymentLists.{AreOrderedSales, AreRefunds, AreSales, is_paid_within, open_session_of, payment_of}
+pub use Rattle.portal_tables.specs.Older.{HaveNoFingerprints, CrashStateHoldsEither, HoldsLedgerIn}
+pub use Rattle.portal_tables.specs.Prices.{ArePrices, payment_at, price_among}
+pub use Rattle.portal_tables.specs.HoldsLedger.{IsRowOf, OfLedger, OfHistory, ReadsHistory, HoldsHistory, HoldsLedger, all_contents_of, contents_of, count_kept, grant_kept, head_kept, session_kept, voucher_kept}
+pub use Rattle.portal_tables.specs.StoreHolds.{IsNoNameTaken, IsAnyNameTaken, HoldsOlder, StoreHolds}
+pub use Rattle.portal_tables.specs.declared.attaching.Refused.{Refused}
+pub use Rattle.portal_tables.specs.declared.errors.StoreFault.{StoreFault}
 pub use Rattle.sqlite.proofs.ListingLemmas.{empty_is_sound}
 pub use Rattle.sqlite.proofs.StateLemmas.{survives_then, survives_weaker}
 pub use Rattle.sqlite.specs.Effect.{Database, IsDatabase}

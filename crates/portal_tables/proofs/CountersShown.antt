@@ -1,7 +1,7 @@
 -- The counters of a history, as the tables keep them, are the sums over the rows as the tables keep them.
-use Rattle.portal_tables.proofs.Common.{◌≡◌, inl, ℕ, ◌+◌, cond, List, [], ◌∷◌, map, filter, count_by, sum_by, refl, ap, ap₂, sym, subst, ◌∙◌, bytes_eq, nat_eq, option_and_then, AllByRecursion, length-map, recursion_from_All, sum_by-cons, Has, has_image, IsCode, text_of, Plan, History, limited, plan_among, Rows, VoucherRow, SessionRow, GrantRow, CountRow, rows_of, count_from, total_from, remaining_of, IsLegal, rows_are_numbered, counts_are_sums, totals_are_sums, rows_are_typed, summed, has_mapped, voucher_kept, session_kept, grant_kept, count_kept, contents_of, RequestRow, this_layout, code_test}
+use Rattle.portal_tables.proofs.Common.{◌≡◌, inl, ℕ, ◌+◌, cond, List, [], ◌∷◌, map, filter, count_by, sum_by, refl, ap, ap₂, sym, subst, ◌∙◌, bytes_eq, nat_eq, option_and_then, AllByRecursion, length-map, recursion_from_All, sum_by-cons, Has, has_image, IsCode, text_of, Plan, History, limit_or_none, plan_among, Rows, VoucherRow, SessionRow, GrantRow, CountRow, rows_of, count_from, total_from, remaining_of, IsLegal, rows_are_numbered, counts_are_sums, totals_are_sums, rows_are_typed, rows_for_sums, has_mapped, voucher_kept, session_kept, grant_kept, count_kept, contents_of, RequestRow, this_schema_version, code_test}
 use Rattle.sqlite_trees.proofs.ListLemmas.{map-map, filter-map}
-use Rattle.portal_lists.specs.Audit.{IsAudited, total_in}
+use Rattle.portal_tables_queries.specs.Audit.{IsAudited, total_in}
 
 -- ---- counts
 
@@ -37,24 +37,24 @@ sum_kept f same number grants = ap (sum_by f) (filter-map (λ (g : GrantRow). na
     mapped [] = refl
     mapped (g ∷ gs) = sum_by-cons f (grant_kept g) (map grant_kept gs) ∙ ap₂ ◌+◌ (same g) (mapped gs) ∙ sym (sum_by-cons f g gs)
 
-total_kept : (r : Rows) (s : SessionRow) → total_from (summed r.plans (map grant_kept r.grants)) (session_kept s) ≡ total_from r s
+total_kept : (r : Rows) (s : SessionRow) → total_from (rows_for_sums r.plans (map grant_kept r.grants)) (session_kept s) ≡ total_from r s
 total_kept r s = λ i. record {
   number = s.number;
-  ends = option_and_then (λ (p : Plan). limited p.seconds (s.opened + sum_kept (λ g. g.seconds) (λ g. refl) s.number r.grants i)) (plan_among r.plans s.plan);
-  remaining = remaining_of s.used (option_and_then (λ (p : Plan). limited p.bytes (sum_kept (λ g. g.bytes) (λ g. refl) s.number r.grants i)) (plan_among r.plans s.plan));
+  ends = option_and_then (λ (p : Plan). limit_or_none p.seconds (s.opened + sum_kept (λ g. g.seconds) (λ g. refl) s.number r.grants i)) (plan_among r.plans s.plan);
+  remaining = remaining_of s.used (option_and_then (λ (p : Plan). limit_or_none p.bytes (sum_kept (λ g. g.bytes) (λ g. refl) s.number r.grants i)) (plan_among r.plans s.plan));
 }
 
 -- the totals of a history's sessions
-pub totals_shown : (h : History) → IsLegal h → map (total_from (summed (rows_of h).plans (map grant_kept (rows_of h).grants))) (map session_kept (rows_of h).sessions) ≡ (rows_of h).totals
-totals_shown h legal = map-map (total_from (summed (rows_of h).plans (map grant_kept (rows_of h).grants))) session_kept (rows_of h).sessions ∙ (λ i. map (λ s. total_kept (rows_of h) s i) (rows_of h).sessions) ∙ sym (totals_are_sums h legal)
+pub totals_shown : (h : History) → IsLegal h → map (total_from (rows_for_sums (rows_of h).plans (map grant_kept (rows_of h).grants))) (map session_kept (rows_of h).sessions) ≡ (rows_of h).totals
+totals_shown h legal = map-map (total_from (rows_for_sums (rows_of h).plans (map grant_kept (rows_of h).grants))) session_kept (rows_of h).sessions ∙ (λ i. map (λ s. total_kept (rows_of h) s i) (rows_of h).sessions) ∙ sym (totals_are_sums h legal)
 
 -- ---- the audit
 
 -- the tables of a history pass it
-pub audit_shown : (ks : List RequestRow) (h : History) → IsLegal h → IsAudited (contents_of ks this_layout (rows_of h))
+pub audit_shown : (ks : List RequestRow) (h : History) → IsLegal h → IsAudited (contents_of ks this_schema_version (rows_of h))
 audit_shown ks h legal =
     let r = rows_of h in
-    let t = contents_of ks this_layout r in
+    let t = contents_of ks this_schema_version r in
     let counts = counts_shown h legal in
     let totals = totals_shown h legal in
     let numbered = rows_are_numbered h legal in

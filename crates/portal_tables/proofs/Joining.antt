@@ -1,13 +1,13 @@
 -- From what the readers find to the records of the history.
-use Rattle.portal_tables.proofs.Common.{◌≡◌, inl, inr, ℕ, ◌+◌, ◌<◌, ◌≤◌, ◌^◌, Bool, true, false, cond, List, [], ◌∷◌, map, All, Option, Some, None, option_map, refl, sym, ap, subst, ◌∙◌, arith, bytes_eq, nat_eq, zero, suc, option_or, is_some, range_with_len, recursion_from_All, Decides-eqb, bytes_eq-Decides, Has, all_has, IsCode, text_of, IsDevice, text_of_device, Plan, Batch, History, plan_of, batch_of, issued_of, voucher_of, session_of, last_session_of, head_of, plan_among, VoucherRow, SessionRow, CountRow, TotalRow, rows_of, plans_of, batches_of, vouchers_of, sessions_of, counts_of, totals_of, places_of, row_of_place, count_of_place, batch_among, row_among, count_among, session_among, total_among, last_among, joined, joined_session, voucher_from, session_from, last_session_from, allowance_from, IsLegal, stands_twice, session_is_row, last_session_is_row, rows_are_numbered, keys_apart, rows_are_typed, FindsLast, KeptVoucher, KeptSession, KeptCount, Total, HeadRow, ends_row, head_read, voucher_read, session_read, count_read, has_image, has_mapped, head_kept, voucher_kept, session_kept, count_kept, IsRowOf, this_layout, same_code}
+use Rattle.portal_tables.proofs.Common.{◌≡◌, inl, inr, ℕ, ◌+◌, ◌<◌, ◌≤◌, ◌^◌, Bool, true, false, cond, List, [], ◌∷◌, map, All, Option, Some, None, option_map, refl, sym, ap, subst, ◌∙◌, arith, bytes_eq, nat_eq, zero, suc, option_or, is_some, range_with_len, recursion_from_All, Decides-eqb, bytes_eq-Decides, Has, all_has, IsCode, text_of, IsDevice, text_of_device, Plan, Batch, History, plan_of, batch_of, issued_of, voucher_of, session_of, last_session_of, head_of, plan_among, VoucherRow, SessionRow, CountRow, TotalRow, rows_of, plans_of, batches_of, vouchers_of, sessions_of, counts_of, totals_of, places_of, row_of_place, count_of_place, batch_among, row_among, count_among, session_among, total_among, last_among, voucher_of_rows, session_of_rows, voucher_from, session_from, last_session_from, allowance_from, IsLegal, has_duplicate, session_is_row, last_session_is_row, rows_are_numbered, keys_apart, rows_are_typed, FindsLast, VoucherValue, SessionValue, CountValue, Total, HeadRow, ends_row, head_read, voucher_read, session_read, count_read, has_image, has_mapped, head_kept, voucher_kept, session_kept, count_kept, IsRowOf, this_schema_version, same_code}
 use Rattle.std.proofs.Math.Bool.{or-false}
-use Rattle.portal_laws.proofs.Basics.{map-map}
-use Rattle.portal_laws.proofs.Keys.{batch_is_row}
-use Rattle.portal_laws.proofs.Plans.{plan_is_row}
-use Rattle.portal_laws.proofs.Vouchers.{voucher_is_row, taken_are_rows}
-use Rattle.portal_laws.proofs.Within.{rows_are_within}
-use Rattle.portal_sql.specs.Finds.{Finds}
-use Rattle.portal_rows.specs.declared.rows.KeptHead.{KeptHead}
+use Rattle.portal_model_laws.proofs.Basics.{map-map}
+use Rattle.portal_model_laws.proofs.Keys.{batch_is_row}
+use Rattle.portal_model_laws.proofs.Plans.{plan_is_row}
+use Rattle.portal_model_laws.proofs.Vouchers.{voucher_is_row, issued_codes_are_rows}
+use Rattle.portal_model_laws.proofs.Within.{rows_are_within_limits}
+use Rattle.portal_tables_sql.specs.Finds.{Finds}
+use Rattle.portal_tables_rows.specs.declared.rows.HeadValue.{HeadValue}
 use Rattle.portal_tables.proofs.Spelled.{same_device}
 use Rattle.portal_tables.proofs.Lookups.{IsApart, finds_it, finds_none_of, apart_by_text, apart_by_number, from_on}
 
@@ -22,12 +22,12 @@ one P xs x all has = all_has P xs x (recursion_from_All P xs all) has
 
 -- ---- the head
 
-pub head_found : (h : History) (found : Option KeptHead) → Finds (λ (x : HeadRow). x.id) 1 (head_kept this_layout (head_of h) ∷ []) (option_map head_read found) → (k : KeptHead) → found ≡ Some k
+pub head_found : (h : History) (found : Option HeadValue) → Finds (λ (x : HeadRow). x.id) 1 (head_kept this_schema_version (head_of h) ∷ []) (option_map head_read found) → (k : HeadValue) → found ≡ Some k
     → record { last = k.last; grants = k.grants; sessions = k.sessions } ≡ head_of h
 head_found h None f k is = absurd (cc)
 head_found h (Some x) (inl same, key) k is =
     let e : x ≡ k = cc in
-    subst (λ (y : KeptHead). record { last = y.last; grants = y.grants; sessions = y.sessions } ≡ head_of h) e (ap (λ (r : HeadRow). record { last = r.last; grants = r.grants; sessions = r.sessions }) same)
+    subst (λ (y : HeadValue). record { last = y.last; grants = y.grants; sessions = y.sessions } ≡ head_of h) e (ap (λ (r : HeadRow). record { last = r.last; grants = r.grants; sessions = r.sessions }) same)
 head_found h (Some x) (inr none, key) k is = absurd none
 
 -- ---- plans and batches
@@ -49,9 +49,9 @@ module _ (h : History) (legal : IsLegal h) (code : List ℕ) (is : IsCode code) 
   the_counts : (x : CountRow) → Has (counts_of h) x → text_of x.code ≡ text_of code → x.code ≡ code
   the_counts x has same = same_code x.code code (one (λ (k : CountRow). IsCode k.code) (counts_of h) x (rows_are_typed h legal).counts has) is same
 
-  counts_apart : stands_twice (map (λ (k : CountRow). k.code) (counts_of h)) ≡ false
+  counts_apart : has_duplicate (map (λ (k : CountRow). k.code) (counts_of h)) ≡ false
   counts_apart =
-      ap stands_twice (map-map (count_of_place h) (λ (k : CountRow). k.code) (places_of h) ∙ sym (map-map (row_of_place h) (λ (v : VoucherRow). v.code) (places_of h))) ∙ (keys_apart h legal).codes
+      ap has_duplicate (map-map (count_of_place h) (λ (k : CountRow). k.code) (places_of h) ∙ sym (map-map (row_of_place h) (λ (v : VoucherRow). v.code) (places_of h))) ∙ (keys_apart h legal).codes
 
   pub voucher_missing : Finds (λ (x : VoucherRow). x.code) (text_of code) (map voucher_kept (vouchers_of h)) None → voucher_of h code ≡ None
   voucher_missing none =
@@ -59,30 +59,30 @@ module _ (h : History) (legal : IsLegal h) (code : List ℕ) (is : IsCode code) 
       finds_none_of (λ (v : VoucherRow). v.code) bytes_eq same_bytes code (vouchers_of h) (λ x has same. none (voucher_kept x) (has_mapped voucher_kept (vouchers_of h) x has) (ap text_of same)) in
       voucher_is_row h legal code ∙ rw gone refl
 
-  row_found : (row : KeptVoucher) → Finds (λ (x : VoucherRow). x.code) (text_of code) (map voucher_kept (vouchers_of h)) (Some (voucher_read row))
+  row_found : (row : VoucherValue) → Finds (λ (x : VoucherRow). x.code) (text_of code) (map voucher_kept (vouchers_of h)) (Some (voucher_read row))
       → (x : VoucherRow) × (row_among (vouchers_of h) code ≡ Some x) × (voucher_read row ≡ voucher_kept x) × (x.code ≡ code)
   row_found row f =
       let it = has_image voucher_kept (vouchers_of h) (voucher_read row) f.0 in
       let named = the_rows it.0 it.1 (ap (λ (v : VoucherRow). v.code) (sym it.2) ∙ f.1) in
       (it.0, finds_it (λ (v : VoucherRow). v.code) bytes_eq same_bytes code (vouchers_of h) (apart_by_text (λ (v : VoucherRow). v.code) (vouchers_of h) (keys_apart h legal).codes) it.0 it.1 named, it.2, named)
 
-  count_found : (count : KeptCount) → Finds (λ (x : CountRow). x.code) (text_of code) (map count_kept (counts_of h)) (Some (count_read count)) → (x : CountRow) × (count_among (counts_of h) code ≡ Some x) × (count.redeemed ≡ x.redeemed)
+  count_found : (count : CountValue) → Finds (λ (x : CountRow). x.code) (text_of code) (map count_kept (counts_of h)) (Some (count_read count)) → (x : CountRow) × (count_among (counts_of h) code ≡ Some x) × (count.redeemed ≡ x.redeemed)
   count_found count f =
       let it = has_image count_kept (counts_of h) (count_read count) f.0 in
       let named = the_counts it.0 it.1 (ap (λ (k : CountRow). k.code) (sym it.2) ∙ f.1) in
       (it.0, finds_it (λ (k : CountRow). k.code) bytes_eq same_bytes code (counts_of h) (apart_by_text (λ (k : CountRow). k.code) (counts_of h) counts_apart) it.0 it.1 named, ap (λ (k : CountRow). k.redeemed) it.2)
 
   held_by_row : is_some (issued_of h code) ≡ is_some (row_among (vouchers_of h) code)
-  held_by_row = sym (or-false (is_some (issued_of h code))) ∙ taken_are_rows h legal (code ∷ []) ∙ or-false (is_some (row_among (vouchers_of h) code))
+  held_by_row = sym (or-false (is_some (issued_of h code))) ∙ issued_codes_are_rows h legal (code ∷ []) ∙ or-false (is_some (row_among (vouchers_of h) code))
 
-  pub held_is : (found : Option KeptVoucher) → Finds (λ (x : VoucherRow). x.code) (text_of code) (map voucher_kept (vouchers_of h)) (option_map voucher_read found) → is_some found ≡ is_some (issued_of h code)
+  pub held_is : (found : Option VoucherValue) → Finds (λ (x : VoucherRow). x.code) (text_of code) (map voucher_kept (vouchers_of h)) (option_map voucher_read found) → is_some found ≡ is_some (issued_of h code)
   held_is None none =
       let gone : row_among (vouchers_of h) code ≡ None =
       finds_none_of (λ (v : VoucherRow). v.code) bytes_eq same_bytes code (vouchers_of h) (λ x has same. none (voucher_kept x) (has_mapped voucher_kept (vouchers_of h) x has) (ap text_of same)) in
       sym (held_by_row ∙ ap (λ (o : Option VoucherRow). is_some o) gone)
   held_is (Some row) f = let it = row_found row f in sym (held_by_row ∙ ap (λ (o : Option VoucherRow). is_some o) it.1)
 
-  pub voucher_joined : (row : KeptVoucher) (count : KeptCount) (batch : Batch) (plan : Plan) → Finds (λ (x : VoucherRow). x.code) (text_of code) (map voucher_kept (vouchers_of h)) (Some (voucher_read row))
+  pub voucher_joined : (row : VoucherValue) (count : CountValue) (batch : Batch) (plan : Plan) → Finds (λ (x : VoucherRow). x.code) (text_of code) (map voucher_kept (vouchers_of h)) (Some (voucher_read row))
       → Finds (λ (x : CountRow). x.code) (text_of code) (map count_kept (counts_of h)) (Some (count_read count)) → batch_of h row.batch ≡ Some batch → plan_of h batch.plan ≡ Some plan
       → Some (record { code = code; batch = row.batch; plan = plan; expires = batch.expires; sold = row.sold; refund = row.amount; redeemed = count.redeemed }) ≡ voucher_of h code
   voucher_joined row count batch plan f k b p =
@@ -93,8 +93,8 @@ module _ (h : History) (legal : IsLegal h) (code : List ℕ) (is : IsCode code) 
       let amount_is : row.amount ≡ r.0.amount = ap (λ (v : VoucherRow). v.amount) r.2 in
       let b2 : batch_among (batches_of h) r.0.batch ≡ Some batch = sym (batch_is_row h legal r.0.batch) ∙ ap (batch_of h) (sym batch_is) ∙ b in
       let p2 : plan_among (plans_of h) batch.plan ≡ Some plan = sym (plan_is_row h batch.plan) ∙ p in
-      let all : voucher_from (rows_of h) code ≡ Some (joined r.0 n.0 batch plan) = rw (r.1, n.1, b2, p2) refl in
-      let same : joined r.0 n.0 batch plan ≡ record { code = code; batch = row.batch; plan = plan; expires = batch.expires; sold = row.sold; refund = row.amount; redeemed = count.redeemed } =
+      let all : voucher_from (rows_of h) code ≡ Some (voucher_of_rows r.0 n.0 batch plan) = rw (r.1, n.1, b2, p2) refl in
+      let same : voucher_of_rows r.0 n.0 batch plan ≡ record { code = code; batch = row.batch; plan = plan; expires = batch.expires; sold = row.sold; refund = row.amount; redeemed = count.redeemed } =
       λ i. record { code = r.3 i; batch = sym batch_is i; plan = plan; expires = batch.expires; sold = sym sold_is i; refund = sym amount_is i; redeemed = sym n.2 i } in
       sym (voucher_is_row h legal code ∙ all ∙ ap Some same)
 
@@ -116,7 +116,7 @@ module _ (h : History) (legal : IsLegal h) where
   -- no session has so great a number
   pub session_past : (n : ℕ) → 2 ^ 63 ≤ n → session_of h n ≡ None
   session_past n past =
-      let within = (rows_are_within h legal).head in
+      let within = (rows_are_within_limits h legal).head in
       let gone : session_among (sessions_of h) n ≡ None =
       finds_none_of (λ (s : SessionRow). s.number) nat_eq same_numbers n (sessions_of h) (λ x has same.
       let r = from_on (λ (s : SessionRow). s.number) 1 (head_of h).sessions (sessions_of h) (rows_are_numbered h legal).sessions x has in
@@ -125,10 +125,10 @@ module _ (h : History) (legal : IsLegal h) where
       absurd (omega (arith, r.1, same, past, fewer, most))) in
       session_is_row h legal n ∙ rw gone refl
 
-  pub row_of_number : (n : ℕ) (row : KeptSession) → Finds (λ (x : SessionRow). x.number) n (map session_kept (sessions_of h)) (Some (session_read row)) → IsRowOf h row × (row.number ≡ n)
+  pub row_of_number : (n : ℕ) (row : SessionValue) → Finds (λ (x : SessionRow). x.number) n (map session_kept (sessions_of h)) (Some (session_read row)) → IsRowOf h row × (row.number ≡ n)
   row_of_number n row f = let it = has_image session_kept (sessions_of h) (session_read row) f.0 in (record { of_history = it.0; among = it.1; is = it.2 }, f.1)
 
-  pub session_joined : (row : KeptSession) (total : Total) (plan : Plan) (allowance : Option ℕ) → IsDevice row.device → IsRowOf h row
+  pub session_joined : (row : SessionValue) (total : Total) (plan : Plan) (allowance : Option ℕ) → IsDevice row.device → IsRowOf h row
       → Finds (λ (x : TotalRow). x.number) row.number (totals_of h) (Some (ends_row total)) → plan_of h row.plan ≡ Some plan → allowance ≡ allowance_from total.remaining row.used
       → Some (record { number = row.number; device = row.device; extend = plan.extend; opened = row.opened; ends = total.ends; allowance = allowance; used = row.used; closed = row.closed }) ≡ session_of h row.number
   session_joined row total plan allowance device it f p granted =
@@ -143,8 +143,8 @@ module _ (h : History) (legal : IsLegal h) where
       let a : session_among (sessions_of h) row.number ≡ Some x = finds_it (λ (s : SessionRow). s.number) nat_eq same_numbers row.number (sessions_of h) sessions_apart x it.among (sym number_is) in
       let b : total_among (totals_of h) row.number ≡ Some (ends_row total) = finds_it (λ (m : TotalRow). m.number) nat_eq same_numbers row.number (totals_of h) totals_apart (ends_row total) f.0 f.1 in
       let c : plan_among (plans_of h) x.plan ≡ Some plan = sym (plan_is_row h x.plan) ∙ ap (plan_of h) (sym plan_is) ∙ p in
-      let all : session_from (rows_of h) row.number ≡ Some (joined_session x (ends_row total) plan) = rw (a, b, c) refl in
-      let same : joined_session x (ends_row total) plan ≡ record { number = row.number; device = row.device; extend = plan.extend; opened = row.opened; ends = total.ends; allowance = allowance; used = row.used; closed = row.closed } =
+      let all : session_from (rows_of h) row.number ≡ Some (session_of_rows x (ends_row total) plan) = rw (a, b, c) refl in
+      let same : session_of_rows x (ends_row total) plan ≡ record { number = row.number; device = row.device; extend = plan.extend; opened = row.opened; ends = total.ends; allowance = allowance; used = row.used; closed = row.closed } =
       λ i. record {
         number = sym number_is i;
         device = sym device_is i;
@@ -219,7 +219,7 @@ module _ (h : History) (legal : IsLegal h) where
       let gone : last_among (sessions_of h) d ≡ None = none_last d (sessions_of h) (λ q has same. none (session_kept q) (has_mapped session_kept (sessions_of h) q has) (ap text_of_device same)) in
       last_session_is_row h legal d ∙ rw gone refl
 
-  pub last_found : (d : List ℕ) → IsDevice d → (row : KeptSession) → FindsLast (λ (x : SessionRow). x.device) (text_of_device d) (λ (x : SessionRow). x.number) (map session_kept (sessions_of h)) (Some (session_read row))
+  pub last_found : (d : List ℕ) → IsDevice d → (row : SessionValue) → FindsLast (λ (x : SessionRow). x.device) (text_of_device d) (λ (x : SessionRow). x.number) (map session_kept (sessions_of h)) (Some (session_read row))
       → IsRowOf h row × (last_session_of h d ≡ session_of h row.number)
   last_found d device row f =
       let it = has_image session_kept (sessions_of h) (session_read row) f.0 in

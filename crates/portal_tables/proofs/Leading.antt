@@ -1,5 +1,5 @@
 -- What a command makes of the tables is what it makes of the rows of the history.
-use Rattle.portal_tables.proofs.Common.{◌≡◌, ℕ, ◌+◌, ◌<◌, Bool, true, false, cond, List, [], ◌∷◌, ◌++◌, map, All, Option, Some, None, option_map, refl, ap, ap₂, sym, subst, ◌∙◌, arith, append-nil, nat_eq, max, Less, zero, suc, range_with_len, AllByRecursion, map-append, recursion_from_All, nat_tests, Decides-eqb, ints, IsCode, text_of, Session, Plan, Changes, entry, History, Issued, issued_of, voucher_of, voucher_row, session_of, last_session_of, head_of, kept_if, is_open_at, plan_of, changes_of, session_after, head_after, reported, issue_change, sell_change, redeem_change, report_change, refund_change, close_change, Rows, VoucherRow, SessionRow, GrantRow, CountRow, TotalRow, rows_of, lead, total_row, new_vouchers, new_counts, sold_if, refunded_if, used_if, closed_if, counted_if, totalled_if, new_grant, IsLegal, Follows, IsTyped, rows_are_numbered, rows_are_typed, ended_if, with_moment, with_use, kept, left_of, RequestRow, contents_of, head_kept, voucher_kept, session_kept, grant_kept, count_kept, code_test}
+use Rattle.portal_tables.proofs.Common.{◌≡◌, ℕ, ◌+◌, ◌<◌, Bool, true, false, cond, List, [], ◌∷◌, ◌++◌, map, All, Option, Some, None, option_map, refl, ap, ap₂, sym, subst, ◌∙◌, arith, append-nil, nat_eq, max, Less, zero, suc, range_with_len, AllByRecursion, map-append, recursion_from_All, nat_tests, Decides-eqb, ints, IsCode, text_of, Session, Plan, Changes, entry, History, IssuedVoucher, issued_of, voucher_of, voucher_row, session_of, last_session_of, head_of, kept_if, is_open_at, plan_of, changes_of, session_after, head_after, with_report, issue_change, sell_change, redeem_change, report_change, refund_change, close_change, Rows, VoucherRow, SessionRow, GrantRow, CountRow, TotalRow, rows_of, rows_after_changes, total_row, new_vouchers, new_counts, sold_if, refunded_if, used_if, closed_if, counted_if, totalled_if, new_grant, IsLegal, Follows, IsTyped, rows_are_numbered, rows_are_typed, with_ends_if, with_moment, with_use, after_changes, after_remainder, RequestRow, contents_of, head_kept, voucher_kept, session_kept, grant_kept, count_kept, code_test}
 use Rattle.sqlite_value.proofs.OrderLemmas.{value_cmp-Int}
 use Rattle.sqlite.specs.Order.{value_cmp}
 use Rattle.portal_model.specs.declared.command.Command.{Command}
@@ -7,9 +7,9 @@ use Rattle.portal_model.specs.declared.command.Command.TheVariants.{Load, Issue,
 use Rattle.portal_model.specs.declared.record.Head.{Head}
 use Rattle.portal_model.specs.declared.record.Voucher.{Voucher}
 use Rattle.portal_model.specs.declared.change.Changes.TheVariants as to
-use Rattle.portal_laws.specs.Laws.{AreTyped}
-use Rattle.portal_laws.proofs.Leading.{rows_lead}
-use Rattle.portal_sql.specs.Stored.{number, put_by}
+use Rattle.portal_model_laws.specs.Laws.{AreTyped}
+use Rattle.portal_model_laws.proofs.Leading.{changes_give_rows}
+use Rattle.portal_tables_sql.specs.Stored.{number, put_by}
 use Rattle.portal_tables.proofs.Reported.{left_alone}
 
 -- ---- rows that change
@@ -59,7 +59,7 @@ ended_one : (s : Session) (m : TotalRow) (b : Bool) → nat_eq s.number m.number
 ended_one s m true is = let same : s.number ≡ m.number = (Decides-eqb s.number m.number).0 is in λ i. record { number = sym same i; ends = s.ends; remaining = (total_row s).remaining }
 ended_one s m false is = refl
 
-ended_alike : (s : Session) (ms : List TotalRow) → map (ended_if (total_row s)) ms ≡ map (totalled_if s) ms
+ended_alike : (s : Session) (ms : List TotalRow) → map (with_ends_if (total_row s)) ms ≡ map (totalled_if s) ms
 ended_alike s [] = refl
 ended_alike s (m ∷ ms) = ap₂ ◌∷◌ (ended_one s m _ refl) (ended_alike s ms)
 
@@ -98,7 +98,7 @@ pub record AreCounted (r : Rows) : Type 0 where
   pub totals : map (λ (m : TotalRow). m.number) r.totals ≡ range_with_len 1 r.head.sessions
   pub grants : map (λ (g : GrantRow). g.number) r.grants ≡ range_with_len 1 r.head.grants
 
-module _ (ks : List RequestRow) (layout : ℕ) (r : Rows) (typed : AreTyped r) (counted : AreCounted r) where
+module _ (ks : List RequestRow) (schema_version : ℕ) (r : Rows) (typed : AreTyped r) (counted : AreCounted r) where
   session_added : (s : SessionRow) → s.number ≡ r.head.sessions + 1 → put_by (λ (x : SessionRow). x.number) (session_kept s) (map session_kept r.sessions) ≡ map session_kept (r.sessions ++ s ∷ [])
   session_added s next =
       put_last (λ (x : SessionRow). x.number) (session_kept s) 1 r.head.sessions (map session_kept r.sessions) (keys_kept session_kept (λ (x : SessionRow). x.number) (λ x. refl) r.sessions ∙ counted.sessions) (omega (arith, next))
@@ -113,9 +113,9 @@ module _ (ks : List RequestRow) (layout : ℕ) (r : Rows) (typed : AreTyped r) (
       ∙ sym (map-append grant_kept r.grants (g ∷ []))
 
   redeem_kept : (at : ℕ) (v : Voucher) (running : Option Session) (s : Session) → IsCode v.code → (running ≡ None → s.number ≡ r.head.sessions + 1)
-      → let c = to.Redemption (record { at = at; head = r.head; voucher = v; running = running; session = s }) in kept c (contents_of ks layout r) ≡ contents_of ks layout (lead c r)
+      → let c = to.RedeemChange (record { at = at; head = r.head; voucher = v; running = running; session = s }) in after_changes c (contents_of ks schema_version r) ≡ contents_of ks schema_version (rows_after_changes c r)
   redeem_kept at v None s code next = λ i. record {
-    heads = head_kept layout (head_after r.head None at) ∷ [];
+    heads = head_kept schema_version (head_after r.head None at) ∷ [];
     plans = r.plans;
     batches = r.batches;
     vouchers = map voucher_kept r.vouchers;
@@ -126,7 +126,7 @@ module _ (ks : List RequestRow) (layout : ℕ) (r : Rows) (typed : AreTyped r) (
     requests = ks;
   }
   redeem_kept at v (Some running) s code next = λ i. record {
-    heads = head_kept layout (head_after r.head (Some running) at) ∷ [];
+    heads = head_kept schema_version (head_after r.head (Some running) at) ∷ [];
     plans = r.plans;
     batches = r.batches;
     vouchers = map voucher_kept r.vouchers;
@@ -139,18 +139,18 @@ module _ (ks : List RequestRow) (layout : ℕ) (r : Rows) (typed : AreTyped r) (
 
   -- the changes are those of a command over these rows
   abbrev pub IsOver : Changes → Type 0
-  IsOver (to.Loading c) = Unit {0}
-  IsOver (to.Issuance c) = Unit {0}
-  IsOver (to.Sale c) = IsCode c.voucher.code
-  IsOver (to.Redemption c) = IsCode c.voucher.code × (c.head ≡ r.head) × (c.running ≡ None → c.session.number ≡ r.head.sessions + 1)
-  IsOver (to.Usage c) = c.session.allowance ≡ None → map (totalled_if (reported c.bytes c.session)) r.totals ≡ r.totals
-  IsOver (to.Repayment c) = IsCode c.voucher.code
-  IsOver (to.Closing c) = Unit {0}
+  IsOver (to.LoadChange c) = Unit {0}
+  IsOver (to.IssueChange c) = Unit {0}
+  IsOver (to.SellChange c) = IsCode c.voucher.code
+  IsOver (to.RedeemChange c) = IsCode c.voucher.code × (c.head ≡ r.head) × (c.running ≡ None → c.session.number ≡ r.head.sessions + 1)
+  IsOver (to.ReportChange c) = c.session.allowance ≡ None → map (totalled_if (with_report c.bytes c.session)) r.totals ≡ r.totals
+  IsOver (to.RefundChange c) = IsCode c.voucher.code
+  IsOver (to.CloseChange c) = Unit {0}
 
-  pub kept_is : (c : Changes) → IsOver c → kept c (contents_of ks layout r) ≡ contents_of ks layout (lead c r)
-  kept_is (to.Loading c) h = refl
-  kept_is (to.Issuance c) h = λ i. record {
-    heads = head_kept layout (record r.head { last = c.at }) ∷ [];
+  pub kept_is : (c : Changes) → IsOver c → after_changes c (contents_of ks schema_version r) ≡ contents_of ks schema_version (rows_after_changes c r)
+  kept_is (to.LoadChange c) h = refl
+  kept_is (to.IssueChange c) h = λ i. record {
+    heads = head_kept schema_version (record r.head { last = c.at }) ∷ [];
     plans = r.plans;
     batches = r.batches ++ c.batch ∷ [];
     vouchers = (ap (λ vs. map voucher_kept r.vouchers ++ vs) (new_alike c.batch.id 0 c.codes) ∙ sym (map-append voucher_kept r.vouchers (new_vouchers c.batch.id 0 c.codes))) i;
@@ -160,26 +160,26 @@ module _ (ks : List RequestRow) (layout : ℕ) (r : Rows) (typed : AreTyped r) (
     totals = r.totals;
     requests = ks;
   }
-  kept_is (to.Sale c) h = λ i. record (contents_of ks layout (lead (to.Sale c) r)) { vouchers = sold_alike c.voucher.code c.at h r.vouchers typed.vouchers i }
-  kept_is (to.Redemption c) h =
-      subst (λ (x : Head). let y = to.Redemption (record c { head = x }) in kept y (contents_of ks layout r) ≡ contents_of ks layout (lead y r)) (sym h.1) (redeem_kept c.at c.voucher c.running c.session h.0 h.2)
-  kept_is (to.Usage c) h = go c.session.allowance refl
+  kept_is (to.SellChange c) h = λ i. record (contents_of ks schema_version (rows_after_changes (to.SellChange c) r)) { vouchers = sold_alike c.voucher.code c.at h r.vouchers typed.vouchers i }
+  kept_is (to.RedeemChange c) h =
+      subst (λ (x : Head). let y = to.RedeemChange (record c { head = x }) in after_changes y (contents_of ks schema_version r) ≡ contents_of ks schema_version (rows_after_changes y r)) (sym h.1) (redeem_kept c.at c.voucher c.running c.session h.0 h.2)
+  kept_is (to.ReportChange c) h = go c.session.allowance refl
     where
       after : Session
-      after = reported c.bytes c.session
+      after = with_report c.bytes c.session
 
       go : (o : Option ℕ) → c.session.allowance ≡ o
-          → with_moment c.at (left_of o (total_row after) (with_use c.session.number (max c.bytes c.session.used) (contents_of ks layout r))) ≡ contents_of ks layout (lead (to.Usage c) r)
-      go None none = λ i. record (contents_of ks layout (lead (to.Usage c) r)) {
+          → with_moment c.at (after_remainder o (total_row after) (with_use c.session.number (max c.bytes c.session.used) (contents_of ks schema_version r))) ≡ contents_of ks schema_version (rows_after_changes (to.ReportChange c) r)
+      go None none = λ i. record (contents_of ks schema_version (rows_after_changes (to.ReportChange c) r)) {
         sessions = used_alike c.session.number (max c.bytes c.session.used) r.sessions i;
         totals = sym (h none) i;
       }
-      go (Some allowance) some = λ i. record (contents_of ks layout (lead (to.Usage c) r)) {
+      go (Some allowance) some = λ i. record (contents_of ks schema_version (rows_after_changes (to.ReportChange c) r)) {
         sessions = used_alike c.session.number (max c.bytes c.session.used) r.sessions i;
-        totals = ended_alike (reported c.bytes c.session) r.totals i;
+        totals = ended_alike (with_report c.bytes c.session) r.totals i;
       }
-  kept_is (to.Repayment c) h = λ i. record (contents_of ks layout (lead (to.Repayment c) r)) { vouchers = refunded_alike c.voucher.code c.at c.amount h r.vouchers typed.vouchers i }
-  kept_is (to.Closing c) h = λ i. record (contents_of ks layout (lead (to.Closing c) r)) { sessions = closed_alike c.session.number c.at r.sessions i }
+  kept_is (to.RefundChange c) h = λ i. record (contents_of ks schema_version (rows_after_changes (to.RefundChange c) r)) { vouchers = refunded_alike c.voucher.code c.at c.amount h r.vouchers typed.vouchers i }
+  kept_is (to.CloseChange c) h = λ i. record (contents_of ks schema_version (rows_after_changes (to.CloseChange c) r)) { sessions = closed_alike c.session.number c.at r.sessions i }
 
 -- ---- the changes of a command
 
@@ -189,7 +189,7 @@ some_is e = cc
 the_code : (H : History) (code : List ℕ) (v : Voucher) → voucher_of H code ≡ Some v → v.code ≡ code
 the_code H code v is = go (issued_of H code) is
   where
-    go : (o : Option Issued) → option_map (voucher_row H code) o ≡ Some v → v.code ≡ code
+    go : (o : Option IssuedVoucher) → option_map (voucher_row H code) o ≡ Some v → v.code ≡ code
     go None e = absurd (cc)
     go (Some i) e = ap (λ (x : Voucher). x.code) (sym (some_is e))
 
@@ -200,9 +200,9 @@ next_number : (head : Head) (plan : Plan) (device : List ℕ) (t : ℕ) (running
 next_number head plan device t None e = refl
 next_number head plan device t (Some s) e = absurd (cc)
 
-module _ (ks : List RequestRow) (layout : ℕ) (H : History) (legal : IsLegal H) (t : ℕ) (typed : AreTyped (rows_of H)) (counted : AreCounted (rows_of H)) where
+module _ (ks : List RequestRow) (schema_version : ℕ) (H : History) (legal : IsLegal H) (t : ℕ) (typed : AreTyped (rows_of H)) (counted : AreCounted (rows_of H)) where
   abbrev Over : Changes → Type 0
-  Over = IsOver ks layout (rows_of H) typed counted
+  Over = IsOver ks schema_version (rows_of H) typed counted
 
   sells : (code : List ℕ) (o : Option Voucher) (changes : Changes) → ((v : Voucher) → o ≡ Some v → IsCode v.code) → sell_change o t ≡ Some changes → Over changes
   sells code None changes is e = absurd (cc)
@@ -238,10 +238,10 @@ module _ (ks : List RequestRow) (layout : ℕ) (H : History) (legal : IsLegal H)
   over (Close n) changes h e = closes (session_of H n) changes e
 
 -- a command makes of the tables of a history those of the history with its entry
-pub leads_on : (ks : List RequestRow) (layout : ℕ) (H : History) → IsLegal H → (command : Command) (t : ℕ) → Follows H t command → (changes : Changes) → changes_of H command t ≡ Some changes
-    → kept changes (contents_of ks layout (rows_of H)) ≡ contents_of ks layout (rows_of (entry t command ∷ H))
-leads_on ks layout H legal command t follows changes is =
+pub leads_on : (ks : List RequestRow) (schema_version : ℕ) (H : History) → IsLegal H → (command : Command) (t : ℕ) → Follows H t command → (changes : Changes) → changes_of H command t ≡ Some changes
+    → after_changes changes (contents_of ks schema_version (rows_of H)) ≡ contents_of ks schema_version (rows_of (entry t command ∷ H))
+leads_on ks schema_version H legal command t follows changes is =
     let typed = rows_are_typed H legal in
     let n = rows_are_numbered H legal in
     let counted : AreCounted (rows_of H) = record { sessions = n.sessions; totals = n.totals; grants = n.grants } in
-    kept_is ks layout (rows_of H) typed counted changes (over ks layout H legal t typed counted command changes follows.typed is) ∙ ap (contents_of ks layout) (sym (rows_lead H legal command t follows changes is))
+    kept_is ks schema_version (rows_of H) typed counted changes (over ks schema_version H legal t typed counted command changes follows.typed is) ∙ ap (contents_of ks schema_version) (sym (changes_give_rows H legal command t follows changes is))

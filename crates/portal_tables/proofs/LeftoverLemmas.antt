@@ -1,5 +1,5 @@
 -- What is left of files that were not opened.
-use Rattle.portal_tables.proofs.Common.{◌≡◌, ◌⊎◌, inl, inr, ◌∙◌, ◌-◌, ◌*◌, ◌%◌, ◌≤◌, ◌<◌, ℕ, true, false, true≢false, IsTrue, List, [], ◌++◌, ◌∷◌, length, take, slice_index, Option, Some, unwrap_or, codes, refl, ap, sym, subst, arith, get_or-take, eq-eqb, ne_eqb, zero-add, cases_Bool, cases_eq, length-take, ∥∥₁_map, ∥∥₁_elim, Image, IsIgnored, pages_after, outcomes, recovers, Trees, Schema, Database, HoldsDatabase, IsNothing, AreFoundIn, LeavesFiles, NamesSize, SaysSums, image_of, empty_is_sound, LeftShows}
+use Rattle.portal_tables.proofs.Common.{◌≡◌, ◌⊎◌, inl, inr, ◌∙◌, ◌-◌, ◌*◌, ◌%◌, ◌≤◌, ◌<◌, ℕ, true, false, true≢false, IsTrue, List, [], ◌++◌, ◌∷◌, length, take, slice_index, Option, Some, unwrap_or, codes, refl, ap, sym, subst, arith, get_or-take, eq-eqb, ne_eqb, zero-add, cases_Bool, cases_eq, length-take, ∥∥₁_map, ∥∥₁_elim, Image, IsIgnored, pages_after, outcomes, recovers, Trees, Schema, Database, HoldsDatabase, IsNothing, AreFoundIn, LeavesFiles, NamesSize, SaysSums, image_of, empty_is_sound, CrashStateHolds}
 use Rattle.sqlite_disk.specs.declared.Disk.{Ghosts}
 use Rattle.sqlite_disk.specs.declared.Files.{Files}
 use Rattle.sqlite_wal.specs.Format.{part}
@@ -116,30 +116,30 @@ or_else : (A B : Type 0) → ∥ A ∥₁ → ∥ A ⊎ B ∥₁
 or_else A B one = ∥∥₁_map one (λ it. let r : A ⊎ B = inl it in r)
 
 module _ (Shows : Database → Type 0) (Blank : Type 0) (bare : Blank → (trees : Trees) → Shows (record { schema = no_schema; trees = trees })) where
-  empty_left : Blank → (db : Trees) → IsEmpty db → LeftShows Shows db
+  empty_left : Blank → (db : Trees) → IsEmpty db → CrashStateHolds Shows db
   empty_left blank db empty = (no_schema, empty_is_sound db empty.1, bare blank db)
 
   -- the files hold a table set that shows it, or no database yet
   abbrev Shown : Image → Type 0
-  Shown image = ((db : Trees) × HoldsDatabase image db × LeftShows Shows db) ⊎ (IsNothing image × Blank)
+  Shown image = ((db : Trees) × HoldsDatabase image db × CrashStateHolds Shows db) ⊎ (IsNothing image × Blank)
 
   module _ {D : Type 0} {g : Ghosts D} (files : Files D) (seen : Shown (image_of g files)) where
-    pub store_left : (now : FileStore D g) → LeavesFiles files (left.Store now) → (trees : Trees) → recovers now trees → LeftShows Shows trees
+    pub store_left : (now : FileStore D g) → LeavesFiles files (left.Store now) → (trees : Trees) → recovers now trees → CrashStateHolds Shows trees
     store_left now leaves trees may =
         let it = leaves trees may in
         elim seen [
-          | inl (db, held, shown) ↦ subst (LeftShows Shows) (sym (it.1 db held)) shown
+          | inl (db, held, shown) ↦ subst (CrashStateHolds Shows) (sym (it.1 db held)) shown
           | inr (nothing, blank) ↦ empty_left blank trees (found_empty (image_of g files) trees nothing it.0)
         ]
 
     module _ (old : (image : Image) → outcomes g files.log files.db image → ∥ Shown image ∥₁) where
-      kept_shown : (db : Trees) (held : HoldsDatabase (image_of g files) db) → LeftShows Shows db → (size : ℕ) → is_summed held.0 ≡ false → NamesSize (image_of g files) (stored_size size)
+      kept_shown : (db : Trees) (held : HoldsDatabase (image_of g files) db) → CrashStateHolds Shows db → (size : ℕ) → is_summed held.0 ≡ false → NamesSize (image_of g files) (stored_size size)
           → (IsTrue (is_summed size) → SaysSums (stored_size size) (image_of g files)) → (image : Image) → IsKept g files size image → ∥ Shown image ∥₁
       kept_shown db held shown size plain named says image kept = elim kept.same [
         | inl was ↦ old image was
-        | inr stands ↦
+        | inr exists ↦
             let same = size_same (image_of g files) db held size named plain says in
-            let found = subst (λ (n : ℕ). Adopts n (image_of g files) held.2.pages → Adopts n image held.2.pages) (sym same) (stands.1 held.2.pages) held.2.found in
+            let found = subst (λ (n : ℕ). Adopts n (image_of g files) held.2.pages → Adopts n image held.2.pages) (sym same) (exists.1 held.2.pages) held.2.found in
             let holds : HoldsDatabase image db = (
               held.0,
               held.1,

@@ -1,6 +1,6 @@
 pub mod Common
-pub mod AdoptLemmas
-pub mod AdoptedLemmas
+pub mod AttachLemmas
+pub mod AttachedLemmas
 pub mod CountersShown
 pub mod InOrder
 pub mod Joining
@@ -18,5 +18,5 @@ pub mod PriceLemmas
 pub mod Reported
 pub mod ShownLemmas
 pub mod Spelled
-pub mod StandingLemmas
-pub mod Upgrading
+pub mod StateLemmas
+pub mod MigratingLemmas

@@ -1,8 +1,8 @@
 -- From what the readers list to the lists of the history: the codes of a batch, and the open sessions.
-use Rattle.portal_tables.proofs.Common.{◌≡◌, ℕ, pos, ◌-ℤ◌, List, [], ◌∷◌, map, filter, Bool, true, false, ◌&&◌, is_none, cond, Option, Some, None, All, refl, sym, ap, ap₂, subst, ◌∙◌, arith, bytes_eq, nat_lt, filter_map, cons_option, range_with_len, IsPermutation, nat_tests, ints, All-head, All-tail, All-map, All-filter, All-weaker, filter-filter, IsCode, text_of, Session, all_sessions, History, codes_of, grants_of, head_of, session_of, kept_if, is_below, is_open_at, VoucherRow, TotalRow, vouchers_of, totals_of, openings, session_opened, total_row, remaining_of, IsLegal, rows_are_numbered, IsFirst, openings_first, session_at, rows_are_typed, agree, Lists, ListsAs, by_place, by_number, is_left, may_be_open, numbers_open, open_numbered, voucher_kept, same_code}
+use Rattle.portal_tables.proofs.Common.{◌≡◌, ℕ, pos, ◌-ℤ◌, List, [], ◌∷◌, map, filter, Bool, true, false, ◌&&◌, is_none, cond, Option, Some, None, All, refl, sym, ap, ap₂, subst, ◌∙◌, arith, bytes_eq, nat_lt, filter_map, cons_option, range_with_len, IsPermutation, nat_tests, ints, All-head, All-tail, All-map, All-filter, All-weaker, filter-filter, IsCode, text_of, Session, all_sessions, History, codes_of, grants_of, head_of, session_of, kept_if, is_below, is_open_at, VoucherRow, TotalRow, vouchers_of, totals_of, openings, session_opened, total_row, remaining_of, IsLegal, rows_are_numbered, IsFirst, openings_first, session_at, rows_are_typed, agree, Lists, ListsAs, by_place, by_number, is_left, may_be_open, numbers_open, open_session_of, voucher_kept, same_code}
 use Rattle.std.specs.Prelude.{int_lt}
-use Rattle.portal_laws.proofs.Basics.{map-map, filter-map, bytes_swap}
-use Rattle.portal_laws.proofs.Listings.{codes_are_rows}
+use Rattle.portal_model_laws.proofs.Basics.{map-map, filter-map, bytes_swap}
+use Rattle.portal_model_laws.proofs.Listings.{codes_are_rows}
 use Rattle.portal_tables.proofs.InOrder.{in_order, filter_true}
 
 -- ---- the codes of a batch
@@ -71,23 +71,23 @@ module _ (h : History) (legal : IsLegal h) where
   numbered : All IsNumbered (all_sessions h)
   numbered = All-map IsNumbered (session_opened h) (openings (grants_of h)) (All-weaker (IsFirst (grants_of h)) (λ g. IsNumbered (session_opened h g)) (λ g first. session_at h g first) (openings (grants_of h)) (openings_first (grants_of h)))
 
-  kept_open : (t : ℕ) (ss : List Session) → All IsNumbered ss → filter_map (open_numbered h t) (map (λ (s : Session). s.number) ss) ≡ filter (is_open_at t) ss
+  kept_open : (t : ℕ) (ss : List Session) → All IsNumbered ss → filter_map (open_session_of h t) (map (λ (s : Session). s.number) ss) ≡ filter (is_open_at t) ss
   kept_open t [] all = refl
   kept_open t (s ∷ ss) all =
       let here : session_of h s.number ≡ Some s = All-head IsNumbered s ss all in
       let rest = kept_open t ss (All-tail IsNumbered s ss all) in
-      ap (λ (o : Option Session). cons_option (kept_if (is_open_at t) o) (filter_map (open_numbered h t) (map (λ (x : Session). x.number) ss))) here ∙ go (is_open_at t s) rest
+      ap (λ (o : Option Session). cons_option (kept_if (is_open_at t) o) (filter_map (open_session_of h t) (map (λ (x : Session). x.number) ss))) here ∙ go (is_open_at t s) rest
     where
-      go : (b : Bool) → filter_map (open_numbered h t) (map (λ (x : Session). x.number) ss) ≡ filter (is_open_at t) ss
-          → cons_option (cond b (Some s) None) (filter_map (open_numbered h t) (map (λ (x : Session). x.number) ss)) ≡ cond b (s ∷ filter (is_open_at t) ss) (filter (is_open_at t) ss)
+      go : (b : Bool) → filter_map (open_session_of h t) (map (λ (x : Session). x.number) ss) ≡ filter (is_open_at t) ss
+          → cons_option (cond b (Some s) None) (filter_map (open_session_of h t) (map (λ (x : Session). x.number) ss)) ≡ cond b (s ∷ filter (is_open_at t) ss) (filter (is_open_at t) ss)
       go true same = ap (λ xs. s ∷ xs) same
       go false same = same
 
   pub open_listed : (t : ℕ) (totals : List TotalRow) (numbers : List ℕ) (sessions : List Session) → Lists (λ _. true) by_number (totals_of h) totals → numbers ≡ numbers_open t totals
-      → sessions ≡ filter_map (open_numbered h t) numbers → sessions ≡ filter (is_open_at t) (all_sessions h)
+      → sessions ≡ filter_map (open_session_of h t) numbers → sessions ≡ filter (is_open_at t) (all_sessions h)
   open_listed t totals numbers sessions l is found =
       let may : Session → Bool = λ (s : Session). may_be_open t (total_row s) in
       found
-      ∙ ap (filter_map (open_numbered h t)) (is ∙ ap (numbers_open t) (totals_listed totals l) ∙ numbers_are t)
+      ∙ ap (filter_map (open_session_of h t)) (is ∙ ap (numbers_open t) (totals_listed totals l) ∙ numbers_are t)
       ∙ kept_open t (filter may (all_sessions h)) (All-filter may IsNumbered (all_sessions h) numbered)
       ∙ filter-filter (is_open_at t) may (still_open t) (all_sessions h)

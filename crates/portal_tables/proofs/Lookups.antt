@@ -1,6 +1,6 @@
 -- From a value that stands among others to the one that a search by its key gives.
-use Rattle.portal_tables.proofs.Common.{◌≡◌, inl, inr, ℕ, ◌+◌, ◌<◌, ◌≤◌, Bool, true, false, ◌||◌, List, [], ◌∷◌, map, find, Option, Some, None, refl, sym, ap, subst, ◌∙◌, arith, zero, suc, bytes_eq, true≢false, range_with_len, list_any, cases_Bool, bytes_eq-Decides, Has, stands_twice}
-use Rattle.portal_sql.proofs.Named.{found_has}
+use Rattle.portal_tables.proofs.Common.{◌≡◌, inl, inr, ℕ, ◌+◌, ◌<◌, ◌≤◌, Bool, true, false, ◌||◌, List, [], ◌∷◌, map, find, Option, Some, None, refl, sym, ap, subst, ◌∙◌, arith, zero, suc, bytes_eq, true≢false, range_with_len, list_any, cases_Bool, bytes_eq-Decides, Has, has_duplicate}
+use Rattle.portal_tables_sql.proofs.Named.{found_has}
 
 -- no two have one key
 abbrev pub IsApart : {P K : Type 0} → (P → K) → List P → Type 0
@@ -59,10 +59,10 @@ or_false : (a b : Bool) → (a || b) ≡ false → (a ≡ false) × (b ≡ false
 or_false true b e = absurd (cc)
 or_false false b e = (refl, e)
 
-pub apart_by_text : {P : Type 0} (key : P → List ℕ) (xs : List P) → stands_twice (map key xs) ≡ false → IsApart key xs
+pub apart_by_text : {P : Type 0} (key : P → List ℕ) (xs : List P) → has_duplicate (map key xs) ≡ false → IsApart key xs
 apart_by_text key [] once x y hx hy same = absurd hx
 apart_by_text key (z ∷ xs) once x y hx hy same =
-    let parts = or_false (list_any (bytes_eq (key z)) (map key xs)) (stands_twice (map key xs)) once in
+    let parts = or_false (list_any (bytes_eq (key z)) (map key xs)) (has_duplicate (map key xs)) once in
     elim hx [
       | inl ex ↦ elim hy [
         | inl ey ↦ ex ∙ sym ey

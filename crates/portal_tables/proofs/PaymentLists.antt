@@ -1,10 +1,10 @@
 -- From the sales and refunds that the readers list to those of the history.
-use Rattle.portal_tables.proofs.Common.{◌≡◌, ℕ, List, [], ◌∷◌, map, filter, Bool, true, false, cond, Option, Some, None, option_map, option_and_then, refl, sym, ap, ap₂, subst, ◌∙◌, Ordering, filter_map, cons_option, IsPermutation, IsSorted, IsPermutation-filter, along_permutation, pull_back, Plan, Batch, plan_among, History, VoucherRow, rows_of, vouchers_of, batches_of, plans_of, batch_among, IsLegal, Lists, ListsAs, is_within, by_refund, by_sale, sale_shown, sale_read, refund_shown, refund_read, KeptSale, AreOrderedSales, AreSales, AreRefunds, paid, is_paid_within, price_among, is_priced, voucher_kept}
+use Rattle.portal_tables.proofs.Common.{◌≡◌, ℕ, List, [], ◌∷◌, map, filter, Bool, true, false, cond, Option, Some, None, option_map, option_and_then, refl, sym, ap, ap₂, subst, ◌∙◌, Ordering, filter_map, cons_option, IsPermutation, IsSorted, IsPermutation-filter, along_permutation, pull_back, Plan, Batch, plan_among, History, VoucherRow, rows_of, vouchers_of, batches_of, plans_of, batch_among, IsLegal, Lists, ListsAs, is_within, by_refund, by_sale, sale_columns, sale_read, refund_columns, refund_read, SaleValue, AreOrderedSales, AreSales, AreRefunds, payment_of, is_paid_within, price_among, payment_at, voucher_kept}
 use Rattle.std.proofs.lemmas.List.Sorted.{IsPermutation-refl, IsPermutation-cons, IsPermutation-trans, IsPermutation-middle}
 use Rattle.portal_model.specs.Payments.{Payment, payment, sales_of, sale_from, refunds_of, refund_from, plan_of_row}
-use Rattle.portal_laws.proofs.Basics.{map-map, filter-map}
-use Rattle.portal_laws.proofs.Paid.{sales_are_rows, refunds_are_rows}
-use Rattle.portal_lists.proofs.Listing.{sorted_from_map}
+use Rattle.portal_model_laws.proofs.Basics.{map-map, filter-map}
+use Rattle.portal_model_laws.proofs.Paid.{sales_are_rows, refunds_are_rows}
+use Rattle.portal_tables_queries.proofs.Listing.{sorted_from_map}
 
 -- ---- lists
 
@@ -60,16 +60,16 @@ behind passes cmp tests values listed l =
 
 -- the payments of the history that pass are those of the vouchers that pass
 payments_are : (f : VoucherRow → Option Payment) (after : Payment → Bool) (before : VoucherRow → Bool) → ((v : VoucherRow) (p : Payment) → f v ≡ Some p → after p ≡ before v) → (payments : List Payment) (values vouchers : List VoucherRow)
-    → IsPermutation payments (filter_map f values) → IsPermutation (filter before values) vouchers → (answer : List (ℕ × ℕ)) → map f vouchers ≡ map (λ p. Some (paid p)) answer → IsPermutation (filter after payments) (map paid answer)
+    → IsPermutation payments (filter_map f values) → IsPermutation (filter before values) vouchers → (answer : List (ℕ × ℕ)) → map f vouchers ≡ map (λ p. Some (payment_of p)) answer → IsPermutation (filter after payments) (map payment_of answer)
 payments_are f after before agree payments values vouchers law same answer each =
     let one = IsPermutation-filter after payments (filter_map f values) law in
     let two = same_kept f (filter before values) vouchers same in
-    IsPermutation-trans _ _ _ (subst (IsPermutation (filter after payments)) (kept_within f after before agree values) one) (subst (IsPermutation (filter_map f (filter before values))) (all_kept f paid vouchers answer each) two)
+    IsPermutation-trans _ _ _ (subst (IsPermutation (filter after payments)) (kept_within f after before agree values) one) (subst (IsPermutation (filter_map f (filter before values))) (all_kept f payment_of vouchers answer each) two)
 
 -- ---- sales
 
 module _ (h : History) (legal : IsLegal h) (from to : ℕ) where
-  sale_is : (v : VoucherRow) → sale_from (rows_of h) v ≡ is_priced (price_among (plans_of h) (batches_of h) v.batch) (sale_shown v)
+  sale_is : (v : VoucherRow) → sale_from (rows_of h) v ≡ payment_at (price_among (plans_of h) (batches_of h) v.batch) (sale_columns v)
   sale_is v = go v.sold (batch_among (batches_of h) v.batch)
     where
       under : (at : ℕ) (q : Option Plan) → option_map (λ plan. payment at plan.price) q ≡ option_map (payment at) (option_map (λ plan. plan.price) q)
@@ -91,19 +91,19 @@ module _ (h : History) (legal : IsLegal h) (from to : ℕ) where
       go (Some at) (Some plan) e = let same : payment at plan.price ≡ p = cc in ap (is_paid_within from to) (sym same)
 
   -- the sales of the vouchers that were listed, priced by their batches and plans
-  pub sales_priced : (sales : List KeptSale) → map sale_read sales ≡ map sale_shown (filter (λ v. is_within from to v.sold) (map voucher_kept (vouchers_of h))) → (price_of : List ℕ → Option ℕ)
-      → ((id : List ℕ) → price_of id ≡ price_among (plans_of h) (batches_of h) id) → (answer : List (ℕ × ℕ)) → map (λ s. is_priced (price_of s.batch) (sale_read s)) sales ≡ map (λ p. Some (paid p)) answer
+  pub sales_priced : (sales : List SaleValue) → map sale_read sales ≡ map sale_columns (filter (λ v. is_within from to v.sold) (map voucher_kept (vouchers_of h))) → (price_of : List ℕ → Option ℕ)
+      → ((id : List ℕ) → price_of id ≡ price_among (plans_of h) (batches_of h) id) → (answer : List (ℕ × ℕ)) → map (λ s. payment_at (price_of s.batch) (sale_read s)) sales ≡ map (λ p. Some (payment_of p)) answer
       → AreSales h from to answer
   sales_priced sales listed price_of prices answer priced =
       let sold : VoucherRow → Bool = λ (v : VoucherRow). is_within from to v.sold in
       let vouchers = filter sold (vouchers_of h) in
-      let tell : List ℕ × Option ℕ → Option Payment = λ (s : List ℕ × Option ℕ). is_priced (price_among (plans_of h) (batches_of h) s.0) s in
-      let each : map (sale_from (rows_of h)) vouchers ≡ map (λ p. Some (paid p)) answer =
+      let tell : List ℕ × Option ℕ → Option Payment = λ (s : List ℕ × Option ℕ). payment_at (price_among (plans_of h) (batches_of h) s.0) s in
+      let each : map (sale_from (rows_of h)) vouchers ≡ map (λ p. Some (payment_of p)) answer =
       (λ i. map (λ v. sale_is v i) vouchers)
-      ∙ sym (map-map sale_shown tell vouchers)
-      ∙ ap (map tell) (sym (map-map voucher_kept sale_shown vouchers) ∙ ap (map sale_shown) (sym (filter-map voucher_kept sold (vouchers_of h))) ∙ sym listed)
+      ∙ sym (map-map sale_columns tell vouchers)
+      ∙ ap (map tell) (sym (map-map voucher_kept sale_columns vouchers) ∙ ap (map sale_columns) (sym (filter-map voucher_kept sold (vouchers_of h))) ∙ sym listed)
       ∙ map-map sale_read tell sales
-      ∙ sym (λ i. map (λ (s : KeptSale). is_priced (prices s.batch i) (sale_read s)) sales)
+      ∙ sym (λ i. map (λ (s : SaleValue). payment_at (prices s.batch i) (sale_read s)) sales)
       ∙ priced in
       record {
         payments = payments_are (sale_from (rows_of h)) (is_paid_within from to) sold sale_within (sales_of h) (vouchers_of h) vouchers (sales_are_rows h legal) (IsPermutation-refl vouchers) answer each;
@@ -111,19 +111,19 @@ module _ (h : History) (legal : IsLegal h) (from to : ℕ) where
       }
 
   -- the same of those that were listed in their order
-  pub ordered_sales_priced : (sales : List KeptSale) → ListsAs sale_shown (λ (v : VoucherRow). is_within from to v.sold) by_sale (map voucher_kept (vouchers_of h)) (map sale_read sales) → (price_of : List ℕ → Option ℕ)
-      → ((id : List ℕ) → price_of id ≡ price_among (plans_of h) (batches_of h) id) → (answer : List (ℕ × ℕ)) → map (λ s. is_priced (price_of s.batch) (sale_read s)) sales ≡ map (λ p. Some (paid p)) answer
+  pub ordered_sales_priced : (sales : List SaleValue) → ListsAs sale_columns (λ (v : VoucherRow). is_within from to v.sold) by_sale (map voucher_kept (vouchers_of h)) (map sale_read sales) → (price_of : List ℕ → Option ℕ)
+      → ((id : List ℕ) → price_of id ≡ price_among (plans_of h) (batches_of h) id) → (answer : List (ℕ × ℕ)) → map (λ s. payment_at (price_of s.batch) (sale_read s)) sales ≡ map (λ p. Some (payment_of p)) answer
       → AreOrderedSales h from to answer
   ordered_sales_priced sales l price_of prices answer priced =
       let sold : VoucherRow → Bool = λ (v : VoucherRow). is_within from to v.sold in
       let it = behind sold by_sale (λ v. refl) (vouchers_of h) l.listed l.lists in
-      let tell : List ℕ × Option ℕ → Option Payment = λ (s : List ℕ × Option ℕ). is_priced (price_among (plans_of h) (batches_of h) s.0) s in
-      let each : map (sale_from (rows_of h)) it.vouchers ≡ map (λ p. Some (paid p)) answer =
+      let tell : List ℕ × Option ℕ → Option Payment = λ (s : List ℕ × Option ℕ). payment_at (price_among (plans_of h) (batches_of h) s.0) s in
+      let each : map (sale_from (rows_of h)) it.vouchers ≡ map (λ p. Some (payment_of p)) answer =
       (λ i. map (λ v. sale_is v i) it.vouchers)
-      ∙ sym (map-map sale_shown tell it.vouchers)
-      ∙ ap (map tell) (sym (map-map voucher_kept sale_shown it.vouchers) ∙ ap (map sale_shown) (sym it.kept) ∙ sym l.shows)
+      ∙ sym (map-map sale_columns tell it.vouchers)
+      ∙ ap (map tell) (sym (map-map voucher_kept sale_columns it.vouchers) ∙ ap (map sale_columns) (sym it.kept) ∙ sym l.shows)
       ∙ map-map sale_read tell sales
-      ∙ sym (λ i. map (λ (s : KeptSale). is_priced (prices s.batch i) (sale_read s)) sales)
+      ∙ sym (λ i. map (λ (s : SaleValue). payment_at (prices s.batch i) (sale_read s)) sales)
       ∙ priced in
       record {
         payments = payments_are (sale_from (rows_of h)) (is_paid_within from to) sold sale_within (sales_of h) (vouchers_of h) it.vouchers (sales_are_rows h legal) it.same answer each;
@@ -147,14 +147,14 @@ module _ (h : History) (legal : IsLegal h) (from to : ℕ) where
       go (Some at) None e = absurd (cc)
       go (Some at) (Some amount) e = let same : payment at amount ≡ p = cc in ap (is_paid_within from to) (sym same)
 
-  pub refunds_listed : (answer : List (ℕ × ℕ)) → ListsAs refund_shown (λ (v : VoucherRow). is_within from to v.refunded) by_refund (map voucher_kept (vouchers_of h)) (map refund_read answer) → AreRefunds h from to answer
+  pub refunds_listed : (answer : List (ℕ × ℕ)) → ListsAs refund_columns (λ (v : VoucherRow). is_within from to v.refunded) by_refund (map voucher_kept (vouchers_of h)) (map refund_read answer) → AreRefunds h from to answer
   refunds_listed answer l =
       let refunded : VoucherRow → Bool = λ (v : VoucherRow). is_within from to v.refunded in
       let it = behind refunded by_refund (λ v. refl) (vouchers_of h) l.listed l.lists in
-      let each : map refund_from it.vouchers ≡ map (λ p. Some (paid p)) answer =
-      sym (map-map voucher_kept (λ (v : VoucherRow). refund_of_shown (refund_shown v)) it.vouchers)
-      ∙ ap (map (λ (v : VoucherRow). refund_of_shown (refund_shown v))) (sym it.kept)
-      ∙ sym (map-map refund_shown refund_of_shown l.listed)
+      let each : map refund_from it.vouchers ≡ map (λ p. Some (payment_of p)) answer =
+      sym (map-map voucher_kept (λ (v : VoucherRow). refund_of_shown (refund_columns v)) it.vouchers)
+      ∙ ap (map (λ (v : VoucherRow). refund_of_shown (refund_columns v))) (sym it.kept)
+      ∙ sym (map-map refund_columns refund_of_shown l.listed)
       ∙ ap (map refund_of_shown) (sym l.shows)
       ∙ map-map refund_read refund_of_shown answer in
       record {

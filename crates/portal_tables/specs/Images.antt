@@ -17,7 +17,7 @@ use Rattle.sqlite.specs.Files.{HoldsDatabase, IsCleanLeft, IsNothing, image_of}
 use Rattle.portal_ledger.specs.Ledger.{Ledger}
 use Rattle.portal_tables.specs.declared.opening.Unopened.{Unopened}
 use Rattle.portal_tables.specs.declared.opening.Unopened.TheVariants.{Unclosed, Refused}
-use Rattle.portal_tables.specs.TablesAt.{Files, FilesShow}
+use Rattle.portal_tables.specs.TablesRepresent.{Files, FilesHold}
 
 -- An image is what two files hold, which may be a database: a set of tables.
 unfoldable pub ImageHolds : Image → Files → Type 0
@@ -25,39 +25,39 @@ unfolding Files
 ImageHolds image files = HoldsDatabase image files
 
 -- The image shows the ledger where it holds tables that do; so does one with no database yet, where nothing was accepted.
-abbrev pub ImageShows : Image → Ledger → Type 0
-ImageShows image L = ((files : Files) × ImageHolds image files × FilesShow files L) ⊎ (IsNothing image × (L ≡ []))
+abbrev pub ImageHoldsLedger : Image → Ledger → Type 0
+ImageHoldsLedger image L = ((files : Files) × ImageHolds image files × FilesHold files L) ⊎ (IsNothing image × (L ≡ []))
 
 -- the image holds a database whose pages end in sums; this product makes none
 abbrev pub HasSums : Image → Type 0
 HasSums image = (trees : Trees) × (held : HoldsDatabase image trees) × IsTrue (is_summed held.0)
 
 -- two files show the ledger, as they read and as a stop at this moment may leave them
-pub record AreAt {D : Type 0} (g : Ghosts D) (files : Pair D) (L : Ledger) : Type 0 where
-  pub seen : ImageShows (image_of g files) L
-  pub left : (image : Image) → outcomes g files.log files.db image → ∥ ImageShows image L ∥₁
+pub record FilesRepresent {D : Type 0} (g : Ghosts D) (files : Pair D) (L : Ledger) : Type 0 where
+  pub seen : ImageHoldsLedger (image_of g files) L
+  pub left : (image : Image) → outcomes g files.log files.db image → ∥ ImageHoldsLedger image L ∥₁
 
 module _ {D : Type 0} {g : Ghosts D} where
   -- a store that its connection has let go of may leave these tables
-  unfoldable pub StoreMayLeave : FileStore D g → Files → Type 0
+  unfoldable pub IsCrashStateOfStore : FileStore D g → Files → Type 0
   unfolding Files
-  StoreMayLeave store files = recovers store files
+  IsCrashStateOfStore store files = recovers store files
 
   -- What a stop may leave of files that were not opened shows the ledger still. Of a database whose pages end in sums
   -- the store does not say so.
-  abbrev pub LeftoverShows : Image → Leftover D g → Ledger → Type 0
-  LeftoverShows before (left.Files now) L = (image : Image) → outcomes g now.log now.db image → ∥ ImageShows image L ∥₁
-  LeftoverShows before (left.Unopened now) L = (image : Image) → (state_of now).may_leave image → ∥ ImageShows image L ⊎ HasSums before ∥₁
-  LeftoverShows before (left.Store now) L = (files : Files) → StoreMayLeave now files → FilesShow files L
+  abbrev pub LeftoverHolds : Image → Leftover D g → Ledger → Type 0
+  LeftoverHolds before (left.Files now) L = (image : Image) → outcomes g now.log now.db image → ∥ ImageHoldsLedger image L ∥₁
+  LeftoverHolds before (left.Unopened now) L = (image : Image) → (state_of now).may_leave image → ∥ ImageHoldsLedger image L ⊎ HasSums before ∥₁
+  LeftoverHolds before (left.Store now) L = (files : Files) → IsCrashStateOfStore now files → FilesHold files L
 
   -- Files were closed between two openings, of which the second did not come about. A stop between the two leaves what
   -- shows the ledger, and so does one after them, where the disk has returned what was written to it.
-  abbrev pub ClosedShow : Pair D → Leftover D g → Ledger → Type 0
-  ClosedShow closed left L =
-      ((image : Image) → outcomes g closed.log closed.db image → ∥ ImageShows image L ∥₁) × (IsCleanLeft left → LeftoverShows (image_of g closed) left L)
+  abbrev pub ClosedHold : Pair D → Leftover D g → Ledger → Type 0
+  ClosedHold closed left L =
+      ((image : Image) → outcomes g closed.log closed.db image → ∥ ImageHoldsLedger image L ∥₁) × (IsCleanLeft left → LeftoverHolds (image_of g closed) left L)
 
   -- What is left of files that were not closed, or not opened again, shows the ledger still. Of those that were closed
   -- this is said where the disk had returned what was written by then.
-  abbrev pub UnopenedShows : Unopened D g → Ledger → Type 0
-  UnopenedShows (Unclosed error store) L = (files : Files) → StoreMayLeave store files → FilesShow files L
-  UnopenedShows (Refused error left) L = (closed : Pair D) × (AreClean g closed.log closed.db → ClosedShow closed left L)
+  abbrev pub UnopenedHolds : Unopened D g → Ledger → Type 0
+  UnopenedHolds (Unclosed error store) L = (files : Files) → IsCrashStateOfStore store files → FilesHold files L
+  UnopenedHolds (Refused error left) L = (closed : Pair D) × (AreClean g closed.log closed.db → ClosedHold closed left L)

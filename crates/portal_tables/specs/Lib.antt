@@ -1,8 +1,8 @@
-pub mod Adopting
+pub mod Attaching
 pub mod Images
-pub mod Lists
+pub mod PaymentLists
 pub mod Older
 pub mod Prices
-pub mod Shown
-pub mod Stores
-pub mod TablesAt
+pub mod HoldsLedger
+pub mod StoreHolds
+pub mod TablesRepresent

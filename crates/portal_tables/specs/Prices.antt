@@ -16,5 +16,5 @@ pub record ArePrices (plans : List Plan) (batches : List Batch) (price_of : List
   pub priced : (id : List ℕ) → is_some (price_of id) ≡ is_some (batch_among batches id)
 
 -- a sale at this price, where there is one
-abbrev pub is_priced : Option ℕ → List ℕ × Option ℕ → Option Payment
-is_priced price sale = option_and_then (λ at. option_map (payment at) price) sale.1
+abbrev pub payment_at : Option ℕ → List ℕ × Option ℕ → Option Payment
+payment_at price sale = option_and_then (λ at. option_map (payment at) price) sale.1

@@ -5,27 +5,27 @@ ghost use Rattle.std.specs.List.{filter_map};
 ghost use Rattle.portal_model.specs.Captive.{all_sessions};
 ghost use Rattle.portal_model.specs.History.{is_open_at};
 ghost use Rattle.portal_model.specs.Rows.{batches_of, plans_of};
-ghost use Rattle.portal_tables.specs.Lists.{AreOrderedSales, AreSales, open_numbered};
-ghost use Rattle.portal_tables.specs.Shown.{ReadsShown};
+ghost use Rattle.portal_tables.specs.PaymentLists.{AreOrderedSales, AreSales, open_session_of};
+ghost use Rattle.portal_tables.specs.HoldsLedger.{ReadsHistory};
 
-use crate::prices::{priced_sales, prices_by_batch};
+use crate::prices::{price_sales, prices_by_batch};
 use crate::records::read_session;
-use portal_lists::lists::{list_numbers, list_ordered_sales, list_sales};
-use portal_lists::whole::{all_batches, all_plans};
 use portal_model::moment::Moment;
 use portal_model::plan::Plan;
 use portal_model::record::{Batch, Session, is_open};
-use portal_rows::rows::Fault;
+use portal_tables_queries::lists::{list_open_numbers, list_sales_as_issued, list_sales_by_moment};
+use portal_tables_queries::whole::{read_all_batches, read_all_plans};
+use portal_tables_rows::rows::RowError;
 use sqlite::{Alter, Connection};
 use std::alloc::Global;
 
 /// The session of the number, where it is open at `t`.
-fn read_open<S: Alter>(
+fn read_session_if_open<S: Alter>(
     conn: &mut Connection<S>,
     number: u64,
     t: Moment,
-) -> Result<Option<Session>, Fault>
-    ensures { ReadsShown S.Store conn.old conn.new result (λ h found. found ≡ open_numbered h t number) }
+) -> Result<Option<Session>, RowError>
+    ensures { ReadsHistory S.Store conn.old conn.new result (λ h found. found ≡ open_session_of h t number) }
 {
     let Some(session) = read_session(conn, number)? else {
         return Ok(None);
@@ -38,18 +38,18 @@ fn read_open<S: Alter>(
 }
 
 /// The sessions of these numbers that are open at `t`, in their order.
-fn read_numbered<S: Alter>(
+fn read_sessions_if_open<S: Alter>(
     alloc: Global,
     conn: &mut Connection<S>,
     numbers: &[u64],
     t: Moment,
-) -> Result<Vec<Session>, Fault>
-    ensures { ReadsShown S.Store conn.old conn.new result
-        (λ h sessions. sessions.items ≡ filter_map (open_numbered h t) numbers.now) }
+) -> Result<Vec<Session>, RowError>
+    ensures { ReadsHistory S.Store conn.old conn.new result
+        (λ h sessions. sessions.items ≡ filter_map (open_session_of h t) numbers.now) }
 {
     let mut sessions = Vec::new(alloc);
     for number in numbers {
-        if let Some(session) = read_open(conn, *number, t)? {
+        if let Some(session) = read_session_if_open(conn, *number, t)? {
             sessions.push(session)?;
         }
     }
@@ -61,59 +61,59 @@ pub(crate) fn read_open_sessions<S: Alter>(
     alloc: Global,
     conn: &mut Connection<S>,
     t: Moment,
-) -> Result<Vec<Session>, Fault>
-    ensures { ReadsShown S.Store conn.old conn.new result
+) -> Result<Vec<Session>, RowError>
+    ensures { ReadsHistory S.Store conn.old conn.new result
         (λ h sessions. sessions.items ≡ filter (is_open_at t) (all_sessions h)) }
 {
-    let numbers = list_numbers(alloc, conn, t)?;
-    let sessions = read_numbered(alloc, conn, &numbers, t)?;
+    let numbers = list_open_numbers(alloc, conn, t)?;
+    let sessions = read_sessions_if_open(alloc, conn, &numbers, t)?;
     Ok(sessions)
 }
 
 /// All plans and all batches.
 fn read_plans_and_batches<S: Alter>(
     conn: &mut Connection<S>,
-) -> Result<(Vec<Plan>, Vec<Batch>), Fault>
-    ensures { ReadsShown S.Store conn.old conn.new result
+) -> Result<(Vec<Plan>, Vec<Batch>), RowError>
+    ensures { ReadsHistory S.Store conn.old conn.new result
         (λ h both. (both.0.items ≡ plans_of h) × (both.1.items ≡ batches_of h)) }
 {
-    let plans = all_plans(conn)?;
-    let batches = all_batches(conn)?;
+    let plans = read_all_plans(conn)?;
+    let batches = read_all_batches(conn)?;
     Ok((plans, batches))
 }
 
 /// The sales within the two moments, both included: of each the moment, and the price in hundredths. They
 /// are ordered as their vouchers were issued. The plans and the batches are read once, however many sales
 /// there are.
-pub(crate) fn read_sales<S: Alter>(
+pub(crate) fn read_sales_as_issued<S: Alter>(
     alloc: Global,
     conn: &mut Connection<S>,
     from: Moment,
     to: Moment,
-) -> Result<Vec<(Moment, u64)>, Fault>
-    ensures { ReadsShown S.Store conn.old conn.new result
+) -> Result<Vec<(Moment, u64)>, RowError>
+    ensures { ReadsHistory S.Store conn.old conn.new result
         (λ h payments. AreSales h from to payments.items) }
 {
     let (plans, batches) = read_plans_and_batches(conn)?;
     let prices = prices_by_batch(alloc, &plans, &batches)?;
-    let sales = list_sales(alloc, conn, from, to)?;
-    Ok(priced_sales(alloc, &prices, &sales)?)
+    let sales = list_sales_as_issued(alloc, conn, from, to)?;
+    Ok(price_sales(alloc, &prices, &sales)?)
 }
 
 /// The sales within the two moments, both included: of each the moment, and the price in hundredths. They
 /// are ordered by moment, and at one moment by the voucher's printed code. The plans and the batches are
 /// read once, however many sales there are.
-pub(crate) fn read_ordered_sales<S: Alter>(
+pub(crate) fn read_sales_by_moment<S: Alter>(
     alloc: Global,
     conn: &mut Connection<S>,
     from: Moment,
     to: Moment,
-) -> Result<Vec<(Moment, u64)>, Fault>
-    ensures { ReadsShown S.Store conn.old conn.new result
+) -> Result<Vec<(Moment, u64)>, RowError>
+    ensures { ReadsHistory S.Store conn.old conn.new result
         (λ h payments. AreOrderedSales h from to payments.items) }
 {
     let (plans, batches) = read_plans_and_batches(conn)?;
     let prices = prices_by_batch(alloc, &plans, &batches)?;
-    let sales = list_ordered_sales(alloc, conn, from, to)?;
-    Ok(priced_sales(alloc, &prices, &sales)?)
+    let sales = list_sales_by_moment(alloc, conn, from, to)?;
+    Ok(price_sales(alloc, &prices, &sales)?)
 }

@@ -6,8 +6,8 @@ ghost use Rattle.sqlite.specs.Files.{Finds, IsCleanLeft, image_of, file_state, o
 ghost use Rattle.sqlite.specs.State.{HasCleanDisk};
 ghost use Rattle.sqlite.specs.Steps.{over_memory};
 ghost use Rattle.portal_ledger.specs.Ledger.{Ledger};
-ghost use Rattle.portal_tables.specs.Images.{AreAt, ImageShows, LeftoverShows, UnopenedShows};
-ghost use Rattle.portal_tables.specs.TablesAt.{ConnAt};
+ghost use Rattle.portal_tables.specs.Images.{FilesRepresent, ImageHoldsLedger, LeftoverHolds, UnopenedHolds};
+ghost use Rattle.portal_tables.specs.TablesRepresent.{ConnRepresents};
 
 use sqlite::{Connection, Error, FileFrom, FileStore, Leftover, MemStore, Options, Start};
 use sqlite_disk::{Disk, Files};
@@ -15,7 +15,7 @@ use std::alloc::{AllocError, Global};
 
 /// A new store in memory: nothing was accepted in it. Only want of memory is an error.
 pub fn open_in_memory(alloc: Global) -> Result<Connection<MemStore>, AllocError>
-    ensures { IfOk result (λ conn. ConnAt over_memory conn []) }
+    ensures { IfOk result (λ conn. ConnRepresents over_memory conn []) }
 {
     Connection::open_in_memory(alloc)
 }
@@ -31,11 +31,11 @@ pub fn open_files<D: Disk + Drop>(
 ) -> Result<Connection<FileStore<D>>, (Error, Leftover<D>)>
     requires log { IsTrue (D.Disk.is_usable files.log) }
     requires db { IsTrue (D.Disk.is_usable files.db) }
-    ensures opened { (L : Ledger) → ImageShows (image_of D.Disk files) L
-        → IfOk result (λ conn. HasCleanDisk (file_state conn) → ConnAt over_files conn L) }
+    ensures opened { (L : Ledger) → ImageHoldsLedger (image_of D.Disk files) L
+        → IfOk result (λ conn. HasCleanDisk (file_state conn) → ConnRepresents over_files conn L) }
     ensures found { IfOk result (λ conn. HasCleanDisk (file_state conn) → Finds files conn) }
-    ensures unopened { (L : Ledger) → AreAt D.Disk files L
-        → IfErr result (λ e. IsCleanLeft e.1 → LeftoverShows (image_of D.Disk files) e.1 L) }
+    ensures fails_to_open { (L : Ledger) → FilesRepresent D.Disk files L
+        → IfErr result (λ e. IsCleanLeft e.1 → LeftoverHolds (image_of D.Disk files) e.1 L) }
 {
     Connection::open_files(alloc, files, options)
 }
@@ -50,11 +50,11 @@ pub fn open_path<S: Start>(
     path: &str,
     start: S,
 ) -> Result<Connection<FileStore<FileFrom<S>>>, (Error, Option<Leftover<FileFrom<S>>>)>
-    ensures opened { (L : Ledger) → ImageShows (image_at S.Start) L
-        → IfOk result (λ conn. HasCleanDisk (file_state conn) → ConnAt over_files conn L) }
-    ensures unopened { (L : Ledger) → ImageShows (image_at S.Start) L
+    ensures opened { (L : Ledger) → ImageHoldsLedger (image_at S.Start) L
+        → IfOk result (λ conn. HasCleanDisk (file_state conn) → ConnRepresents over_files conn L) }
+    ensures fails_to_open { (L : Ledger) → ImageHoldsLedger (image_at S.Start) L
         → IfErr result (λ e. IfSome e.1
-        (λ left. IsCleanLeft left → LeftoverShows (image_at S.Start) left L)) }
+        (λ left. IsCleanLeft left → LeftoverHolds (image_at S.Start) left L)) }
 {
     Connection::open_from(host, path, false, start)
 }
@@ -74,9 +74,9 @@ pub fn reopen<D: Disk + Drop>(
     conn: Connection<FileStore<D>>,
     options: Options,
 ) -> Result<Connection<FileStore<D>>, Unopened<D>>
-    ensures opened { (L : Ledger) → ConnAt over_files conn L
-        → IfOk result (λ again. HasCleanDisk (file_state again) → ConnAt over_files again L) }
-    ensures unopened { (L : Ledger) → ConnAt over_files conn L → IfErr result (λ e. UnopenedShows e L) }
+    ensures opened { (L : Ledger) → ConnRepresents over_files conn L
+        → IfOk result (λ again. HasCleanDisk (file_state again) → ConnRepresents over_files again L) }
+    ensures fails_to_open { (L : Ledger) → ConnRepresents over_files conn L → IfErr result (λ e. UnopenedHolds e L) }
 {
     match conn.close_files() {
         Ok(files) => match Connection::open_files(alloc, files, options) {

@@ -2,28 +2,28 @@
 
 ghost use Rattle.std.specs.Prelude.{◌≡◌, IfOk, Some, bytes_eq, map};
 ghost use Rattle.std.specs.HashMap.{get_by};
-ghost use Rattle.portal_lists.specs.Lists.{sale_read};
+ghost use Rattle.portal_tables_queries.specs.Lists.{sale_read};
 ghost use Rattle.portal_model.specs.Change.{plan_among};
-ghost use Rattle.portal_tables.specs.Lists.{paid};
-ghost use Rattle.portal_tables.specs.Prices.{ArePrices, is_priced};
+ghost use Rattle.portal_tables.specs.PaymentLists.{payment_of};
+ghost use Rattle.portal_tables.specs.Prices.{ArePrices, payment_at};
 
-use portal_lists::lists::KeptSale;
-use portal_lists::sums::plan_among;
 use portal_model::moment::Moment;
 use portal_model::plan::Plan;
 use portal_model::record::Batch;
-use portal_rows::rows::Fault;
+use portal_tables_queries::lists::SaleValue;
+use portal_tables_queries::sums::first_plan_with;
+use portal_tables_rows::rows::RowError;
 use std::alloc::Global;
 use std::collections::HashMap;
 
 /// The price of the batch's plan, in hundredths. A batch without its plan is a foreign row.
-fn price_of(plans: &[Plan], batch: &Batch) -> Result<u64, Fault>
+fn price_of_batch(plans: &[Plan], batch: &Batch) -> Result<u64, RowError>
     ensures { IfOk result
         (λ price. (plan : Plan) × (plan_among plans.now batch.now.plan ≡ Some plan) × (price ≡ plan.price)) }
 {
-    match plan_among(plans, &batch.plan) {
+    match first_plan_with(plans, &batch.plan) {
         Some(plan) => Ok(u64::from(plan.price)),
-        None => Err(Fault::ForeignRow),
+        None => Err(RowError::ForeignRow),
     }
 }
 
@@ -33,13 +33,13 @@ pub(crate) fn prices_by_batch<'a>(
     alloc: Global,
     plans: &[Plan],
     batches: &'a [Batch],
-) -> Result<HashMap<&'a str, u64>, Fault>
+) -> Result<HashMap<&'a str, u64>, RowError>
     ensures { IfOk result
         (λ prices. ArePrices plans.now batches.now (λ id. get_by (λ k. bytes_eq id k.now) prices)) }
 {
     let mut prices = HashMap::new(alloc);
     for batch in batches {
-        let price = price_of(plans, batch)?;
+        let price = price_of_batch(plans, batch)?;
         let id = batch.id.text();
         if !prices.contains_key(id) {
             prices.insert(id, price)?;
@@ -49,30 +49,30 @@ pub(crate) fn prices_by_batch<'a>(
 }
 
 /// The moment and the price of a sale. A sale of no batch is a foreign row.
-fn priced(prices: &HashMap<&str, u64>, sale: &KeptSale) -> Result<(Moment, u64), Fault>
+fn price_of_sale(prices: &HashMap<&str, u64>, sale: &SaleValue) -> Result<(Moment, u64), RowError>
     ensures { IfOk result
-        (λ payment. is_priced (get_by (λ k. bytes_eq sale.now.batch k.now) prices.now)
-        (sale_read sale.now) ≡ Some (paid payment)) }
+        (λ payment. payment_at (get_by (λ k. bytes_eq sale.now.batch k.now) prices.now)
+        (sale_read sale.now) ≡ Some (payment_of payment)) }
 {
     match prices.get(sale.batch.text()) {
         Some(price) => Ok((sale.at, *price)),
-        None => Err(Fault::ForeignRow),
+        None => Err(RowError::ForeignRow),
     }
 }
 
 /// The moment and the price of each of these sales, in their order.
-pub(crate) fn priced_sales(
+pub(crate) fn price_sales(
     alloc: Global,
     prices: &HashMap<&str, u64>,
-    sales: &[KeptSale],
-) -> Result<Vec<(Moment, u64)>, Fault>
+    sales: &[SaleValue],
+) -> Result<Vec<(Moment, u64)>, RowError>
     ensures { IfOk result
-        (λ payments. map (λ s. is_priced (get_by (λ k. bytes_eq s.batch k.now) prices.now)
-        (sale_read s)) sales.now ≡ map (λ p. Some (paid p)) payments.items) }
+        (λ payments. map (λ s. payment_at (get_by (λ k. bytes_eq s.batch k.now) prices.now)
+        (sale_read s)) sales.now ≡ map (λ p. Some (payment_of p)) payments.items) }
 {
     let mut payments = Vec::new(alloc);
     for sale in sales {
-        payments.push(priced(prices, sale)?)?;
+        payments.push(price_of_sale(prices, sale)?)?;
     }
     Ok(payments)
 }

@@ -6,35 +6,36 @@ ghost use Rattle.sqlite.specs.State.{HasCleanDisk, IsUnchanged, Survives};
 ghost use Rattle.portal_ledger.specs.Ledger.{Accepted, Ledger, history_of};
 ghost use Rattle.portal_model.specs.History.{head_of, plan_of, batch_of, issued_of, voucher_of, session_of};
 ghost use Rattle.portal_model.specs.History.{last_session_of};
-ghost use Rattle.portal_rows.specs.Commands.{Fits as FitsColumns, FitsSession, FitsIssuance, FitsRedemption};
-ghost use Rattle.portal_rows.specs.Commands.{FitsUsage, FitsAnswer, FitsMark, FitsWithAnswer};
-ghost use Rattle.portal_ledger.specs.States.{State as Standing, running};
+ghost use Rattle.portal_tables_rows.specs.Commands.{FitsInColumns as FitsColumns, FitsSession, FitsIssue, FitsRedeem};
+ghost use Rattle.portal_tables_rows.specs.Commands.{FitsReport, FitsAnswer, FitsFingerprint, FitsWithAnswer};
+ghost use Rattle.portal_ledger.specs.States.{State as DeskState, running};
 ghost use Rattle.portal_ledger.specs.Calls.{Fits, Keeps, FailsToKeep};
-ghost use Rattle.portal_tables.specs.Shown.{IsHeldUnder};
-ghost use Rattle.portal_tables.specs.TablesAt.{ConnAt, ConnIsHonest, ConnMayLeave, Files, IsHonest, MayLeave};
-ghost use Rattle.portal_tables.specs.TablesAt.{OthersKept, TablesAt, IsStopped, KeepsStop, TellsStop};
-ghost use Rattle.portal_tables.specs.TablesAt.{ReadsTables, TellsFault, TellsRead};
-ghost use Rattle.portal_tables.specs.declared.fault.StoreFault.TheVariants.{Memory, Stopped};
+ghost use Rattle.portal_tables.specs.HoldsLedger.{IsHeldUnder};
+ghost use Rattle.portal_tables.specs.TablesRepresent.{ConnRepresents, ConnIsFaultFree, IsCrashStateOfConn, Files, IsFaultFree, IsCrashState};
+ghost use Rattle.portal_tables.specs.TablesRepresent.{OthersKept, TablesRepresent, IsStopped, TablesKeepStop, FaultGivesStop};
+ghost use Rattle.portal_tables.specs.TablesRepresent.{ReadsTables, GivesFault, GivesRead};
+ghost use Rattle.portal_tables.specs.declared.errors.StoreFault.TheVariants.{Memory, Stopped};
 
 mod audits;
 mod lists;
 
-use crate::fault::StoreFault;
+use crate::errors::StoreFault;
 use crate::records::{
-    LIMIT, read_head, read_is_held, read_kept, read_last_session, read_session, read_voucher,
+    LIMIT, read_head, read_is_held, read_kept_request, read_last_session, read_session,
+    read_voucher,
 };
 use portal_codes::Code;
 use portal_ledger::caller::Caller;
 use portal_ledger::marked::MarkedChanges;
 use portal_ledger::request::{KeptRequest, RequestMark, RequestNumber};
-use portal_model::change::{Answer, Changes, Issuance, Redemption, Usage};
+use portal_model::change::{Answer, Changes, IssueChange, RedeemChange, ReportChange};
 use portal_model::name::{Device, Id};
 use portal_model::plan::Plan;
 use portal_model::record::{Batch, Head, Session, Voucher};
-use portal_rows::commands::keep;
-use portal_rows::finds::{find_batch, find_plan};
-use portal_rows::rows::Fault;
-use portal_sql::query::answers;
+use portal_tables_rows::commands::commit_command;
+use portal_tables_rows::finds::{read_batch_row, read_plan_row};
+use portal_tables_rows::rows::RowError;
+use portal_tables_sql::query::is_answering;
 use sqlite::{Alter, Connection, Error, ErrorCode};
 use std::alloc::Global;
 
@@ -59,9 +60,9 @@ impl<S: Alter> Tables<S> {
     /// leaves of it what it might leave of them.
     pub fn release(self) -> Connection<S>
         ensures same { result ≡ self.conn }
-        ensures stands { (L : Ledger) → TablesAt S.Store self (running L) → ConnAt S.Store result L }
-        ensures honest { ConnIsHonest S.Store result → IsHonest S.Store self }
-        ensures left { (files : Files) → ConnMayLeave S.Store result files → MayLeave S.Store self files }
+        ensures represents { (L : Ledger) → TablesRepresent S.Store self (running L) → ConnRepresents S.Store result L }
+        ensures fault_free { ConnIsFaultFree S.Store result → IsFaultFree S.Store self }
+        ensures left { (files : Files) → IsCrashStateOfConn S.Store result files → IsCrashState S.Store self files }
     {
         let Tables {
             conn,
@@ -91,13 +92,13 @@ impl<S: Alter> Tables<S> {
 
     /// What a fault comes to. Want of memory is told only where the connection still answers, and so
     /// nothing has changed.
-    fn fault(&mut self, fault: Fault) -> StoreFault
-        ensures { TellsFault S.Store self.old self.new result }
+    fn stop_on_fault(&mut self, fault: RowError) -> StoreFault
+        ensures { GivesFault S.Store self.old self.new result }
     {
         if matches!(
             &fault,
-            Fault::Sql(Error::SqliteFailure(ErrorCode::OutOfMemory))
-        ) && answers(&mut self.conn)
+            RowError::Sql(Error::SqliteFailure(ErrorCode::OutOfMemory))
+        ) && is_answering(&mut self.conn)
         {
             return StoreFault::Memory;
         }
@@ -106,12 +107,12 @@ impl<S: Alter> Tables<S> {
     }
 
     /// What a reading of the store comes to: what it found, or what its fault comes to.
-    fn answer<T>(&mut self, read: Result<T, Fault>) -> Result<T, StoreFault>
-        ensures { TellsRead S.Store self.old self.new read result }
+    fn answer_or_stop<T>(&mut self, read: Result<T, RowError>) -> Result<T, StoreFault>
+        ensures { GivesRead S.Store self.old self.new read result }
     {
         match read {
             Ok(found) => Ok(found),
-            Err(fault) => Err(self.fault(fault)),
+            Err(fault) => Err(self.stop_on_fault(fault)),
         }
     }
 
@@ -120,28 +121,28 @@ impl<S: Alter> Tables<S> {
     /// After Stopped the files hold the command whole or not at all. Whatever comes of it, each table
     /// beside the product's keeps its rows.
     pub fn commit(&mut self, marked: &MarkedChanges) -> Result<(), StoreFault>
-        ensures honest { IsHonest S.Store self.new → IsHonest S.Store self.old }
+        ensures fault_free { IsFaultFree S.Store self.new → IsFaultFree S.Store self.old }
         ensures stopped { IsStopped S.Store self.old → IsErrOf result Stopped × (self.new ≡ self.old) }
-        ensures stops { KeepsStop S.Store self.old self.new result }
-        ensures commit { IsHonest S.Store self.new → (old : Standing) → TablesAt S.Store self.old old
+        ensures stops { TablesKeepStop S.Store self.old self.new result }
+        ensures commit { IsFaultFree S.Store self.new → (old : DeskState) → TablesRepresent S.Store self.old old
             → (a : Accepted) → Fits old marked.now a
-            → (new : Standing) × TablesAt S.Store self.new new
+            → (new : DeskState) × TablesRepresent S.Store self.new new
             × MatchResult result (λ _. Keeps old a new)
             (λ fault. FailsToKeep Memory Stopped old a fault new) }
-        ensures others { IsHonest S.Store self.new → (L : Ledger) → TablesAt S.Store self.old (running L)
+        ensures others { IsFaultFree S.Store self.new → (L : Ledger) → TablesRepresent S.Store self.old (running L)
             → OthersKept S.Store self.old self.new }
     {
         if self.is_stopped {
             return Err(StoreFault::Stopped);
         }
         let answer = marked.answer();
-        if !self.conn.is_autocommit() || !are_kept(marked, &answer) {
+        if !self.conn.is_autocommit() || !command_fits(marked, &answer) {
             self.is_stopped = true;
             return Err(StoreFault::Stopped);
         }
-        match keep(&mut self.conn, marked, &answer) {
+        match commit_command(&mut self.conn, marked, &answer) {
             Ok(()) => Ok(()),
-            Err(error) => Err(self.fault(Fault::Sql(error))),
+            Err(error) => Err(self.stop_on_fault(RowError::Sql(error))),
         }
     }
 
@@ -151,7 +152,7 @@ impl<S: Alter> Tables<S> {
     {
         self.check_working()?;
         let read = read_head(&mut self.conn);
-        self.answer(read)
+        self.answer_or_stop(read)
     }
 
     /// The plan of the id, where it is held.
@@ -160,8 +161,8 @@ impl<S: Alter> Tables<S> {
             (λ L found. found ≡ plan_of (history_of L) id.now) }
     {
         self.check_working()?;
-        let read = find_plan(&mut self.conn, id);
-        self.answer(read)
+        let read = read_plan_row(&mut self.conn, id);
+        self.answer_or_stop(read)
     }
 
     /// The batch of the id, where there is one.
@@ -170,8 +171,8 @@ impl<S: Alter> Tables<S> {
             (λ L found. found ≡ batch_of (history_of L) id.now) }
     {
         self.check_working()?;
-        let read = find_batch(&mut self.conn, id);
-        self.answer(read)
+        let read = read_batch_row(&mut self.conn, id);
+        self.answer_or_stop(read)
     }
 
     /// The voucher of the code, where it was issued.
@@ -181,7 +182,7 @@ impl<S: Alter> Tables<S> {
     {
         self.check_working()?;
         let read = read_voucher(&mut self.conn, code);
-        self.answer(read)
+        self.answer_or_stop(read)
     }
 
     /// Whether a voucher of the code was issued: one look at the tables, where its voucher takes up to four.
@@ -191,7 +192,7 @@ impl<S: Alter> Tables<S> {
     {
         self.check_working()?;
         let read = read_is_held(&mut self.conn, code);
-        self.answer(read)
+        self.answer_or_stop(read)
     }
 
     /// The session of the number, where there is one.
@@ -201,7 +202,7 @@ impl<S: Alter> Tables<S> {
     {
         self.check_working()?;
         let read = read_session(&mut self.conn, number);
-        self.answer(read)
+        self.answer_or_stop(read)
     }
 
     /// The session of the device with the greatest number, where there is one.
@@ -211,7 +212,7 @@ impl<S: Alter> Tables<S> {
     {
         self.check_working()?;
         let read = read_last_session(&mut self.conn, device);
-        self.answer(read)
+        self.answer_or_stop(read)
     }
 
     /// The request that is kept under the caller's number, with what its caller was told, where there is one.
@@ -225,8 +226,8 @@ impl<S: Alter> Tables<S> {
             (λ L found. IsHeldUnder L caller.now number.now found) }
     {
         self.check_working()?;
-        let read = read_kept(alloc, &mut self.conn, caller, number);
-        self.answer(read)
+        let read = read_kept_request(alloc, &mut self.conn, caller, number);
+        self.answer_or_stop(read)
     }
 }
 
@@ -238,14 +239,14 @@ fn session_fits(session: &Session) -> bool
         && session.allowance.is_none_or(|allowance| allowance < LIMIT)
 }
 
-fn issuance_fits(c: &Issuance) -> bool
-    ensures { IsTrue result ↔ FitsIssuance c.now }
+fn issue_fits(c: &IssueChange) -> bool
+    ensures { IsTrue result ↔ FitsIssue c.now }
 {
     c.batch.size < LIMIT && (c.codes.as_slice().len() as u64) < LIMIT
 }
 
-fn redemption_fits(c: &Redemption) -> bool
-    ensures { IsTrue result ↔ FitsRedemption c.now }
+fn redeem_fits(c: &RedeemChange) -> bool
+    ensures { IsTrue result ↔ FitsRedeem c.now }
 {
     session_fits(&c.session)
         && c.head.grants < LIMIT - 1
@@ -253,24 +254,24 @@ fn redemption_fits(c: &Redemption) -> bool
         && c.voucher.redeemed < LIMIT - 1
 }
 
-fn usage_fits(c: &Usage) -> bool
-    ensures { IsTrue result ↔ FitsUsage c.now }
+fn report_fits(c: &ReportChange) -> bool
+    ensures { IsTrue result ↔ FitsReport c.now }
 {
     session_fits(&c.session) && c.bytes < LIMIT
 }
 
 /// Whether each number of the changes can be kept.
-fn fit(changes: &Changes) -> bool
+fn changes_fit(changes: &Changes) -> bool
     ensures { IsTrue result ↔ FitsColumns changes.now }
 {
     match changes {
-        Changes::Loading(_) => true,
-        Changes::Issuance(c) => issuance_fits(c),
-        Changes::Sale(_) => true,
-        Changes::Redemption(c) => redemption_fits(c),
-        Changes::Usage(c) => usage_fits(c),
-        Changes::Repayment(c) => c.amount < LIMIT,
-        Changes::Closing(c) => c.session.number < LIMIT,
+        Changes::LoadChange(_) => true,
+        Changes::IssueChange(c) => issue_fits(c),
+        Changes::SellChange(_) => true,
+        Changes::RedeemChange(c) => redeem_fits(c),
+        Changes::ReportChange(c) => report_fits(c),
+        Changes::RefundChange(c) => c.amount < LIMIT,
+        Changes::CloseChange(c) => c.session.number < LIMIT,
     }
 }
 
@@ -279,31 +280,31 @@ fn answer_fits(answer: &Answer) -> bool
     ensures { IsTrue result ↔ FitsAnswer answer.now }
 {
     match answer {
-        Answer::Plans { plans } => *plans < LIMIT,
-        Answer::Issued {
+        Answer::LoadAnswer { plans } => *plans < LIMIT,
+        Answer::IssueAnswer {
             batch: _,
             count,
             expires,
         } => *count < LIMIT && expires.get() < LIMIT,
-        Answer::Sold { code: _, price } => *price < LIMIT,
-        Answer::Redeemed {
+        Answer::SellAnswer { code: _, price } => *price < LIMIT,
+        Answer::RedeemAnswer {
             extended: _,
             session,
             uses_left,
         } => *session < LIMIT && *uses_left < LIMIT,
-        Answer::Reported {
+        Answer::ReportAnswer {
             still_open: _,
             session,
             used,
         } => *session < LIMIT && *used < LIMIT,
-        Answer::Refunded { amount, code: _ } => *amount < LIMIT,
-        Answer::Closed { session } => *session < LIMIT,
+        Answer::RefundAnswer { amount, code: _ } => *amount < LIMIT,
+        Answer::CloseAnswer { session } => *session < LIMIT,
     }
 }
 
 /// Whether each number of the answer can be kept, where it is kept with a mark.
-fn mark_fits(mark: &Option<RequestMark>, answer: &Answer) -> bool
-    ensures { IsTrue result ↔ FitsMark mark.now answer.now }
+fn fingerprint_fits(mark: &Option<RequestMark>, answer: &Answer) -> bool
+    ensures { IsTrue result ↔ FitsFingerprint mark.now answer.now }
 {
     match mark {
         Some(_) => answer_fits(answer),
@@ -312,8 +313,8 @@ fn mark_fits(mark: &Option<RequestMark>, answer: &Answer) -> bool
 }
 
 /// Whether each number that is kept with the changes and their answer can be.
-fn are_kept(marked: &MarkedChanges, answer: &Answer) -> bool
+fn command_fits(marked: &MarkedChanges, answer: &Answer) -> bool
     ensures { IsTrue result ↔ FitsWithAnswer marked.now answer.now }
 {
-    fit(&marked.changes) && mark_fits(&marked.mark, answer)
+    changes_fit(&marked.changes) && fingerprint_fits(&marked.mark, answer)
 }

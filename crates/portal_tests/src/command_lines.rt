@@ -1,5 +1,5 @@
 //! Where and how often the program serves, by its command line.
-use portal_cli::{Order, read_words};
+use portal_cli::{Order, parse_command_line};
 use std::alloc::Global;
 
 /// Words, and the port and the number of connections that they come to.
@@ -25,8 +25,8 @@ const SERVED: &[(&[&str], u64, u64)] = &[
 
 /// The port and the number of connections, where the words are an order to serve the database x by the
 /// settings y.
-fn served(alloc: Global, words: &[&str]) -> Option<(u64, u64)> {
-    match read_words(alloc, words) {
+fn serve_options(alloc: Global, words: &[&str]) -> Option<(u64, u64)> {
+    match parse_command_line(alloc, words) {
         Ok(
             Order::Serve {
                 db: "x",
@@ -40,8 +40,8 @@ fn served(alloc: Global, words: &[&str]) -> Option<(u64, u64)> {
 }
 
 #[test]
-fn served_by_default(rt: HostRuntime) {
+fn serve_defaults(rt: HostRuntime) {
     for (words, port, count) in SERVED {
-        assert_eq!(rt; served(rt.alloc(), words), Some((*port, *count)));
+        assert_eq!(rt; serve_options(rt.alloc(), words), Some((*port, *count)));
     }
 }

@@ -1,11 +1,11 @@
 //! Takings past any number of sales, and their report.
 use portal_core::{Day, DayRange, DayTakings, add_takings};
-use portal_print::takings_text;
+use portal_files_print::takings_text;
 use std::alloc::Global;
 
 /// The days of the leap year 2020, of which two have takings: on the second two sales past 64 bits together,
 /// on the last a refund. What is before and after is not counted.
-fn year(alloc: Global) -> Option<Vec<DayTakings>> {
+fn takings_of_year(alloc: Global) -> Option<Vec<DayTakings>> {
     let range = DayRange::new(Day::new(18_262)?, Day::new(18_627)?)?;
     let most = (Day::new(18_263)?, u64::MAX);
     let after = (Day::new(18_628)?, 300);
@@ -14,7 +14,7 @@ fn year(alloc: Global) -> Option<Vec<DayTakings>> {
     add_takings(alloc, range, &[most, after, most, before], &[refund]).ok()
 }
 
-fn wanted(day: Day) -> DayTakings {
+fn expected_takings(day: Day) -> DayTakings {
     let (sold, sales, refunded, refunds) = match day.get() {
         18_263 => (2, 36_893_488_147_419_103_230, 0, 0),
         18_627 => (0, 0, 1, 333),
@@ -31,15 +31,15 @@ fn wanted(day: Day) -> DayTakings {
 
 #[test]
 fn takings_past_64_bits(rt: HostRuntime) {
-    let days = year(rt.alloc()).expect(&rt, "takings");
+    let days = takings_of_year(rt.alloc()).expect(&rt, "takings");
     assert_eq!(rt; days.len(), 366);
     for takings in &days {
-        assert_eq!(rt; *takings, wanted(takings.day));
+        assert_eq!(rt; *takings, expected_takings(takings.day));
     }
 }
 
 /// Amounts that take more than their columns.
-fn wide(day: Day) -> DayTakings {
+fn wide_takings(day: Day) -> DayTakings {
     DayTakings {
         day,
         sold: 123_456_789,
@@ -55,7 +55,7 @@ const WIDE: &str = "day            sold             sales refunded           ref
     net 12345678901234566.05\n";
 
 /// The greatest amounts, and one below a whole unit.
-fn widest(day: Day) -> DayTakings {
+fn widest_takings(day: Day) -> DayTakings {
     DayTakings {
         day,
         sold: u64::MAX,
@@ -90,10 +90,13 @@ fn is_report(report: Option<String>, wanted: &str) -> bool {
 #[test]
 fn wide_sums(rt: HostRuntime) {
     let first = Day::new(0).expect(&rt, "a day");
-    assert!(rt; is_report(report_of(rt.alloc(), wide(first)), WIDE), "wide");
+    assert!(rt;
+        is_report(report_of(rt.alloc(), wide_takings(first)), WIDE),
+        "wide"
+    );
     let last = Day::new(2_932_896).expect(&rt, "a day");
     assert!(rt;
-        is_report(report_of(rt.alloc(), widest(last)), WIDEST),
+        is_report(report_of(rt.alloc(), widest_takings(last)), WIDEST),
         "widest"
     );
     assert!(rt; is_report(takings_text(rt.alloc(), &[]).ok(), NONE), "none");

@@ -1,12 +1,12 @@
 //! Issuing a batch of codes.
 ghost use Rattle.std.specs.Prelude.{◌≡◌, ◌≢◌, bytes_eq, IfOk, IfErr, Some, None};
 ghost use Rattle.std.specs.List.{list_any};
-ghost use Rattle.portal_model.specs.Verdict.{issue_verdict, stands_twice};
+ghost use Rattle.portal_model.specs.Verdict.{issue_verdict, has_duplicate};
 ghost use Rattle.portal_model.specs.Change.{issue_change};
-ghost use Rattle.portal_core.specs.Decision.{IsDecisionOrFull};
+ghost use Rattle.portal_core.specs.Decision.{IsDecisionOrNoMemory};
 
 use portal_codes::Code;
-use portal_model::change::{Changes, Issuance};
+use portal_model::change::{Changes, IssueChange};
 use portal_model::lists::Codes;
 use portal_model::moment::Moment;
 use portal_model::name::Id;
@@ -32,12 +32,12 @@ pub fn decide_issue(
     codes: &[Code],
     t: Moment,
 ) -> Result<Changes, Refusal>
-    ensures { IsDecisionOrFull result (issue_verdict plan batch taken codes.now t)
+    ensures { IsDecisionOrNoMemory result (issue_verdict plan batch taken codes.now t)
         (issue_change plan id codes.now t) }
 {
     let batch = check_issue(plan, batch, taken, id, codes, t)?;
     let codes = Codes::from_slice(alloc, codes)?;
-    Ok(Changes::Issuance(Issuance {
+    Ok(Changes::IssueChange(IssueChange {
         at: t,
         batch,
         codes,
@@ -53,11 +53,11 @@ fn check_issue(
     codes: &[Code],
     t: Moment,
 ) -> Result<Batch, Refusal>
-    ensures accepted { IfOk result (λ _. issue_verdict plan batch taken codes.now t ≡ None) }
-    ensures refused { IfErr result (λ r. issue_verdict plan batch taken codes.now t ≡ Some r) }
+    ensures accepts { IfOk result (λ _. issue_verdict plan batch taken codes.now t ≡ None) }
+    ensures refuses { IfErr result (λ r. issue_verdict plan batch taken codes.now t ≡ Some r) }
     ensures own { IfErr result (λ r. r ≢ Refusal.Stopped) }
     ensures change { IfOk result (λ b. issue_change plan id codes.now t
-        ≡ Some (Changes.Issuance (record { at = t; batch = b; codes = codes.now }))) }
+        ≡ Some (Changes.IssueChange (record { at = t; batch = b; codes = codes.now }))) }
 {
     let Some(plan) = plan else {
         return Err(Refusal::UnknownPlan);
@@ -68,7 +68,7 @@ fn check_issue(
     let Some(expires) = Moment::new(t.get() + u64::from(plan.shelf_days) * SECONDS_PER_DAY) else {
         return Err(Refusal::MomentRange);
     };
-    if taken || stand_twice(codes) {
+    if taken || has_duplicate_code(codes) {
         return Err(Refusal::CodeTaken);
     }
     Ok(Batch {
@@ -87,11 +87,11 @@ fn holds_code(codes: &[Code], code: &Code) -> bool
 }
 
 /// Some code is listed twice.
-fn stand_twice(codes: &[Code]) -> bool
-    ensures { result ≡ stands_twice codes.now }
+fn has_duplicate_code(codes: &[Code]) -> bool
+    ensures { result ≡ has_duplicate codes.now }
 {
     match codes {
         [] => false,
-        [first, rest @ ..] => holds_code(rest, first) || stand_twice(rest),
+        [first, rest @ ..] => holds_code(rest, first) || has_duplicate_code(rest),
     }
 }

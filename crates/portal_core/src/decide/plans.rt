@@ -2,10 +2,10 @@
 ghost use Rattle.std.specs.Prelude.{◌≡◌, IfOk, Some};
 ghost use Rattle.std.specs.List.{list_any};
 ghost use Rattle.portal_model.specs.Verdict.{load_verdict, same_terms, differs};
-ghost use Rattle.portal_model.specs.Change.{plan_among, added, load_change};
-ghost use Rattle.portal_core.specs.Decision.{IsDecisionOrFull};
+ghost use Rattle.portal_model.specs.Change.{plan_among, plans_to_add, load_change};
+ghost use Rattle.portal_core.specs.Decision.{IsDecisionOrNoMemory};
 
-use portal_model::change::{Changes, Loading};
+use portal_model::change::{Changes, LoadChange};
 use portal_model::lists::Plans;
 use portal_model::moment::Moment;
 use portal_model::name::Id;
@@ -24,14 +24,14 @@ pub fn decide_plans(
     plans: &[Plan],
     t: Moment,
 ) -> Result<Changes, Refusal>
-    ensures { IsDecisionOrFull result (load_verdict (plan_among held.now) plans.now)
+    ensures { IsDecisionOrNoMemory result (load_verdict (plan_among held.now) plans.now)
         (Some (load_change (plan_among held.now) plans.now t)) }
 {
     if any_differs(held, plans) {
         return Err(Refusal::PlanDiffers);
     }
     let added = new_plans(alloc, held, plans)?;
-    Ok(Changes::Loading(Loading {
+    Ok(Changes::LoadChange(LoadChange {
         at: t,
         listed: plans.len() as u64,
         added,
@@ -39,7 +39,7 @@ pub fn decide_plans(
 }
 
 /// The first of the plans with that id.
-fn plan_among(plans: &[Plan], id: Id) -> Option<Plan>
+fn listed_plan(plans: &[Plan], id: Id) -> Option<Plan>
     ensures { result ≡ plan_among plans.now id }
 {
     for plan in plans {
@@ -74,16 +74,16 @@ fn any_differs(held: &[Plan], plans: &[Plan]) -> bool
 {
     plans
         .iter()
-        .any(|plan| differs(plan_among(held, plan.id), plan))
+        .any(|plan| differs(listed_plan(held, plan.id), plan))
 }
 
 /// The listed plans that are not held.
 fn new_plans(alloc: Global, held: &[Plan], plans: &[Plan]) -> Result<Plans, AllocError>
-    ensures { IfOk result (λ new. new ≡ added (plan_among held.now) plans.now) }
+    ensures { IfOk result (λ new. new ≡ plans_to_add (plan_among held.now) plans.now) }
 {
     let mut new = Plans::new(alloc);
     for plan in plans {
-        if plan_among(held, plan.id).is_none() {
+        if listed_plan(held, plan.id).is_none() {
             new.push(*plan)?;
         }
     }

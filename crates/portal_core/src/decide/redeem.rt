@@ -2,9 +2,9 @@
 ghost use Rattle.std.specs.Prelude.{◌≡◌, ◌≢◌, ◌≤◌, IfOk, IfErr, Some, None, true, false};
 ghost use Rattle.portal_model.specs.History.{is_open_at, kept_if};
 ghost use Rattle.portal_model.specs.Verdict.{redeem_verdict, voucher_verdict, voucher_refusal, place_verdict, same_limits, is_past};
-ghost use Rattle.portal_model.specs.Change.{session_after, raised, redemption, redeem_change};
+ghost use Rattle.portal_model.specs.Change.{session_after, raised_by, redemption, redeem_change};
 
-use portal_model::change::{Changes, Redemption};
+use portal_model::change::{Changes, RedeemChange};
 use portal_model::moment::Moment;
 use portal_model::name::Device;
 use portal_model::plan::Plan;
@@ -33,19 +33,19 @@ pub fn decide_redeem(
     device: Device,
     t: Moment,
 ) -> Result<Changes, Refusal>
-    ensures accepted { IfOk result (λ _. redeem_verdict head.now voucher last t ≡ None) }
-    ensures refused { IfErr result (λ r. redeem_verdict head.now voucher last t ≡ Some r) }
+    ensures accepts { IfOk result (λ _. redeem_verdict head.now voucher last t ≡ None) }
+    ensures refuses { IfErr result (λ r. redeem_verdict head.now voucher last t ≡ Some r) }
     ensures own { IfErr result (λ r. r ≢ Refusal.Stopped) }
     ensures change { head.now.sessions ≤ head.now.grants
         → IfOk result (λ change. redeem_change head.now voucher last device t ≡ Some change) }
 {
-    let voucher = check_voucher(voucher, t)?;
-    let running = open_of(last, t);
-    redeem(head, &voucher, &running, device, t)
+    let voucher = redeemable_voucher(voucher, t)?;
+    let running = session_if_open(last, t);
+    redeem_voucher(head, &voucher, &running, device, t)
 }
 
 /// The voucher, where it may be redeemed.
-fn check_voucher(voucher: Option<Voucher>, t: Moment) -> Result<Voucher, Refusal>
+fn redeemable_voucher(voucher: Option<Voucher>, t: Moment) -> Result<Voucher, Refusal>
     ensures ok { IfOk result (λ v. (voucher ≡ Some v) × (voucher_refusal v t ≡ None)) }
     ensures err { IfErr result (λ r. voucher_verdict voucher t ≡ Some r) }
     ensures own { IfErr result (λ r. r ≢ Refusal.Stopped) }
@@ -69,28 +69,28 @@ fn check_voucher(voucher: Option<Voucher>, t: Moment) -> Result<Voucher, Refusal
 }
 
 /// The device's last session, where it is open.
-fn open_of(last: Option<Session>, t: Moment) -> Option<Session>
+fn session_if_open(last: Option<Session>, t: Moment) -> Option<Session>
     ensures { result ≡ kept_if (is_open_at t) last }
 {
     last.filter(|session| is_open(session, t))
 }
 
 /// What the redemption of the voucher changes, beside the open session of the device.
-fn redeem(
+fn redeem_voucher(
     head: &Head,
     voucher: &Voucher,
     running: &Option<Session>,
     device: Device,
     t: Moment,
 ) -> Result<Changes, Refusal>
-    ensures accepted { IfOk result (λ _. place_verdict head.now voucher.now.plan t running.now ≡ None) }
-    ensures refused { IfErr result (λ r. place_verdict head.now voucher.now.plan t running.now ≡ Some r) }
+    ensures accepts { IfOk result (λ _. place_verdict head.now voucher.now.plan t running.now ≡ None) }
+    ensures refuses { IfErr result (λ r. place_verdict head.now voucher.now.plan t running.now ≡ Some r) }
     ensures own { IfErr result (λ r. r ≢ Refusal.Stopped) }
     ensures change { head.now.sessions ≤ head.now.grants
         → IfOk result (λ change. change ≡ redemption head.now running.now device t voucher.now) }
 {
-    let session = place(head, *running, voucher.plan, device, t)?;
-    Ok(Changes::Redemption(Redemption {
+    let session = place_in_session(head, *running, voucher.plan, device, t)?;
+    Ok(Changes::RedeemChange(RedeemChange {
         at: t,
         head: *head,
         voucher: *voucher,
@@ -100,7 +100,7 @@ fn redeem(
 }
 
 /// The session that the redemption leaves.
-fn place(
+fn place_in_session(
     head: &Head,
     running: Option<Session>,
     plan: Plan,
@@ -114,13 +114,13 @@ fn place(
         → IfOk result (λ after. after ≡ session_after head.now plan running device t) }
 {
     match running {
-        Some(session) => extended_session(head, session, plan, device, t),
+        Some(session) => extend_session(head, session, plan, device, t),
         None => new_session(head, plan, device, t),
     }
 }
 
 /// The open session, extended by the plan.
-fn extended_session(
+fn extend_session(
     head: &Head,
     session: Session,
     plan: Plan,
@@ -135,11 +135,11 @@ fn extended_session(
     if !session.extend {
         return Err(Refusal::NoExtend);
     }
-    if !limits_same(&session, &plan) {
+    if !has_same_limits(&session, &plan) {
         return Err(Refusal::ShapeDiffers);
     }
-    let allowance = raised_allowance(session.allowance, plan.bytes)?;
-    let ends = raised_end(session.ends, plan.seconds)?;
+    let allowance = raise_allowance(session.allowance, plan.bytes)?;
+    let ends = raise_end(session.ends, plan.seconds)?;
     if head.grants >= GREATEST_COUNT {
         return Err(Refusal::NumbersFull);
     }
@@ -151,15 +151,15 @@ fn extended_session(
 }
 
 /// The session limits the same quantities as the plan.
-fn limits_same(session: &Session, plan: &Plan) -> bool
+fn has_same_limits(session: &Session, plan: &Plan) -> bool
     ensures { result ≡ same_limits session.now plan.now }
 {
     session.ends.is_some() == (plan.seconds > 0) && session.allowance.is_some() == (plan.bytes > 0)
 }
 
-fn raised_allowance(allowance: Option<u64>, bytes: u64) -> Result<Option<u64>, Refusal>
+fn raise_allowance(allowance: Option<u64>, bytes: u64) -> Result<Option<u64>, Refusal>
     ensures ok { IfOk result (λ more. (is_past 9000000000000000 allowance bytes ≡ false)
-        × (more ≡ raised allowance bytes)) }
+        × (more ≡ raised_by allowance bytes)) }
     ensures err { IfErr result (λ r. (is_past 9000000000000000 allowance bytes ≡ true)
         × (r ≡ Refusal.AllowanceFull)) }
 {
@@ -172,9 +172,9 @@ fn raised_allowance(allowance: Option<u64>, bytes: u64) -> Result<Option<u64>, R
     }
 }
 
-fn raised_end(ends: Option<Moment>, seconds: u32) -> Result<Option<Moment>, Refusal>
+fn raise_end(ends: Option<Moment>, seconds: u32) -> Result<Option<Moment>, Refusal>
     ensures ok { IfOk result (λ more. (is_past 253370764799 ends seconds ≡ false)
-        × (more ≡ raised ends seconds)) }
+        × (more ≡ raised_by ends seconds)) }
     ensures err { IfErr result (λ r. (is_past 253370764799 ends seconds ≡ true) × (r ≡ Refusal.MomentRange)) }
 {
     let Some(had) = ends else {

@@ -4,8 +4,8 @@ use Rattle.portal_days.specs.Takings.{Pair, is_on, amount_on}
 use Rattle.portal_days.specs.declared.takings.DaySum.{DaySum}
 
 -- no pair
-abbrev pub nothing : DaySum
-nothing = record { count = 0; amount = 0 }
+abbrev pub zero_sum : DaySum
+zero_sum = record { count = 0; amount = 0 }
 
 -- the pairs of the day
 abbrev pub day_sum : List Pair → ℤ → DaySum
@@ -16,6 +16,6 @@ abbrev pub with_pair : ℤ → Pair → DaySum → DaySum
 with_pair day p s = record { count = s.count + cond (is_on day p) 1 0; amount = s.amount + amount_on day p }
 
 -- a pair more fits
-pub record HasRoom (s : DaySum) : Type 0 where
+pub record CanAddPair (s : DaySum) : Type 0 where
   pub count : s.count + 1 < 2 ^ 64
   pub amount : s.amount + 2 ^ 64 < 2 ^ 128

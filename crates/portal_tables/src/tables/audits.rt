@@ -2,14 +2,14 @@
 
 ghost use Rattle.std.specs.Prelude.{◌≡◌, ◌↔◌, true, IfOk, IsTrue};
 ghost use Rattle.sqlite.specs.Held.{state};
-ghost use Rattle.portal_lists.specs.Audit.{IsAudited};
-ghost use Rattle.portal_rows.specs.Contents.{Contents};
-ghost use Rattle.portal_rows.specs.Holds.{Holds};
-ghost use Rattle.portal_tables.specs.TablesAt.{IsHonest, ReadsTables};
+ghost use Rattle.portal_tables_queries.specs.Audit.{IsAudited};
+ghost use Rattle.portal_tables_rows.specs.Contents.{Contents};
+ghost use Rattle.portal_tables_rows.specs.Holds.{Holds};
+ghost use Rattle.portal_tables.specs.TablesRepresent.{IsFaultFree, ReadsTables};
 
 use super::Tables;
-use crate::fault::StoreFault;
-use portal_lists::audits::audit;
+use crate::errors::StoreFault;
+use portal_tables_queries::audits::audit;
 use sqlite::Alter;
 
 impl<S: Alter> Tables<S> {
@@ -19,12 +19,12 @@ impl<S: Alter> Tables<S> {
     /// redemptions and sessions. So it is in tables that only this product has written.
     pub fn audit(&mut self) -> Result<bool, StoreFault>
         ensures reads { ReadsTables S.Store self.old self.new result (λ L audited. audited ≡ true) }
-        ensures exact { IsHonest S.Store self.new → IsTrue (state S.Store self.old.conn).is_open
+        ensures exact { IsFaultFree S.Store self.new → IsTrue (state S.Store self.old.conn).is_open
             → (t : Contents) → Holds (state S.Store self.old.conn).now t
             → IfOk result (λ audited. IsTrue audited ↔ IsAudited t) }
     {
         self.check_working()?;
         let read = audit(&mut self.conn);
-        self.answer(read)
+        self.answer_or_stop(read)
     }
 }

@@ -3,18 +3,18 @@
 ghost use Rattle.std.specs.Prelude.{◌≡◌, filter};
 ghost use Rattle.portal_model.specs.Captive.{all_sessions};
 ghost use Rattle.portal_model.specs.History.{codes_of, is_open_at};
-ghost use Rattle.portal_tables.specs.Lists.{AreOrderedSales, AreRefunds, AreSales};
+ghost use Rattle.portal_tables.specs.PaymentLists.{AreOrderedSales, AreRefunds, AreSales};
 ghost use Rattle.portal_ledger.specs.Ledger.{history_of};
-ghost use Rattle.portal_tables.specs.TablesAt.{ReadsTables};
+ghost use Rattle.portal_tables.specs.TablesRepresent.{ReadsTables};
 
 use super::Tables;
-use crate::fault::StoreFault;
-use crate::lists::{read_open_sessions, read_ordered_sales, read_sales};
+use crate::errors::StoreFault;
+use crate::lists::{read_open_sessions, read_sales_as_issued, read_sales_by_moment};
 use portal_codes::Code;
-use portal_lists::lists::{list_codes, list_refunds};
 use portal_model::moment::Moment;
 use portal_model::name::Id;
 use portal_model::record::Session;
+use portal_tables_queries::lists::{list_batch_codes, list_refunds};
 use sqlite::Alter;
 use std::alloc::Global;
 
@@ -25,8 +25,8 @@ impl<S: Alter> Tables<S> {
             (λ L found. found.items ≡ codes_of (history_of L) id.now) }
     {
         self.check_working()?;
-        let read = list_codes(alloc, &mut self.conn, id);
-        self.answer(read)
+        let read = list_batch_codes(alloc, &mut self.conn, id);
+        self.answer_or_stop(read)
     }
 
     /// The sessions that are open at `t`, by number.
@@ -36,7 +36,7 @@ impl<S: Alter> Tables<S> {
     {
         self.check_working()?;
         let read = read_open_sessions(alloc, &mut self.conn, t);
-        self.answer(read)
+        self.answer_or_stop(read)
     }
 
     /// The sales within the two moments, both included: of each the moment, and the price in hundredths.
@@ -51,8 +51,8 @@ impl<S: Alter> Tables<S> {
             (λ L found. AreOrderedSales (history_of L) from to found.items) }
     {
         self.check_working()?;
-        let read = read_ordered_sales(alloc, &mut self.conn, from, to);
-        self.answer(read)
+        let read = read_sales_by_moment(alloc, &mut self.conn, from, to);
+        self.answer_or_stop(read)
     }
 
     /// The sales within the two moments, both included: of each the moment, and the price in hundredths.
@@ -67,8 +67,8 @@ impl<S: Alter> Tables<S> {
             (λ L found. AreSales (history_of L) from to found.items) }
     {
         self.check_working()?;
-        let read = read_sales(alloc, &mut self.conn, from, to);
-        self.answer(read)
+        let read = read_sales_as_issued(alloc, &mut self.conn, from, to);
+        self.answer_or_stop(read)
     }
 
     /// The refunds within the two moments, both included: of each the moment, and the amount in
@@ -84,6 +84,6 @@ impl<S: Alter> Tables<S> {
     {
         self.check_working()?;
         let read = list_refunds(alloc, &mut self.conn, from, to);
-        self.answer(read)
+        self.answer_or_stop(read)
     }
 }

@@ -1,14 +1,14 @@
-use Rattle.portal_days.proofs.Common.{◌≡◌, ◌<◌, ◌^◌, ◌+◌, ◌+ℤ◌, pos, length, get_or, take, ap, sym, ◌∙◌, subst, rules, slice_index_or, All, take_all, All-more, Pair, day_sum, nothing, with_pair, HasRoom}
+use Rattle.portal_days.proofs.Common.{◌≡◌, ◌<◌, ◌^◌, ◌+◌, ◌+ℤ◌, pos, length, get_or, take, ap, sym, ◌∙◌, subst, rules, slice_index_or, All, take_all, All-more, Pair, day_sum, zero_sum, with_pair, CanAddPair}
 use Rattle.portal_days.proofs.DaySumLemmas.{day_sum_more, day_sum_room, sums_are, whole}
 use Rattle.portal_days.proofs.takings.sums_by_day.Goals as goal
 
-pub add_pair-requires-clause-room : goal.add_pair-requires-clause-room
-add_pair-requires-clause-room c =
+pub add_pair-requires-clause-can_add : goal.add_pair-requires-clause-can_add
+add_pair-requires-clause-can_add c =
     let is = c.loop-day.invariant in
     let few : length c.args.pairs.now < 2 ^ 64 = search rules in
     λ k h.
     let room = day_sum_room (c.args.range.first +ℤ pos k) c.args.pairs.now c.loop-day.day-index c.loop-day-test.true few is.small in
-    subst HasRoom (sym (ap (λ xs. slice_index_or xs k nothing) c.deref_mut.ensures.value ∙ is.each k h)) room
+    subst CanAddPair (sym (ap (λ xs. slice_index_or xs k zero_sum) c.deref_mut.ensures.value ∙ is.each k h)) room
 
 pub loop-day-preserved : goal.loop-day-preserved
 loop-day-preserved c =
@@ -26,9 +26,9 @@ loop-day-preserved c =
       days = ap length new ∙ added.days;
       each = λ k h.
           let day = c.args.range.first +ℤ pos k in
-          ap (λ xs. slice_index_or xs k nothing) new
+          ap (λ xs. slice_index_or xs k zero_sum) new
           ∙ added.added k h
-          ∙ ap (with_pair day pair) (ap (λ xs. slice_index_or xs k nothing) c.deref_mut.ensures.value ∙ is.each k h)
+          ∙ ap (with_pair day pair) (ap (λ xs. slice_index_or xs k zero_sum) c.deref_mut.ensures.value ∙ is.each k h)
           ∙ ap (λ p. with_pair day p (day_sum (take i pairs) day)) here
           ∙ sym (day_sum_more day pairs i pair within);
       small = All-more (λ (p : Pair). p.1 < 2 ^ 64) pairs i pair within is.small (subst (λ (p : Pair). p.1 < 2 ^ 64) here added.small);

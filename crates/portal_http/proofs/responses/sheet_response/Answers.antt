@@ -1,5 +1,5 @@
-use Rattle.portal_print.specs.PrintFile.{IsPrintFile}
-use Rattle.portal_head.specs.declared.responses.ContentType.TheVariants.{Csv}
+use Rattle.portal_files_print.specs.PrintFile.{IsPrintFile}
+use Rattle.portal_http_message.specs.declared.responses.ContentType.TheVariants.{Csv}
 use Rattle.portal_http.specs.Replies.{IsSheet}
 use Rattle.portal_http.proofs.ResponseLemmas.{with_text}
 use Rattle.portal_http.proofs.responses.sheet_response.Goals as goal

@@ -12,5 +12,5 @@ pub returns-clause-ok : goal.returns-clause-ok
 unfolding captive_body
 returns-clause-ok c =
     let venue = option_map (λ (url : Bor (List ℕ)). url.now) c.args.venue_url in
-    text_along c.written.result _ (captive_data c.args.state.now c.args.portal_url.now venue)
-    (c.in_ok-value.ensures ∙ in_order c.args.state.now c.args.portal_url.now venue) c.written.ensures.ok
+    text_along c.text_of_value.result _ (captive_data c.args.state.now c.args.portal_url.now venue)
+    (c.in_ok-value.ensures ∙ in_order c.args.state.now c.args.portal_url.now venue) c.text_of_value.ensures.ok

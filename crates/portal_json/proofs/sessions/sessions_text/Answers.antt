@@ -4,9 +4,9 @@ use Rattle.portal_json.proofs.ObjectLemmas.{text_along}
 use Rattle.portal_json.proofs.SessionLemmas.{sessions_whole}
 use Rattle.portal_json.proofs.sessions.sessions_text.Goals as goal
 
-pub written-requires : goal.written-requires
-written-requires c = ap has_float c.in_ok-value.ensures ∙ sessions_whole c.args.sessions.now
+pub text_of_value-requires : goal.text_of_value-requires
+text_of_value-requires c = ap has_float c.in_ok-value.ensures ∙ sessions_whole c.args.sessions.now
 
 pub returns-clause-ok : goal.returns-clause-ok
 unfolding sessions_body
-returns-clause-ok c = text_along c.written.result _ (sessions_data c.args.sessions.now) c.in_ok-value.ensures c.written.ensures.ok
+returns-clause-ok c = text_along c.text_of_value.result _ (sessions_data c.args.sessions.now) c.in_ok-value.ensures c.text_of_value.ensures.ok

@@ -1,4 +1,4 @@
-use Rattle.portal_tables.proofs.Common.{ap, ◌∙◌, filter_map, open_numbered}
+use Rattle.portal_tables.proofs.Common.{ap, ◌∙◌, filter_map, open_session_of}
 use Rattle.portal_tables.proofs.ShownLemmas.{next_fails, of_rows, shown_as, shown_then}
 use Rattle.portal_tables.proofs.ListLaws.{open_listed}
 use Rattle.portal_tables.proofs.lists.read_open_sessions.Goals as goal
@@ -10,5 +10,5 @@ pub returns : goal.returns
 returns g c =
     shown_as g.S.Store (λ h legal is.
     let numbers = is.0.1 in
-    open_listed h legal c.args.t numbers.0 c.in_ok-numbers.numbers.items c.in_ok-sessions.sessions.items numbers.1 numbers.2 (is.1 ∙ ap (filter_map (open_numbered h c.args.t)) c.deref.ensures.value))
+    open_listed h legal c.args.t numbers.0 c.in_ok-numbers.numbers.items c.in_ok-sessions.sessions.items numbers.1 numbers.2 (is.1 ∙ ap (filter_map (open_session_of h c.args.t)) c.deref.ensures.value))
     (shown_then g.S.Store (of_rows g.S.Store c.in_ok-numbers.ensures) c.in_ok-sessions.ensures)

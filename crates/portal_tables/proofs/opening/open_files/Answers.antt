@@ -6,5 +6,5 @@ pub returns-clause-opened : goal.returns-clause-opened
 returns-clause-opened g c h shown =
     ok_both c.open_files.result (λ conn opened found clean. opens h c.args.files conn (λ db. settled_at conn.store g.met.D.Disk.seen_may_stay db) shown (opened clean) (found clean)) c.open_files.ensures.opened c.open_files.ensures.found
 
-pub returns-clause-unopened : goal.returns-clause-unopened
-returns-clause-unopened g c h at = IfErr-weaker c.open_files.result _ _ (λ e left clean. leftover_shows h c.args.files e.1 at (left clean)) c.open_files.ensures.unharmed
+pub returns-clause-fails_to_open : goal.returns-clause-fails_to_open
+returns-clause-fails_to_open g c h at = IfErr-weaker c.open_files.result _ _ (λ e left clean. leftover_shows h c.args.files e.1 at (left clean)) c.open_files.ensures.unharmed

@@ -8,8 +8,8 @@ pub returns-clause-opened : goal.returns-clause-opened
 returns-clause-opened g c h shown =
     ok_both c.open_from.result (λ conn opened found clean. opens_from h (image_at g.S.Start) conn (λ db. settled_at conn.store (λ f. inl refl) db) shown (opened clean) (found clean)) c.open_from.ensures.opened c.open_from.ensures.found
 
-pub returns-clause-unopened : goal.returns-clause-unopened
-returns-clause-unopened g c h shown =
+pub returns-clause-fails_to_open : goal.returns-clause-fails_to_open
+returns-clause-fails_to_open g c h shown =
     IfErr-weaker c.open_from.result _ _ (λ e cause. IfSome_then e.1 cause (λ left it clean.
     let (files, log, db, told) = it in
     let start = g.S.Start in

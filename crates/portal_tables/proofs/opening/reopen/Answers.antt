@@ -8,9 +8,9 @@ returns-in-Ok-open_files-clause-opened g c h at clean =
     reopened_stands h c.args.conn again c.in-Ok.files (λ db. settled_at again.store g.met.D.Disk.seen_may_stay db)
     at c.in-Ok.ensures.copied (c.in-Ok-open_files.ensures.opened clean) (c.in-Ok-open_files.ensures.found clean)
 
-pub returns-in-Err-open_files-clause-unopened : goal.returns-in-Err-open_files-clause-unopened
-returns-in-Err-open_files-clause-unopened g c h at =
+pub returns-in-Err-open_files-clause-fails_to_open : goal.returns-in-Err-open_files-clause-fails_to_open
+returns-in-Err-open_files-clause-fails_to_open g c h at =
     (c.in-Ok.files, λ honest. closed_show h c.args.conn c.in-Ok.files at (c.in-Ok.ensures.copied honest) c.in-Err-open_files.left c.in-Err-open_files.ensures.unharmed)
 
-pub returns-in-Err-clause-unopened : goal.returns-in-Err-clause-unopened
-returns-in-Err-clause-unopened g c h at = unclosed_shows h c.args.conn c.in-Err.store at c.in-Err.ensures.err.0.quiet
+pub returns-in-Err-clause-fails_to_open : goal.returns-in-Err-clause-fails_to_open
+returns-in-Err-clause-fails_to_open g c h at = unclosed_shows h c.args.conn c.in-Err.store at c.in-Err.ensures.err.0.quiet

@@ -1,4 +1,4 @@
-use Rattle.portal_tables.proofs.StandingLemmas.{read_stopped, tells_history}
+use Rattle.portal_tables.proofs.StateLemmas.{read_stopped, tells_history}
 use Rattle.portal_tables.proofs.tables.Tables.is_held.Goals as goal
 
 pub returns-in_err-check_working : goal.returns-in_err-check_working
@@ -7,5 +7,5 @@ returns-in_err-check_working g c =
 
 pub returns : goal.returns
 returns g c =
-    tells_history g.S.Store c.args.self.now c.answer.new.self c.read_is_held-read.new.conn c.in_ok-check_working.ensures (λ db. g.met.S.Store.settled c.answer.new.self.conn.store db) _ c.read_is_held-read.result c.read_is_held-read.ensures.looks
-    c.read_is_held-read.ensures.found c.answer.ensures
+    tells_history g.S.Store c.args.self.now c.answer_or_stop.new.self c.read_is_held-read.new.conn c.in_ok-check_working.ensures (λ db. g.met.S.Store.settled c.answer_or_stop.new.self.conn.store db) _ c.read_is_held-read.result c.read_is_held-read.ensures.looks
+    c.read_is_held-read.ensures.found c.answer_or_stop.ensures

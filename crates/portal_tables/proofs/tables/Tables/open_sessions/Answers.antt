@@ -1,4 +1,4 @@
-use Rattle.portal_tables.proofs.StandingLemmas.{read_stopped, tells_history}
+use Rattle.portal_tables.proofs.StateLemmas.{read_stopped, tells_history}
 use Rattle.portal_tables.proofs.tables.Tables.open_sessions.Goals as goal
 
 pub returns-in_err-check_working : goal.returns-in_err-check_working
@@ -7,5 +7,5 @@ returns-in_err-check_working g c =
 
 pub returns : goal.returns
 returns g c =
-    tells_history g.S.Store c.args.self.now c.answer.new.self c.read_open_sessions-read.new.conn c.in_ok-check_working.ensures (λ db. g.met.S.Store.settled c.answer.new.self.conn.store db) _ c.read_open_sessions-read.result c.read_open_sessions-read.ensures.looks
-    c.read_open_sessions-read.ensures.found c.answer.ensures
+    tells_history g.S.Store c.args.self.now c.answer_or_stop.new.self c.read_open_sessions-read.new.conn c.in_ok-check_working.ensures (λ db. g.met.S.Store.settled c.answer_or_stop.new.self.conn.store db) _ c.read_open_sessions-read.result c.read_open_sessions-read.ensures.looks
+    c.read_open_sessions-read.ensures.found c.answer_or_stop.ensures

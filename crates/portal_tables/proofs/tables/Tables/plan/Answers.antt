@@ -1,6 +1,6 @@
 use Rattle.portal_tables.proofs.Joining.{plan_found}
-use Rattle.portal_sql.proofs.FindLemmas.{ok_then}
-use Rattle.portal_tables.proofs.StandingLemmas.{read_stopped, tells_history}
+use Rattle.portal_tables_sql.proofs.FindLemmas.{ok_then}
+use Rattle.portal_tables.proofs.StateLemmas.{read_stopped, tells_history}
 use Rattle.portal_tables.proofs.tables.Tables.plan.Goals as goal
 
 pub returns-in_err-check_working : goal.returns-in_err-check_working
@@ -9,5 +9,5 @@ returns-in_err-check_working g c =
 
 pub returns : goal.returns
 returns g c =
-    tells_history g.S.Store c.args.self.now c.answer.new.self c.find_plan-read.new.conn c.in_ok-check_working.ensures (λ db. g.met.S.Store.settled c.answer.new.self.conn.store db) _ c.find_plan-read.result c.find_plan-read.ensures.looks
-    (λ clean live h shown. ok_then c.find_plan-read.result (plan_found h shown.0 c.args.id.now) (c.find_plan-read.ensures.found clean _ shown.1.1)) c.answer.ensures
+    tells_history g.S.Store c.args.self.now c.answer_or_stop.new.self c.read_plan_row-read.new.conn c.in_ok-check_working.ensures (λ db. g.met.S.Store.settled c.answer_or_stop.new.self.conn.store db) _ c.read_plan_row-read.result c.read_plan_row-read.ensures.looks
+    (λ clean live h shown. ok_then c.read_plan_row-read.result (plan_found h shown.0 c.args.id.now) (c.read_plan_row-read.ensures.found clean _ shown.1.1)) c.answer_or_stop.ensures

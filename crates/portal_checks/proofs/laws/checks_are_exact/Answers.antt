@@ -1,5 +1,0 @@
-use Rattle.portal_checks.proofs.CheckedOnce.{checked_once}
-use Rattle.portal_checks.proofs.laws.checks_are_exact.Goals as goal
-
-pub returns : goal.returns
-returns c = checked_once

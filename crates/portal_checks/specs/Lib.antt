@@ -1,8 +1,0 @@
-pub mod Denials
-pub mod Seeds
-pub mod Issues
-pub mod Callers
-pub mod Bodies
-pub mod Queries
-pub mod Checks
-pub mod Laws

@@ -1,0 +1,100 @@
+-- How the answer to one request ends.
+use Rattle.std.specs.Prelude.{◌≡◌, ◌⊎◌, ◌≤◌, ℕ, List, [], length, Bool, false, ◌==◌, ◌&&◌, if◌then◌else◌, Option, None, Some, Result, Ok, Err, ⊤}
+use Rattle.std.specs.List.{AllPass}
+use Rattle.std.specs.Borrow.{Bor}
+use Rattle.std.specs.Io.KnownBytes.{Keeps}
+use Rattle.hex.specs.Hex.{decode_of, is_hex_digit}
+use Rattle.portal_files.specs.SettingsFile.{SettingsValue}
+use Rattle.portal_files.specs.Sample.{IsSample}
+use Rattle.portal_ledger.specs.States.{State, running}
+use Rattle.portal_desk.specs.Calls.{is_stopped_state}
+use Rattle.portal_http.specs.declared.exchanges.Done.{Done}
+use Rattle.portal_http.specs.declared.exchanges.Cut.{Cut as Break}
+use Rattle.portal_http.specs.Arrived.{Arrived}
+use Rattle.portal_http.specs.Runs.{ServesInOrder}
+use Rattle.portal_http.specs.Exchanges.{Wire, EndsExchange}
+use Rattle.portal_exit.specs.declared.error.ProgramError.{ProgramError}
+use Rattle.portal_exit.specs.declared.error.ProgramError.TheVariants.{Usage, Cut, NoMemory}
+use Rattle.portal_exit.specs.Errors.{line_of, exit_code_of}
+use Rattle.portal_exit.specs.Streams.{Prints}
+use Rattle.portal_commands.specs.declared.answering.AnswerOptions.{AnswerOptions}
+use Rattle.portal_commands.specs.declared.trouble.Trouble.{Trouble}
+use Rattle.portal_commands.specs.Places.{IsFileError, IsDatabaseError, IsForMemory, PlaceValue, AreReadSettings, IsNotRead, ByDesk}
+use Rattle.portal_commands.specs.Troubles.{NamesPath, Reports}
+
+-- 0 after 200, 3 after the 503 of a desk that has stopped, 1 after any other
+abbrev pub exit_code_for : ℕ → Bool → ℕ
+exit_code_for status is_stopped = if status == 200 then 0 else (if status == 503 && is_stopped then 3 else 1)
+
+-- the status that belongs to how an exchange ended
+abbrev pub outcome : Result Done Break → Bool → Result ℕ ProgramError
+outcome (Ok done) is_stopped = Ok (exit_code_for done.status is_stopped)
+outcome (Err cut) is_stopped = Err Cut
+
+-- an exchange ends, and the status is the one that belongs to it
+abbrev pub EndsAnswering : Wire → ℕ → List ℕ → (List Arrived → List (List ℕ) → Type 0) → Bool → Result ℕ ProgramError → Type 0
+EndsAnswering wire moment seed IsRun is_stopped result =
+    (ended : Result Done Break) × EndsExchange wire moment seed IsRun ended × (result ≡ outcome ended is_stopped)
+
+-- a moment of the years up to 9998, and 64 hexadecimal digits
+abbrev pub IsInRange : ℕ → List ℕ → Type 0
+IsInRange now seed = (now ≤ 253370764799) × (length seed ≡ 64) × AllPass is_hex_digit seed
+
+-- nothing is read and nothing goes out
+abbrev pub AreLeftAlone : Wire → Type 0
+AreLeftAlone wire = Keeps wire.unread wire.unread_after × Keeps wire.sent wire.sent_after
+
+-- the status is that of the answer, and a fault's line is printed
+abbrev pub EndsStatus : Result ℕ ProgramError → Option (List ℕ) → Option (List ℕ) → ℕ → Type 0
+EndsStatus (Ok given) errors errors_after status = (status ≡ given) × Keeps errors errors_after
+EndsStatus (Err error) errors errors_after status = (status ≡ exit_code_of error) × Prints errors errors_after (line_of error)
+
+-- the file keeps the request from being answered: nothing is read then, and nothing goes out but what is told
+-- of it
+abbrev pub EndsBeforeReading : Wire → Option (List ℕ) → Option (List ℕ) → Trouble → ℕ → Type 0
+EndsBeforeReading wire errors errors_after trouble status =
+    AreLeftAlone wire × (status ≡ exit_code_of trouble.error) × Reports trouble errors errors_after
+
+-- Without a file that is named, a request is the one request of a run of a desk that nothing was told.
+abbrev pub AnswersFresh : (ProgramError → Type 0) → Wire → Option (List ℕ) → Option (List ℕ) → ℕ → List ℕ → SettingsValue → ℕ → Type 0
+AnswersFresh fails wire errors errors_after moment seed settings status =
+    ((new : State) × (answered : Result ℕ ProgramError)
+    × EndsAnswering wire moment seed (λ arrivals responses. ServesInOrder settings (running []) arrivals responses new) (is_stopped_state new) answered
+    × EndsStatus answered errors errors_after status)
+    ⊎ ((error : ProgramError) × IsFileError error × ((error ≡ NoMemory) ⊎ fails error) × AreLeftAlone wire × EndsStatus (Err error) errors errors_after status)
+
+-- Else it is that of the desk over the file, from the ledger that the file shows.
+abbrev pub AnswersStored : PlaceValue → List ℕ → Wire → Option (List ℕ) → Option (List ℕ) → ℕ → List ℕ → SettingsValue → ℕ → Type 0
+AnswersStored place path wire errors errors_after moment seed settings status =
+    ((is_new : Bool) × ByDesk place path false is_new errors_after
+    (λ printed. (is_stopped : Bool) × (answered : Result ℕ ProgramError) × EndsAnswering wire moment seed (λ arrivals responses. ⊤) is_stopped answered
+    × EndsStatus answered errors printed status)
+    (λ printed old new. (answered : Result ℕ ProgramError)
+    × EndsAnswering wire moment seed (λ arrivals responses. ServesInOrder settings old arrivals responses new) (is_stopped_state new) answered
+    × EndsStatus answered errors printed status))
+    ⊎ ((trouble : Trouble) × (IsDatabaseError trouble.error × NamesPath path trouble) × (IsForMemory trouble ⊎ place.refuses path trouble)
+    × EndsBeforeReading wire errors errors_after trouble status)
+
+-- with the settings of the file that is named, or else the sample settings
+abbrev pub IsAnswered : PlaceValue → Wire → Option (List ℕ) → Option (List ℕ) → ℕ → List ℕ → Option (Bor (List ℕ)) → SettingsValue → ℕ → Type 0
+IsAnswered place wire errors errors_after moment seed None settings status =
+    AnswersFresh place.fails_to_make wire errors errors_after moment seed settings status
+IsAnswered place wire errors errors_after moment seed (Some path) settings status =
+    AnswersStored place path.now wire errors errors_after moment seed settings status
+
+-- the file with the settings is of no use, or there is no memory for the sample settings
+abbrev pub IsOfNamed : (List ℕ → List ℕ → Type 0) → (List ℕ → Trouble → Type 0) → Option (Bor (List ℕ)) → Trouble → Type 0
+IsOfNamed reads fails settings trouble =
+    (settings ≡ None → IsForMemory trouble)
+    × ((path : Bor (List ℕ)) → settings ≡ Some path → NamesPath path.now trouble × IsNotRead (reads path.now) (fails path.now) trouble)
+
+-- a value is out of its range, or the settings keep the request from being answered, or it is answered
+abbrev pub EndsAnswer : PlaceValue → Wire → Option (List ℕ) → Option (List ℕ) → AnswerOptions → ℕ → Type 0
+EndsAnswer place wire errors errors_after request status =
+    ((¬ IsInRange request.now request.seed.now) × AreLeftAlone wire × EndsStatus (Err Usage) errors errors_after status)
+    ⊎ (IsInRange request.now request.seed.now
+    × (((trouble : Trouble) × IsOfNamed place.reads place.fails_to_read request.settings trouble × EndsBeforeReading wire errors errors_after trouble status)
+    ⊎ ((bytes : List ℕ) × (settings : SettingsValue) × (decode_of request.seed.now ≡ Ok bytes)
+    × (request.settings ≡ None → IsSample settings)
+    × ((path : Bor (List ℕ)) → request.settings ≡ Some path → AreReadSettings (place.reads path.now) settings)
+    × IsAnswered place wire errors errors_after request.now bytes request.db settings status)))

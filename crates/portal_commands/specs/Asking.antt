@@ -1,0 +1,128 @@
+-- What the commands tell that only ask the desk: `print`, `takings` and `check`.
+use Rattle.std.specs.Prelude.{◌≡◌, ◌⊎◌, ℕ, List, Bool, true, false, Option, Some, Result, Ok, Err, ⊤}
+use Rattle.jiff_tz.specs.declared.timezone.TimeZone.{TimeZone}
+use Rattle.portal_days.specs.Span.{Span, IsSpan}
+use Rattle.portal_model.specs.IdText.{IsIdText}
+use Rattle.portal_model.specs.History.{History}
+use Rattle.portal_model.specs.declared.refusal.Refusal.TheVariants.{UnknownBatch}
+use Rattle.portal_files.specs.DayText.{IsDayText}
+use Rattle.portal_files.specs.declared.sheet.BatchSheet.{BatchSheet}
+use Rattle.portal_files_print.specs.PrintFile.{IsPrintFile}
+use Rattle.portal_files_print.specs.Report.{IsReport}
+use Rattle.portal_ledger.specs.Calls.{ReadsThat}
+use Rattle.portal_ledger.specs.Ledger.{Ledger}
+use Rattle.portal_ledger.specs.States.{State, running}
+use Rattle.portal_desk.specs.Calls.{CannotAnswer, RefusesUnknown}
+use Rattle.portal_desk.specs.Sheets.{sheet_of, takings_over}
+use Rattle.portal_exit.specs.declared.ending.Output.{Output}
+use Rattle.portal_exit.specs.declared.ending.Output.TheVariants.{Text, Agrees, Differs}
+use Rattle.portal_exit.specs.declared.error.ProgramError.{ProgramError}
+use Rattle.portal_exit.specs.declared.error.ProgramError.TheVariants.{Refused, Usage}
+use Rattle.portal_exit.specs.Streams.{Outlets}
+use Rattle.portal_exit.specs.Ends.{EndsWith}
+use Rattle.portal_files.specs.SettingsFile.{SettingsValue}
+use Rattle.portal_commands.specs.declared.place.Files.{Files}
+use Rattle.portal_commands.specs.declared.asking.Question.{Question}
+use Rattle.portal_commands.specs.declared.asking.Question.TheVariants.{Batch, Takings, Counters}
+use Rattle.portal_commands.specs.declared.trouble.Trouble.{Trouble}
+use Rattle.portal_commands.specs.Places.{PlaceValue, AreReadSettings, ByDesk, Closes, FailsBeforeDesk}
+use Rattle.portal_commands.specs.Troubles.{Announces, EndsTrouble}
+
+-- what a desk tells: its fault is a refusal
+abbrev pub IsDeskResult : Result Output ProgramError → Type 0
+IsDeskResult (Ok printout) = ⊤
+IsDeskResult (Err (Refused r)) = ⊤
+IsDeskResult (Err _) = ⊥
+
+-- what is told is such a thing, and it is printed
+abbrev pub PrintsOutput : (Result Output ProgramError → Type 0) → Outlets → ℕ → Type 0
+PrintsOutput Is o status = (printout : Result Output ProgramError) × Is printout × EndsWith printout o status
+
+-- Asked of the desk over the files of a place: they keep it from the desk; or the desk tells it with the
+-- settings that were read, from the ledger that the file shows, between a line that tells of a new database
+-- and what is told of the close.
+abbrev pub AsksOver : PlaceValue → Files → (SettingsValue → State → Result Output ProgramError → State → Type 0) → Outlets → ℕ → Type 0
+AsksOver place files Tells o status =
+    ((trouble : Trouble) × FailsBeforeDesk place.reads place.fails_to_read place.refuses files trouble × EndsTrouble trouble o status)
+    ⊎ ((settings : SettingsValue) × AreReadSettings (place.reads files.settings.now) settings
+    × (is_new : Bool) × (begun : Option (List ℕ)) × Announces files.db.now is_new o.errors begun
+    × ByDesk place files.db.now false is_new o.errors_after
+    (λ printed. (printout : Result Output ProgramError) × IsDeskResult printout × EndsWith printout (record o { errors = begun; errors_after = printed }) status)
+    (λ printed old new. (printout : Result Output ProgramError) × Tells settings old printout new
+    × EndsWith printout (record o { errors = begun; errors_after = printed }) status))
+
+-- ---- print
+
+-- the print file of the batch of that id
+abbrev pub IsBatchFile : TimeZone → List ℕ → History → List ℕ → Type 0
+IsBatchFile zone id H text = (sheet : BatchSheet) × (sheet_of H id ≡ Some sheet) × IsPrintFile zone sheet text
+
+-- A text that is no id names no batch.
+abbrev pub PrintsBatch : TimeZone → List ℕ → State → Result Output ProgramError → State → Type 0
+PrintsBatch zone batch old (Ok (Text text)) new = ReadsThat old (λ H. IsBatchFile zone batch H text.items) new
+PrintsBatch zone batch old (Err (Refused r)) new =
+    ((r ≡ UnknownBatch) × (¬ IsIdText batch) × (new ≡ old)) ⊎ RefusesUnknown UnknownBatch (λ H. sheet_of H batch) old r new
+PrintsBatch zone batch old _ new = ⊥
+
+-- ---- takings
+
+-- the texts are the dates of the first and the last day of a range
+abbrev pub IsRangeText : List ℕ → List ℕ → Span → Type 0
+IsRangeText from to range = IsDayText from range.first × IsDayText to range.last × IsSpan range.first range.last
+
+-- the takings report over those days
+abbrev pub IsReportOver : TimeZone → Span → History → List ℕ → Type 0
+IsReportOver zone range H text = IsReport (takings_over zone H range) text
+
+abbrev pub PrintsTakingsOver : TimeZone → Span → State → Result Output ProgramError → State → Type 0
+PrintsTakingsOver zone range old (Ok (Text text)) new = ReadsThat old (λ H. IsReportOver zone range H text.items) new
+PrintsTakingsOver zone range old (Err (Refused r)) new = CannotAnswer old r new
+PrintsTakingsOver zone range old _ new = ⊥
+
+-- texts that name no range are a fault of usage, before anything else
+abbrev pub PrintsTakingsFrom : PlaceValue → Files → List ℕ → List ℕ → Outlets → ℕ → Type 0
+PrintsTakingsFrom place files from to outlets status =
+    (((range : Span) → ¬ (IsRangeText from to range)) × EndsWith (Err Usage) outlets status)
+    ⊎ ((range : Span) × IsRangeText from to range × AsksOver place files (λ settings. PrintsTakingsOver settings.zone range) outlets status)
+
+-- ---- check
+
+-- where the desk stands at a ledger, its counters agree
+abbrev pub ChecksCounters : State → Result Output ProgramError → State → Type 0
+ChecksCounters old (Ok Agrees) new = ReadsThat old (λ H. ⊤) new
+ChecksCounters old (Err (Refused r)) new = CannotAnswer old r new
+ChecksCounters old _ new = ⊥
+
+-- ---- what is asked
+
+-- what the desk tells at a question
+abbrev pub ResultOf : Question → SettingsValue → State → Result Output ProgramError → State → Type 0
+ResultOf (Batch id) settings = PrintsBatch settings.zone id.now
+ResultOf (Takings range) settings = PrintsTakingsOver settings.zone range
+ResultOf Counters settings = ChecksCounters
+
+-- ---- what the audit has to answer
+
+-- `ok` or `differs` is told where the audit has to answer so
+abbrev pub AuditIsRight : (Bool → Type 0) → Result Output ProgramError → Type 0
+AuditIsRight audits (Ok Agrees) = audits true
+AuditIsRight audits (Ok Differs) = audits false
+AuditIsRight audits (Err (Refused r)) = ⊤
+AuditIsRight audits _ = ⊥
+
+abbrev pub IsRight : Question → (Bool → Type 0) → Result Output ProgramError → Type 0
+IsRight (Batch id) audits printout = ⊤
+IsRight (Takings range) audits printout = ⊤
+IsRight Counters audits printout = AuditIsRight audits printout
+
+-- Whatever the file at the path holds: the settings or the file keep a question from the desk, or what is
+-- told is right about the desk as it was opened, which stands at the ledger that the file shows, if it shows
+-- one. The desk is closed then.
+abbrev pub AsksRightly : PlaceValue → Files → Question → Outlets → ℕ → Type 0
+AsksRightly place files question o status =
+    ((trouble : Trouble) × FailsBeforeDesk place.reads place.fails_to_read place.refuses files trouble × EndsTrouble trouble o status)
+    ⊎ ((before after : place.Desk) × (is_new : Bool) × (begun printed : Option (List ℕ)) × place.opens files.db.now false before
+    × Announces files.db.now is_new o.errors begun × Closes place.closes place.fails_to_close after files.db.now printed o.errors_after
+    × ((printout : Result Output ProgramError) × EndsWith printout (record o { errors = begun; errors_after = printed }) status
+    × (place.is_fault_free after → place.is_fault_free before × ((L : Ledger) → place.holds_ledger files.db.now L → place.represents before (running L))
+    × IsRight question (place.audits before) printout)))

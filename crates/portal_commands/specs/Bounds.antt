@@ -1,0 +1,36 @@
+-- What is supposed of a place and of a network, by what the bounds of a function name.
+use Rattle.std.specs.declared.io.Read.{Ghosts as ReadOf}
+use Rattle.std.specs.declared.io.Write.{Ghosts as WriteOf}
+use Rattle.portal_desk.specs.declared.Desk.{Ghosts as DeskOf}
+use Rattle.portal_server.specs.declared.host.Host.{Ghosts as HostOf}
+use Rattle.portal_server.specs.Turns.{host_of}
+use Rattle.portal_commands.specs.declared.network.Network.{Ghosts as NetworkOf}
+use Rattle.portal_commands.specs.declared.place.Place.{Ghosts as PlaceOf}
+use Rattle.portal_commands.specs.Places.{PlaceValue}
+use Rattle.portal_commands.specs.Serving.{NetworkValue}
+
+-- a place, and the desks over its files
+abbrev pub place_of : {P Stored Fresh : Type 0} → PlaceOf P Stored Fresh → DeskOf Stored → P → PlaceValue
+place_of place desk at = record {
+  Desk = _;
+  Tables = desk.Files;
+  is_fault_free = desk.is_fault_free;
+  represents = desk.represents;
+  audits = desk.audits;
+  is_crash_state = desk.is_crash_state;
+  tables_hold_ledger = desk.holds_ledger;
+  reads = place.reads at;
+  holds_ledger = place.holds_ledger at;
+  finds = place.finds at;
+  opens = place.opens at;
+  closes = place.closes;
+  fails_to_read = place.fails_to_read at;
+  refuses = place.refuses at;
+  fails_to_close = place.fails_to_close;
+  fails_to_make = place.fails_to_make;
+}
+
+-- a network, and the hosts at its ports
+abbrev pub network_of : {N Bound Reader Writer : Type 0}
+    → NetworkOf N Bound Reader Writer → HostOf Bound Reader Writer → ReadOf Reader → WriteOf Writer → N → NetworkValue
+network_of network host reader writer at = record { host = host_of host reader writer; listens = network.listens at }

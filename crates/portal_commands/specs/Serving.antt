@@ -1,0 +1,47 @@
+-- How the command `serve` ends.
+use Rattle.std.specs.Prelude.{◌≡◌, ◌⊎◌, ℕ, Bool, true, Result, Err}
+use Rattle.portal_exit.specs.declared.error.ProgramError.{ProgramError}
+use Rattle.portal_exit.specs.declared.error.ProgramError.TheVariants.{Network, NoMemory}
+use Rattle.portal_exit.specs.Ends.{EndsWith}
+use Rattle.portal_exit.specs.Streams.{Outlets}
+use Rattle.portal_server.specs.Command.{PrintsAll, PrintsTurns, exit_code_at}
+use Rattle.portal_commands.specs.declared.serving.ServeOptions.{ServeOptions}
+use Rattle.portal_files.specs.SettingsFile.{SettingsValue}
+use Rattle.portal_http.specs.Runs.{Run}
+use Rattle.portal_ledger.specs.States.{State}
+use Rattle.portal_server.specs.Serving.{ServesAtMost}
+use Rattle.portal_server.specs.Turns.{HostValue}
+use Rattle.portal_commands.specs.declared.place.Files.{Files}
+use Rattle.portal_commands.specs.declared.trouble.Trouble.{Trouble}
+use Rattle.portal_commands.specs.Places.{PlaceValue, AreReadSettings, ByDesk, FailsBeforeDesk}
+use Rattle.portal_commands.specs.Troubles.{EndsTrouble}
+
+-- it is served, or a fault keeps it from that: the port, or want of memory
+abbrev pub IsServed : ServeOptions → Outlets → ℕ → Type 0
+IsServed at o status =
+    ((ended : Result (Unit {0}) ProgramError) × (status ≡ exit_code_at ended) × PrintsAll at.port at.count o ended)
+    ⊎ ((error : ProgramError) × ((error ≡ Network) ⊎ (error ≡ NoMemory)) × EndsWith (Err error) o status)
+
+-- What is supposed of a network: which host was had at a port.
+pub record NetworkValue : Type 1 where
+  pub host : HostValue
+  pub listens : ℕ → host.Host → Type 0
+
+-- The port was had, and turns are taken of the host there; or it was not, and nothing comes of it.
+abbrev pub ServesAt : NetworkValue → ServeOptions → SettingsValue → Outlets → ℕ → State → State → Type 0
+ServesAt network at settings o status old new =
+    ((error : ProgramError) × ((error ≡ Network) ⊎ (error ≡ NoMemory)) × EndsWith (Err error) o status × (new ≡ old))
+    ⊎ ((before : network.host.Host) × (after : network.host.Host) × (ended : Result (Unit {0}) ProgramError)
+    × network.listens at.port before × (status ≡ exit_code_at ended) × PrintsTurns network.host settings at.port at.count o before old ended after new)
+
+-- Served by the desk over the files of a place: they keep it from the desk; or it is served with the settings
+-- that were read, from the ledger that the file shows, by a desk that was opened after what the log held was
+-- copied into the file.
+abbrev pub ServesOver : PlaceValue → Files → NetworkValue → ServeOptions → Outlets → ℕ → Type 0
+ServesOver place files network at o status =
+    ((trouble : Trouble) × FailsBeforeDesk place.reads place.fails_to_read place.refuses files trouble × EndsTrouble trouble o status)
+    ⊎ ((settings : SettingsValue) × AreReadSettings (place.reads files.settings.now) settings × (is_new : Bool)
+    × ByDesk place files.db.now true is_new o.errors_after (λ printed. IsServed at (record o { errors_after = printed }) status)
+    (λ printed old new. ServesAtMost at.count (λ arrivals responses. Run settings old arrivals responses new))
+    × ByDesk place files.db.now true is_new o.errors_after (λ printed. IsServed at (record o { errors_after = printed }) status)
+    (λ printed old new. ServesAt network at settings (record o { errors_after = printed }) status old new))

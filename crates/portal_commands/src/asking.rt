@@ -1,0 +1,84 @@
+//! What the commands share that only ask the desk: `print`, `takings` and `check`.
+ghost use Rattle.portal_exit.specs.Streams.{outlets};
+ghost use Rattle.portal_server.specs.Asks.{KeepsSettings, LeadsDesk};
+ghost use Rattle.portal_commands.specs.Asking.{AsksOver, AsksRightly, IsDeskResult, IsRight, PrintsOutput, ResultOf};
+ghost use Rattle.portal_commands.specs.Bounds.{place_of};
+
+use crate::checking::check_at;
+use crate::place::{Files, Opened, Place, close_opened_desk, open_desk};
+use crate::printing::print_at;
+use crate::takings::takings_at;
+use crate::trouble::announce_if_new;
+use portal_days::DayRange;
+use portal_desk::Desk;
+use std::alloc::Global;
+use std::io::Write;
+
+/// What a desk is asked.
+#[derive(Clone, Copy, Debug)]
+pub enum Question<'a> {
+    /// The print file of the batch of this id.
+    Batch(&'a str),
+    /// The takings report over these days.
+    Takings(DayRange),
+    /// Whether the counters of the file agree with its rows.
+    Counters,
+}
+
+/// Asks the desk, prints what it tells, and gives the status with which the program ends, as `print_at`,
+/// `takings_at` and `check_at` say.
+pub fn ask_desk<D: Desk, W: Write, E: Write>(
+    alloc: Global,
+    desk: &mut D,
+    question: &Question<'_>,
+    output: &mut W,
+    errors: &mut E,
+) -> u8
+    ensures settings { KeepsSettings D.Desk desk.old desk.new }
+    ensures ends { PrintsOutput IsDeskResult
+        (outlets W.Write E.Write output.old output.new errors.old errors.new) result }
+    ensures asks { LeadsDesk D.Desk desk.old desk.new (λ old new.
+        PrintsOutput (λ printout. ResultOf question.entry.now (D.settings desk.old) old printout new)
+        (outlets W.Write E.Write output.old output.new errors.old errors.new) result) }
+    ensures exact { PrintsOutput
+        (λ printout. D.is_fault_free desk.new → IsRight question.entry.now (D.audits desk.old) printout)
+        (outlets W.Write E.Write output.old output.new errors.old errors.new) result }
+{
+    match *question {
+        Question::Batch(batch) => print_at(alloc, desk, batch, output, errors),
+        Question::Takings(range) => takings_at(alloc, desk, range, output, errors),
+        Question::Counters => check_at(alloc, desk, output, errors),
+    }
+}
+
+/// Asks the desk over a file, prints what it tells, closes the desk, and gives the status with which the
+/// program ends.
+///
+/// The faults are found in this order: those of the settings file (`file`, `no_memory`, `settings`), those of
+/// the database file (`file`, `no_memory`, `not_ours`, `newer`), each status 3, and then those of `ask_desk`. A
+/// database that is made, since none stood there, is told on `errors` in one line first, and a fault of
+/// closing last; the status stays.
+pub fn ask_database<P: Place, W: Write, E: Write>(
+    alloc: Global,
+    place: P,
+    files: Files<'_>,
+    question: &Question<'_>,
+    output: &mut W,
+    errors: &mut E,
+) -> u8
+    ensures over { AsksOver (place_of P.Place P.Stored.Desk place) files.entry (ResultOf question.entry.now)
+        (outlets W.Write E.Write output.old output.new errors.old errors.new) result }
+    ensures exact { AsksRightly (place_of P.Place P.Stored.Desk place) files.entry question.entry.now
+        (outlets W.Write E.Write output.old output.new errors.old errors.new) result }
+{
+    match open_desk(alloc, place, files, false) {
+        Err(trouble) => trouble.report(errors),
+        Ok(opened) => {
+            let Opened { mut desk, is_new } = opened;
+            announce_if_new(alloc, files.db, is_new, errors);
+            let status = ask_desk(alloc, &mut desk, question, output, errors);
+            close_opened_desk::<P, E>(alloc, files.db, desk, errors);
+            status
+        }
+    }
+}

@@ -1,0 +1,68 @@
+//! The command `check`.
+ghost use Rattle.portal_exit.specs.Streams.{outlets};
+ghost use Rattle.portal_server.specs.Asks.{KeepsSettings, LeadsDesk};
+ghost use Rattle.portal_commands.specs.Asking.{AsksOver, AsksRightly, IsDeskResult, ChecksCounters, PrintsOutput, AuditIsRight};
+ghost use Rattle.portal_commands.specs.declared.asking.Question.TheVariants.{Counters};
+ghost use Rattle.portal_commands.specs.Bounds.{place_of};
+
+use crate::asking::{Question, ask_database};
+use crate::place::{Files, Place};
+use portal_desk::Desk;
+use portal_exit::{Output, ProgramError, print_result};
+use std::alloc::Global;
+use std::io::Write;
+
+/// What `check` tells.
+fn output_of_check<D: Desk>(alloc: Global, desk: &mut D) -> Result<Output, ProgramError>
+    ensures desk { IsDeskResult result }
+    ensures settings { KeepsSettings D.Desk desk.old desk.new }
+    ensures check { LeadsDesk D.Desk desk.old desk.new (λ old new. ChecksCounters old result new) }
+    ensures exact { D.is_fault_free desk.new → AuditIsRight (D.audits desk.old) result }
+{
+    match desk.audit(alloc) {
+        Ok(true) => Ok(Output::Agrees),
+        Ok(false) => Ok(Output::Differs),
+        Err(r) => Err(ProgramError::Refused(r)),
+    }
+}
+
+/// Prints `ok` on `output` where the counters of the file agree with its rows, else `differs`, and gives the
+/// status with which the program ends: 0 at `ok`, 1 at `differs` and where there is no memory, 3 where the
+/// desk has stopped or the word goes out in part alone. A fault's line is printed on `errors`.
+pub fn check_at<D: Desk, W: Write, E: Write>(
+    alloc: Global,
+    desk: &mut D,
+    output: &mut W,
+    errors: &mut E,
+) -> u8
+    ensures settings { KeepsSettings D.Desk desk.old desk.new }
+    ensures ends { PrintsOutput IsDeskResult
+        (outlets W.Write E.Write output.old output.new errors.old errors.new) result }
+    ensures check { LeadsDesk D.Desk desk.old desk.new (λ old new.
+        PrintsOutput (λ printout. ChecksCounters old printout new)
+        (outlets W.Write E.Write output.old output.new errors.old errors.new) result) }
+    ensures exact { PrintsOutput (λ printout. D.is_fault_free desk.new → AuditIsRight (D.audits desk.old) printout)
+        (outlets W.Write E.Write output.old output.new errors.old errors.new) result }
+{
+    let printout = output_of_check(alloc, desk);
+    print_result(&printout, output, errors)
+}
+
+/// Prints whether the counters of the desk over a file agree with its rows on `output`, `ok` or `differs`,
+/// and gives the status with which the program ends.
+///
+/// The faults are found in the order of `ask_database`.
+pub fn check<P: Place, W: Write, E: Write>(
+    alloc: Global,
+    place: P,
+    files: Files<'_>,
+    output: &mut W,
+    errors: &mut E,
+) -> u8
+    ensures over { AsksOver (place_of P.Place P.Stored.Desk place) files.entry (λ settings. ChecksCounters)
+        (outlets W.Write E.Write output.old output.new errors.old errors.new) result }
+    ensures exact { AsksRightly (place_of P.Place P.Stored.Desk place) files.entry Counters
+        (outlets W.Write E.Write output.old output.new errors.old errors.new) result }
+{
+    ask_database(alloc, place, files, &Question::Counters, output, errors)
+}

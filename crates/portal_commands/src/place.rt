@@ -1,0 +1,170 @@
+//! Where the program's files are.
+ghost use Rattle.std.specs.Prelude.{◌≡◌, ℕ, List, [], Bool, IfOk, IfErr, OnOk};
+ghost use Rattle.portal_ledger.specs.Ledger.{Ledger};
+ghost use Rattle.portal_ledger.specs.States.{running};
+ghost use Rattle.portal_exit.specs.declared.error.ProgramError.{ProgramError as Failure};
+ghost use Rattle.portal_commands.specs.declared.trouble.Trouble.{Trouble as Why};
+ghost use Rattle.portal_commands.specs.Places.{IsFileError, IsSettingsError, IsDatabaseError, AreReadSettings, IsNotRead, AreNone, Closes, FailsBeforeDesk};
+ghost use Rattle.portal_commands.specs.Troubles.{NamesPath};
+
+use crate::trouble::Trouble;
+use portal_desk::Desk;
+use portal_exit::ProgramError;
+use portal_files::{FileFault, Settings, read_settings};
+use std::alloc::Global;
+use std::io::Write;
+
+/// A desk over a file that was opened.
+pub struct Opened<D> {
+    /// The desk.
+    pub desk: D,
+    /// Whether the database was made: none stood in the file.
+    pub is_new: bool,
+}
+
+/// A place that holds files: the host, or one of a test. No contract says what its files hold.
+pub trait Place: Drop {
+    /// A desk over a file.
+    type Stored: Desk;
+
+    /// A desk over an empty store in memory, which returns what was written to it.
+    type Fresh: Desk;
+
+    /// What may be read of the file at a path.
+    ghost reads: { Self → List ℕ → List ℕ → Type 0 };
+
+    /// Which ledger the file at a path is supposed to show.
+    ghost holds_ledger: { Self → List ℕ → Ledger → Type 0 };
+
+    /// Whether the file at a path is supposed to hold no database.
+    ghost finds: { Self → List ℕ → Bool → Type 0 };
+
+    /// The file at a path was opened to a desk; where it is true, what its log held was copied into the file
+    /// before.
+    ghost opens: { Self → List ℕ → Bool → Self.Stored → Type 0 };
+
+    /// What is left of a desk over a file once it is closed.
+    ghost closes: { Self.Stored → Type 0 };
+
+    /// What is answered where the file at a path is not read.
+    ghost fails_to_read: { Self → List ℕ → Why → Type 0 };
+
+    /// What is answered where the file at a path is not opened.
+    ghost refuses: { Self → List ℕ → Why → Type 0 };
+
+    /// What is answered where a desk over the file at a path is not closed.
+    ghost fails_to_close: { Self.Stored → List ℕ → Why → Type 0 };
+
+    /// What is answered where no store is made in memory.
+    ghost fails_to_make: { Failure → Type 0 };
+
+    /// The bytes of a file. Faults: `File`, and `NoMemory`.
+    fn read(&self, alloc: Global, path: &str) -> Result<Vec<u8>, Trouble>
+        ensures why { IfErr result (λ trouble. IsFileError trouble.error × NamesPath path.now trouble) }
+        ensures fails { IfErr result (λ trouble. fails_to_read self.now path.now trouble) }
+        ensures bytes { IfOk result (λ bytes. reads self.now path.now bytes.items) };
+
+    /// The desk over the file at a path, which is made where it is missing. Where it `copies`, what its log
+    /// holds stands in the file itself then. Faults: `File`, `NoMemory`, `NotOurs` where tables of another
+    /// program stand there, and `Newer` where a later version wrote it.
+    fn open(
+        self,
+        alloc: Global,
+        path: &str,
+        settings: Settings,
+        copies: bool,
+    ) -> Result<Opened<Self::Stored>, Trouble>
+        ensures why { IfErr result (λ trouble. IsDatabaseError trouble.error × NamesPath path.now trouble) }
+        ensures fails { IfErr result (λ trouble. refuses self path.now trouble) }
+        ensures same_settings { IfOk result (λ opened. Self.Stored.settings opened.desk ≡ settings) }
+        ensures opened { IfOk result (λ opened. opens self path.now copies opened.desk) }
+        ensures represents { (L : Ledger) → holds_ledger self path.now L
+            → IfOk result (λ opened.
+            Self.Stored.is_fault_free opened.desk → Self.Stored.represents opened.desk (running L)) }
+        ensures found { IfOk result (λ opened.
+            Self.Stored.is_fault_free opened.desk → finds self path.now opened.is_new) };
+
+    /// Closes a desk over the file at a path: what its log holds is copied into the file, which then holds
+    /// everything. Faults: `File`, and `NoMemory`; the file and its log together hold everything then.
+    fn close(alloc: Global, path: &str, desk: Self::Stored) -> Result<(), Trouble>
+        ensures why { IfErr result (λ trouble. IsFileError trouble.error × NamesPath path.now trouble) }
+        ensures fails { IfErr result (λ trouble. fails_to_close desk path.now trouble) }
+        ensures closed { OnOk result (closes desk) };
+
+    /// A desk over an empty store in memory. Faults: `NoMemory`, and `File` where the store failed.
+    fn open_desk_in_memory(alloc: Global, settings: Settings) -> Result<Self::Fresh, ProgramError>
+        ensures why { IfErr result IsFileError }
+        ensures fails { IfErr result (λ error. fails_to_make error) }
+        ensures same_settings { IfOk result (λ desk. Self.Fresh.settings desk ≡ settings) }
+        ensures fresh { IfOk result (λ desk. Self.Fresh.represents desk (running [])) };
+
+    /// Lets go of a desk in memory.
+    fn close_desk_in_memory(desk: Self::Fresh);
+
+    ghost is_fresh_fault_free: { (desk : Self.Fresh) → Self.Fresh.is_fault_free desk };
+}
+
+/// The files that a command names.
+#[derive(Clone, Copy, Debug, PartialEq, Eq)]
+pub struct Files<'a> {
+    /// The path of the database file.
+    pub db: &'a str,
+    /// The path of the settings file.
+    pub settings: &'a str,
+}
+
+/// The settings in a file. Faults: `File`, `NoMemory`, and `Settings` where it is no settings file.
+pub fn read_settings_at<P: Place>(alloc: Global, place: &P, path: &str) -> Result<Settings, Trouble>
+    ensures why { IfErr result (λ trouble. IsSettingsError trouble.error × NamesPath path.now trouble) }
+    ensures read { IfOk result (AreReadSettings (P.reads place.now path.now)) }
+    ensures none { IfErr result (λ trouble.
+        trouble.error ≡ ProgramError.Settings → AreNone (P.reads place.now path.now)) }
+    ensures not_read { IfErr result
+        (IsNotRead (P.reads place.now path.now) (P.fails_to_read place.now path.now)) }
+{
+    let bytes = place.read(alloc, path)?;
+    match read_settings(alloc, bytes.as_slice()) {
+        Ok(settings) => Ok(settings),
+        Err(FileFault::Bad) => Err(Trouble::plain(ProgramError::Settings)),
+        Err(FileFault::Memory) => Err(Trouble::plain(ProgramError::NoMemory)),
+    }
+}
+
+/// The desk over the files that a command names. Faults: those of `read_settings_at`, and then those of
+/// `Place::open`.
+pub fn open_desk<P: Place>(
+    alloc: Global,
+    place: P,
+    files: Files<'_>,
+    copies: bool,
+) -> Result<Opened<P::Stored>, Trouble>
+    ensures why { IfErr result
+        (FailsBeforeDesk (P.reads place) (P.fails_to_read place) (P.refuses place) files.entry) }
+    ensures same_settings { IfOk result (λ opened.
+        AreReadSettings (P.reads place files.entry.settings.now) (P.Stored.settings opened.desk)) }
+    ensures opened { IfOk result (λ opened. P.opens place files.entry.db.now copies opened.desk) }
+    ensures represents { (L : Ledger) → P.holds_ledger place files.entry.db.now L
+        → IfOk result (λ opened. P.Stored.is_fault_free opened.desk → P.Stored.represents opened.desk (running L)) }
+    ensures found { IfOk result (λ opened.
+        P.Stored.is_fault_free opened.desk → P.finds place files.entry.db.now opened.is_new) }
+{
+    let settings = read_settings_at(alloc, &place, files.settings)?;
+    place.open(alloc, files.db, settings, copies)
+}
+
+/// Closes a desk over the file at a path. Where that fails, its fault is told on `errors`.
+pub fn close_opened_desk<P: Place, E: Write>(
+    alloc: Global,
+    path: &str,
+    desk: P::Stored,
+    errors: &mut E,
+)
+    ensures { Closes P.closes P.fails_to_close desk path.now (E.contents errors.old) (E.contents errors.new) }
+{
+    match P::close(alloc, path, desk) {
+        Ok(()) => {}
+        Err(trouble) => {
+            trouble.report(errors);
+        }
+    }
+}

@@ -1,0 +1,93 @@
+//! The command `print`.
+ghost use Rattle.std.specs.Prelude.{MatchResult};
+ghost use Rattle.portal_ledger.specs.Calls.{ReadsThat};
+ghost use Rattle.portal_desk.specs.Calls.{RefusesUnknown};
+ghost use Rattle.portal_desk.specs.Sheets.{sheet_of};
+ghost use Rattle.portal_exit.specs.Streams.{outlets};
+ghost use Rattle.portal_server.specs.Asks.{KeepsSettings, LeadsDesk};
+ghost use Rattle.portal_commands.specs.Asking.{AsksOver, IsDeskResult, IsBatchFile, PrintsBatch, PrintsOutput};
+ghost use Rattle.portal_commands.specs.Bounds.{place_of};
+
+use crate::asking::{Question, ask_database};
+use crate::place::{Files, Place};
+use portal_desk::Desk;
+use portal_exit::{Output, ProgramError, print_result};
+use portal_files_print::print_batch;
+use portal_model::name::Id;
+use portal_model::refusal::Refusal;
+use std::alloc::Global;
+use std::io::Write;
+
+/// The print file of a batch. Refusals: `UnknownBatch`, `NoMemory`, `Stopped`.
+fn batch_file<D: Desk>(alloc: Global, desk: &mut D, id: &Id) -> Result<Vec<u8>, Refusal>
+    ensures settings { KeepsSettings D.Desk desk.old desk.new }
+    ensures file { LeadsDesk D.Desk desk.old desk.new (λ old new. MatchResult result
+        (λ text. ReadsThat old (λ H. IsBatchFile (D.settings desk.old).zone id.now H text.items) new)
+        (λ r. RefusesUnknown Refusal.UnknownBatch (λ H. sheet_of H id.now) old r new)) }
+{
+    let sheet = desk.batch(alloc, id)?;
+    match print_batch(alloc, desk.settings(), &sheet) {
+        Ok(text) => Ok(text),
+        Err(_) => Err(Refusal::NoMemory),
+    }
+}
+
+/// What `print` tells.
+fn output_of_print<D: Desk>(
+    alloc: Global,
+    desk: &mut D,
+    batch: &str,
+) -> Result<Output, ProgramError>
+    ensures desk { IsDeskResult result }
+    ensures settings { KeepsSettings D.Desk desk.old desk.new }
+    ensures print { LeadsDesk D.Desk desk.old desk.new (λ old new.
+        PrintsBatch (D.settings desk.old).zone batch.now old result new) }
+{
+    let Some(id) = Id::read(batch) else {
+        return Err(ProgramError::Refused(Refusal::UnknownBatch));
+    };
+    match batch_file(alloc, desk, &id) {
+        Ok(text) => Ok(Output::Text(text)),
+        Err(r) => Err(ProgramError::Refused(r)),
+    }
+}
+
+/// Prints the print file of a batch on `output`, and gives the status with which the program ends: 0; or 1
+/// where there is no such batch, as where `batch` is no id, and where there is no memory; or 3 where the desk
+/// has stopped or the file goes out in part alone. A fault's line is printed on `errors`.
+pub fn print_at<D: Desk, W: Write, E: Write>(
+    alloc: Global,
+    desk: &mut D,
+    batch: &str,
+    output: &mut W,
+    errors: &mut E,
+) -> u8
+    ensures settings { KeepsSettings D.Desk desk.old desk.new }
+    ensures ends { PrintsOutput IsDeskResult
+        (outlets W.Write E.Write output.old output.new errors.old errors.new) result }
+    ensures print { LeadsDesk D.Desk desk.old desk.new (λ old new.
+        PrintsOutput (λ printout. PrintsBatch (D.settings desk.old).zone batch.now old printout new)
+        (outlets W.Write E.Write output.old output.new errors.old errors.new) result) }
+{
+    let printout = output_of_print(alloc, desk, batch);
+    print_result(&printout, output, errors)
+}
+
+/// Prints the print file of a batch of the desk over the file at `db` on `output`, and gives the status with
+/// which the program ends.
+///
+/// The faults are found in the order of `ask_database`.
+pub fn print<P: Place, W: Write, E: Write>(
+    alloc: Global,
+    place: P,
+    files: Files<'_>,
+    batch: &str,
+    output: &mut W,
+    errors: &mut E,
+) -> u8
+    ensures { AsksOver (place_of P.Place P.Stored.Desk place) files.entry
+        (λ settings. PrintsBatch settings.zone batch.now)
+        (outlets W.Write E.Write output.old output.new errors.old errors.new) result }
+{
+    ask_database(alloc, place, files, &Question::Batch(batch), output, errors)
+}

@@ -1,0 +1,115 @@
+//! The command `takings`.
+ghost use Rattle.std.specs.Prelude.{MatchResult, MatchOption};
+ghost use Rattle.portal_days.specs.Span.{Span};
+ghost use Rattle.portal_ledger.specs.Calls.{ReadsThat};
+ghost use Rattle.portal_desk.specs.Calls.{CannotAnswer};
+ghost use Rattle.portal_exit.specs.Streams.{outlets};
+ghost use Rattle.portal_server.specs.Asks.{KeepsSettings, LeadsDesk};
+ghost use Rattle.portal_commands.specs.Asking.{IsDeskResult, IsReportOver, IsRangeText, PrintsOutput, PrintsTakingsOver, PrintsTakingsFrom};
+ghost use Rattle.portal_commands.specs.Bounds.{place_of};
+
+use crate::asking::{Question, ask_database};
+use crate::place::{Files, Place};
+use portal_days::DayRange;
+use portal_desk::Desk;
+use portal_exit::{Output, ProgramError, print_result};
+use portal_files::{read_day, text_names_day};
+use portal_files_print::takings_text;
+use portal_model::refusal::Refusal;
+use std::alloc::Global;
+use std::io::Write;
+
+/// The days that two texts name, the first and the last. None where one is no day as `YYYY-MM-DD` of the
+/// years 1969 to 9999, or they are no range of at most 366 days.
+pub fn read_range(from: &str, to: &str) -> Option<DayRange>
+    ensures { MatchOption result
+        ((range : Span) → ¬ (IsRangeText from.now to.now range))
+        (IsRangeText from.now to.now) }
+{
+    text_names_day();
+    let first = read_day(from)?;
+    let last = read_day(to)?;
+    DayRange::new(first, last)
+}
+
+/// The takings report over the days. Refusals: `NoMemory`, `Stopped`.
+fn takings_report<D: Desk>(alloc: Global, desk: &mut D, range: DayRange) -> Result<Vec<u8>, Refusal>
+    ensures settings { KeepsSettings D.Desk desk.old desk.new }
+    ensures report { LeadsDesk D.Desk desk.old desk.new (λ old new. MatchResult result
+        (λ text. ReadsThat old (λ H. IsReportOver (D.settings desk.old).zone range H text.items) new)
+        (λ r. CannotAnswer old r new)) }
+{
+    let days = desk.takings(alloc, range)?;
+    match takings_text(alloc, days.as_slice()) {
+        Ok(text) => Ok(text.into_bytes()),
+        Err(_) => Err(Refusal::NoMemory),
+    }
+}
+
+/// What `takings` tells.
+fn output_of_takings<D: Desk>(
+    alloc: Global,
+    desk: &mut D,
+    range: DayRange,
+) -> Result<Output, ProgramError>
+    ensures desk { IsDeskResult result }
+    ensures settings { KeepsSettings D.Desk desk.old desk.new }
+    ensures takings { LeadsDesk D.Desk desk.old desk.new (λ old new.
+        PrintsTakingsOver (D.settings desk.old).zone range old result new) }
+{
+    match takings_report(alloc, desk, range) {
+        Ok(text) => Ok(Output::Text(text)),
+        Err(r) => Err(ProgramError::Refused(r)),
+    }
+}
+
+/// Prints the takings report over the days on `output`, and gives the status with which the program ends: 0;
+/// or 1 where there is no memory; or 3 where the desk has stopped or the report goes out in part alone. A
+/// fault's line is printed on `errors`.
+pub fn takings_at<D: Desk, W: Write, E: Write>(
+    alloc: Global,
+    desk: &mut D,
+    range: DayRange,
+    output: &mut W,
+    errors: &mut E,
+) -> u8
+    ensures settings { KeepsSettings D.Desk desk.old desk.new }
+    ensures ends { PrintsOutput IsDeskResult
+        (outlets W.Write E.Write output.old output.new errors.old errors.new) result }
+    ensures takings { LeadsDesk D.Desk desk.old desk.new (λ old new.
+        PrintsOutput (λ printout. PrintsTakingsOver (D.settings desk.old).zone range old printout new)
+        (outlets W.Write E.Write output.old output.new errors.old errors.new) result) }
+{
+    let printout = output_of_takings(alloc, desk, range);
+    print_result(&printout, output, errors)
+}
+
+/// Prints the takings report of the desk over a file on `output`, over the days from `from` to `to`, and
+/// gives the status with which the program ends.
+///
+/// The faults are found in this order: `usage`, status 2, where `read_range` gives None; and then in that of
+/// `ask_database`.
+pub fn takings<P: Place, W: Write, E: Write>(
+    alloc: Global,
+    place: P,
+    files: Files<'_>,
+    from: &str,
+    to: &str,
+    output: &mut W,
+    errors: &mut E,
+) -> u8
+    ensures { PrintsTakingsFrom (place_of P.Place P.Stored.Desk place) files.entry from.now to.now
+        (outlets W.Write E.Write output.old output.new errors.old errors.new) result }
+{
+    match read_range(from, to) {
+        None => ProgramError::Usage.report(errors),
+        Some(range) => ask_database(
+            alloc,
+            place,
+            files,
+            &Question::Takings(range),
+            output,
+            errors,
+        ),
+    }
+}

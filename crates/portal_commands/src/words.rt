@@ -1,0 +1,29 @@
+//! The words of the command line.
+ghost use Rattle.std.specs.Prelude.{◌≡◌, IfErr};
+ghost use Rattle.portal_commands.specs.Program.{error_of_words, IsWordsError};
+
+use portal_exit::ProgramError;
+use std::env::{self, Env};
+use std::io::ErrorKind;
+
+/// Why the words could not be copied, by the kind of the error: `usage` where one is not UTF-8, else
+/// `no_memory`.
+pub fn error_of_words(kind: ErrorKind) -> ProgramError
+    ensures kind { result ≡ error_of_words kind }
+    ensures words { IsWordsError result }
+{
+    match kind {
+        ErrorKind::InvalidData => ProgramError::Usage,
+        _ => ProgramError::NoMemory,
+    }
+}
+
+/// The words with which the program was called, its own name first.
+///
+/// An `Err` is `usage` where a word is not UTF-8, and `no_memory` where there was none to copy them.
+pub fn words_of<R: Env + AllocGlobal>(rt: &R) -> Result<Vec<String>, ProgramError>
+    ensures { IfErr result IsWordsError }
+{
+    let words = env::args(rt).map_err(|io_error| error_of_words(io_error.kind()))?;
+    Ok(words.collect(rt.alloc())?)
+}

@@ -1,0 +1,9 @@
+pub mod Common
+pub mod KeptLemmas
+pub mod ActLemmas
+pub mod AttachLemmas
+pub mod JudgeLemmas
+pub mod ReadLemmas
+pub mod StepLemmas
+pub mod StopLemmas
+pub mod TakingLemmas

@@ -1,0 +1,10 @@
+pub mod Acting
+pub mod Attaching
+pub mod Counters
+pub mod DeskRepresents
+pub mod Judging
+pub mod Laws
+pub mod KeepsOpenSessions
+pub mod Paid
+pub mod Rest
+pub mod Steps

@@ -1,0 +1,138 @@
+//! The desk.
+ghost use Rattle.std.specs.Prelude.{◌≡◌};
+ghost use Rattle.portal_tables.specs.TablesRepresent.{Files, FilesHold, IsFaultFree, IsCrashState, TablesRepresent};
+ghost use Rattle.portal_desk_store.specs.Counters.{CountersAre};
+ghost use Rattle.portal_desk_store.specs.Laws.{crash_state_is_allowed, found_is_sound};
+ghost use Rattle.portal_desk_store.specs.KeepsOpenSessions.{KeepsOpenSessions};
+
+use crate::keeping::update_open_sessions;
+use crate::reading::refusal_of_fault;
+use portal_codes::Code;
+use portal_core::{captive_of, effective};
+use portal_days::{DayRange, DayTakings};
+use portal_desk::Desk;
+use portal_desk::prepared::{Marked, Prepared};
+use portal_desk_sessions::OpenSessions;
+use portal_files::{BatchSheet, Settings};
+use portal_ledger::marked::MarkedChanges;
+use portal_ledger::request::{RequestMark, fingerprint_is_typed};
+use portal_model::captive::{Captive, OpenSession};
+use portal_model::command::Command;
+use portal_model::lists::Codes;
+use portal_model::moment::Moment;
+use portal_model::name::{Device, Id};
+use portal_model::record::Voucher;
+use portal_model::refusal::Refusal;
+use portal_tables::tables::Tables;
+use sqlite::Alter;
+use std::alloc::Global;
+
+/// A desk over the tables of a store. Of its own it keeps the settings, and the sessions that are open at the
+/// last moment, so that their list reads no table. It finds these by the tables when they are first listed,
+/// and again where there was no room to follow them.
+pub struct StoreDesk<S: Alter> {
+    pub(crate) tables: Tables<S>,
+    pub(crate) settings: Settings,
+    pub(crate) open: Option<OpenSessions>,
+}
+
+impl<S: Alter> Desk for StoreDesk<S> {
+    ghost Files = { Files };
+
+    ghost has_stopped = { λ d. d.tables.is_stopped };
+
+    ghost is_fault_free = { λ d. IsFaultFree S.Store d.tables };
+
+    ghost is_crash_state = { λ d files. IsCrashState S.Store d.tables files };
+
+    ghost holds_ledger = { FilesHold };
+
+    ghost audits = { λ d agrees. CountersAre S.Store d.tables agrees };
+
+    ghost leaves = { λ d s represents files may. crash_state_is_allowed _ d.tables s represents.0 files may };
+
+    ghost sound = { found_is_sound };
+
+    ghost represents = { λ d s. TablesRepresent S.Store d.tables s × KeepsOpenSessions d.open s };
+
+    ghost settings = { λ d. d.settings };
+
+    fn settings(&self) -> &Settings {
+        &self.settings
+    }
+
+    fn is_stopped(&self) -> bool {
+        self.tables.is_stopped()
+    }
+
+    fn state(&mut self, moment: Moment, device: Device) -> Result<Captive, Refusal> {
+        let head = self.find_head()?;
+        let last = self.find_last_session(&device)?;
+        Ok(captive_of(last.as_ref(), effective(moment, head.last)))
+    }
+
+    fn voucher(&mut self, code: &Code) -> Result<Voucher, Refusal> {
+        self.find_voucher(code)?.ok_or(Refusal::UnknownCode)
+    }
+
+    fn batch(&mut self, alloc: Global, id: &Id) -> Result<BatchSheet, Refusal> {
+        let batch = self.find_batch(id)?.ok_or(Refusal::UnknownBatch)?;
+        // the plan of a batch is always there
+        let plan = self.find_plan(&batch.plan)?.ok_or(Refusal::UnknownBatch)?;
+        let codes = self.find_codes(alloc, id)?;
+        let codes = Codes::from_slice(alloc, codes.as_slice())?;
+        Ok(BatchSheet { batch, plan, codes })
+    }
+
+    fn open_now(&mut self, alloc: Global, moment: Moment) -> Result<Vec<OpenSession>, Refusal> {
+        let list = self.take_open_sessions(alloc)?;
+        let listing = list.sessions_at(alloc, moment);
+        self.open = Some(list);
+        Ok(listing?)
+    }
+
+    fn takings(&mut self, alloc: Global, range: DayRange) -> Result<Vec<DayTakings>, Refusal> {
+        self.sum_takings(alloc, range)
+    }
+
+    fn audit(&mut self, _alloc: Global) -> Result<bool, Refusal> {
+        self.check_counters()
+    }
+
+    fn prepare(
+        &mut self,
+        alloc: Global,
+        moment: Moment,
+        command: Command,
+    ) -> Result<Prepared, Refusal> {
+        let changes = self.decide(alloc, moment, &command)?;
+        Ok(Prepared::new(MarkedChanges::unmarked(changes)))
+    }
+
+    fn prepare_marked(
+        &mut self,
+        alloc: Global,
+        moment: Moment,
+        command: Command,
+        mark: &RequestMark,
+    ) -> Result<Marked, Refusal> {
+        fingerprint_is_typed(mark);
+        if let Some(answer) = self.find_repeat(alloc, mark)? {
+            return Ok(Marked::Kept(answer));
+        }
+        let changes = self.decide(alloc, moment, &command)?;
+        let marked = MarkedChanges::with_mark(alloc, changes, mark)?;
+        Ok(Marked::Fresh(Prepared::new(marked)))
+    }
+
+    fn finish(&mut self, prepared: Prepared) -> Result<(), Refusal> {
+        let marked = prepared.into_changes();
+        match self.tables.commit(&marked) {
+            Ok(()) => {
+                self.open = update_open_sessions(self.open.take(), &marked.changes);
+                Ok(())
+            }
+            Err(fault) => Err(refusal_of_fault(fault)),
+        }
+    }
+}

@@ -1,0 +1,57 @@
+//! The sessions that the desk keeps: those that are open at the last moment.
+ghost use Rattle.std.specs.Prelude.{◌≡◌, ◌∷◌, ℕ, IfSome, Some};
+ghost use Rattle.portal_model.specs.declared.command.Command.{Command};
+ghost use Rattle.portal_model.specs.Change.{changes_of};
+ghost use Rattle.portal_model.specs.History.{entry, History};
+ghost use Rattle.portal_model.specs.Verdict.{Follows, IsLegal};
+ghost use Rattle.portal_desk_sessions.specs.Open.{open_at_last};
+ghost use Rattle.portal_desk.specs.Calls.{Returns};
+ghost use Rattle.portal_desk_store.specs.DeskRepresents.{MovesDesk};
+ghost use Rattle.portal_desk_store.specs.Steps.{Reads};
+
+use crate::desks::StoreDesk;
+use portal_desk::Desk;
+use portal_desk_sessions::OpenSessions;
+use portal_model::change::Changes;
+use portal_model::refusal::Refusal;
+use sqlite::Alter;
+use std::alloc::Global;
+
+impl<S: Alter> StoreDesk<S> {
+    /// The sessions that are open at the last moment, by the tables.
+    fn find_sessions_open_at_last(&mut self, alloc: Global) -> Result<OpenSessions, Refusal>
+        ensures { Reads S.Store self.old self.new result (λ list H. list ≡ open_at_last H) }
+    {
+        let head = self.find_head()?;
+        let sessions = self.find_open_sessions(alloc, head.last)?;
+        Ok(OpenSessions::new(head.last, sessions))
+    }
+
+    /// The sessions that are open at the last moment: those that are kept, and are then kept no longer, or
+    /// else by the tables. A desk that stopped has none.
+    pub(crate) fn take_open_sessions(&mut self, alloc: Global) -> Result<OpenSessions, Refusal>
+        ensures { MovesDesk S.Store self.old self.new result
+            (Returns result (λ list H. list ≡ open_at_last H)) }
+    {
+        if self.is_stopped() {
+            return Err(Refusal::Stopped);
+        }
+        match self.open.take() {
+            Some(list) => Ok(list),
+            None => self.find_sessions_open_at_last(alloc),
+        }
+    }
+}
+
+/// What is kept after an accepted command, by what it changes: nothing where nothing was kept, or where there
+/// is no room.
+pub(crate) fn update_open_sessions(
+    kept: Option<OpenSessions>,
+    changes: &Changes,
+) -> Option<OpenSessions>
+    ensures { (H : History) → IsLegal H → (command : Command) (t : ℕ) → Follows H t command
+        → changes_of H command t ≡ Some changes.now → IfSome kept (λ list. list ≡ open_at_last H)
+        → IfSome result (λ list. list ≡ open_at_last (entry t command ∷ H)) }
+{
+    kept?.update(changes).ok()
+}

@@ -1,8 +1,0 @@
-use Rattle.portal_files.proofs.WorkedTakings.{takings_local_day, takings_refund_day}
-use Rattle.portal_files.proofs.laws.worked_takings.Goals as goal
-
-pub returns-clause-takings_local_day : goal.returns-clause-takings_local_day
-returns-clause-takings_local_day c = takings_local_day
-
-pub returns-clause-takings_refund_day : goal.returns-clause-takings_refund_day
-returns-clause-takings_refund_day c = takings_refund_day

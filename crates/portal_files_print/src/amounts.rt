@@ -1,0 +1,24 @@
+//! Amounts of money as text.
+
+ghost use Rattle.std.specs.Prelude.{◌≡◌, IfOk, string_bytes};
+ghost use Rattle.portal_files_print.specs.Amount.{amount_text, right_in};
+
+use std::alloc::{AllocError, Global};
+
+/// An amount in hundredths, as whole units, a point and two digits.
+pub(crate) fn amount_text(alloc: Global, amount: u128) -> Result<String, AllocError>
+    ensures { IfOk result (λ text. string_bytes text ≡ amount_text amount) }
+{
+    let whole = amount / 100;
+    let hundredths = amount % 100;
+    format!(in alloc; "{whole}.{hundredths:02}")
+}
+
+/// The same, right in 17 places, so that the points stand below each other.
+pub(crate) fn amount_column(alloc: Global, amount: u128) -> Result<String, AllocError>
+    ensures { IfOk result (λ text. string_bytes text ≡ right_in 17 (amount_text amount)) }
+{
+    let whole = amount / 100;
+    let hundredths = amount % 100;
+    format!(in alloc; "{whole:>14}.{hundredths:02}")
+}

@@ -1,8 +1,0 @@
-use Rattle.portal_head.proofs.Common.{sym, arith, take_all, length-take-le, head_limit}
-use Rattle.portal_head.proofs.head.front.Goals as goal
-
-pub slice_bounds-result-end : goal.slice_bounds-result-end
-slice_bounds-result-end c = sym (length-take-le head_limit c.args.bytes.now (omega arith))
-
-pub returns-then-bytes-le-HEAD_LIMIT : goal.returns-then-bytes-le-HEAD_LIMIT
-returns-then-bytes-le-HEAD_LIMIT c = sym (take_all head_limit c.args.bytes.now (omega arith))

@@ -1,5 +1,0 @@
-use Rattle.portal_head.proofs.Common.{List, ℕ, subst, IsFinding}
-use Rattle.portal_head.proofs.received.Received.new.Goals as goal
-
-pub invariant_of-result : goal.invariant_of-result
-invariant_of-result c = subst (λ (b : List ℕ). IsFinding b c.find_head-found.result) c.as_slice.ensures.value c.find_head-found.ensures

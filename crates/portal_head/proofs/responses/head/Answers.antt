@@ -1,6 +1,0 @@
-use Rattle.portal_head.specs.Bytes.{head_bytes}
-use Rattle.portal_head.proofs.responses.head.Goals as goal
-
-pub returns : goal.returns
-unfolding head_bytes
-returns c = c.format.ensures.ok

@@ -1,7 +1,0 @@
-use Rattle.portal_host.proofs.files.HostFilesPlace.close.Goals as goal
-
-pub returns-in-Ok-clause-closed : goal.returns-in-Ok-clause-closed
-returns-in-Ok-clause-closed g c = (c.in-Ok._files, λ honest. (c.in-Ok.ensures.copied honest, c.in-Ok.ensures.whole honest))
-
-pub returns-in-Err-clause-refused : goal.returns-in-Err-clause-refused
-returns-in-Err-clause-refused g c = (c.in-Err._store, c.in-Err.ensures.left)

@@ -1,4 +1,0 @@
-pub mod Faults
-pub mod Laws
-pub mod Opening
-pub mod Running

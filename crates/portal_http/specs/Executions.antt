@@ -1,0 +1,42 @@
+-- A whole life of a desk: rounds of requests, with a stop after each, and each under settings of its own.
+use Rattle.std.specs.Prelude.{◌≡◌, ◌⊎◌, ℕ, List, [], ◌∷◌, length, take}
+use Rattle.portal_ledger.specs.Ledger.{Accepted, Ledger}
+use Rattle.portal_ledger.specs.States.{State, running, MayBeFound}
+use Rattle.portal_files.specs.SettingsFile.{SettingsValue}
+use Rattle.portal_http.specs.Arrived.{Arrived}
+use Rattle.portal_http.specs.Runs.{ServesInOrder}
+use Rattle.portal_http.specs.Headline.{Leads, IsInDoubt}
+
+-- a round: no desk came up, or one did, with these settings, to which these requests came and which answered some of them
+pub data ServerSession : Type 0 where
+  without_desk : ServerSession
+  with_desk : SettingsValue → List Arrived → List (List ℕ) → ServerSession
+
+module _ (Files : Type 0) (holds_ledger : Files → Ledger → Type 0) where
+  -- What a round makes of files. Where no desk came up, they show what they showed. Where one did, it stood at what they showed, it
+  -- served as a run serves, and the files then show what a desk in its last state may stand at.
+  abbrev pub SessionAllows : Files → ServerSession → Files → Type 0
+  SessionAllows before without_desk after = (L : Ledger) → holds_ledger before L → holds_ledger after L
+  SessionAllows before (with_desk settings arrivals responses) after =
+      (L : Ledger) → holds_ledger before L → (new : State) × ServesInOrder settings (running L) arrivals responses new × (found : Ledger) × MayBeFound new found × holds_ledger after found
+
+  -- the rounds one after another, each over the files that the one before left
+  abbrev pub Execution : Files → List ServerSession → Files → Type 0
+  Execution first [] last = last ≡ first
+  Execution first (server_session ∷ server_sessions) last = (mid : Files) × SessionAllows first server_session mid × Execution mid server_sessions last
+
+-- The ledger, then for each round the commands that were answered 200, in their order, and at most one more, which was answered
+-- `stopped`; and nothing else.
+abbrev pub IsKeptByExecution : Ledger → List ServerSession → Ledger → Type 0
+IsKeptByExecution L [] found = found ≡ L
+IsKeptByExecution L (without_desk ∷ server_sessions) found = IsKeptByExecution L server_sessions found
+IsKeptByExecution L (with_desk settings arrivals responses ∷ server_sessions) found =
+    let answered = take (length responses) arrivals in
+    (last next : Ledger) × Leads settings L answered responses last
+    × ((next ≡ last) ⊎ ((own : Accepted) × IsInDoubt settings L answered responses own × (next ≡ own ∷ last)))
+    × IsKeptByExecution next server_sessions found
+
+-- whatever the rounds are, the last files show a ledger that kept them so
+abbrev pub ExecutionIsKept : (Files : Type 0) → (Files → Ledger → Type 0) → Type 0
+ExecutionIsKept Files holds_ledger = (first last : Files) (L : Ledger) (server_sessions : List ServerSession) → holds_ledger first L → Execution Files holds_ledger first server_sessions last
+    → (found : Ledger) × holds_ledger last found × IsKeptByExecution L server_sessions found

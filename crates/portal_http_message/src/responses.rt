@@ -1,0 +1,135 @@
+//! The bytes of a response.
+//!
+//! Every response is HTTP/1.1, says when it was made, is never to be stored, and closes its
+//! connection (RFC 9110, sections 6.6.1 and 15; RFC 9111, section 5.2.2.5; RFC 9112, sections 4
+//! and 9.6).
+ghost use Rattle.std.specs.Prelude.{◌≡◌, ◌<◌, IfOk, option_map, string_bytes};
+ghost use Rattle.httpdate.specs.Date.{date_text};
+ghost use Rattle.portal_http_message.specs.Bytes.{phrase_of, media_type_of, last_lines, head_bytes, IsResponse, ResponseIsFixed};
+
+use http::{Method, StatusCode};
+use httpdate::HttpDate;
+use std::alloc::{AllocError, Global};
+
+/// What a body is written in.
+#[derive(Clone, Copy, Debug, PartialEq, Eq)]
+pub enum ContentType {
+    /// A captive state, `application/captive+json` (RFC 8908, section 5).
+    CaptiveJson,
+    /// Any other JSON text, `application/json`.
+    Json,
+    /// A print file, `text/csv; charset=utf-8`.
+    Csv,
+    /// A takings report, `text/plain; charset=utf-8`.
+    PlainText,
+}
+
+impl ContentType {
+    /// The media type, as `Content-Type` names it (RFC 9110, section 8.3).
+    pub fn media_type(&self) -> &'static str
+        ensures { result.now ≡ media_type_of self.now }
+    {
+        match self {
+            ContentType::CaptiveJson => "application/captive+json",
+            ContentType::Json => "application/json",
+            ContentType::Csv => "text/csv; charset=utf-8",
+            ContentType::PlainText => "text/plain; charset=utf-8",
+        }
+    }
+}
+
+/// The reason phrase beside a status that the desk answers; no phrase beside any other, which a
+/// status line may leave out (RFC 9112, section 4).
+fn phrase(status: u16) -> &'static str
+    ensures { result.now ≡ phrase_of status }
+{
+    match status {
+        200 => "OK",
+        400 => "Bad Request",
+        403 => "Forbidden",
+        404 => "Not Found",
+        405 => "Method Not Allowed",
+        409 => "Conflict",
+        410 => "Gone",
+        413 => "Payload Too Large",
+        501 => "Not Implemented",
+        503 => "Service Unavailable",
+        _ => "",
+    }
+}
+
+/// The lines after `Cache-Control`, with the empty line that ends the head.
+fn last_head_lines(alloc: Global, allow: Option<Method>) -> Result<String, AllocError>
+    ensures { IfOk result (λ s. string_bytes s ≡ last_lines allow) }
+{
+    match allow {
+        None => String::from_str(alloc, "Connection: close\r\n\r\n"),
+        Some(method) => {
+            let method = method.as_str();
+            format!(in alloc; "Allow: {method}\r\nConnection: close\r\n\r\n")
+        }
+    }
+}
+
+/// The head, with the empty line that ends it.
+fn head(
+    alloc: Global,
+    status: u16,
+    phrase: &str,
+    date: HttpDate,
+    media_type: &str,
+    size: usize,
+    last: &str,
+) -> Result<String, AllocError>
+    ensures { IfOk result (λ s. string_bytes s
+        ≡ head_bytes status phrase.now (date_text date) media_type.now size last.now) }
+{
+    format!(in alloc;
+        "HTTP/1.1 {status} {phrase}\r\nDate: {date}\r\nContent-Type: {media_type}\r\n\
+        Content-Length: {size}\r\nCache-Control: no-store\r\n{last}"
+    )
+}
+
+/// The bytes of a response, from its status line to the last byte of its body.
+///
+/// `moment` counts whole UTC seconds since 1970 and is what `Date` shows (RFC 9110, section
+/// 6.6.1); it lies before the year 10000, since that date has a year of four digits. `allow` is
+/// the method that `Allow` names, which a response of status 405 has to carry (RFC 9110, section
+/// 15.5.6). The only error is want of memory.
+pub fn response(
+    alloc: Global,
+    status: StatusCode,
+    moment: u64,
+    content_type: ContentType,
+    allow: Option<Method>,
+    body: &[u8],
+) -> Result<Vec<u8>, AllocError>
+    requires { moment < 253_402_300_800 }
+    ensures { IfOk result (λ bytes. IsResponse status moment content_type allow body.now bytes.items) }
+{
+    let Ok(date) = HttpDate::from_unix_secs(moment) else {
+        unreachable!()
+    };
+    let status = status.as_u16();
+    let phrase = phrase(status);
+    let media_type = content_type.media_type();
+    let last = last_head_lines(alloc, allow)?;
+    let head = head(
+        alloc,
+        status,
+        phrase,
+        date,
+        media_type,
+        body.len(),
+        last.as_str(),
+    )?;
+    let mut bytes = head.into_bytes();
+    bytes.extend_from_slice(body)?;
+    Ok(bytes)
+}
+
+/// A law: status, moment, content type, allowed method and body fix every byte of the response,
+/// since one moment has one date.
+pub fn response_is_fixed()
+    ensures { ResponseIsFixed }
+{}

@@ -1,0 +1,23 @@
+-- The command that an order of a batch comes to.
+use Rattle.std.specs.Prelude.{ℕ, List, Result}
+use Rattle.serde_json.specs.Data.{Data}
+use Rattle.portal_model.specs.declared.command.Command.{Command}
+use Rattle.portal_model.specs.declared.command.Command.TheVariants.{Issue}
+use Rattle.portal_model.specs.declared.refusal.Refusal.{Refusal}
+use Rattle.portal_model.specs.declared.refusal.Refusal.TheVariants.{BadRequest}
+use Rattle.portal_json.specs.declared.orders.BatchOrder.{BatchOrder}
+use Rattle.portal_json.specs.Orders.{ReadsJson, IsBatchOrder}
+use Rattle.portal_http_request.specs.Bodies.{Gives}
+use Rattle.portal_http_request.specs.Seeds.{codes_of}
+
+-- the command that issues the batch that is ordered, with the codes of the seed
+abbrev pub issue_of : List ℕ → BatchOrder → Command
+issue_of seed order = Issue order.batch order.plan (codes_of seed order.count)
+
+-- the body's JSON orders that batch
+abbrev pub OrdersIssue : List ℕ → BatchOrder → Type 0
+OrdersIssue body order = (value : Data) × ReadsJson body value × IsBatchOrder value order
+
+-- the command that a body orders, or bad_request exactly where it orders none
+abbrev pub ReadsIssue : List ℕ → List ℕ → Result Command Refusal → Type 0
+ReadsIssue seed body = Gives (OrdersIssue body) (issue_of seed) BadRequest

@@ -1,0 +1,26 @@
+-- What a path and a query name.
+use Rattle.std.specs.Prelude.{◌≡◌, ℕ, ℤ, List, Option, Some, codes, option_and_then, IsUtf8}
+use Rattle.portal_codes.specs.Code.{Spells}
+use Rattle.portal_days.specs.Span.{Span, IsSpan}
+use Rattle.portal_model.specs.IdText.{IsIdText}
+use Rattle.portal_files.specs.DayText.{IsDayText}
+use Rattle.portal_http_routes.specs.Queries.{only_of, values_of}
+
+-- the text is that id
+abbrev pub NamesBatch : List ℕ → List ℕ → Type 0
+NamesBatch text id = IsUtf8 text × IsIdText text × (id ≡ text)
+
+-- the text spells that code
+abbrev pub NamesCode : List ℕ → List ℕ → Type 0
+NamesCode text code = IsUtf8 text × Spells text code
+
+-- the day under a key of a query, where the key stands there just once
+abbrev pub IsDayAt : List ℕ → Option (List ℕ) → ℤ → Type 0
+IsDayAt key query day =
+    (text : List ℕ) × (option_and_then (λ q. only_of (values_of key q)) query ≡ Some text) × IsUtf8 text × IsDayText text day
+
+-- the days from `from` to `to`, both of them in the range, which is in order and at most 366 days long; other keys are not looked at
+pub record AreDays (query : Option (List ℕ)) (range : Span) : Type 0 where
+  pub from : IsDayAt (codes "from") query range.first
+  pub to : IsDayAt (codes "to") query range.last
+  pub span : IsSpan range.first range.last

@@ -1,0 +1,50 @@
+-- What the table says of each route's paths.
+use Rattle.std.specs.Prelude.{◌≡◌, ◌≢◌, ◌↔◌, ℕ, ◌<◌, List, [], ◌∷◌, ◌++◌, Some, All, codes, ⊤}
+use Rattle.portal_http_routes.specs.declared.Route.{Route}
+use Rattle.portal_http_routes.specs.declared.Route.TheVariants.{Captive, Redeem, Plans, Batches, Print, Sales, Refunds, Closes, Voucher, Takings, Reports, Sessions}
+use Rattle.portal_http_routes.specs.Targets.{slash, parameter_of}
+use Rattle.portal_http_routes.specs.Table.{route_in}
+
+-- bytes, none of them a slash
+abbrev pub IsPlain : List ℕ → Type 0
+IsPlain [] = ⊤
+IsPlain (b ∷ rest) = (b < 256) × (b ≢ slash) × IsPlain rest
+
+-- a segment of a path that is not empty
+abbrev pub IsSegment : List ℕ → Type 0
+IsSegment [] = ⊥
+IsSegment (b ∷ rest) = IsPlain (b ∷ rest)
+
+-- the path of a batch's print file
+abbrev pub print_path : List ℕ → List ℕ
+print_path id = codes "/desk/batches/" ++ (id ++ codes "/print")
+
+-- the path of a voucher
+abbrev pub voucher_path : List ℕ → List ℕ
+voucher_path code = codes "/desk/vouchers/" ++ code
+
+-- the paths of a route
+abbrev pub IsPathOf : Route → List ℕ → Type 0
+IsPathOf Captive path = path ≡ codes "/captive"
+IsPathOf Redeem path = path ≡ codes "/portal/redeem"
+IsPathOf Plans path = path ≡ codes "/desk/plans"
+IsPathOf Batches path = path ≡ codes "/desk/batches"
+IsPathOf Print path = (id : List ℕ) × IsSegment id × (path ≡ print_path id)
+IsPathOf Sales path = path ≡ codes "/desk/sales"
+IsPathOf Refunds path = path ≡ codes "/desk/refunds"
+IsPathOf Closes path = path ≡ codes "/desk/closes"
+IsPathOf Voucher path = (code : List ℕ) × IsSegment code × (path ≡ voucher_path code)
+IsPathOf Takings path = path ≡ codes "/desk/takings"
+IsPathOf Reports path = path ≡ codes "/gateway/reports"
+IsPathOf Sessions path = path ≡ codes "/gateway/sessions"
+
+-- a path has a route exactly where it is one of the route's paths
+abbrev pub RoutesAreExact : Type 0
+RoutesAreExact =
+    (route : Route) (path : List ℕ) → All (λ b. b < 256) path → (route_in path ≡ Some route) ↔ IsPathOf route path
+
+-- the parameter of a print path is its batch, and that of a voucher's path its code
+abbrev pub ParametersAreExact : Type 0
+ParametersAreExact =
+    (word : List ℕ) → IsSegment word
+    → (parameter_of (print_path word) ≡ word) × (parameter_of (voucher_path word) ≡ word)

@@ -1,0 +1,36 @@
+-- What each route asks of its request: the method, and who may ask.
+use Rattle.std.specs.Prelude.{ℕ, List, codes}
+use Rattle.portal_http_routes.specs.declared.Route.{Route}
+use Rattle.portal_http_routes.specs.declared.Route.TheVariants.{Captive, Redeem, Plans, Batches, Print, Sales, Refunds, Closes, Voucher, Takings, Reports, Sessions}
+use Rattle.portal_http_routes.specs.declared.Role.{Role}
+use Rattle.portal_http_routes.specs.declared.Role.TheVariants.{Guest, Desk, Gateway}
+
+-- the one method of a route: GET where it only reads
+abbrev pub method_of : Route → List ℕ
+method_of Captive = codes "GET"
+method_of Redeem = codes "POST"
+method_of Plans = codes "POST"
+method_of Batches = codes "POST"
+method_of Print = codes "GET"
+method_of Sales = codes "POST"
+method_of Refunds = codes "POST"
+method_of Closes = codes "POST"
+method_of Voucher = codes "GET"
+method_of Takings = codes "GET"
+method_of Reports = codes "POST"
+method_of Sessions = codes "GET"
+
+-- the role of those who may ask
+abbrev pub role_of : Route → Role
+role_of Captive = Guest
+role_of Redeem = Guest
+role_of Plans = Desk
+role_of Batches = Desk
+role_of Print = Desk
+role_of Sales = Desk
+role_of Refunds = Desk
+role_of Closes = Desk
+role_of Voucher = Desk
+role_of Takings = Desk
+role_of Reports = Gateway
+role_of Sessions = Gateway

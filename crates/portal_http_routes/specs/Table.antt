@@ -1,0 +1,51 @@
+-- The table of routes, and which of them a path has.
+use Rattle.std.specs.Prelude.{◌≡◌, ℕ, List, [], ◌∷◌, ◌⊎◌, if◌then◌else◌, Option, None, option_map, Result, Ok, Err, codes, IsUtf8}
+use Rattle.matchit.specs.Rows.{RowsOf}
+use Rattle.matchit.specs.Router.{RouteOf, route_from}
+use Rattle.matchit.specs.Order.{placed}
+use Rattle.matchit.specs.Route.{Scan, parse_route}
+use Rattle.matchit.specs.Seek.{first}
+use Rattle.matchit.specs.declared.error.InsertError.{InsertError}
+use Rattle.portal_http_routes.specs.declared.Route.{Route}
+use Rattle.portal_http_routes.specs.declared.Route.TheVariants.{Captive, Redeem, Plans, Batches, Print, Sales, Refunds, Closes, Voucher, Takings, Reports, Sessions}
+use Rattle.portal_http_routes.specs.Targets.{is_path}
+
+-- a router's rows with one route more
+abbrev pub place_read : Result Scan InsertError → Route → RowsOf (RouteOf Route) → RowsOf (RouteOf Route)
+place_read (Ok scan) route rows = placed (scan.pattern, route_from scan route) rows
+place_read (Err error) route rows = rows
+
+-- the same, by the text of the route
+unfoldable pub place_route : List ℕ → Route → RowsOf (RouteOf Route) → RowsOf (RouteOf Route)
+place_route text route rows = place_read (parse_route text) route rows
+
+-- a router's rows with more routes, put in one after another
+abbrev pub place_all : List (List ℕ × Route) → RowsOf (RouteOf Route) → RowsOf (RouteOf Route)
+place_all [] rows = rows
+place_all ((text, route) ∷ rest) rows = place_all rest (place_route text route rows)
+
+-- the twelve routes
+abbrev pub all_routes : List (List ℕ × Route)
+all_routes =
+    (codes "/captive", Captive) ∷ (codes "/portal/redeem", Redeem) ∷ (codes "/desk/plans", Plans)
+    ∷ (codes "/desk/batches", Batches) ∷ (codes "/desk/batches/{id}/print", Print)
+    ∷ (codes "/desk/sales", Sales) ∷ (codes "/desk/refunds", Refunds) ∷ (codes "/desk/closes", Closes)
+    ∷ (codes "/desk/vouchers/{code}", Voucher) ∷ (codes "/desk/takings", Takings)
+    ∷ (codes "/gateway/reports", Reports) ∷ (codes "/gateway/sessions", Sessions) ∷ []
+
+-- the router's rows
+abbrev pub table : RowsOf (RouteOf Route)
+table = place_all all_routes []
+
+-- the route that the table has for a path
+unfoldable pub route_of : List ℕ → Option Route
+route_of path = option_map (λ r. r.value) (first table path)
+
+-- the route of a path: none where it does not begin with a slash or has an empty segment
+abbrev pub route_in : List ℕ → Option Route
+route_in path = if is_path path then route_of path else None
+
+-- the route of a path, and none where its bytes are no text
+abbrev pub FindsRoute : List ℕ → Option Route → Type 0
+FindsRoute path result =
+    (IsUtf8 path × (result ≡ route_in path)) ⊎ ((¬ (IsUtf8 path)) × (result ≡ None))

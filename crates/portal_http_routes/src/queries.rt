@@ -1,0 +1,29 @@
+//! The query of a target, field by field.
+ghost use Rattle.std.specs.Prelude.{◌≡◌, option_map};
+ghost use Rattle.portal_http_routes.specs.Queries.{only_of, values_of};
+
+use crate::targets::split_at_byte;
+
+/// The value under a key of a query, where the key stands there just once; it is empty where no `=`
+/// follows the key.
+///
+/// A query is cut at each `&`, and a key ends at its first `=`. Keys are compared byte by byte, and
+/// nothing is decoded.
+pub fn only_value<'q>(query: &'q [u8], key: &[u8]) -> Option<&'q [u8]>
+    ensures { option_map (λ value. value.now) result ≡ only_of (values_of key.now query.now) }
+{
+    let mut found: Option<&[u8]> = None;
+    let mut left = Some(query);
+    while let Some(fields) = left {
+        let (field, more) = split_at_byte(fields, b'&');
+        let (name, value) = split_at_byte(field, b'=');
+        if name == key {
+            if found.is_some() {
+                return None;
+            }
+            found = Some(value.unwrap_or(b""));
+        }
+        left = more;
+    }
+    found
+}

@@ -1,0 +1,88 @@
+//! The router that holds the routes.
+ghost use Rattle.std.specs.Prelude.{◌≡◌, IfOk, OnOk, option_map};
+ghost use Rattle.portal_http_routes.specs.Table.{place_route, table, route_of, FindsRoute};
+
+use crate::Route;
+use crate::targets::is_path;
+use matchit::{InsertError, Router};
+use std::alloc::{AllocError, Global};
+use std::marker::Model;
+
+/// The table of the routes, ready to be searched. A contract sees it as the router's rows, which
+/// are always the whole table.
+#[derive(Drop)]
+pub struct Routes {
+    router: Router<Route>,
+}
+
+impl Model for Routes {
+    ghost use Rattle.std.specs.Prelude.{◌≡◌};
+    ghost use Rattle.matchit.specs.Rows.{RowsOf};
+    ghost use Rattle.matchit.specs.Router.{RouteOf};
+    ghost use Rattle.portal_http_routes.specs.declared.Route.{Route};
+    ghost use Rattle.portal_http_routes.specs.Table.{table};
+
+    ghost Value = { RowsOf (RouteOf Route) };
+
+    ghost view = { λ routes. routes.router };
+
+    ghost invariant = { λ routes. routes.router ≡ table };
+}
+
+fn add_route(router: &mut Router<Route>, text: &str, route: Route) -> Result<(), InsertError>
+    ensures { OnOk result (router.new ≡ place_route text.now route router.old) }
+{
+    router.insert(text, route)
+}
+
+/// The router with all the routes in it.
+fn whole_router(alloc: Global) -> Result<Router<Route>, InsertError>
+    ensures { IfOk result (λ router. router ≡ table) }
+{
+    let mut router = Router::new(alloc);
+    add_route(&mut router, "/captive", Route::Captive)?;
+    add_route(&mut router, "/portal/redeem", Route::Redeem)?;
+    add_route(&mut router, "/desk/plans", Route::Plans)?;
+    add_route(&mut router, "/desk/batches", Route::Batches)?;
+    add_route(&mut router, "/desk/batches/{id}/print", Route::Print)?;
+    add_route(&mut router, "/desk/sales", Route::Sales)?;
+    add_route(&mut router, "/desk/refunds", Route::Refunds)?;
+    add_route(&mut router, "/desk/closes", Route::Closes)?;
+    add_route(&mut router, "/desk/vouchers/{code}", Route::Voucher)?;
+    add_route(&mut router, "/desk/takings", Route::Takings)?;
+    add_route(&mut router, "/gateway/reports", Route::Reports)?;
+    add_route(&mut router, "/gateway/sessions", Route::Sessions)?;
+    Ok(router)
+}
+
+impl Routes {
+    /// The twelve routes of the desk. The only error is want of memory.
+    pub fn new(alloc: Global) -> Result<Routes, AllocError>
+        ensures { IfOk result (λ routes. routes ≡ table) }
+    {
+        let router = whole_router(alloc).map_err(|_| AllocError)?;
+        Ok(Routes { router })
+    }
+
+    fn at(&self, path: &str) -> Option<Route>
+        ensures { result ≡ route_of path.now }
+    {
+        match self.router.at(path) {
+            Ok(found) => Some(*found.value),
+            Err(_) => None,
+        }
+    }
+
+    /// The route of a target's path: none where the path does not begin with a slash, has an
+    /// empty segment, or names no route. A segment in the place of `{id}` or `{code}` is taken as
+    /// it stands, with nothing decoded. A path that is no text has no route.
+    pub fn find(&self, path: &str) -> Option<Route>
+        ensures { FindsRoute path.now result }
+    {
+        if is_path(path.as_bytes()) {
+            self.at(path)
+        } else {
+            None
+        }
+    }
+}

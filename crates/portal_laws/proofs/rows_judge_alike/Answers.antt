@@ -1,5 +1,0 @@
-use Rattle.portal_laws.proofs.Judged.{rows_judge_alike}
-use Rattle.portal_laws.proofs.rows_judge_alike.Goals as goal
-
-pub returns : goal.returns
-returns c = rows_judge_alike

@@ -1,3 +1,0 @@
-pub mod Brings
-pub mod Creates
-pub mod Layouts

@@ -1,8 +1,0 @@
-//! The layouts of the product's tables: which one a store has, how a new store is made, and how an older
-//! one is brought to this version's.
-#![tactic(auto)]
-
-pub mod creates;
-pub mod layouts;
-pub mod migrates;
-pub mod upgrades;

@@ -1,0 +1,32 @@
+//! Worked histories, as statements on the definitions: what some commands are answered, and what a device
+//! is told then. The function does nothing: its contract is what is worked out.
+ghost use Rattle.portal_model.specs.TestVectors.{IssueSellRedeem, ClockSetBack, UsedUpOnce, ExtendedBeforeEnd, NewSessionAtEnd, BytesCounted, ShapeAndExtendRefused, RefundOfUnusedUses, NotSoldThenExpired, CloseSession, AllowanceIsFull};
+ghost use Rattle.portal_model.specs.VerdictVectors.{LoadVerdicts, IssueVerdicts, SellVerdicts, VoucherVerdicts, OpeningVerdicts, ExtensionVerdicts, NumbersAreFull, RefundVerdicts, SessionVerdicts, DeskRefusals, LimitedInBoth, FirstPlanExtends};
+
+/// Worked histories: eleven from the desk's day, and for each command what is judged of it where two
+/// refusals hold at once and at its limits.
+pub fn history_vectors_hold()
+    ensures issue_sell_redeem { IssueSellRedeem }
+    ensures clock_set_back { ClockSetBack }
+    ensures used_up { UsedUpOnce }
+    ensures extended_before_end { ExtendedBeforeEnd }
+    ensures new_session_at_end { NewSessionAtEnd }
+    ensures bytes_counted { BytesCounted }
+    ensures shape_and_extend_refused { ShapeAndExtendRefused }
+    ensures refund_of_unused_uses { RefundOfUnusedUses }
+    ensures not_sold_then_expired { NotSoldThenExpired }
+    ensures close_session { CloseSession }
+    ensures allowance_full { AllowanceIsFull }
+    ensures desk_refusals { DeskRefusals }
+    ensures limited_in_both { LimitedInBoth }
+    ensures first_plan_extends { FirstPlanExtends }
+    ensures loads { LoadVerdicts }
+    ensures issues { IssueVerdicts }
+    ensures sales { SellVerdicts }
+    ensures vouchers { VoucherVerdicts }
+    ensures openings { OpeningVerdicts }
+    ensures extensions { ExtensionVerdicts }
+    ensures numbers_full { NumbersAreFull }
+    ensures refunds { RefundVerdicts }
+    ensures sessions { SessionVerdicts }
+{}

@@ -1,0 +1,49 @@
+-- What holds of files that were opened, and opened again.
+use Rattle.portal_os.proofs.Common.{◌≡◌, ◌∙◌, sym, subst, Bool, IsTrue, Result, Ok, Err, IfOk, IsErrAnd, Image, ComesFrom, IsReopened, OpensFiles, Ghosts, Held, AreFoundIn, file_state, over_files}
+use Rattle.sqlite_store.specs.declared.store.FileStore.{FileStore}
+use Rattle.sqlite.specs.State.{HasCleanDisk}
+use Rattle.sqlite.specs.Start.{FindsIn}
+use Rattle.sqlite_trees.specs.Tree.{Trees}
+use Rattle.portal_tables.specs.TablesRepresent.{ConnIsFaultFree}
+
+module _ {D : Type 0} {g : Ghosts D} (conn : Held (FileStore D g)) where
+  -- where the connection is honest, its disk is clean
+  pub clean_by : ConnIsFaultFree over_files conn → HasCleanDisk (file_state conn)
+  unfolding ConnIsFaultFree
+  clean_by honest = honest
+
+-- what was opened is closed and opened again, or not: what holds of it as long as its disk is clean
+pub honest_on : {C E : Type 0} (again : Result C E) (Clean : C → Type 0) (Was Output : Type 0)
+    → IfOk again (λ c. Clean c → Was) → (Was → Output) → IfOk again (λ c. Clean c → Output)
+honest_on (Ok c) Clean Was Output honest told = λ clean. told (honest clean)
+honest_on (Err e) Clean Was Output honest told = tt
+
+pub stands_on : {C E : Type 0} (again : Result C E) (Clean At : C → Type 0) (Was Before : Type 0)
+    → IfOk again (λ c. Clean c → Was) → (Before → IfOk again (λ c. Clean c → At c)) → (Was → Before) → IfOk again (λ c. Clean c → At c)
+stands_on (Ok c) Clean At Was Before honest represents opened = λ clean. represents (opened (honest clean)) clean
+stands_on (Err e) Clean At Was Before honest represents opened = tt
+
+module _ {D : Type 0} {g : Ghosts D} where
+  abbrev Clean : Held (FileStore D g) → Type 0
+  Clean conn = HasCleanDisk (file_state conn)
+
+  -- what was opened, and perhaps closed and opened again, finds what the files held
+  pub from_on : {E : Type 0} (again : Result (Held (FileStore D g)) E) (image : Image) (copies : Bool) (first : Held (FileStore D g))
+      → IfOk again (λ c. Clean c → Clean first)
+      → IfOk again (λ c. Clean c → (file_state c).committed.trees ≡ (file_state first).committed.trees)
+      → IfOk again (λ c. Clean c → IsTrue copies → IsReopened first c)
+      → (Clean first → FindsIn image (file_state first)) → IfOk again (λ c. Clean c → ComesFrom image copies c)
+  from_on (Ok c) image copies first honest same reopened found = λ clean.
+      let was = found (honest clean) in
+      let here : FindsIn image (file_state c) = record {
+        holds = λ db held. same clean ∙ was.holds db held;
+        reads = subst (λ (db : Trees). AreFoundIn image db) (sym (same clean)) was.reads;
+      } in
+      (here, λ is. (first, was, reopened clean is))
+  from_on (Err e) image copies first honest same reopened found = tt
+
+  -- two files that were not opened
+  pub opens_not : {E : Type 0} (image : Image) (copies : Bool) (result : Result (Held (FileStore D g) × Bool) E) (Q : E → Type 0) → IsErrAnd result Q
+      → OpensFiles image copies result
+  opens_not image copies (Ok opened) Q failed = absurd failed
+  opens_not image copies (Err e) Q failed = record { opened = λ L shown. tt; found = tt; from = tt }

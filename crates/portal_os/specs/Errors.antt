@@ -1,0 +1,44 @@
+-- What a fault of a file is called.
+use Rattle.std.specs.declared.io.ErrorKind.{ErrorKind}
+use Rattle.std.specs.declared.io.ErrorKind.TheVariants as kind
+use Rattle.sqlite.specs.declared.error.Error.{Error}
+use Rattle.sqlite.specs.declared.error.Error.TheVariants.{SqliteFailure}
+use Rattle.sqlite.specs.declared.error.ErrorCode.TheVariants as code
+use Rattle.std.specs.IoError.{error_kind}
+use Rattle.sqlite_std_file.specs.declared.pair.OpenError.{OpenError}
+use Rattle.sqlite_std_file.specs.declared.pair.OpenError.TheVariants as path
+use Rattle.portal_os.specs.declared.unopened.Unopened.{Unopened}
+use Rattle.portal_os.specs.declared.unopened.Unopened.TheVariants as unopened
+use Rattle.portal_exit.specs.declared.error.ProgramError.{ProgramError}
+use Rattle.portal_exit.specs.declared.error.ProgramError.TheVariants as said
+use Rattle.portal_tables.specs.declared.errors.OpenFault.{OpenFault}
+use Rattle.portal_tables.specs.declared.errors.OpenFault.TheVariants.{NotOurs, Newer, Memory, Store}
+
+-- want of memory, or the file
+abbrev pub error_of_file : ErrorKind → ProgramError
+error_of_file kind.OutOfMemory = said.NoMemory
+error_of_file _ = said.File
+
+-- the same of a database file
+abbrev pub error_of_store : Error → ProgramError
+error_of_store (SqliteFailure code.OutOfMemory) = said.NoMemory
+error_of_store _ = said.File
+
+-- the same of a file and its log that could not be had
+abbrev pub error_of_path : OpenError → ProgramError
+error_of_path path.OutOfMemory = said.NoMemory
+error_of_path (path.Io error) = error_of_file (error_kind error)
+error_of_path _ = said.File
+
+-- the same of a database file that was not opened
+abbrev pub error_of_unopened : Unopened → ProgramError
+error_of_unopened (unopened.Path error) = error_of_path error
+error_of_unopened (unopened.Store error) = error_of_store error
+error_of_unopened unopened.Lost = said.File
+
+-- a store that was not taken over
+abbrev pub error_of_open : OpenFault → ProgramError
+error_of_open NotOurs = said.NotOurs
+error_of_open Newer = said.Newer
+error_of_open Memory = said.NoMemory
+error_of_open Store = said.File

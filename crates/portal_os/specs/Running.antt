@@ -1,0 +1,41 @@
+-- What is supposed of the machine: its files, and its loopback address.
+use Rattle.std.specs.Prelude.{⊤}
+use Rattle.std.specs.declared.io.Read.{Ghosts as ReadOf}
+use Rattle.std.specs.declared.io.Write.{Ghosts as WriteOf}
+use Rattle.sqlite_disk.specs.declared.Disk.{Ghosts}
+use Rattle.sqlite_wal.specs.Recovery.{Image}
+use Rattle.sqlite_store.specs.declared.store.FileStore.{FileStore}
+use Rattle.portal_desk.specs.declared.Desk.{Ghosts as DeskOf}
+use Rattle.portal_desk_store.specs.declared.desks.StoreDesk.{StoreDesk}
+use Rattle.portal_tables.specs.Images.{ImageHoldsLedger}
+use Rattle.portal_server.specs.declared.host.Host.{Ghosts as HostOf}
+use Rattle.portal_server.specs.Turns.{host_of}
+use Rattle.portal_commands.specs.Places.{IsFileError, PlaceValue}
+use Rattle.portal_commands.specs.Serving.{NetworkValue}
+use Rattle.portal_os.specs.Opening.{IsClosed, IsFoundNew, IsUnclosed, OpensTo, RefusesFiles}
+
+-- Files that hold this image, and their desks. No more is supposed of a file with settings, of which any
+-- bytes may be read, and nothing of why it is not read.
+abbrev pub host_place : {D : Type 0} (g : Ghosts D) → Image → DeskOf (StoreDesk (FileStore D g)) → PlaceValue
+host_place g image desk = record {
+  Desk = _;
+  Tables = desk.Files;
+  is_fault_free = desk.is_fault_free;
+  represents = desk.represents;
+  audits = desk.audits;
+  is_crash_state = desk.is_crash_state;
+  tables_hold_ledger = desk.holds_ledger;
+  reads = λ path bytes. ⊤;
+  holds_ledger = λ path. ImageHoldsLedger image;
+  finds = λ path. IsFoundNew image;
+  opens = λ path. OpensTo image;
+  closes = λ closed. IsClosed closed;
+  fails_to_read = λ path trouble. ⊤;
+  refuses = λ path trouble. RefusesFiles g image trouble.error;
+  fails_to_close = λ unclosed path trouble. IsUnclosed unclosed;
+  fails_to_make = IsFileError;
+}
+
+-- the hosts at the ports of the loopback address, any of which may be had
+abbrev pub host_network : {H Reader Writer : Type 0} → HostOf H Reader Writer → ReadOf Reader → WriteOf Writer → NetworkValue
+host_network host reader writer = record { host = host_of host reader writer; listens = λ port bound. ⊤ }

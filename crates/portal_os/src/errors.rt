@@ -1,0 +1,54 @@
+//! What a fault of a file is called.
+ghost use Rattle.std.specs.Prelude.{◌≡◌};
+ghost use Rattle.portal_os.specs.Errors.{error_of_file, error_of_open, error_of_path, error_of_store};
+
+use portal_exit::ProgramError;
+use portal_tables::errors::OpenFault;
+use sqlite::{Error, ErrorCode};
+use sqlite_std_file::OpenError;
+use std::io::ErrorKind;
+
+/// The fault of a file that could not be read: `no_memory` where there was none, else `file`.
+pub fn error_of_file(kind: ErrorKind) -> ProgramError
+    ensures { result ≡ error_of_file kind }
+{
+    match kind {
+        ErrorKind::OutOfMemory => ProgramError::NoMemory,
+        _ => ProgramError::File,
+    }
+}
+
+/// The fault of a database file that could not be opened: `no_memory` where there was none, else `file`, also
+/// where another process holds it.
+pub fn error_of_store(error: &Error) -> ProgramError
+    ensures { result ≡ error_of_store error.now }
+{
+    match error {
+        Error::SqliteFailure(ErrorCode::OutOfMemory) => ProgramError::NoMemory,
+        _ => ProgramError::File,
+    }
+}
+
+/// The fault of a database file and its log that could not be had: `no_memory` where there was none, else
+/// `file`.
+pub fn error_of_path(error: &OpenError) -> ProgramError
+    ensures { result ≡ error_of_path error.now }
+{
+    match error {
+        OpenError::OutOfMemory => ProgramError::NoMemory,
+        OpenError::Io(error) => error_of_file(error.kind()),
+        _ => ProgramError::File,
+    }
+}
+
+/// The fault of a store that could not be taken over.
+pub fn error_of_open(fault: OpenFault) -> ProgramError
+    ensures { result ≡ error_of_open fault }
+{
+    match fault {
+        OpenFault::NotOurs => ProgramError::NotOurs,
+        OpenFault::Newer => ProgramError::Newer,
+        OpenFault::Memory => ProgramError::NoMemory,
+        OpenFault::Store => ProgramError::File,
+    }
+}

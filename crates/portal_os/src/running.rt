@@ -1,0 +1,41 @@
+//! The program on the machine.
+ghost use Rattle.std.specs.Prelude.{map};
+ghost use Rattle.sqlite_wal.specs.Files.{image_at};
+ghost use Rattle.portal_os.specs.Running.{host_network, host_place};
+ghost use Rattle.portal_commands.specs.Program.{EndsProgram};
+ghost use Rattle.portal_server.specs.Turns.{wire_of};
+
+use crate::files::HostFiles;
+use crate::network::HostNetwork;
+use portal_commands::program::run_program;
+use portal_desk::Desk;
+use portal_desk_store::StoreDesk;
+use portal_server::{Host, Loopback};
+use sqlite::{FileFrom, FileStore, Start};
+use sqlite_disk::Disk;
+use std::convert::AsStr;
+use std::io::{Read, Write};
+use std::net::TcpStream;
+
+/// Does what the words of the command line ask for over the machine's files and its loopback address, as
+/// `run_program` says, and gives the status with which the program ends. `start` is what is supposed of the
+/// disk.
+pub fn run_on_host<S: Start, T: AsStr, R: Read, W: Write, E: Write>(
+    host: &HostRuntime,
+    start: S,
+    words: &[T],
+    input: &mut R,
+    output: &mut W,
+    errors: &mut E,
+) -> u8
+    ensures { EndsProgram
+        (host_place ⟦<FileFrom<S> as Disk>⟧ (image_at S.Start) ⟦<StoreDesk<FileStore<FileFrom<S>>> as Desk>⟧)
+        (host_network ⟦<Loopback<'static, HostRuntime> as Host>⟧
+        ⟦<TcpStream as Read>⟧ ⟦<TcpStream as Write>⟧)
+        (wire_of R.Read W.Write input.old input.new output.old output.new)
+        (E.contents errors.old) (E.contents errors.new) (map T.text words.now) result }
+{
+    let files = HostFiles { host, start };
+    let network = HostNetwork { host };
+    run_program(host.alloc(), files, &network, words, input, output, errors)
+}

@@ -1,5 +1,0 @@
-use Rattle.std.proofs.Common.{inr, arith}
-use Rattle.portal_program.proofs.program.serve_order.Goals as goal
-
-pub returns : goal.returns
-returns g c = inr (omega (arith, c.if-port-gt65535.false), c.serve.ensures)

@@ -1,6 +1,0 @@
-use Rattle.portal_program.specs.Troubles.{second_line}
-use Rattle.portal_program.proofs.trouble.second_line.Goals as goal
-
-pub returns : goal.returns
-unfolding second_line
-returns c = c.format.ensures.ok

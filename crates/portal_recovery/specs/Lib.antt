@@ -1,0 +1,3 @@
+pub mod AnsweredAsHeld
+pub mod ExecutionsOverFiles
+pub mod Sessions

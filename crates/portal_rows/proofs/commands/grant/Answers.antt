@@ -1,5 +1,0 @@
-use Rattle.portal_rows.proofs.WritesLemmas.{writes_then}
-use Rattle.portal_rows.proofs.commands.grant.Goals as goal
-
-pub returns : goal.returns
-returns g c = writes_then g.S.Store c.in_ok-place.ensures c.insert_grant.ensures

@@ -1,7 +1,0 @@
-use Rattle.portal_rows.proofs.Common.{Ok, subst, Writes, with_plans}
-use Rattle.portal_rows.proofs.WritesLemmas.{writes_then}
-use Rattle.portal_rows.proofs.commands.load.Goals as goal
-
-pub returns : goal.returns
-returns g c =
-    writes_then g.S.Store (subst (λ ps. Writes g.S.Store (with_plans ps) c.args.tx.now c.insert_plans.new.tx (Ok tt)) c.as_slice.ensures c.in_ok-insert_plans.ensures) c.set_moment.ensures

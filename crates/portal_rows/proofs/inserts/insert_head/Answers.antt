@@ -1,9 +1,0 @@
-use Rattle.portal_rows.proofs.Common.{w64, refl, to_z_pos, first_head}
-use Rattle.portal_rows.proofs.InsertSteps.{add_head}
-use Rattle.portal_rows.proofs.WritesLemmas.{writes_run}
-use Rattle.portal_rows.proofs.inserts.insert_head.Goals as goal
-
-pub returns : goal.returns
-returns g c =
-    writes_run g.S.Store (add_head (first_head c.args.layout) (refl, refl, refl, refl))
-    (rw (c.params-to_sql.ensures, to_z_pos w64 c.args.layout c.requires) at c.write.ensures)

@@ -1,6 +1,0 @@
-use Rattle.portal_serve.specs.Command.{listening_line}
-use Rattle.portal_serve.proofs.command.listening_line.Goals as goal
-
-pub returns : goal.returns
-unfolding listening_line
-returns c = c.format.ensures.ok

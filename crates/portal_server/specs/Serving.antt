@@ -1,0 +1,49 @@
+-- What serving leaves of a desk, and what is printed as it goes on.
+use Rattle.std.specs.Prelude.{◌≡◌, ◌⊎◌, ℕ, ◌≤◌, List, [], ◌∷◌, length, ⊤, Option, Some, None, true, false, Result, Ok, Err}
+use Rattle.std.specs.Io.KnownBytes.{Keeps}
+use Rattle.std.specs.declared.io.ErrorKind.{ErrorKind}
+use Rattle.std.specs.declared.io.ErrorKind.TheVariants as kind
+use Rattle.portal_model.specs.declared.refusal.Refusal.TheVariants.{Stopped}
+use Rattle.portal_ledger.specs.States.{State}
+use Rattle.portal_desk.specs.Calls.{is_stopped_state}
+use Rattle.portal_exit.specs.declared.error.ProgramError.{ProgramError}
+use Rattle.portal_exit.specs.declared.error.ProgramError.TheVariants.{File, Network, Cut, NoMemory, Refused}
+use Rattle.portal_exit.specs.Errors.{line_of}
+use Rattle.portal_exit.specs.Streams.{Prints}
+use Rattle.portal_http.specs.Arrived.{Arrived}
+
+-- At so many connections: so many requests at most were served, where `IsRun` says what a run of such
+-- requests with such responses is.
+abbrev pub ServesAtMost : ℕ → (List Arrived → List (List ℕ) → Type 0) → Type 0
+ServesAtMost count IsRun = (arrivals : List Arrived) × (responses : List (List ℕ)) × (length arrivals ≤ count) × IsRun arrivals responses
+
+-- each of these requests came at that moment, and with that seed
+abbrev pub ComeWith : ℕ → List ℕ → List Arrived → Type 0
+ComeWith moment seed [] = ⊤
+ComeWith moment seed (one ∷ more) = (one.moment ≡ moment) × (one.seed ≡ seed) × ComeWith moment seed more
+
+-- what is printed of a connection: nothing, or the line of `cut` or of `network`, as far as it goes out
+abbrev pub PrintsOfConnection : Option ProgramError → Option (List ℕ) → Option (List ℕ) → Type 0
+PrintsOfConnection None printed printed_after = Keeps printed printed_after
+PrintsOfConnection (Some error) printed printed_after = ((error ≡ Cut) ⊎ (error ≡ Network)) × Prints printed printed_after (line_of error)
+
+-- what is printed of connections, the newest first
+abbrev pub PrintsOfConnections : List (Option ProgramError) → Option (List ℕ) → Option (List ℕ) → Type 0
+PrintsOfConnections [] printed printed_after = Keeps printed printed_after
+PrintsOfConnections (one ∷ before) printed printed_after =
+    (between : Option (List ℕ)) × PrintsOfConnections before printed between × PrintsOfConnection one between printed_after
+
+-- a fault of the clock or of the source of seeds
+abbrev pub IsHostError : ProgramError → Type 0
+IsHostError error = (error ≡ File) ⊎ (error ≡ NoMemory)
+
+-- what a failure of either is told as: want of memory, or the file
+abbrev pub error_of_host : ErrorKind → ProgramError
+error_of_host kind.OutOfMemory = NoMemory
+error_of_host _ = File
+
+-- By how it ended: all connections were served and the desk works; or the desk has stopped, or the host
+-- failed.
+abbrev pub EndsLoop : State → Result (Unit {0}) ProgramError → Type 0
+EndsLoop new (Ok done) = is_stopped_state new ≡ false
+EndsLoop new (Err error) = ((error ≡ Refused Stopped) × (is_stopped_state new ≡ true)) ⊎ IsHostError error

@@ -1,0 +1,101 @@
+-- What a host gives, and what is made of it: one turn after another.
+use Rattle.std.specs.Prelude.{◌≡◌, ◌⊎◌, ℕ, ◌≤◌, ◌/◌, zero, suc, min, Bool, true, false, List, Option, Some, None, Result, Ok, Err}
+use Rattle.std.specs.IoError.{error_kind}
+use Rattle.std.specs.declared.io.Error.{Error}
+use Rattle.std.specs.declared.io.ErrorKind.TheVariants.{InvalidData}
+use Rattle.std.specs.declared.time.Duration.{Duration}
+use Rattle.std.specs.Duration.{as_nanos}
+use Rattle.std.specs.declared.io.Read.{Ghosts as ReadOf}
+use Rattle.std.specs.declared.io.Write.{Ghosts as WriteOf}
+use Rattle.portal_files.specs.SettingsFile.{SettingsValue}
+use Rattle.portal_ledger.specs.States.{State}
+use Rattle.portal_model.specs.declared.refusal.Refusal.TheVariants.{Stopped}
+use Rattle.portal_desk.specs.Calls.{is_stopped_state}
+use Rattle.portal_exit.specs.declared.error.ProgramError.{ProgramError}
+use Rattle.portal_exit.specs.declared.error.ProgramError.TheVariants.{Refused}
+use Rattle.portal_http.specs.declared.exchanges.Done.{Done}
+use Rattle.portal_http.specs.declared.exchanges.Cut.{Cut}
+use Rattle.portal_http.specs.Exchanges.{Wire, between, EndsExchange}
+use Rattle.portal_http.specs.Runs.{ServesInOrder}
+use Rattle.portal_server.specs.declared.host.Host.{Ghosts as HostOf}
+
+-- the moment that a clock says: its whole seconds, or the greatest where they are past it; 0 where it is set
+-- before 1970
+abbrev pub IsMomentOf : Result Duration Error → ℕ → Type 0
+IsMomentOf (Ok since) moment = moment ≡ min (as_nanos since / 1000000000) 253370764799
+IsMomentOf (Err io_error) moment = (error_kind io_error ≡ InvalidData) × (moment ≡ 0)
+
+-- What is supposed of a host: from what it was to what it is then, which peer it accepted, or that one broke
+-- before; which moment its clock said and which seed was drawn; which connection it ended, and that it waited
+-- a second. And what is known of the bytes that a peer has left to send, and was sent.
+pub record HostValue : Type 1 where
+  pub Host : Type 0
+  pub Reader : Type 0
+  pub Writer : Type 0
+  pub accepts : Host → Option (Reader × Writer) → Host → Type 0
+  pub stamps : Host → Result (ℕ × List ℕ) ProgramError → Host → Type 0
+  pub closes : Host → Reader → Writer → Host → Type 0
+  pub pauses : Host → Host → Type 0
+  pub unread : Reader → Option (List ℕ)
+  pub sent : Writer → Option (List ℕ)
+
+-- that of a host, and of what its peers send and are sent
+abbrev pub host_of : {Host Reader Writer : Type 0} → HostOf Host Reader Writer → ReadOf Reader → WriteOf Writer → HostValue
+host_of host reader writer = record {
+  Host = _;
+  Reader = _;
+  Writer = _;
+  accepts = host.accepts;
+  stamps = host.stamps;
+  closes = host.closes;
+  pauses = host.pauses;
+  unread = reader.remaining;
+  sent = writer.contents;
+}
+
+-- what a reader has left to give and a writer was given, each before a call and after it
+abbrev pub wire_of : {R W : Type 0} → ReadOf R → WriteOf W → R → R → W → W → Wire
+wire_of r w reader reader_after writer writer_after =
+    between (r.remaining reader) (r.remaining reader_after) (w.contents writer) (w.contents writer_after)
+
+-- A peer that was accepted is met: the clock is read and a seed drawn; then there is one exchange with it, at
+-- that moment and with that seed; and then its connection is ended.
+abbrev pub ServesPeer : (host : HostValue) → SettingsValue → host.Host → host.Reader → host.Writer → State → host.Host → State → Type 0
+ServesPeer host settings before reader writer old after new =
+    (moment : ℕ) × (seed : List ℕ) × (stamped : host.Host) × (reader_after : host.Reader) × (writer_after : host.Writer) × (ended : Result Done Cut)
+    × host.stamps before (Ok (moment, seed)) stamped
+    × EndsExchange (between (host.unread reader) (host.unread reader_after) (host.sent writer) (host.sent writer_after))
+    moment seed (λ arrivals responses. ServesInOrder settings old arrivals responses new) ended
+    × host.closes stamped reader_after writer_after after
+
+-- a second is waited where the connection before broke too
+abbrev pub Pauses : (host : HostValue) → Bool → host.Host → host.Host → Type 0
+Pauses host true before after = host.pauses before after
+Pauses host false before after = after ≡ before
+
+-- One turn, after one whose connection broke or did not: a connection broke before it was accepted, and
+-- nothing comes of it but a pause; or a peer is accepted and met. And whether it broke.
+abbrev pub IsTurn : (host : HostValue) → SettingsValue → Bool → host.Host → State → host.Host → State → Bool → Type 0
+IsTurn host settings has_failed before old after new fails =
+    ((fails ≡ true) × (new ≡ old) × (broken : host.Host) × host.accepts before None broken × Pauses host has_failed broken after)
+    ⊎ ((fails ≡ false) × (peer : host.Reader × host.Writer) × (accepted : host.Host) × host.accepts before (Some peer) accepted
+    × ServesPeer host settings accepted peer.0 peer.1 old after new)
+
+-- so many turns, one after another, and whether the connection of the last one broke
+abbrev pub Turns : (host : HostValue) → SettingsValue → ℕ → host.Host → State → host.Host → State → Bool → Type 0
+Turns host settings zero before old after new fails = (after ≡ before) × (new ≡ old) × (fails ≡ false)
+Turns host settings (suc more) before old after new fails =
+    (mid : host.Host) × (between_them : State) × (failed : Bool) × Turns host settings more before old mid between_them failed
+    × IsTurn host settings failed mid between_them after new fails
+
+-- a peer was accepted, and then the clock or the source of seeds failed
+abbrev pub FailsAt : (host : HostValue) → host.Host → ProgramError → host.Host → Type 0
+FailsAt host before error after =
+    (peer : host.Reader × host.Writer) × (accepted : host.Host) × host.accepts before (Some peer) accepted × host.stamps accepted (Err error) after
+
+-- By how it ended: all turns were taken; or fewer, since the desk has stopped, or the host failed.
+abbrev pub TakesTurns : (host : HostValue) → SettingsValue → ℕ → host.Host → State → Result (Unit {0}) ProgramError → host.Host → State → Type 0
+TakesTurns host settings count before old (Ok done) after new = (fails : Bool) × Turns host settings count before old after new fails
+TakesTurns host settings count before old (Err error) after new =
+    (few : ℕ) × (last : host.Host) × (fails : Bool) × (few ≤ count) × Turns host settings few before old last new fails
+    × (((error ≡ Refused Stopped) × (is_stopped_state new ≡ true) × (after ≡ last)) ⊎ FailsAt host last error after)

@@ -1,0 +1,158 @@
+//! The loop.
+ghost use Rattle.std.specs.Prelude.{◌≡◌, ◌≤◌, ℕ, List, Option, length, IfErr, MatchResult};
+ghost use Rattle.portal_exit.specs.declared.error.ProgramError.{ProgramError as Failure};
+ghost use Rattle.portal_server.specs.Asks.{KeepsSettings, LeadsDesk, ServesRun, ServesSafely};
+ghost use Rattle.portal_server.specs.Serving.{PrintsOfConnection, PrintsOfConnections, EndsLoop, IsHostError};
+ghost use Rattle.portal_server.specs.Turns.{host_of, ServesPeer, IsTurn, Pauses, FailsAt, TakesTurns};
+
+use crate::host::Host;
+use crate::peers::serve_peer;
+use portal_desk::Desk;
+use portal_exit::ProgramError;
+use portal_http_routes::Routes;
+use portal_model::refusal::Refusal;
+use std::alloc::Global;
+use std::io::Write;
+
+/// Has one connection served, with the clock's moment and a fresh seed. Faults: those of the host, before
+/// anything is read.
+fn serve_connection<D: Desk, H: Host, E: Write>(
+    alloc: Global,
+    desk: &mut D,
+    routes: &Routes,
+    host: &mut H,
+    mut reader: H::Reader,
+    mut writer: H::Writer,
+    errors: &mut E,
+) -> Result<(), ProgramError>
+    ensures settings { KeepsSettings D.Desk desk.old desk.new }
+    ensures err { IfErr result IsHostError }
+    ensures says { (said : Option Failure) × PrintsOfConnection said (E.contents errors.old) (E.contents errors.new) }
+    ensures serves { LeadsDesk D.Desk desk.old desk.new (ServesRun (D.settings desk.old) 1) }
+    ensures meets { LeadsDesk D.Desk desk.old desk.new (λ old new. MatchResult result
+        (λ _. ServesPeer (host_of H.Host H.Reader.Read H.Writer.Write)
+        (D.settings desk.old) host.old reader writer old host.new new)
+        (λ error. (new ≡ old) × H.stamps host.old (Err error) host.new)) }
+{
+    let (moment, seed) = host.moment_and_seed()?;
+    serve_peer(
+        alloc,
+        desk,
+        routes,
+        moment,
+        seed,
+        &mut reader,
+        &mut writer,
+        errors,
+    );
+    host.close(reader, writer);
+    Ok(())
+}
+
+/// Waits a second where the connection before broke too.
+fn pause_if_failed<H: Host>(host: &mut H, has_failed: bool)
+    ensures { Pauses (host_of H.Host H.Reader.Read H.Writer.Write) has_failed host.old host.new }
+{
+    if has_failed {
+        host.pause();
+    }
+}
+
+/// Waits for one connection and has it served. True where it broke before it was accepted: `portal: network`
+/// is printed then, and where the one before broke too, as `has_failed` says, a second is waited. Faults:
+/// those of the host.
+fn accept_and_serve<D: Desk, H: Host, E: Write>(
+    alloc: Global,
+    desk: &mut D,
+    routes: &Routes,
+    host: &mut H,
+    has_failed: bool,
+    errors: &mut E,
+) -> Result<bool, ProgramError>
+    ensures settings { KeepsSettings D.Desk desk.old desk.new }
+    ensures err { IfErr result IsHostError }
+    ensures says { (said : Option Failure) × PrintsOfConnection said (E.contents errors.old) (E.contents errors.new) }
+    ensures serves { LeadsDesk D.Desk desk.old desk.new (ServesRun (D.settings desk.old) 1) }
+    ensures turn { LeadsDesk D.Desk desk.old desk.new (λ old new. MatchResult result
+        (λ fails. IsTurn (host_of H.Host H.Reader.Read H.Writer.Write)
+        (D.settings desk.old) has_failed host.old old host.new new fails)
+        (λ error. (new ≡ old)
+        × FailsAt (host_of H.Host H.Reader.Read H.Writer.Write) host.old error host.new)) }
+{
+    match host.accept() {
+        Some(peer) => {
+            let (reader, writer) = peer;
+            serve_connection(alloc, desk, routes, host, reader, writer, errors)?;
+            Ok(false)
+        }
+        None => {
+            ProgramError::Network.report(errors);
+            pause_if_failed(host, has_failed);
+            Ok(true)
+        }
+    }
+}
+
+/// Serves `count` connections of the host, one after the other, each with the clock's moment and a fresh
+/// seed.
+///
+/// Of a connection that breaks off `portal: cut` is printed, of one that is not accepted `portal: network`,
+/// and serving goes on; after the second in a row that is not accepted, and each further one, a second later.
+///
+/// What the desk then stands at is what a run of at most one request for each connection leaves. Faults: the
+/// refusal of a desk that has stopped, at once, before another connection is waited for; and `File` or
+/// `NoMemory`, where the clock or the source of seeds fails.
+pub fn serve_connections<D: Desk, H: Host, E: Write>(
+    alloc: Global,
+    desk: &mut D,
+    routes: &Routes,
+    host: &mut H,
+    count: u64,
+    errors: &mut E,
+) -> Result<(), ProgramError>
+    ensures settings { KeepsSettings D.Desk desk.old desk.new }
+    ensures says { (said : List (Option Failure))
+        × PrintsOfConnections said (E.contents errors.old) (E.contents errors.new)
+        × MatchResult result (λ _. length said ≡ count) (λ _. length said ≤ count) }
+    ensures serves { LeadsDesk D.Desk desk.old desk.new (λ old new.
+        ServesRun (D.settings desk.old) count old new × EndsLoop new result) }
+    ensures survives { ServesSafely D.Desk desk.old desk.new count }
+    ensures turns { LeadsDesk D.Desk desk.old desk.new (λ old new.
+        TakesTurns (host_of H.Host H.Reader.Read H.Writer.Write)
+        (D.settings desk.old) count host.old old result host.new new) }
+{
+    accept_loop(alloc, desk, routes, host, count, errors)
+}
+
+/// The connections one after another, as `serve_connections` says.
+fn accept_loop<D: Desk, H: Host, E: Write>(
+    alloc: Global,
+    desk: &mut D,
+    routes: &Routes,
+    host: &mut H,
+    count: u64,
+    errors: &mut E,
+) -> Result<(), ProgramError>
+    ensures settings { KeepsSettings D.Desk desk.old desk.new }
+    ensures says { (said : List (Option Failure))
+        × PrintsOfConnections said (E.contents errors.old) (E.contents errors.new)
+        × MatchResult result (λ _. length said ≡ count) (λ _. length said ≤ count) }
+    ensures serves { LeadsDesk D.Desk desk.old desk.new (λ old new.
+        ServesRun (D.settings desk.old) count old new × EndsLoop new result) }
+    ensures turns { LeadsDesk D.Desk desk.old desk.new (λ old new.
+        TakesTurns (host_of H.Host H.Reader.Read H.Writer.Write)
+        (D.settings desk.old) count host.old old result host.new new) }
+{
+    let mut has_failed = false;
+    for _turn in 0..count {
+        if desk.is_stopped() {
+            return Err(ProgramError::Refused(Refusal::Stopped));
+        }
+        has_failed = accept_and_serve(alloc, desk, routes, host, has_failed, errors)?;
+    }
+    if desk.is_stopped() {
+        Err(ProgramError::Refused(Refusal::Stopped))
+    } else {
+        Ok(())
+    }
+}

@@ -1,9 +1,0 @@
-pub mod Common
-pub mod KeptLemmas
-pub mod ActLemmas
-pub mod AdoptLemmas
-pub mod JudgeLemmas
-pub mod ReadLemmas
-pub mod StepLemmas
-pub mod StopLemmas
-pub mod TakingLemmas

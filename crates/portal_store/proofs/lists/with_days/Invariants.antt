@@ -1,5 +1,0 @@
-use Rattle.portal_store.proofs.Common.{◌≡◌, take, paid_days}
-use Rattle.portal_store.proofs.lists.with_days.Given as goal
-
-abbrev pub invariant-loop-at : goal.invariant-loop-at
-invariant-loop-at l = l.pairs.items ≡ paid_days l.settings.zone (take l.at-index l.payments)

@@ -1,0 +1,19 @@
+use Rattle.portal_tables.proofs.Common.{IsTrue, sym, subst, ◌∙◌, rules, survives_weaker, HasNoActionOnOurs}
+use Rattle.portal_tables.proofs.attach_steps.check_and_migrate.Goals as goal
+
+pub returns-clause-spares : goal.returns-clause-spares
+returns-clause-spares g c =
+    let spares : IsTrue c.has_no_action_on_ours.result = search rules in
+    subst HasNoActionOnOurs c.schema.ensures.value (sym c.has_no_action_on_ours.ensures ∙ spares)
+
+pub returns-clause-crash : goal.returns-clause-crash
+returns-clause-crash g c =
+    let spares : IsTrue c.has_no_action_on_ours.result = search rules in
+    let spared = subst HasNoActionOnOurs c.schema.ensures.value (sym c.has_no_action_on_ours.ensures ∙ spares) in
+    survives_weaker _ _ _ _ (λ _ db may. (spared, may)) c.migrate_schema.ensures.crash
+
+pub returns-in_err-migrate_schema-clause-crash : goal.returns-in_err-migrate_schema-clause-crash
+returns-in_err-migrate_schema-clause-crash g c =
+    let spares : IsTrue c.has_no_action_on_ours.result = search rules in
+    let spared = subst HasNoActionOnOurs c.schema.ensures.value (sym c.has_no_action_on_ours.ensures ∙ spares) in
+    survives_weaker _ _ _ _ (λ _ db may. (spared, may)) c.migrate_schema.ensures.crash

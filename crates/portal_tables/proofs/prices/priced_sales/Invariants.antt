@@ -1,5 +1,0 @@
-use Rattle.portal_tables.proofs.Common.{◌≡◌, ℕ, Some, map, take, bytes_eq, get_by, sale_read, KeptSale, paid, is_priced}
-use Rattle.portal_tables.proofs.prices.priced_sales.Given as goal
-
-abbrev pub invariant-loop-sale : goal.invariant-loop-sale
-invariant-loop-sale l = map (λ (s : KeptSale). is_priced (get_by (λ k. bytes_eq s.batch k.now) l.prices) (sale_read s)) (take l.sale-index l.sales) ≡ map (λ (p : ℕ × ℕ). Some (paid p)) l.payments.items

@@ -1,0 +1,200 @@
+//! The steps by which the tables of a store are made ready.
+
+ghost use Rattle.std.specs.Prelude.{◌≡◌, ◌≢◌, ◌⊎◌, ◌<◌, ℕ, false, IsTrue, Some, None, IfOk, IfErr, OnOk};
+ghost use Rattle.std.specs.Prelude.{MatchResult};
+ghost use Rattle.sqlite.specs.Held.{state};
+ghost use Rattle.sqlite.specs.State.{HasCleanDisk, IsUnchanged, Survives};
+ghost use Rattle.portal_tables_sql.specs.States.{IsAsBefore};
+ghost use Rattle.portal_tables_schema.specs.Creation.{IsCommitted, new_store};
+ghost use Rattle.portal_tables_rows.specs.Holds.{Holds, CrashStateHoldsRows};
+ghost use Rattle.portal_tables_rows.specs.Others.{KeepsOthers, CrashStateHasOthers};
+ghost use Rattle.portal_tables_schema.specs.SchemaVersions.{GivesSchemaVersion};
+ghost use Rattle.portal_tables_schema.specs.Migrations.{HasMigrated};
+ghost use Rattle.portal_tables_schema.specs.declared.schema_versions.OldSchema.TheVariants.{Fourth};
+ghost use Rattle.portal_tables.specs.Attaching.{IsCarried, IsCompleted, IsKnown, AreTablesReady, IsCauseIn};
+ghost use Rattle.portal_tables.specs.Attaching.{CrashStateCarries, MayAttach, MayBeMigrated, HasNoActionOnOurs};
+ghost use Rattle.portal_tables.specs.Attaching.{GivesKnownVersion, GivesNewerVersion};
+ghost use Rattle.portal_tables.specs.declared.errors.OpenFault.TheVariants.{NotOurs, Newer, Memory, Store};
+
+use crate::errors::OpenFault;
+use crate::migration::migrate_schema;
+use portal_tables_schema::creation::{can_add_tables, create_schema};
+use portal_tables_schema::schema_versions::{
+    OldSchema, has_no_action_on_ours, is_any_name_taken, is_indexed, is_usable_schema,
+    schema_version_in, select_schema_version,
+};
+use portal_tables_sql::query::is_answering;
+use sqlite::{Alter, Connection, Error, ErrorCode};
+
+/// What an error comes to. Want of memory is told only where the connection still answers, and so nothing
+/// has changed.
+fn open_fault_of<S: Alter>(conn: &mut Connection<S>, error: &Error) -> OpenFault
+    ensures gives_fault { (result ≡ Memory) ⊎ (result ≡ Store) }
+    ensures same { HasCleanDisk (state S.Store conn.new) → result ≡ Memory
+        → IsUnchanged (state S.Store conn.old) (state S.Store conn.new) }
+    ensures survives { Survives (state S.Store conn.old) (state S.Store conn.new) (λ _. ⊥) }
+{
+    if matches!(error, Error::SqliteFailure(ErrorCode::OutOfMemory)) && is_answering(conn) {
+        return OpenFault::Memory;
+    }
+    OpenFault::Store
+}
+
+/// The layout, where the head is one row with one from 1 on.
+fn read_schema_version<S: Alter>(conn: &mut Connection<S>) -> Result<Option<u64>, OpenFault>
+    ensures gives_version { HasCleanDisk (state S.Store conn.new)
+        → IfOk result (λ schema_version. GivesSchemaVersion (state S.Store conn.old).now schema_version
+        × IsUnchanged (state S.Store conn.old) (state S.Store conn.new)) }
+    ensures mode { (state S.Store conn.old).in_transaction ≡ false
+        → OnOk result ((state S.Store conn.new).in_transaction ≡ false) }
+    ensures faults { IfErr result (λ fault. (fault ≡ Memory) ⊎ (fault ≡ Store)) }
+    ensures memory { HasCleanDisk (state S.Store conn.new) → (state S.Store conn.old).in_transaction ≡ false
+        → (state S.Store conn.old).now ≡ (state S.Store conn.old).committed
+        → IfErr result (λ fault. fault ≡ Memory
+        → IsAsBefore (state S.Store conn.old) (state S.Store conn.new)) }
+    ensures survives { Survives (state S.Store conn.old) (state S.Store conn.new) (λ _. ⊥) }
+{
+    match select_schema_version(conn) {
+        Ok(rows) => Ok(schema_version_in(rows.as_slice())),
+        Err(Error::SqlInputError(_)) => Ok(None),
+        Err(error) => Err(open_fault_of(conn, &error)),
+    }
+}
+
+/// Makes the tables in a store that has none of them.
+fn create_tables<S: Alter>(conn: &mut Connection<S>) -> Result<(), OpenFault>
+    requires { conn.old.in_transaction ≡ false }
+    ensures made { HasCleanDisk (state S.Store conn.new)
+        → OnOk result (Holds (state S.Store conn.new).now new_store
+        × KeepsOthers (state S.Store conn.old).now (state S.Store conn.new).now
+        × IsCommitted (state S.Store conn.new)) }
+    ensures spares { OnOk result (HasNoActionOnOurs (state S.Store conn.old).now.schema) }
+    ensures faults { IfErr result (λ fault. (fault ≡ Memory) ⊎ (fault ≡ Store)) }
+    ensures memory { HasCleanDisk (state S.Store conn.new)
+        → IfErr result (λ fault. fault ≡ Memory
+        → IsAsBefore (state S.Store conn.old) (state S.Store conn.new)) }
+    ensures crash { Survives (state S.Store conn.old) (state S.Store conn.new)
+        (λ trees. HasNoActionOnOurs (state S.Store conn.old).now.schema × CrashStateHoldsRows trees new_store
+        × CrashStateHasOthers (state S.Store conn.old).now trees) }
+{
+    if !can_add_tables(conn.schema()) {
+        return Err(OpenFault::Store);
+    }
+    match create_schema(conn) {
+        Ok(()) => Ok(()),
+        Err(error) => Err(open_fault_of(conn, &error)),
+    }
+}
+
+/// Upgrades the tables of an older layout. Where a foreign key acts on a table of ours, also on one that
+/// the layout does not have yet, nothing is written.
+fn check_and_migrate<S: Alter>(conn: &mut Connection<S>, from: OldSchema) -> Result<(), OpenFault>
+    requires { conn.old.in_transaction ≡ false }
+    ensures done { HasCleanDisk (state S.Store conn.new) → IsTrue (state S.Store conn.old).is_open
+        → OnOk result (HasMigrated from (state S.Store conn.old) (state S.Store conn.new)) }
+    ensures spares { OnOk result (HasNoActionOnOurs (state S.Store conn.old).now.schema) }
+    ensures faults { IfErr result (λ fault. (fault ≡ Memory) ⊎ (fault ≡ Store)) }
+    ensures memory { HasCleanDisk (state S.Store conn.new) → IsTrue (state S.Store conn.old).is_open
+        → (state S.Store conn.old).now ≡ (state S.Store conn.old).committed
+        → IfErr result (λ fault. fault ≡ Memory
+        → IsAsBefore (state S.Store conn.old) (state S.Store conn.new)) }
+    ensures crash { Survives (state S.Store conn.old) (state S.Store conn.new)
+        (MayBeMigrated from (state S.Store conn.old)) }
+{
+    if !has_no_action_on_ours(conn.schema()) {
+        return Err(OpenFault::Store);
+    }
+    migrate_schema(conn, from)?;
+    Ok(())
+}
+
+/// Makes the index of this layout's tables, where it is missing.
+fn add_session_index<S: Alter>(conn: &mut Connection<S>) -> Result<(), OpenFault>
+    requires { conn.old.in_transaction ≡ false }
+    ensures done { HasCleanDisk (state S.Store conn.new) → IsTrue (state S.Store conn.old).is_open
+        → (state S.Store conn.old).now ≡ (state S.Store conn.old).committed
+        → OnOk result (IsCompleted (state S.Store conn.old) (state S.Store conn.new)) }
+    ensures spares { OnOk result (HasNoActionOnOurs (state S.Store conn.old).now.schema) }
+    ensures faults { IfErr result (λ fault. (fault ≡ Memory) ⊎ (fault ≡ Store)) }
+    ensures memory { HasCleanDisk (state S.Store conn.new) → IsTrue (state S.Store conn.old).is_open
+        → (state S.Store conn.old).now ≡ (state S.Store conn.old).committed
+        → IfErr result (λ fault. fault ≡ Memory
+        → IsAsBefore (state S.Store conn.old) (state S.Store conn.new)) }
+    ensures crash { Survives (state S.Store conn.old) (state S.Store conn.new)
+        (MayBeMigrated Fourth (state S.Store conn.old)) }
+{
+    if !is_usable_schema(conn.schema()) {
+        return Err(OpenFault::Store);
+    }
+    if is_indexed(conn.schema()) {
+        return Ok(());
+    }
+    migrate_schema(conn, OldSchema::Fourth)?;
+    Ok(())
+}
+
+/// Goes on with the tables that stand in a store; those of an older layout are upgraded.
+fn migrate_existing<S: Alter>(conn: &mut Connection<S>) -> Result<(), OpenFault>
+    requires { conn.old.in_transaction ≡ false }
+    ensures why { HasCleanDisk (state S.Store conn.new)
+        → MatchResult result (λ _. HasNoActionOnOurs (state S.Store conn.old).now.schema
+        × GivesKnownVersion (state S.Store conn.old).now)
+        (λ fault. (fault ≡ NotOurs → GivesSchemaVersion (state S.Store conn.old).now None)
+        × (fault ≡ Newer → GivesNewerVersion (state S.Store conn.old).now)) }
+    ensures done { HasCleanDisk (state S.Store conn.new)
+        → (state S.Store conn.old).now ≡ (state S.Store conn.old).committed
+        → OnOk result (IsCarried (state S.Store conn.old) (state S.Store conn.new)) }
+    ensures kept { HasCleanDisk (state S.Store conn.new)
+        → (state S.Store conn.old).now ≡ (state S.Store conn.old).committed
+        → IfErr result (λ fault. fault ≢ Store
+        → IsAsBefore (state S.Store conn.old) (state S.Store conn.new)) }
+    ensures crash { Survives (state S.Store conn.old) (state S.Store conn.new)
+        (λ trees. HasNoActionOnOurs (state S.Store conn.old).now.schema
+        × CrashStateCarries (state S.Store conn.old).now trees) }
+{
+    match read_schema_version(conn)? {
+        None => Err(OpenFault::NotOurs),
+        Some(1) => {
+            check_and_migrate(conn, OldSchema::First)?;
+            Ok(())
+        }
+        Some(2) => {
+            check_and_migrate(conn, OldSchema::Second)?;
+            Ok(())
+        }
+        Some(3) => {
+            check_and_migrate(conn, OldSchema::Third)?;
+            Ok(())
+        }
+        Some(4) => {
+            add_session_index(conn)?;
+            Ok(())
+        }
+        Some(_) => Err(OpenFault::Newer),
+    }
+}
+
+/// Makes the tables ready, whatever stands in the store.
+pub(crate) fn create_or_migrate<S: Alter>(conn: &mut Connection<S>) -> Result<(), OpenFault>
+    ensures why { HasCleanDisk (state S.Store conn.new)
+        → MatchResult result (λ _. IsKnown (state S.Store conn.old).now)
+        (λ fault. IsCauseIn fault (state S.Store conn.old).now) }
+    ensures ready { HasCleanDisk (state S.Store conn.new) → IsTrue (state S.Store conn.old).is_open
+        → OnOk result (AreTablesReady (state S.Store conn.old) (state S.Store conn.new)) }
+    ensures kept { HasCleanDisk (state S.Store conn.new) → IsTrue (state S.Store conn.old).is_open
+        → IfErr result (λ fault. fault ≢ Store
+        → IsAsBefore (state S.Store conn.old) (state S.Store conn.new)
+        × ((state S.Store conn.old).now ≡ (state S.Store conn.old).committed)) }
+    ensures crash { Survives (state S.Store conn.old) (state S.Store conn.new)
+        (MayAttach (state S.Store conn.old).now) }
+{
+    if !conn.is_autocommit() {
+        return Err(OpenFault::Store);
+    }
+    if is_any_name_taken(conn.schema()) {
+        migrate_existing(conn)?;
+    } else {
+        create_tables(conn)?;
+    }
+    Ok(())
+}

@@ -1,0 +1,71 @@
+//! A store of an older layout is brought to this version's.
+
+ghost use Rattle.std.specs.Prelude.{◌≡◌, ◌⊎◌, false, IsTrue, OnOk, IfErr};
+ghost use Rattle.sqlite.specs.Tree.{Trees};
+ghost use Rattle.sqlite.specs.Held.{state};
+ghost use Rattle.sqlite.specs.State.{HasCleanDisk, IsUnchanged, Survives};
+ghost use Rattle.portal_ledger.specs.Ledger.{Ledger};
+ghost use Rattle.portal_tables_sql.specs.States.{IsAsBefore};
+ghost use Rattle.portal_tables_sql.specs.Represents.{Represents};
+ghost use Rattle.portal_tables_schema.specs.Migrations.{HasMigrated, MayMigrate, version_number};
+ghost use Rattle.portal_tables.specs.Older.{HoldsLedgerIn, CrashStateHoldsEither};
+ghost use Rattle.portal_tables.specs.HoldsLedger.{HoldsLedger};
+ghost use Rattle.portal_tables.specs.declared.errors.OpenFault.TheVariants.{Memory, Store};
+
+use crate::errors::OpenFault;
+use portal_tables_rows::rows::RowError;
+use portal_tables_schema::from_versions;
+use portal_tables_schema::schema_versions::OldSchema;
+use portal_tables_sql::query::is_answering;
+use sqlite::{Alter, Connection, Error, ErrorCode};
+
+/// What a fault comes to. Want of memory is told only where the connection still answers, and so nothing
+/// has changed.
+fn open_fault_of<S: Alter>(conn: &mut Connection<S>, fault: &RowError) -> OpenFault
+    ensures gives_fault { (result ≡ Memory) ⊎ (result ≡ Store) }
+    ensures same { HasCleanDisk (state S.Store conn.new) → result ≡ Memory
+        → IsUnchanged (state S.Store conn.old) (state S.Store conn.new) }
+    ensures survives { Survives (state S.Store conn.old) (state S.Store conn.new) (λ _. ⊥) }
+{
+    if matches!(
+        fault,
+        RowError::Sql(Error::SqliteFailure(ErrorCode::OutOfMemory))
+    ) && is_answering(conn)
+    {
+        return OpenFault::Memory;
+    }
+    OpenFault::Store
+}
+
+/// Gives a store of an older layout this version's tables, index and layout, in one transaction. Memory
+/// leaves all as it was; after Store the files show the same ledger, in the one layout or in the other.
+pub(crate) fn migrate_schema<S: Alter>(
+    conn: &mut Connection<S>,
+    from: OldSchema,
+) -> Result<(), OpenFault>
+    ensures done { HasCleanDisk (state S.Store conn.new) → IsTrue (state S.Store conn.old).is_open
+        → OnOk result (HasMigrated from (state S.Store conn.old) (state S.Store conn.new)) }
+    ensures faults { IfErr result (λ fault. (fault ≡ Memory) ⊎ (fault ≡ Store)) }
+    ensures memory { HasCleanDisk (state S.Store conn.new) → IsTrue (state S.Store conn.old).is_open
+        → (state S.Store conn.old).in_transaction ≡ false
+        → (state S.Store conn.old).now ≡ (state S.Store conn.old).committed
+        → IfErr result (λ fault. fault ≡ Memory
+        → IsAsBefore (state S.Store conn.old) (state S.Store conn.new)) }
+    ensures crash { Survives (state S.Store conn.old) (state S.Store conn.new)
+        (MayMigrate from (state S.Store conn.old)) }
+    ensures represents { HasCleanDisk (state S.Store conn.new) → (L : Ledger)
+        → Represents (HoldsLedgerIn (version_number from) L) (state S.Store conn.old)
+        → OnOk result (Represents (HoldsLedger L) (state S.Store conn.new)) }
+    ensures stays { HasCleanDisk (state S.Store conn.new) → (L : Ledger)
+        → Represents (HoldsLedgerIn (version_number from) L) (state S.Store conn.old)
+        → IfErr result (λ fault. fault ≡ Memory
+        → Represents (HoldsLedgerIn (version_number from) L) (state S.Store conn.new)) }
+    ensures left { HasCleanDisk (state S.Store conn.new) → (L : Ledger)
+        → Represents (HoldsLedgerIn (version_number from) L) (state S.Store conn.old) → (trees : Trees)
+        → (state S.Store conn.new).may_leave trees → CrashStateHoldsEither from L trees }
+{
+    match from_versions::migrate_schema(conn, from) {
+        Ok(()) => Ok(()),
+        Err(fault) => Err(open_fault_of(conn, &fault)),
+    }
+}

@@ -1,0 +1,73 @@
+-- What the texts that read lists mean, wherever the tables stand.
+use Rattle.portal_tables_queries.proofs.Common.{ℕ, pos, negsuc, List, [], ◌∷◌, ◌++◌, codes, Option, Some, None, refl, false, Int, Term, lit, col, op2, Schema, Table, place_of, Ge, Le, Binary, TableExists, drafted, unlimited, IsSelect, all_columns, by, select_means, up, vouchers, totals, vouchers_name, totals_name, total_columns, voucher_columns}
+use Rattle.sqlite_tied.specs.Compute.{everything}
+use Rattle.sqlite_ast.specs.declared.Expr.{Expr}
+use Rattle.sqlite_ast.specs.declared.Expr.TheVariants as expr
+use Rattle.sqlite_ast.specs.declared.Binary.TheVariants as binary
+use Rattle.sqlite_sql.specs.declared.ops.BinaryOp.TheVariants as by_op
+use Rattle.portal_tables_queries.proofs.WholeTables.{by_rowid, has_rowids, IsSelectOf}
+
+-- ---- the ends of all sessions
+
+abbrev pub totals_text : List ℕ
+totals_text = codes "SELECT number, ends, remaining FROM portal_totals ORDER BY number"
+
+pub totals_means : (schema : Schema) (at tree : ℕ) → TableExists schema at (totals tree) → IsSelect schema totals_text (totals tree) [] (by (totals tree) 0 false) unlimited total_columns
+unfolding everything
+totals_means schema at tree exists =
+    select_means schema totals_text totals_name total_columns None (up (codes "number")) None 0 (lit (Int (negsuc 0)), lit (Int (pos 0)))
+    (drafted tree [] (all_columns (totals tree)) (by (totals tree) 0 false) unlimited) (None ∷ Some Binary ∷ Some Binary ∷ []) (record { parsed = _; read = refl; is = refl; timeless = refl; counted = refl }) refl refl
+    (simp (exists.named, exists.there) refl) (simp (exists.low, exists.typed) refl) refl (λ base. refl)
+
+-- ---- vouchers with a moment within two
+
+-- WHERE column >= ?1 AND column <= ?2
+abbrev where_within : List ℕ → Option Expr
+where_within name = Some (expr.Binary binary.And (expr.Binary binary.Ge (expr.Column None name) (expr.Parameter 1)) (expr.Binary binary.Le (expr.Column None name) (expr.Parameter 2)))
+
+-- the same as the terms that each row is tested by
+abbrev pub within_terms : Table → ℕ → List Term
+within_terms table at = op2 (by_op.Compare Ge Binary) (col 1 (place_of table at)) (col 0 0) ∷ op2 (by_op.Compare Le Binary) (col 1 (place_of table at)) (col 0 1) ∷ []
+
+abbrev pub sold_text : List ℕ
+sold_text = codes "SELECT batch_id, sold FROM portal_vouchers WHERE sold >= ?1 AND sold <= ?2 ORDER BY rowid"
+
+abbrev pub sold_columns : List (List ℕ)
+sold_columns = codes "batch_id" ∷ codes "sold" ∷ []
+
+-- the same two as the terms that are shown
+abbrev pub sold_terms : Table → List Term
+sold_terms table = col 1 (place_of table 1) ∷ col 1 (place_of table 3) ∷ []
+
+pub sold_means : (schema : Schema) (at tree : ℕ) → TableExists schema at (vouchers tree)
+    → IsSelectOf schema sold_text (vouchers tree) (within_terms (vouchers tree) 3) (sold_terms (vouchers tree)) sold_columns
+unfolding everything
+sold_means schema at tree exists =
+    select_means schema sold_text vouchers_name sold_columns (where_within (codes "sold")) (up (codes "rowid")) None 2 (lit (Int (negsuc 0)), lit (Int (pos 0)))
+    (drafted tree (within_terms (vouchers tree) 3) (sold_terms (vouchers tree)) by_rowid unlimited)
+    (Some Binary ∷ Some Binary ∷ []) (record { parsed = _; read = refl; is = refl; timeless = refl; counted = refl }) refl refl
+    (simp (exists.named, exists.there, has_rowids tree exists.low) refl) (simp (exists.low, exists.typed) refl) refl (λ base. refl)
+
+abbrev pub ordered_text : List ℕ
+ordered_text = codes "SELECT code, batch_id, place, sold, refunded, amount FROM portal_vouchers WHERE sold >= ?1 AND sold <= ?2 ORDER BY sold, code"
+
+pub ordered_means : (schema : Schema) (at tree : ℕ) → TableExists schema at (vouchers tree)
+    → IsSelect schema ordered_text (vouchers tree) (within_terms (vouchers tree) 3) (by (vouchers tree) 3 false ++ by (vouchers tree) 0 false) unlimited voucher_columns
+unfolding everything
+ordered_means schema at tree exists =
+    select_means schema ordered_text vouchers_name voucher_columns (where_within (codes "sold")) (up (codes "sold") ++ up (codes "code")) None 2 (lit (Int (negsuc 0)), lit (Int (pos 0)))
+    (drafted tree (within_terms (vouchers tree) 3) (all_columns (vouchers tree)) (by (vouchers tree) 3 false ++ by (vouchers tree) 0 false) unlimited)
+    (Some Binary ∷ Some Binary ∷ Some Binary ∷ Some Binary ∷ Some Binary ∷ Some Binary ∷ []) (record { parsed = _; read = refl; is = refl; timeless = refl; counted = refl }) refl refl
+    (simp (exists.named, exists.there) refl) (simp (exists.low, exists.typed) refl) refl (λ base. refl)
+
+abbrev pub refunded_text : List ℕ
+refunded_text = codes "SELECT code, batch_id, place, sold, refunded, amount FROM portal_vouchers WHERE refunded >= ?1 AND refunded <= ?2 ORDER BY refunded, code"
+
+pub refunded_means : (schema : Schema) (at tree : ℕ) → TableExists schema at (vouchers tree)
+    → IsSelect schema refunded_text (vouchers tree) (within_terms (vouchers tree) 4) (by (vouchers tree) 4 false ++ by (vouchers tree) 0 false) unlimited voucher_columns
+unfolding everything
+refunded_means schema at tree exists =
+    select_means schema refunded_text vouchers_name voucher_columns (where_within (codes "refunded")) (up (codes "refunded") ++ up (codes "code")) None 2 (lit (Int (negsuc 0)), lit (Int (pos 0)))
+    (drafted tree (within_terms (vouchers tree) 4) (all_columns (vouchers tree)) (by (vouchers tree) 4 false ++ by (vouchers tree) 0 false) unlimited)
+    (Some Binary ∷ Some Binary ∷ Some Binary ∷ Some Binary ∷ Some Binary ∷ Some Binary ∷ []) (record { parsed = _; read = refl; is = refl; timeless = refl; counted = refl }) refl refl
+    (simp (exists.named, exists.there) refl) (simp (exists.low, exists.typed) refl) refl (λ base. refl)

@@ -1,0 +1,168 @@
+-- What a query leaves of a connection, whose rows are read one at a time.
+use Rattle.portal_tables_queries.proofs.Common.{◌≡◌, inl, inr, ℕ, List, [], ◌∷◌, ◌++◌, map, Result, Option, Some, None, Ok, Err, OnErr, IsTrue, refl, sym, ap, ap₂, subst, ◌∙◌, arith, map-append, Row, Schema, Database, reads_listing, IsSourceOf, Command, Select, Error, State, HasCleanDisk, IsUnchanged, Survives, ShowsRows, Begins, Held, state, survives_then, survives_weaker, unchanged, IsPlain, command_of, unchanged_then, given_begin, begins_shown, EndsIn, Compiled, CompileError, has_left, has_right, columns, ReadsOnly, Fails, Means, fails_then, AreOwn, Asks, IsDirect, IsSimple, AnswersCells}
+use Rattle.std.specs.Borrow.{Bor}
+use Rattle.sqlite.specs.Listing.{understood}
+use Rattle.sqlite.specs.Query.{Query}
+use Rattle.sqlite_trees.specs.declared.store.Store.{Ghosts}
+use Rattle.sqlite.specs.declared.rows.stream.Rows.{Rows}
+use Rattle.sqlite.specs.State.{Shown, CommitsShowing}
+use Rattle.sqlite.specs.Clock.{timed}
+use Rattle.sqlite.specs.Given.{HasGiven, HasBegun, Returns, IsRefused}
+use Rattle.sqlite.specs.Next.{HasMoved}
+use Rattle.portal_tables_queries.proofs.AskLemmas.{asks_looks, commits_nothing}
+
+-- ---- a text that asks
+
+returns_nothing : (r : Result Compiled CompileError) → ((c : Compiled) → r ≡ Ok c → c.returning ≡ None) → Returns r → ⊥
+returns_nothing (Ok c) asks returns = let none = asks c refl in absurd (let some = rw none at returns in cc)
+returns_nothing (Err e) asks returns = returns
+
+crash_spared : (sql : List ℕ) (params : Row) (old new : State) → Survives old new (CommitsShowing sql params old) → Survives old new (λ _. IsTrue old.is_open → ¬ Asks sql old.now.schema)
+crash_spared sql params old new h = survives_weaker old new _ _ (λ _ db none was. none) (commits_nothing sql params old new h)
+
+-- a query that is known
+pub means_simple : (schema : Schema) (sql : List ℕ) (body : Query) (names : List (List ℕ)) → Means schema sql (Select (record { lets = []; body = body }) names) → IsSimple (understood schema sql)
+means_simple schema sql body names m = go (understood schema sql) m.is m.plain
+  where
+    go : (r : Result Compiled CompileError) → command_of r ≡ Select (record { lets = []; body = body }) names → IsPlain r → IsSimple r
+    go (Ok c) is plain = (plain.0, subst IsDirect (sym is) refl)
+    go (Err e) is plain = plain
+
+pub simple_asks : (sql : List ℕ) (schema : Schema) → IsSimple (understood schema sql) → Asks sql schema
+simple_asks sql schema simple c is = (subst IsSimple is simple).0
+
+-- ---- an answer under the same database
+
+module _ (sql : List ℕ) (params : Row) (old mid new : State) (same : IsUnchanged old mid) where
+  shown_before : (rows : List Row) → Asks sql old.now.schema → Shown sql params mid new rows → Shown sql params old new rows
+  unfolding Shown
+  shown_before rows asks h =
+      let is = subst (λ (d : Database). understood d.schema sql ≡ Ok h.0) same.0.now_is h.1.is in
+      let none = asks h.0 is in
+      let full = timed params h.0.formats h.1.now in
+      let it = subst (ShowsRows mid new sql h.0 full rows) none h.2 in (
+        h.0,
+        record { is = is; whole = h.1.whole; given = h.1.given; now = h.1.now },
+        subst (ShowsRows old new sql h.0 full rows) (sym none) (
+          it.0,
+          subst (λ (d : Database). IsSourceOf (reads_listing d.schema sql) d it.0) same.0.now_is it.1,
+          it.2,
+          unchanged_then old mid new same it.3,
+        ),
+      )
+
+ends_directly : (command : Command) (db : Database) (params : Row) → IsDirect command → EndsIn command db params
+ends_directly (Select plan names) db params direct = rw direct tt
+ends_directly _ db params direct = absurd direct
+
+-- the rows that were given so far begin a whole answer
+begins_answer : (sql : List ℕ) (params : Row) (s : State) (rows : List Row) → IsTrue s.is_open → IsSimple (understood s.now.schema sql) → Begins sql params s rows → (tail : List Row) × Shown sql params s s (rows ++ tail)
+begins_answer sql params s rows live simple begins =
+    begins_shown sql params s s rows begins (unchanged s live) (λ c db it source. ends_directly c.command db _ (subst IsSimple it.is simple).1)
+
+-- ---- the values of the rows that were given so far
+
+module _ {S V : Type 0} (g : Ghosts S) (sql : List ℕ) (params : Row) (cells : V → Row) (width : ℕ) (old : State) where
+  -- nothing changed, and the query has given the rows of these values
+  pub record HasGivenRows (now : Held S) (values : List V) : Type 0 where
+    pub same : IsUnchanged old (state g now)
+    pub rows : List Row
+    pub given : HasGiven g sql params now rows
+    pub are : map cells values ≡ map (columns width) rows
+
+  -- so it is where the text asks; a stop leaves what it could leave before
+  pub record ReadsOn (now : Held S) (values : List V) : Type 0 where
+    pub read : HasCleanDisk (state g now) → Asks sql old.now.schema → HasGivenRows now values
+    pub crash : Survives old (state g now) (λ _. IsTrue old.is_open → ¬ Asks sql old.now.schema)
+
+  pub reads_so_far : (now : Held S) (values : List V) → ReadsOn now values → ReadsOnly (Asks sql) old (state g now)
+  reads_so_far now values h = record { same = λ clean was asks. (h.read clean asks).same; crash = h.crash }
+
+  module _ (mid now : Rows S g) (values : List V) (h : ReadsOn mid.conn.now values) (result : Result (Option (Bor Row)) Error) (moved : HasMoved g mid result now) where
+    abbrev was : State
+    was = state g mid.conn.now
+
+    abbrev is : State
+    is = state g now.conn.now
+
+    at_mid : HasCleanDisk is → Asks sql old.now.schema → HasGivenRows mid.conn.now values
+    at_mid clean asks = h.read (omega (arith, moved.survives.clean)) asks
+
+    crash_on : Survives old is (λ _. IsTrue old.is_open → ¬ Asks sql old.now.schema)
+    crash_on = survives_then old was is _ _ _ (λ _ db none. none) (λ _ db none. absurd none) h.crash moved.survives
+
+    same_on : (o : Option (Bor Row)) → result ≡ Ok o → HasCleanDisk is → Asks sql old.now.schema → IsUnchanged old is
+    same_on o ok clean asks = unchanged_then old was is (at_mid clean asks).same (rw ok at (moved.same clean))
+
+    -- a row came, and is not made a value yet
+    pub reads_row : (o : Option (Bor Row)) → result ≡ Ok o → ReadsOnly (Asks sql) old is
+    reads_row o ok = record { same = λ clean _ asks. same_on o ok clean asks; crash = crash_on }
+
+    given_row : (row : Bor Row) → result ≡ Ok (Some row) → (clean : HasCleanDisk is) (asks : Asks sql old.now.schema) → HasGiven g sql params now.conn.now ((at_mid clean asks).rows ++ row.now ∷ [])
+    given_row row ok clean asks = let it = at_mid clean asks in (rw ok at (moved.ok clean)) sql params it.rows it.given
+
+    -- a row came, and was made a value
+    pub reads_value : (row : Bor Row) → result ≡ Ok (Some row) → (value : V) → cells value ≡ columns width row.now → (more : List V) → more ≡ values ++ value ∷ [] → ReadsOn now.conn.now more
+    reads_value row ok value one more is_more = record {
+      read = λ clean asks.
+          let it = at_mid clean asks in
+          record {
+            same = same_on (Some row) ok clean asks;
+            rows = it.rows ++ row.now ∷ [];
+            given = given_row row ok clean asks;
+            are = ap (map cells) is_more ∙ map-append cells values (value ∷ []) ∙ ap₂ ◌++◌ it.are (ap (λ r. r ∷ []) one) ∙ sym (map-append (columns width) it.rows (row.now ∷ []));
+          };
+      crash = crash_on;
+    }
+
+    -- no row came: those so far are the answer
+    pub reads_all : result ≡ Ok None → HasCleanDisk is → Asks sql old.now.schema → AnswersCells (Shown sql params old is) cells width values
+    reads_all ok clean asks =
+        let it = at_mid clean asks in
+        let shown : Shown sql params was is it.rows = (rw ok at (moved.ok clean)) sql params it.rows it.given in
+        record { rows = it.rows; shown = shown_before sql params old was is it.same it.rows asks shown; are = it.are }
+
+    -- where each row of the answer is one's own, so is the row that came
+    pub own_row : (Own : Row → Type 0) (row : Bor Row) → result ≡ Ok (Some row) → HasCleanDisk is → IsSimple (understood old.now.schema sql)
+        → ((rows : List Row) → Shown sql params old is rows → AreOwn Own rows) → Own row.now
+    own_row Own row ok clean simple own =
+        let asks = simple_asks sql old.now.schema simple in
+        let it = at_mid clean asks in
+        let same = same_on (Some row) ok clean asks in
+        let rows = it.rows ++ row.now ∷ [] in
+        let begins = given_begin g sql params now.conn.now rows (given_row row ok clean asks) in
+        let here : IsSimple (understood is.now.schema sql) = subst (λ (d : Database). IsSimple (understood d.schema sql)) (sym same.0.now_is) simple in
+        let whole = begins_answer sql params is rows same.0.is_open here begins in
+        own _ (shown_before sql params old is is same _ asks whole.1) row.now (has_left rows whole.0 row.now (has_right it.rows (row.now ∷ []) row.now (inl refl)))
+
+    -- no row came, since the store failed
+    fails_here : (e : Error) → result ≡ Err e → Fails (Asks sql) was is
+    fails_here e err = record {
+      undone = λ clean _ asks outside settled. elim (rw err at (moved.kept clean)) [
+        | inl failed ↦ record { now = λ live. (failed.3.undone live).0; committed = λ live. (failed.3.undone live).1; ended = moved.mode outside }
+        | inr same ↦ record { now = λ _. same.0.now_is ∙ settled; committed = λ _. same.0.committed_is; ended = moved.mode outside }
+      ];
+      crash = survives_weaker was is _ _ (λ _ db none. absurd none) moved.survives;
+    }
+
+    pub fails_on : (e : Error) → result ≡ Err e → Fails (Asks sql) old is
+    fails_on e err = fails_then (Asks sql) old was is (reads_so_far mid.conn.now values h) (fails_here e err)
+
+-- ---- the start
+
+module _ {S V : Type 0} (g : Ghosts S) (sql : List ℕ) (params : Row) (cells : V → Row) (width : ℕ) (old new : Held S) where
+  begun_asking : Asks sql old.schema → HasBegun g sql params old new → HasGiven g sql params new [] × IsUnchanged (state g old) (state g new)
+  begun_asking asks (inl h) = h
+  begun_asking asks (inr h) = absurd (returns_nothing (understood old.schema sql) asks h.0)
+
+  pub begins_reading : (HasCleanDisk (state g new) → HasBegun g sql params old new) → Survives (state g old) (state g new) (CommitsShowing sql params (state g old)) → (values : List V) → values ≡ []
+      → ReadsOn g sql params cells width (state g old) new values
+  begins_reading begun survives values none = record {
+    read = λ clean asks. let it = begun_asking asks (begun clean) in record { same = it.1; rows = []; given = it.0; are = ap (map cells) none };
+    crash = crash_spared sql params (state g old) (state g new) survives;
+  }
+
+-- the query did not begin
+pub fails_refused : {S X : Type 0} (g : Ghosts S) (sql : List ℕ) (params : Row) (old new : Held S) (result : Result X Error) (e : Error) → result ≡ Err e → OnErr result (IsRefused g sql params old result new) → Fails (Asks sql) (state g old) (state g new)
+fails_refused g sql params old new (Ok x) e is h = absurd cc
+fails_refused g sql params old new (Err f) e is h = asks_looks sql params (state g old) (state g new) (λ (row : Row). row ∷ []) (Err f) (λ clean. tt) h.err h.mode h.survives

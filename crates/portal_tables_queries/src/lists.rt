@@ -1,0 +1,239 @@
+//! The rows of a table that pass a test, read as values in an order.
+
+ghost use Rattle.std.specs.Prelude.{◌≡◌, IfOk, IsSome, List, map, filter, true, bytes_eq, All};
+ghost use Rattle.portal_codes.specs.Code.{IsCode, text_of};
+ghost use Rattle.portal_model.specs.Rows.{VoucherRow, TotalRow};
+ghost use Rattle.portal_tables_sql.specs.Finds.{columns};
+ghost use Rattle.portal_tables_rows.specs.Contents.{voucher_cells};
+ghost use Rattle.portal_tables_rows.specs.Foreign.{AreOwn, IsOwnRefund, IsOwnTotal, IsOwnVoucher, NotForeign};
+ghost use Rattle.portal_tables_rows.specs.Foreign.{AreOfOwn, SparesOwn};
+ghost use Rattle.portal_tables_rows.specs.Selects.{ReadsRow};
+ghost use Rattle.portal_tables_queries.specs.Lists.{Lists, ListsAs, IsReadAs, AreReadAs, is_within, may_be_open};
+ghost use Rattle.portal_tables_queries.specs.Lists.{numbers_open};
+ghost use Rattle.portal_tables_queries.specs.Lists.{by_place, by_refund, by_sale, by_number, sale_columns, sale_read};
+ghost use Rattle.portal_tables_queries.specs.Lists.{refund_columns, refund_read};
+ghost use Rattle.portal_tables_rows.specs.Read.{voucher_read};
+ghost use Rattle.portal_tables_rows.specs.Steps.{ends_row};
+
+use crate::reads::query_values;
+use portal_codes::Code;
+use portal_model::moment::Moment;
+use portal_model::name::Id;
+use portal_tables_rows::column_values::Total;
+use portal_tables_rows::from_row::FromRow;
+use portal_tables_rows::queries::select_batch_vouchers;
+use portal_tables_rows::rows::{RowError, VoucherValue};
+use sqlite::{Alter, Connection, Row, params};
+use std::alloc::Global;
+
+/// A sale of a voucher: the voucher's batch, and the moment.
+#[derive(Clone, Copy, Debug, PartialEq, Eq)]
+pub struct SaleValue {
+    pub batch: Id,
+    pub at: Moment,
+}
+
+/// The code of a voucher's row.
+fn read_voucher_code(row: &Row) -> Result<Code, RowError>
+    ensures read { IfOk result (λ code. IsReadAs voucher_cells 6 (λ v. v.code) row.now (text_of code)) }
+    ensures code { IfOk result IsCode }
+    ensures own { SparesOwn voucher_cells IsOwnVoucher (columns 6 row.now) result }
+{
+    let voucher = VoucherValue::from_row(row)?;
+    // Its text tells that it is a code.
+    let _ = voucher.code.text();
+    Ok(voucher.code)
+}
+
+/// The codes of these rows of vouchers, in their order.
+fn read_voucher_codes(alloc: Global, rows: &[Row]) -> Result<Vec<Code>, RowError>
+    ensures read { IfOk result
+        (λ codes. AreReadAs voucher_cells 6 (λ v. v.code) rows.now (map text_of codes.items)) }
+    ensures codes { IfOk result (λ codes. All IsCode codes.items) }
+    ensures own { AreOfOwn voucher_cells 6 IsOwnVoucher rows.now → NotForeign result }
+{
+    let mut codes = Vec::new(alloc);
+    for row in rows {
+        codes.push(read_voucher_code(row)?)?;
+    }
+    Ok(codes)
+}
+
+/// Whether the session may be open at `at`: before its end, and with something left of its allowance.
+fn may_be_open(total: &Total, at: Moment) -> bool
+    ensures { result ≡ may_be_open at (ends_row total.now) }
+{
+    total.ends.is_none_or(|ends| at < ends) && total.remaining.is_none_or(|left| left > 0)
+}
+
+/// The numbers of the sessions that may be open at `at`, of these and in their order. The errors are want
+/// of memory.
+fn numbers_of_open(alloc: Global, totals: &[Total], at: Moment) -> Result<Vec<u64>, RowError>
+    ensures numbers { IfOk result (λ numbers. numbers.items ≡ numbers_open at (map ends_row totals.now)) }
+    ensures memory { NotForeign result }
+{
+    let mut numbers = Vec::new(alloc);
+    for total in totals {
+        if may_be_open(total, at) {
+            numbers.push(total.number)?;
+        }
+    }
+    Ok(numbers)
+}
+
+/// The sale of a voucher. One that was not sold is a foreign row.
+fn sale_of(voucher: &VoucherValue) -> Result<SaleValue, RowError>
+    ensures read { IfOk result (λ sale. sale_read sale ≡ sale_columns (voucher_read voucher.now)) }
+    ensures own { IsSome (voucher_read voucher.now).sold → NotForeign result }
+{
+    match voucher.sold {
+        Some(at) => Ok(SaleValue {
+            batch: voucher.batch,
+            at,
+        }),
+        None => Err(RowError::ForeignRow),
+    }
+}
+
+/// The sales of these vouchers, in their order.
+fn sales_of_vouchers(alloc: Global, vouchers: &[VoucherValue]) -> Result<Vec<SaleValue>, RowError>
+    ensures read { IfOk result
+        (λ sales. map sale_read sales.items ≡ map (λ v. sale_columns (voucher_read v)) vouchers.now) }
+    ensures own { AreOwn (λ v. IsSome v.sold) (map voucher_read vouchers.now) → NotForeign result }
+{
+    let mut sales = Vec::new(alloc);
+    for voucher in vouchers {
+        sales.push(sale_of(voucher)?)?;
+    }
+    Ok(sales)
+}
+
+/// The refund of a voucher: the moment, and the amount in hundredths.
+fn refund_of(voucher: &VoucherValue) -> Result<(Moment, u64), RowError>
+    ensures read { IfOk result (λ refund. refund_read refund ≡ refund_columns (voucher_read voucher.now)) }
+    ensures own { IsOwnRefund (voucher_read voucher.now) → NotForeign result }
+{
+    match (voucher.refunded, voucher.amount) {
+        (Some(at), Some(amount)) => Ok((at, amount)),
+        _ => Err(RowError::ForeignRow),
+    }
+}
+
+/// The refunds of these vouchers, in their order.
+fn refunds_of_vouchers(
+    alloc: Global,
+    vouchers: &[VoucherValue],
+) -> Result<Vec<(Moment, u64)>, RowError>
+    ensures read { IfOk result
+        (λ refunds. map refund_read refunds.items ≡ map (λ v. refund_columns (voucher_read v)) vouchers.now) }
+    ensures own { AreOwn IsOwnRefund (map voucher_read vouchers.now) → NotForeign result }
+{
+    let mut refunds = Vec::new(alloc);
+    for voucher in vouchers {
+        refunds.push(refund_of(voucher)?)?;
+    }
+    Ok(refunds)
+}
+
+/// The codes of the batch, by place.
+pub fn list_batch_codes<S: Alter>(
+    alloc: Global,
+    conn: &mut Connection<S>,
+    batch: &Id,
+) -> Result<Vec<Code>, RowError>
+    ensures codes { IfOk result (λ codes. All IsCode codes.items) }
+    ensures reads { ReadsRow S.Store conn.old conn.new result
+        (λ t codes. ListsAs (λ v. v.code) (λ v. bytes_eq batch.now v.batch) by_place t.vouchers
+        (map text_of codes.items))
+        (λ t. AreOwn IsOwnVoucher t.vouchers) }
+{
+    let rows = select_batch_vouchers(conn, batch)?;
+    Ok(read_voucher_codes(alloc, &rows)?)
+}
+
+/// The numbers of the sessions that may be open at `at`, in rising order: a session that is not among
+/// them has ended by then, or has nothing left.
+pub fn list_open_numbers<S: Alter>(
+    alloc: Global,
+    conn: &mut Connection<S>,
+    at: Moment,
+) -> Result<Vec<u64>, RowError>
+    ensures { ReadsRow S.Store conn.old conn.new result
+        (λ t numbers. (totals : List TotalRow) × Lists (λ _. true) by_number t.totals totals
+        × (numbers.items ≡ numbers_open at totals))
+        (λ t. AreOwn IsOwnTotal t.totals) }
+{
+    let totals: Vec<Total> = query_values(
+        alloc,
+        conn,
+        "SELECT number, ends, remaining FROM portal_totals ORDER BY number",
+        &[],
+    )?;
+    Ok(numbers_of_open(alloc, &totals, at)?)
+}
+
+/// The sales within the two moments, both included, in the order in which their vouchers were issued.
+pub fn list_sales_as_issued<S: Alter>(
+    alloc: Global,
+    conn: &mut Connection<S>,
+    from: Moment,
+    to: Moment,
+) -> Result<Vec<SaleValue>, RowError>
+    ensures { ReadsRow S.Store conn.old conn.new result
+        (λ t sales. map sale_read sales.items
+        ≡ map sale_columns (filter (λ v. is_within from to v.sold) t.vouchers))
+        (λ t. AreOwn IsOwnVoucher t.vouchers) }
+{
+    query_values(
+        alloc,
+        conn,
+        "SELECT batch_id, sold FROM portal_vouchers WHERE sold >= ?1 AND sold <= ?2 ORDER BY rowid",
+        params![from.get() as i64, to.get() as i64],
+    )
+}
+
+/// The sales within the two moments, both included: the earlier first, and of two at one moment the one
+/// of the voucher with the lesser printed code.
+pub fn list_sales_by_moment<S: Alter>(
+    alloc: Global,
+    conn: &mut Connection<S>,
+    from: Moment,
+    to: Moment,
+) -> Result<Vec<SaleValue>, RowError>
+    ensures { ReadsRow S.Store conn.old conn.new result
+        (λ t sales. ListsAs sale_columns (λ v. is_within from to v.sold) by_sale t.vouchers
+        (map sale_read sales.items))
+        (λ t. AreOwn IsOwnVoucher t.vouchers) }
+{
+    let vouchers: Vec<VoucherValue> = query_values(
+        alloc,
+        conn,
+        "SELECT code, batch_id, place, sold, refunded, amount FROM portal_vouchers \
+         WHERE sold >= ?1 AND sold <= ?2 ORDER BY sold, code",
+        params![from.get() as i64, to.get() as i64],
+    )?;
+    Ok(sales_of_vouchers(alloc, &vouchers)?)
+}
+
+/// The refunds within the two moments, both included, each with its moment and its amount in hundredths:
+/// the earlier first, and of two at one moment the one of the voucher with the lesser printed code.
+pub fn list_refunds<S: Alter>(
+    alloc: Global,
+    conn: &mut Connection<S>,
+    from: Moment,
+    to: Moment,
+) -> Result<Vec<(Moment, u64)>, RowError>
+    ensures { ReadsRow S.Store conn.old conn.new result
+        (λ t refunds. ListsAs refund_columns (λ v. is_within from to v.refunded) by_refund t.vouchers
+        (map refund_read refunds.items))
+        (λ t. AreOwn IsOwnVoucher t.vouchers) }
+{
+    let vouchers: Vec<VoucherValue> = query_values(
+        alloc,
+        conn,
+        "SELECT code, batch_id, place, sold, refunded, amount FROM portal_vouchers \
+         WHERE refunded >= ?1 AND refunded <= ?2 ORDER BY refunded, code",
+        params![from.get() as i64, to.get() as i64],
+    )?;
+    Ok(refunds_of_vouchers(alloc, &vouchers)?)
+}

@@ -1,0 +1,48 @@
+-- From the first row of an answer to what a finder tells.
+use Rattle.portal_tables_rows.proofs.Common.{◌≡◌, ℕ, List, map, filter, take, slice_get, Option, Some, None, Result, Ok, Err, is_eq, true, subst, IsPermutation, Value, Row, column, value_cmp, Ghosts, Held, state, HasCleanDisk, number, Finds, FindsLast, IsSelection, by_column, columns, has_key, finds_some, finds_none, finds_last, finds_no_last, reads_fails, Contents, AreOwn, IsOfOwn, Holds, HasTables}
+use Rattle.portal_tables_sql.specs.Looks.{ReadsOnly}
+use Rattle.portal_tables_rows.specs.declared.rows.RowError.{RowError}
+use Rattle.portal_tables_rows.specs.Selects.{ReadsFirstRow, ReadsRow}
+use Rattle.portal_tables_rows.proofs.Foreign.{of_first, of_last}
+
+-- what the first row tells, if it is read as a value with its cells
+pub record Tells {T : Type 0} (cells : T → Row) (width : ℕ) (own : Row → Type 0) (rows : List Row) (Is : Option T → Type 0) (Own : Type 0) : Type 0 where
+  pub some : (row : Row) (x : T) → slice_get rows 0 ≡ Some row → cells x ≡ columns width row → Is (Some x)
+  pub none : slice_get rows 0 ≡ None → Is None
+  pub owns : Own → (row : Row) → slice_get rows 0 ≡ Some row → own (columns width row)
+
+module _ {S T : Type 0} (g : Ghosts S) {old new : Held S} {cells : T → Row} {width : ℕ} {proper : T → Type 0} {own : Row → Type 0} {rows : List Row} {Is : Contents → Option T → Type 0} {Own : Contents → Type 0}
+    (looks : ReadsOnly HasTables (state g old) (state g new)) (tells : HasCleanDisk (state g new) → (t : Contents) → Holds (state g old).now t → Tells cells width own rows (Is t) (Own t)) where
+  read_first : (result : Result (Option T) RowError) → ReadsFirstRow cells width proper own rows result → ReadsRow g old new result Is Own
+  read_first (Ok (Some x)) first = record { found = λ clean t h. (tells clean t h).some first.found.0 x first.found.1 first.found.2; looks = looks; foreign = λ clean t h own. tt }
+  read_first (Ok None) first = record { found = λ clean t h. (tells clean t h).none first.found; looks = looks; foreign = λ clean t h own. tt }
+  read_first (Err e) first = record {
+    found = λ clean t h. tt;
+    looks = reads_fails HasTables _ _ looks;
+    foreign = λ clean t h owns. first.own ((tells clean t h).owns owns);
+  }
+
+  pub finds_first : {shown : List Row} {result : Result (Option T) RowError} → shown ≡ rows → ReadsFirstRow cells width proper own shown result → ReadsRow g old new result Is Own
+  finds_first {result = result} same first = read_first result (subst (λ all. ReadsFirstRow cells width proper own all result) same first)
+
+module _ {P T K : Type 0} (cells : P → Row) (n : ℕ) (all : (p : P) → columns n (cells p) ≡ cells p) (exact : (a b : P) → cells a ≡ cells b → a ≡ b) (read : T → P) (IsOwn : P → Type 0)
+    (at : ℕ) (key : P → K) (k : K) (cell : K → Value) (keyed : (p : P) → column (cells p) at ≡ cell (key p))
+    (same : (a b : K) → is_eq (value_cmp (cell a) (cell b)) ≡ true → a ≡ b) (itself : (a : K) → is_eq (value_cmp (cell a) (cell a)) ≡ true) (ps : List P) (Is : Option T → Type 0) where
+  -- of the rows with the key the first
+  pub by_key : (rows : List Row) → IsPermutation (filter (has_key at (cell k)) (map cells ps)) rows → ((x : T) → Finds key k ps (Some (read x)) → Is (Some x)) → (Finds key k ps None → Is None)
+      → Tells (λ x. cells (read x)) n (IsOfOwn cells IsOwn) rows Is (AreOwn IsOwn ps)
+  by_key rows answer some none = record {
+    some = λ row x got is. some x (finds_some cells at key k cell keyed same itself n all exact ps rows answer row (read x) got is);
+    none = λ got. none (finds_none cells at key k cell keyed same itself n all exact ps rows answer got);
+    owns = λ own row got. of_first cells n all IsOwn ps own _ rows answer row got (λ p is_own is. (p, is_own, is));
+  }
+
+  -- and the one with the greatest number, with ORDER BY DESC LIMIT 1
+  pub by_last : (order : ℕ) (number_of : P → ℕ) (ordered : (p : P) → column (cells p) order ≡ number (number_of p)) (sel rows : List Row)
+      → IsSelection (has_key at (cell k)) (λ a b. by_column order b a) (map cells ps) sel → rows ≡ take 1 sel → ((x : T) → FindsLast key k number_of ps (Some (read x)) → Is (Some x)) → (FindsLast key k number_of ps None → Is None)
+      → Tells (λ x. cells (read x)) n (IsOfOwn cells IsOwn) rows Is (AreOwn IsOwn ps)
+  by_last order number_of ordered sel rows answer one some none = record {
+    some = λ row x got is. some x (finds_last cells at key k cell keyed same itself n all exact ps order number_of ordered sel rows answer one row (read x) got is);
+    none = λ got. none (finds_no_last cells at key k cell keyed same itself n all exact ps order number_of ordered sel rows answer one got);
+    owns = λ own row got. of_last cells n all IsOwn ps own _ order sel rows answer one row got (λ p is_own is. (p, is_own, is));
+  }

@@ -1,0 +1,98 @@
+-- What each reading text answers, by the rows that the tables hold.
+use Rattle.portal_tables_rows.proofs.Common.{◌≡◌, ℕ, List, [], ◌∷◌, map, filter, take, refl, subst, Equal, lit<, lit≤, IsPermutation, Text, Row, Schema, understood, State, Shown, IsPlain, number, has_key, by_column, IsSelection, selected, first_selected, key_tests, literal_tests, orders_by, orders_down, head, plans, batches, vouchers, sessions, counts, totals, Contents, head_cells, plan_cells, batch_cells, voucher_cells, session_cells, count_cells, total_cells, Holds, HasTables}
+use Rattle.portal_tables_rows.proofs.Cells.{heads_in, plans_in, batches_in, vouchers_in, sessions_in, counts_in, totals_in}
+use Rattle.portal_tables_rows.proofs.SelectTexts as texts
+
+pub head_plain : (schema : Schema) → HasTables schema → IsPlain (understood schema texts.head_text)
+head_plain schema h = let place = h.0.heads in (texts.head_means schema place.at place.tree h.1.heads.exists).plain
+
+pub head_rows_are : (old new : State) (rows : List Row) → Shown texts.head_text [] old new rows → (t : Contents) → Holds old.now t → IsPermutation (filter (has_key 0 (number 1)) (map head_cells t.heads)) rows
+head_rows_are old new rows shown t h =
+    let place = h.places.heads in
+    let table = head place.tree in
+    let it = selected texts.head_text table _ [] [] old new texts.head_columns (has_key 0 (number 1)) (literal_tests table 0 (number 1) [] (lit< tt) refl) (λ _ _. Equal) (λ _ _. refl) (texts.head_means old.now.schema place.at place.tree h.tables_exist.heads.exists) rows shown in
+    subst (λ xs. IsPermutation (filter (has_key 0 (number 1)) xs) rows) (heads_in old.now.trees place.tree t.heads h.store.heads) it.same
+
+pub plan_plain : (schema : Schema) → HasTables schema → IsPlain (understood schema texts.plan_text)
+plan_plain schema h = let place = h.0.plans in (texts.plan_means schema place.at place.tree h.1.plans.exists).plain
+
+pub plan_rows_are : (old new : State) (id : List ℕ) (rows : List Row) → Shown texts.plan_text (Text id ∷ []) old new rows → (t : Contents) → Holds old.now t → IsPermutation (filter (has_key 0 (Text id)) (map plan_cells t.plans)) rows
+plan_rows_are old new id rows shown t h =
+    let place = h.places.plans in
+    let table = plans place.tree in
+    let it = selected texts.plan_text table _ [] (Text id ∷ []) old new texts.plan_columns (has_key 0 (Text id)) (key_tests table 0 (Text id) [] (lit< tt) refl) (λ _ _. Equal) (λ _ _. refl) (texts.plan_means old.now.schema place.at place.tree h.tables_exist.plans.exists) rows shown in
+    subst (λ xs. IsPermutation (filter (has_key 0 (Text id)) xs) rows) (plans_in old.now.trees place.tree t.plans h.store.plans) it.same
+
+pub batch_plain : (schema : Schema) → HasTables schema → IsPlain (understood schema texts.batch_text)
+batch_plain schema h = let place = h.0.batches in (texts.batch_means schema place.at place.tree h.1.batches.exists).plain
+
+pub batch_rows_are : (old new : State) (id : List ℕ) (rows : List Row) → Shown texts.batch_text (Text id ∷ []) old new rows → (t : Contents) → Holds old.now t → IsPermutation (filter (has_key 0 (Text id)) (map batch_cells t.batches)) rows
+batch_rows_are old new id rows shown t h =
+    let place = h.places.batches in
+    let table = batches place.tree in
+    let it = selected texts.batch_text table _ [] (Text id ∷ []) old new texts.batch_columns (has_key 0 (Text id)) (key_tests table 0 (Text id) [] (lit< tt) refl) (λ _ _. Equal) (λ _ _. refl) (texts.batch_means old.now.schema place.at place.tree h.tables_exist.batches.exists) rows shown in
+    subst (λ xs. IsPermutation (filter (has_key 0 (Text id)) xs) rows) (batches_in old.now.trees place.tree t.batches h.store.batches) it.same
+
+pub voucher_plain : (schema : Schema) → HasTables schema → IsPlain (understood schema texts.voucher_text)
+voucher_plain schema h = let place = h.0.vouchers in (texts.voucher_means schema place.at place.tree h.1.vouchers.exists).plain
+
+pub voucher_rows_are : (old new : State) (code : List ℕ) (rows : List Row) → Shown texts.voucher_text (Text code ∷ []) old new rows → (t : Contents) → Holds old.now t → IsPermutation (filter (has_key 0 (Text code)) (map voucher_cells t.vouchers)) rows
+voucher_rows_are old new code rows shown t h =
+    let place = h.places.vouchers in
+    let table = vouchers place.tree in
+    let it = selected texts.voucher_text table _ [] (Text code ∷ []) old new texts.voucher_columns (has_key 0 (Text code)) (key_tests table 0 (Text code) [] (lit< tt) refl) (λ _ _. Equal) (λ _ _. refl) (texts.voucher_means old.now.schema place.at place.tree h.tables_exist.vouchers.exists) rows shown in
+    subst (λ xs. IsPermutation (filter (has_key 0 (Text code)) xs) rows) (vouchers_in old.now.trees place.tree t.vouchers h.store.vouchers) it.same
+
+pub session_plain : (schema : Schema) → HasTables schema → IsPlain (understood schema texts.session_text)
+session_plain schema h = let place = h.0.sessions in (texts.session_means schema place.at place.tree h.1.sessions.exists).plain
+
+pub session_rows_are : (old new : State) (id : ℕ) (rows : List Row) → Shown texts.session_text (number id ∷ []) old new rows → (t : Contents) → Holds old.now t → IsPermutation (filter (has_key 0 (number id)) (map session_cells t.sessions)) rows
+session_rows_are old new id rows shown t h =
+    let place = h.places.sessions in
+    let table = sessions place.tree in
+    let it = selected texts.session_text table _ [] (number id ∷ []) old new texts.session_columns (has_key 0 (number id)) (key_tests table 0 (number id) [] (lit< tt) refl) (λ _ _. Equal) (λ _ _. refl) (texts.session_means old.now.schema place.at place.tree h.tables_exist.sessions.exists) rows shown in
+    subst (λ xs. IsPermutation (filter (has_key 0 (number id)) xs) rows) (sessions_in old.now.trees place.tree t.sessions h.store.sessions) it.same
+
+pub count_plain : (schema : Schema) → HasTables schema → IsPlain (understood schema texts.count_text)
+count_plain schema h = let place = h.0.counts in (texts.count_means schema place.at place.tree (h.1.counts (lit≤ tt)).exists).plain
+
+pub count_rows_are : (old new : State) (code : List ℕ) (rows : List Row) → Shown texts.count_text (Text code ∷ []) old new rows → (t : Contents) → Holds old.now t → IsPermutation (filter (has_key 0 (Text code)) (map count_cells t.counts)) rows
+count_rows_are old new code rows shown t h =
+    let place = h.places.counts in
+    let table = counts place.tree in
+    let it = selected texts.count_text table _ [] (Text code ∷ []) old new texts.count_columns (has_key 0 (Text code)) (key_tests table 0 (Text code) [] (lit< tt) refl) (λ _ _. Equal) (λ _ _. refl) (texts.count_means old.now.schema place.at place.tree (h.tables_exist.counts (lit≤ tt)).exists) rows shown in
+    subst (λ xs. IsPermutation (filter (has_key 0 (Text code)) xs) rows) (counts_in old.now.trees place.tree t.counts (h.store.counts (lit≤ tt))) it.same
+
+pub total_plain : (schema : Schema) → HasTables schema → IsPlain (understood schema texts.total_text)
+total_plain schema h = let place = h.0.totals in (texts.total_means schema place.at place.tree (h.1.totals (lit≤ tt)).exists).plain
+
+pub total_rows_are : (old new : State) (id : ℕ) (rows : List Row) → Shown texts.total_text (number id ∷ []) old new rows → (t : Contents) → Holds old.now t → IsPermutation (filter (has_key 0 (number id)) (map total_cells t.totals)) rows
+total_rows_are old new id rows shown t h =
+    let place = h.places.totals in
+    let table = totals place.tree in
+    let it = selected texts.total_text table _ [] (number id ∷ []) old new texts.total_columns (has_key 0 (number id)) (key_tests table 0 (number id) [] (lit< tt) refl) (λ _ _. Equal) (λ _ _. refl) (texts.total_means old.now.schema place.at place.tree (h.tables_exist.totals (lit≤ tt)).exists) rows shown in
+    subst (λ xs. IsPermutation (filter (has_key 0 (number id)) xs) rows) (totals_in old.now.trees place.tree t.totals (h.store.totals (lit≤ tt))) it.same
+
+pub last_session_plain : (schema : Schema) → HasTables schema → IsPlain (understood schema texts.last_session_text)
+last_session_plain schema h = let place = h.0.sessions in (texts.last_session_means schema place.at place.tree h.1.sessions.exists).plain
+
+pub last_session_rows_are : (old new : State) (device : List ℕ) (rows : List Row) → Shown texts.last_session_text (Text device ∷ []) old new rows → (t : Contents) → Holds old.now t
+    → (all : List Row) × IsSelection (has_key 1 (Text device)) (λ a b. by_column 0 b a) (map session_cells t.sessions) all × (rows ≡ take 1 all)
+last_session_rows_are old new device rows shown t h =
+    let place = h.places.sessions in
+    let table = sessions place.tree in
+    let it = first_selected texts.last_session_text table _ _ (Text device ∷ []) old new texts.session_columns (has_key 1 (Text device)) (key_tests table 1 (Text device) [] (lit< tt) refl) (λ a b. by_column 0 b a)
+    (orders_down table 0 (Text device ∷ []) (lit< tt)) (texts.last_session_means old.now.schema place.at place.tree h.tables_exist.sessions.exists) rows shown in
+    (it.0, subst (λ xs. IsSelection (has_key 1 (Text device)) (λ a b. by_column 0 b a) xs it.0) (sessions_in old.now.trees place.tree t.sessions h.store.sessions) it.1, it.2)
+
+pub batch_vouchers_plain : (schema : Schema) → HasTables schema → IsPlain (understood schema texts.batch_vouchers_text)
+batch_vouchers_plain schema h = let place = h.0.vouchers in (texts.batch_vouchers_means schema place.at place.tree h.1.vouchers.exists).plain
+
+pub batch_vouchers_rows_are : (old new : State) (batch : List ℕ) (rows : List Row) → Shown texts.batch_vouchers_text (Text batch ∷ []) old new rows → (t : Contents) → Holds old.now t
+    → IsSelection (has_key 1 (Text batch)) (by_column 2) (map voucher_cells t.vouchers) rows
+batch_vouchers_rows_are old new batch rows shown t h =
+    let place = h.places.vouchers in
+    let table = vouchers place.tree in
+    let it = selected texts.batch_vouchers_text table _ _ (Text batch ∷ []) old new texts.voucher_columns (has_key 1 (Text batch)) (key_tests table 1 (Text batch) [] (lit< tt) refl) (by_column 2)
+    (orders_by table 2 (Text batch ∷ []) (lit< tt)) (texts.batch_vouchers_means old.now.schema place.at place.tree h.tables_exist.vouchers.exists) rows shown in
+    subst (λ xs. IsSelection (has_key 1 (Text batch)) (by_column 2) xs rows) (vouchers_in old.now.trees place.tree t.vouchers h.store.vouchers) it

@@ -1,0 +1,10 @@
+use Rattle.portal_tables_rows.proofs.Common.{◌<◌, ◌^◌, w64, arith, refl, to_z_pos, opened_row}
+use Rattle.portal_tables_rows.proofs.InsertSteps.{add_session}
+use Rattle.portal_tables_rows.proofs.WritesLemmas.{writes_run}
+use Rattle.portal_tables_rows.proofs.inserts.insert_session.Goals as goal
+
+pub returns : goal.returns
+returns g c =
+    let opened : c.get.result < 2 ^ 63 = omega arith in
+    writes_run g.S.Store (add_session (opened_row c.args.session.now c.args.plan.now) (refl, refl))
+    (rw (c.params-to_sql.ensures, c.params-to_sql-2.ensures, c.params-to_sql-3.ensures, c.params-to_sql-4.ensures, to_z_pos w64 c.args.session.now.number c.requires, c.text-text.ensures.value, c.text.ensures.value, to_z_pos w64 c.get.result opened, c.get.ensures.value) at c.write.ensures)

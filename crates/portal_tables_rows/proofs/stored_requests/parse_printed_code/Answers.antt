@@ -1,0 +1,17 @@
+use Rattle.portal_tables_rows.proofs.Common.{◌≡◌, sym, ◌∙◌, true≢false, bytes_eq-Decides}
+use Rattle.portal_tables_rows.proofs.Printed.{code_reads, code_printed}
+use Rattle.portal_tables_rows.proofs.stored_requests.parse_printed_code.Goals as goal
+
+pub returns-in_default-clause-own : goal.returns-in_default-clause-own
+returns-in_default-clause-own c own =
+    let found = code_reads c.args.text.now own in
+    c.in_default.ensures.err found.0 found.1
+
+pub returns-else-eq-clause-own : goal.returns-else-eq-clause-own
+returns-else-eq-clause-own c own =
+    let printed = code_printed c.args.text.now c.in-Ok.code own c.in-Ok.ensures.ok in
+    let text = c.text-printed.ensures.value in
+    let characters = c.as_bytes.ensures in
+    let bytes = c.as_bytes-2.ensures in
+    let equal : c.as_bytes.result.now ≡ c.as_bytes-2.result.now = cc in
+    true≢false (sym ((bytes_eq-Decides _ _).1 equal) ∙ sym c.eq.ensures ∙ c.if-eq.false)

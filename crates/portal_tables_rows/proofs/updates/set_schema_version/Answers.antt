@@ -1,0 +1,9 @@
+use Rattle.portal_tables_rows.proofs.Common.{w64, to_z_pos}
+use Rattle.portal_tables_rows.proofs.UpdateSteps.{set_schema_version}
+use Rattle.portal_tables_rows.proofs.WritesLemmas.{writes_run}
+use Rattle.portal_tables_rows.proofs.updates.set_schema_version.Goals as goal
+
+pub returns : goal.returns
+returns g c =
+    writes_run g.S.Store (set_schema_version c.args.schema_version)
+    (rw (c.params-to_sql.ensures, to_z_pos w64 c.args.schema_version c.requires) at c.write.ensures)

@@ -1,0 +1,132 @@
+-- What each command makes of the rows, and which numbers it keeps.
+use Rattle.std.specs.Prelude.{ℕ, ◌+◌, ◌^◌, ◌<◌, max, length, map, Option, Some, None, IfSome}
+use Rattle.portal_codes.specs.Code.{text_of}
+use Rattle.portal_model.specs.declared.plan.Plan.{Plan}
+use Rattle.portal_model.specs.declared.record.Session.{Session}
+use Rattle.portal_model.specs.declared.change.Changes.{Changes}
+use Rattle.portal_model.specs.declared.change.Changes.TheVariants as to
+use Rattle.portal_model.specs.declared.change.LoadChange.{LoadChange}
+use Rattle.portal_model.specs.declared.change.IssueChange.{IssueChange}
+use Rattle.portal_model.specs.declared.change.SellChange.{SellChange}
+use Rattle.portal_model.specs.declared.change.RedeemChange.{RedeemChange}
+use Rattle.portal_model.specs.declared.change.ReportChange.{ReportChange}
+use Rattle.portal_model.specs.declared.change.RefundChange.{RefundChange}
+use Rattle.portal_model.specs.declared.change.CloseChange.{CloseChange}
+use Rattle.portal_model.specs.declared.change.Answer.{Answer}
+use Rattle.portal_model.specs.Change.{sessions_after, with_report, answer_of}
+use Rattle.portal_model.specs.Rows.{TotalRow, total_row, new_vouchers, new_counts}
+use Rattle.portal_ledger.specs.Fingerprint.{Fingerprint}
+use Rattle.portal_ledger.specs.Ledger.{kept_with}
+use Rattle.portal_ledger.specs.RequestRow.{cells_of, row_of_request}
+use Rattle.portal_ledger.specs.declared.marked.MarkedChanges.{MarkedChanges}
+use Rattle.portal_tables_rows.specs.Contents.{Contents}
+use Rattle.portal_tables_rows.specs.Steps.{with_plans, with_batch, with_vouchers, with_counts, with_session, with_grant, with_total, with_sale, with_refund, with_moment, with_numbers, with_use, with_close, with_redeemed, with_ends, with_request, opened_row, granted_row}
+
+abbrev pub after_load : LoadChange → Contents → Contents
+after_load c t = with_moment c.at (with_plans c.added t)
+
+abbrev pub after_issue : IssueChange → Contents → Contents
+after_issue c t = let texts = map text_of c.codes in with_moment c.at (with_counts (new_counts texts) (with_vouchers (new_vouchers c.batch.id 0 texts) (with_batch c.batch t)))
+
+abbrev pub after_sell : SellChange → Contents → Contents
+after_sell c t = with_moment c.at (with_sale (text_of c.voucher.code) c.at t)
+
+-- the session that a redemption extends, or the one that it opens
+abbrev pub after_placing : Option Session → Session → Plan → Contents → Contents
+after_placing (Some running) s plan t = with_ends (total_row s) t
+after_placing None s plan t = with_total (total_row s) (with_session (opened_row s plan.id) t)
+
+abbrev pub after_grant : RedeemChange → Contents → Contents
+after_grant c t = with_grant (granted_row (c.head.grants + 1) (text_of c.voucher.code) c.session.number c.at c.voucher.plan) (after_placing c.running c.session c.voucher.plan t)
+
+abbrev pub after_redeem : RedeemChange → Contents → Contents
+after_redeem c t = with_numbers c.at (c.head.grants + 1) (sessions_after c.head.sessions c.running) (with_redeemed (text_of c.voucher.code) (c.voucher.redeemed + 1) (after_grant c t))
+
+-- what remains of a session's allowance: where it has none, its row stays as it is
+abbrev pub after_remainder : Option ℕ → TotalRow → Contents → Contents
+after_remainder None total t = t
+after_remainder (Some allowance) total t = with_ends total t
+
+abbrev pub after_report : ReportChange → Contents → Contents
+after_report c t = with_moment c.at (after_remainder c.session.allowance (total_row (with_report c.bytes c.session)) (with_use c.session.number (max c.bytes c.session.used) t))
+
+abbrev pub after_refund : RefundChange → Contents → Contents
+after_refund c t = with_moment c.at (with_refund (text_of c.voucher.code) c.at c.amount t)
+
+abbrev pub after_close : CloseChange → Contents → Contents
+after_close c t = with_moment c.at (with_close c.session.number c.at t)
+
+-- what a command makes of the rows
+abbrev pub after_changes : Changes → Contents → Contents
+after_changes (to.LoadChange c) t = after_load c t
+after_changes (to.IssueChange c) t = after_issue c t
+after_changes (to.SellChange c) t = after_sell c t
+after_changes (to.RedeemChange c) t = after_redeem c t
+after_changes (to.ReportChange c) t = after_report c t
+after_changes (to.RefundChange c) t = after_refund c t
+after_changes (to.CloseChange c) t = after_close c t
+
+-- the request that was kept with it, where it had a mark
+abbrev pub with_kept_request : Option Fingerprint → Answer → Contents → Contents
+with_kept_request None answer t = t
+with_kept_request (Some mark) answer t = with_request (row_of_request (kept_with mark answer)) t
+
+-- what a command and its mark make of the rows, with this answer
+abbrev pub after_command_with : MarkedChanges → Answer → Contents → Contents
+after_command_with m answer t = with_kept_request m.mark answer (after_changes m.changes t)
+
+-- with the answer that the caller of the command is told
+abbrev pub after_command : MarkedChanges → Contents → Contents
+after_command m = after_command_with m (answer_of m.changes)
+
+-- ---- numbers that a column of integers can keep
+
+-- a limit that is not there, or that is below
+abbrev pub IsBelow : ℕ → Option ℕ → Type 0
+IsBelow limit None = Unit {0}
+IsBelow limit (Some n) = n < limit
+
+pub record FitsSession (s : Session) : Type 0 where
+  pub number : s.number < 2 ^ 63
+  pub used : s.used < 2 ^ 63
+  pub allowance : IsBelow (2 ^ 63) s.allowance
+
+pub record FitsIssue (c : IssueChange) : Type 0 where
+  pub size : c.batch.size < 2 ^ 63
+  pub codes : length c.codes < 2 ^ 63
+
+pub record FitsRedeem (c : RedeemChange) : Type 0 where
+  pub session : FitsSession c.session
+  pub grants : c.head.grants + 1 < 2 ^ 63
+  pub sessions : c.head.sessions + 1 < 2 ^ 63
+  pub redeemed : c.voucher.redeemed + 1 < 2 ^ 63
+
+pub record FitsReport (c : ReportChange) : Type 0 where
+  pub session : FitsSession c.session
+  pub bytes : c.bytes < 2 ^ 63
+
+-- each number of the changes can be kept
+abbrev pub FitsInColumns : Changes → Type 0
+FitsInColumns (to.LoadChange c) = Unit {0}
+FitsInColumns (to.IssueChange c) = FitsIssue c
+FitsInColumns (to.SellChange c) = Unit {0}
+FitsInColumns (to.RedeemChange c) = FitsRedeem c
+FitsInColumns (to.ReportChange c) = FitsReport c
+FitsInColumns (to.RefundChange c) = c.amount < 2 ^ 63
+FitsInColumns (to.CloseChange c) = c.session.number < 2 ^ 63
+
+-- each number of the answer can be kept
+pub record FitsAnswer (answer : Answer) : Type 0 where
+  pub n1 : (cells_of answer).n1 < 2 ^ 63
+  pub n2 : IfSome (cells_of answer).n2 (λ n. n < 2 ^ 63)
+  pub n3 : IfSome (cells_of answer).n3 (λ n. n < 2 ^ 63)
+
+-- the same of the answer that is kept with a mark
+abbrev pub FitsFingerprint : Option Fingerprint → Answer → Type 0
+FitsFingerprint None answer = Unit {0}
+FitsFingerprint (Some mark) answer = FitsAnswer answer
+
+-- each number of the changes can be kept, and of what is kept with their mark
+pub record FitsWithAnswer (m : MarkedChanges) (answer : Answer) : Type 0 where
+  pub changes : FitsInColumns m.changes
+  pub mark : FitsFingerprint m.mark answer

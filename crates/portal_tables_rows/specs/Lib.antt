@@ -1,0 +1,13 @@
+pub mod Commands
+pub mod Contents
+pub mod First
+pub mod Foreign
+pub mod Holds
+pub mod Keyed
+pub mod Schema
+pub mod Others
+pub mod Read
+pub mod Requests
+pub mod Selects
+pub mod Steps
+pub mod Words

@@ -1,0 +1,19 @@
+-- The rows of portal_requests, as they are found and read.
+use Rattle.std.specs.Prelude.{ℕ, List, option_map}
+use Rattle.std.specs.String.{string_bytes}
+use Rattle.portal_ledger.specs.RequestRow.{RequestRow, cells}
+use Rattle.portal_tables_rows.specs.declared.stored_requests.StoredRequest.{StoredRequest}
+
+-- the caller and the number are the key together
+abbrev pub key_of : RequestRow → List ℕ × List ℕ
+key_of k = (k.caller, k.number)
+
+abbrev pub request_read : StoredRequest → RequestRow
+request_read r = record {
+  caller = string_bytes r.caller;
+  number = string_bytes r.number;
+  method = string_bytes r.method;
+  path = string_bytes r.path;
+  body = r.body.items;
+  answer = cells r.kind (option_map string_bytes r.word) r.n1 r.n2 r.n3;
+}

@@ -1,0 +1,263 @@
+//! The rows that a command changes, kept in one transaction.
+
+ghost use Rattle.std.specs.Prelude.{◌≡◌, ◌<◌, ◌^◌, length, map, false};
+ghost use Rattle.portal_codes.specs.Code.{text_of};
+ghost use Rattle.portal_model.specs.Rows.{new_vouchers, new_counts, total_row};
+ghost use Rattle.portal_tables_sql.specs.Commits.{Commits};
+ghost use Rattle.portal_tables_sql.specs.States.{IsUndone};
+ghost use Rattle.portal_tables_rows.specs.Steps.{Writes, CommitsRows, MayCommitRows, with_plans, with_vouchers, with_counts};
+ghost use Rattle.portal_tables_rows.specs.Steps.{ends_row};
+ghost use Rattle.portal_tables_rows.specs.Commands.{after_load, after_issue, after_sell, after_placing, after_grant, after_redeem, after_remainder};
+ghost use Rattle.portal_tables_rows.specs.Commands.{after_report, after_refund, after_close, after_changes, FitsSession, FitsIssue};
+ghost use Rattle.portal_tables_rows.specs.Commands.{FitsRedeem, FitsReport, FitsInColumns, FitsFingerprint, FitsWithAnswer};
+ghost use Rattle.portal_tables_rows.specs.Commands.{after_command_with, with_kept_request};
+
+use crate::column_values::Total;
+use crate::inserts::{
+    insert_batch, insert_count, insert_grant, insert_plan, insert_session, insert_total,
+    insert_voucher,
+};
+use crate::requests::insert_request;
+use crate::updates::{
+    set_closed, set_head_numbers, set_last_moment, set_redeemed, set_refunded, set_session_total,
+    set_sold, set_used,
+};
+use portal_codes::Code;
+use portal_ledger::marked::MarkedChanges;
+use portal_ledger::request::RequestMark;
+use portal_model::change::{
+    Answer, Changes, CloseChange, IssueChange, LoadChange, RedeemChange, RefundChange,
+    ReportChange, SellChange,
+};
+use portal_model::name::Id;
+use portal_model::plan::Plan;
+use portal_model::record::Session;
+use sqlite::{Alter, Connection, Error, Transaction};
+
+/// The end of the session, and what remains of its allowance.
+fn total_of(session: &Session) -> Total
+    requires { FitsSession session.now }
+    ensures { ends_row result ≡ total_row session.now }
+{
+    Total {
+        number: session.number,
+        ends: session.ends,
+        remaining: match session.allowance {
+            Some(allowance) => Some(allowance as i64 - session.used as i64),
+            None => None,
+        },
+    }
+}
+
+/// Adds the plans, in order.
+fn insert_plans<S: Alter>(tx: &mut Transaction<'_, S>, plans: &[Plan]) -> Result<(), Error>
+    ensures { Writes S.Store (with_plans plans.now) tx.old tx.new result }
+{
+    for plan in plans {
+        insert_plan(tx, plan)?;
+    }
+    Ok(())
+}
+
+/// Adds the vouchers of a batch, in order.
+fn insert_vouchers<S: Alter>(
+    tx: &mut Transaction<'_, S>,
+    batch: &Id,
+    codes: &[Code],
+) -> Result<(), Error>
+    requires { length codes.now < 2 ^ 63 }
+    ensures { Writes S.Store (with_vouchers (new_vouchers batch.now 0 (map text_of codes.now)))
+        tx.old tx.new result }
+{
+    for (place, code) in codes.iter().enumerate() {
+        insert_voucher(tx, code, batch, place)?;
+    }
+    Ok(())
+}
+
+/// Adds a count of 0 for each code.
+fn insert_counts<S: Alter>(tx: &mut Transaction<'_, S>, codes: &[Code]) -> Result<(), Error>
+    ensures { Writes S.Store (with_counts (new_counts (map text_of codes.now))) tx.old tx.new result }
+{
+    for code in codes {
+        insert_count(tx, code, 0)?;
+    }
+    Ok(())
+}
+
+/// Keeps new plans.
+fn apply_load<S: Alter>(tx: &mut Transaction<'_, S>, c: &LoadChange) -> Result<(), Error>
+    ensures { Writes S.Store (after_load c.now) tx.old tx.new result }
+{
+    insert_plans(tx, c.added.as_slice())?;
+    set_last_moment(tx, c.at)
+}
+
+/// Keeps a batch, its vouchers and their counts.
+fn apply_issue<S: Alter>(tx: &mut Transaction<'_, S>, c: &IssueChange) -> Result<(), Error>
+    requires { FitsIssue c.now }
+    ensures { Writes S.Store (after_issue c.now) tx.old tx.new result }
+{
+    insert_batch(tx, &c.batch)?;
+    insert_vouchers(tx, &c.batch.id, c.codes.as_slice())?;
+    insert_counts(tx, c.codes.as_slice())?;
+    set_last_moment(tx, c.at)
+}
+
+/// Keeps a sale.
+fn apply_sell<S: Alter>(tx: &mut Transaction<'_, S>, c: &SellChange) -> Result<(), Error>
+    ensures { Writes S.Store (after_sell c.now) tx.old tx.new result }
+{
+    set_sold(tx, &c.voucher.code, c.at)?;
+    set_last_moment(tx, c.at)
+}
+
+/// Keeps the session of a redemption: the one that it extends, or a new one.
+fn extend_or_insert_session<S: Alter>(
+    tx: &mut Transaction<'_, S>,
+    c: &RedeemChange,
+) -> Result<(), Error>
+    requires { FitsSession c.now.session }
+    ensures { Writes S.Store (after_placing c.now.running c.now.session c.now.voucher.plan) tx.old tx.new result }
+{
+    let total = total_of(&c.session);
+    match c.running {
+        Some(_) => set_session_total(tx, &total),
+        None => {
+            insert_session(tx, &c.session, &c.voucher.plan.id)?;
+            insert_total(tx, &total)
+        }
+    }
+}
+
+/// Keeps a redemption and its session.
+fn apply_grant<S: Alter>(tx: &mut Transaction<'_, S>, c: &RedeemChange) -> Result<(), Error>
+    requires { FitsRedeem c.now }
+    ensures { Writes S.Store (after_grant c.now) tx.old tx.new result }
+{
+    extend_or_insert_session(tx, c)?;
+    insert_grant(
+        tx,
+        c.head.grants + 1,
+        &c.voucher.code,
+        c.session.number,
+        c.at,
+        &c.voucher.plan,
+    )
+}
+
+/// Keeps a redemption: its session, its row, the count of its voucher and the numbers of rows.
+fn apply_redeem<S: Alter>(tx: &mut Transaction<'_, S>, c: &RedeemChange) -> Result<(), Error>
+    requires { FitsRedeem c.now }
+    ensures { Writes S.Store (after_redeem c.now) tx.old tx.new result }
+{
+    apply_grant(tx, c)?;
+    set_redeemed(tx, &c.voucher.code, c.voucher.redeemed + 1)?;
+    let sessions = match c.running {
+        Some(_) => c.head.sessions,
+        None => c.head.sessions + 1,
+    };
+    set_head_numbers(tx, c.at, c.head.grants + 1, sessions)
+}
+
+/// Keeps what remains of the session's allowance. A session without one costs no statement.
+fn set_remaining<S: Alter>(tx: &mut Transaction<'_, S>, session: &Session) -> Result<(), Error>
+    requires { FitsSession session.now }
+    ensures { Writes S.Store (after_remainder session.now.allowance (total_row session.now)) tx.old tx.new result }
+{
+    match session.allowance {
+        Some(_) => set_session_total(tx, &total_of(session)),
+        None => Ok(()),
+    }
+}
+
+/// Keeps a report of usage.
+fn apply_report<S: Alter>(tx: &mut Transaction<'_, S>, c: &ReportChange) -> Result<(), Error>
+    requires { FitsReport c.now }
+    ensures { Writes S.Store (after_report c.now) tx.old tx.new result }
+{
+    let after = c.after();
+    set_used(tx, after.number, after.used)?;
+    set_remaining(tx, &after)?;
+    set_last_moment(tx, c.at)
+}
+
+/// Keeps a refund.
+fn apply_refund<S: Alter>(tx: &mut Transaction<'_, S>, c: &RefundChange) -> Result<(), Error>
+    requires { c.now.amount < 2 ^ 63 }
+    ensures { Writes S.Store (after_refund c.now) tx.old tx.new result }
+{
+    set_refunded(tx, &c.voucher.code, c.at, c.amount)?;
+    set_last_moment(tx, c.at)
+}
+
+/// Keeps a close.
+fn apply_close<S: Alter>(tx: &mut Transaction<'_, S>, c: &CloseChange) -> Result<(), Error>
+    requires { c.now.session.number < 2 ^ 63 }
+    ensures { Writes S.Store (after_close c.now) tx.old tx.new result }
+{
+    set_closed(tx, c.session.number, c.at)?;
+    set_last_moment(tx, c.at)
+}
+
+/// Keeps what a command changes, inside a transaction.
+fn apply_changes<S: Alter>(tx: &mut Transaction<'_, S>, changes: &Changes) -> Result<(), Error>
+    requires { FitsInColumns changes.now }
+    ensures { Writes S.Store (after_changes changes.now) tx.old tx.new result }
+{
+    match changes {
+        Changes::LoadChange(c) => apply_load(tx, c),
+        Changes::IssueChange(c) => apply_issue(tx, c),
+        Changes::SellChange(c) => apply_sell(tx, c),
+        Changes::RedeemChange(c) => apply_redeem(tx, c),
+        Changes::ReportChange(c) => apply_report(tx, c),
+        Changes::RefundChange(c) => apply_refund(tx, c),
+        Changes::CloseChange(c) => apply_close(tx, c),
+    }
+}
+
+/// Keeps the request of a command that has a mark, with what its caller is told.
+fn insert_request_if_keyed<S: Alter>(
+    tx: &mut Transaction<'_, S>,
+    mark: &Option<RequestMark>,
+    answer: &Answer,
+) -> Result<(), Error>
+    requires { FitsFingerprint mark.now answer.now }
+    ensures { Writes S.Store (with_kept_request mark.now answer.now) tx.old tx.new result }
+{
+    match mark {
+        Some(mark) => insert_request(tx, mark, answer),
+        None => Ok(()),
+    }
+}
+
+/// Keeps what a command changes, and its request with the answer where it has a mark, inside a transaction.
+fn apply_with_fingerprint<S: Alter>(
+    tx: &mut Transaction<'_, S>,
+    marked: &MarkedChanges,
+    answer: &Answer,
+) -> Result<(), Error>
+    requires { FitsWithAnswer marked.now answer.now }
+    ensures { Writes S.Store (after_command_with marked.now answer.now) tx.old tx.new result }
+{
+    apply_changes(tx, &marked.changes)?;
+    insert_request_if_keyed(tx, &marked.mark, answer)
+}
+
+/// One transaction: all that the command changes, and its request with the answer where it has a mark, or
+/// nothing.
+pub fn commit_command<S: Alter>(
+    conn: &mut Connection<S>,
+    marked: &MarkedChanges,
+    answer: &Answer,
+) -> Result<(), Error>
+    requires outside { conn.old.in_transaction ≡ false }
+    requires fits { FitsWithAnswer marked.now answer.now }
+    ensures { Commits S.Store (CommitsRows (after_command_with marked.now answer.now)) IsUndone
+        (MayCommitRows (after_command_with marked.now answer.now)) conn.old conn.new result }
+{
+    let mut tx = conn.transaction();
+    apply_with_fingerprint(&mut tx, marked, answer)?;
+    tx.commit()?;
+    Ok(())
+}

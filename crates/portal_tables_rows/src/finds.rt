@@ -1,0 +1,133 @@
+//! The rows of a key, read as values.
+
+ghost use Rattle.std.specs.Prelude.{◌<◌, ◌^◌, IfOk, IfSome, option_map};
+ghost use Rattle.portal_codes.specs.Code.{IsCode, text_of};
+ghost use Rattle.portal_model.specs.Device.{IsDevice, text_of_device};
+ghost use Rattle.portal_model.specs.Rows.{VoucherRow, SessionRow, CountRow, TotalRow};
+ghost use Rattle.portal_tables_sql.specs.Finds.{Finds, FindsLast};
+ghost use Rattle.portal_tables_rows.specs.Contents.{HeadRow};
+ghost use Rattle.portal_tables_rows.specs.Foreign.{AreOwn, IsOwnBatch, IsOwnCount, IsOwnHead, IsOwnPlan};
+ghost use Rattle.portal_tables_rows.specs.Foreign.{IsOwnSession, IsOwnTotal, IsOwnVoucher};
+ghost use Rattle.portal_tables_rows.specs.Steps.{ends_row};
+ghost use Rattle.portal_tables_rows.specs.Read.{head_read, voucher_read, session_read, count_read};
+ghost use Rattle.portal_tables_rows.specs.Selects.{ReadsRow};
+
+use crate::column_values::Total;
+use crate::from_row::read_first_row;
+use crate::queries::{
+    select_batch, select_count, select_head, select_last_session, select_plan, select_session,
+    select_total, select_voucher,
+};
+use crate::rows::{CountValue, HeadValue, RowError, SessionValue, VoucherValue};
+use portal_codes::Code;
+use portal_model::name::{Device, Id};
+use portal_model::plan::Plan;
+use portal_model::record::Batch;
+use sqlite::{Alter, Connection};
+
+/// The row of the head.
+pub fn read_head_row<S: Alter>(conn: &mut Connection<S>) -> Result<Option<HeadValue>, RowError>
+    ensures { ReadsRow S.Store conn.old conn.new result
+        (λ t found. Finds (λ (x : HeadRow). x.id) 1 t.heads (option_map head_read found))
+        (λ t. AreOwn IsOwnHead t.heads) }
+{
+    let rows = select_head(conn)?;
+    read_first_row(&rows)
+}
+
+/// The plan with the id.
+pub fn read_plan_row<S: Alter>(conn: &mut Connection<S>, id: &Id) -> Result<Option<Plan>, RowError>
+    ensures { ReadsRow S.Store conn.old conn.new result
+        (λ t found. Finds (λ (x : Plan). x.id) id.now t.plans found)
+        (λ t. AreOwn IsOwnPlan t.plans) }
+{
+    let rows = select_plan(conn, id)?;
+    read_first_row(&rows)
+}
+
+/// The batch with the id.
+pub fn read_batch_row<S: Alter>(
+    conn: &mut Connection<S>,
+    id: &Id,
+) -> Result<Option<Batch>, RowError>
+    ensures { ReadsRow S.Store conn.old conn.new result
+        (λ t found. Finds (λ (x : Batch). x.id) id.now t.batches found)
+        (λ t. AreOwn IsOwnBatch t.batches) }
+{
+    let rows = select_batch(conn, id)?;
+    read_first_row(&rows)
+}
+
+/// The row of the voucher with the code.
+pub fn read_voucher_row<S: Alter>(
+    conn: &mut Connection<S>,
+    code: &Code,
+) -> Result<Option<VoucherValue>, RowError>
+    ensures code { IsCode code.now }
+    ensures reads { ReadsRow S.Store conn.old conn.new result
+        (λ t found. Finds (λ (x : VoucherRow). x.code) (text_of code.now) t.vouchers
+        (option_map voucher_read found))
+        (λ t. AreOwn IsOwnVoucher t.vouchers) }
+{
+    let rows = select_voucher(conn, code)?;
+    read_first_row(&rows)
+}
+
+/// The row of the session with the number.
+pub fn read_session_row<S: Alter>(
+    conn: &mut Connection<S>,
+    number: u64,
+) -> Result<Option<SessionValue>, RowError>
+    requires { number < 2 ^ 63 }
+    ensures of_row { IfOk result (λ found. IfSome found (λ row. IsDevice row.device)) }
+    ensures reads { ReadsRow S.Store conn.old conn.new result
+        (λ t found. Finds (λ (x : SessionRow). x.number) number t.sessions (option_map session_read found))
+        (λ t. AreOwn IsOwnSession t.sessions) }
+{
+    let rows = select_session(conn, number)?;
+    read_first_row(&rows)
+}
+
+/// The count of the voucher with the code.
+pub fn read_count_row<S: Alter>(
+    conn: &mut Connection<S>,
+    code: &Code,
+) -> Result<Option<CountValue>, RowError>
+    ensures { ReadsRow S.Store conn.old conn.new result
+        (λ t found. Finds (λ (x : CountRow). x.code) (text_of code.now) t.counts
+        (option_map count_read found))
+        (λ t. AreOwn IsOwnCount t.counts) }
+{
+    let rows = select_count(conn, code)?;
+    read_first_row(&rows)
+}
+
+/// The end of the session with the number.
+pub fn read_total_row<S: Alter>(
+    conn: &mut Connection<S>,
+    number: u64,
+) -> Result<Option<Total>, RowError>
+    requires { number < 2 ^ 63 }
+    ensures { ReadsRow S.Store conn.old conn.new result
+        (λ t found. Finds (λ (x : TotalRow). x.number) number t.totals (option_map ends_row found))
+        (λ t. AreOwn IsOwnTotal t.totals) }
+{
+    let rows = select_total(conn, number)?;
+    read_first_row(&rows)
+}
+
+/// The row of the session of the device with the greatest number.
+pub fn read_last_session_row<S: Alter>(
+    conn: &mut Connection<S>,
+    device: &Device,
+) -> Result<Option<SessionValue>, RowError>
+    ensures device { IsDevice device.now }
+    ensures of_row { IfOk result (λ found. IfSome found (λ row. IsDevice row.device)) }
+    ensures reads { ReadsRow S.Store conn.old conn.new result
+        (λ t found. FindsLast (λ (x : SessionRow). x.device) (text_of_device device.now)
+        (λ (x : SessionRow). x.number) t.sessions (option_map session_read found))
+        (λ t. AreOwn IsOwnSession t.sessions) }
+{
+    let rows = select_last_session(conn, device)?;
+    read_first_row(&rows)
+}

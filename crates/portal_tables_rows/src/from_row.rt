@@ -1,0 +1,194 @@
+//! Values that keep a row of one table, each read of that row.
+
+ghost use Rattle.std.specs.Prelude.{◌≡◌, ℕ, IfOk};
+ghost use Rattle.sqlite.specs.Order.{Row as Cells};
+ghost use Rattle.portal_model.specs.Device.{IsDevice};
+ghost use Rattle.portal_tables_sql.specs.Finds.{columns};
+ghost use Rattle.portal_tables_rows.specs.Contents.{head_cells, plan_cells, batch_cells, voucher_cells};
+ghost use Rattle.portal_tables_rows.specs.Contents.{session_cells, count_cells, total_cells};
+ghost use Rattle.portal_tables_rows.specs.Foreign.{IsOfOwn, IsOwnBatch, IsOwnCount, IsOwnHead, IsOwnPlan};
+ghost use Rattle.portal_tables_rows.specs.Foreign.{IsOwnSession, IsOwnTotal, IsOwnVoucher, NotForeign};
+ghost use Rattle.portal_tables_rows.specs.Read.{head_read, voucher_read, session_read, count_read};
+ghost use Rattle.portal_tables_rows.specs.Selects.{ReadsFirstRow};
+ghost use Rattle.portal_tables_rows.specs.Steps.{ends_row};
+
+use crate::column_values::Total;
+use crate::rows::{
+    CountValue, HeadValue, RowError, SessionValue, VoucherValue, code_in, device_in, flag_in,
+    id_in, moment_in, moment_or_null_in,
+};
+use portal_model::plan::Plan;
+use portal_model::record::Batch;
+use sqlite::Row;
+
+/// A value that keeps a row of one table.
+pub trait FromRow: Sized {
+    // The cells of the value, and how many columns of a row they are.
+    ghost cells: { Self → Cells };
+
+    ghost width: { ℕ };
+
+    // What is so of each value that is read.
+    ghost proper: { Self → Type 0 };
+
+    // Which cells are those of a row that this product writes.
+    ghost own: { Cells → Type 0 };
+
+    /// The value of the row. A row that is none that this product writes is a foreign one.
+    fn from_row(row: &Row) -> Result<Self, RowError>
+        ensures cells { IfOk result (λ x. cells x ≡ columns width row.now) }
+        ensures proper { IfOk result proper }
+        ensures own { own (columns width row.now) → NotForeign result };
+}
+
+impl FromRow for HeadValue {
+    ghost cells = { λ head. head_cells (head_read head) };
+
+    ghost width = { 5 };
+
+    ghost proper = { λ _. Unit {0} };
+
+    ghost own = { IsOfOwn head_cells IsOwnHead };
+
+    fn from_row(row: &Row) -> Result<HeadValue, RowError> {
+        let id: u64 = row.get(0)?;
+        if id != 1 {
+            return Err(RowError::ForeignRow);
+        }
+        Ok(HeadValue {
+            schema_version: row.get(1)?,
+            last: moment_in(row, 2)?,
+            grants: row.get(3)?,
+            sessions: row.get(4)?,
+        })
+    }
+}
+
+impl FromRow for Plan {
+    ghost cells = { plan_cells };
+
+    ghost width = { 7 };
+
+    ghost proper = { λ _. Unit {0} };
+
+    ghost own = { IsOfOwn plan_cells IsOwnPlan };
+
+    fn from_row(row: &Row) -> Result<Plan, RowError> {
+        let id = id_in(row, 0)?;
+        let price = row.get(1)?;
+        let uses = row.get(2)?;
+        let seconds = row.get(3)?;
+        let bytes = row.get(4)?;
+        let shelf_days = row.get(5)?;
+        let extend = flag_in(row, 6)?;
+        let plan = Plan::new(id, price, uses, seconds, bytes, shelf_days, extend);
+        plan.map_err(|_| RowError::ForeignRow)
+    }
+}
+
+impl FromRow for Batch {
+    ghost cells = { batch_cells };
+
+    ghost width = { 5 };
+
+    ghost proper = { λ _. Unit {0} };
+
+    ghost own = { IsOfOwn batch_cells IsOwnBatch };
+
+    fn from_row(row: &Row) -> Result<Batch, RowError> {
+        Ok(Batch {
+            id: id_in(row, 0)?,
+            plan: id_in(row, 1)?,
+            issued: moment_in(row, 2)?,
+            expires: moment_in(row, 3)?,
+            size: row.get(4)?,
+        })
+    }
+}
+
+impl FromRow for VoucherValue {
+    ghost cells = { λ voucher. voucher_cells (voucher_read voucher) };
+
+    ghost width = { 6 };
+
+    ghost proper = { λ _. Unit {0} };
+
+    ghost own = { IsOfOwn voucher_cells IsOwnVoucher };
+
+    fn from_row(row: &Row) -> Result<VoucherValue, RowError> {
+        Ok(VoucherValue {
+            code: code_in(row, 0)?,
+            batch: id_in(row, 1)?,
+            place: row.get(2)?,
+            sold: moment_or_null_in(row, 3)?,
+            refunded: moment_or_null_in(row, 4)?,
+            amount: row.get(5)?,
+        })
+    }
+}
+
+impl FromRow for SessionValue {
+    ghost cells = { λ session. session_cells (session_read session) };
+
+    ghost width = { 6 };
+
+    ghost proper = { λ session. IsDevice session.device };
+
+    ghost own = { IsOfOwn session_cells IsOwnSession };
+
+    fn from_row(row: &Row) -> Result<SessionValue, RowError> {
+        Ok(SessionValue {
+            number: row.get(0)?,
+            device: device_in(row, 1)?,
+            plan: id_in(row, 2)?,
+            opened: moment_in(row, 3)?,
+            used: row.get(4)?,
+            closed: moment_or_null_in(row, 5)?,
+        })
+    }
+}
+
+impl FromRow for CountValue {
+    ghost cells = { λ count. count_cells (count_read count) };
+
+    ghost width = { 2 };
+
+    ghost proper = { λ _. Unit {0} };
+
+    ghost own = { IsOfOwn count_cells IsOwnCount };
+
+    fn from_row(row: &Row) -> Result<CountValue, RowError> {
+        Ok(CountValue {
+            code: code_in(row, 0)?,
+            redeemed: row.get(1)?,
+        })
+    }
+}
+
+impl FromRow for Total {
+    ghost cells = { λ total. total_cells (ends_row total) };
+
+    ghost width = { 3 };
+
+    ghost proper = { λ _. Unit {0} };
+
+    ghost own = { IsOfOwn total_cells IsOwnTotal };
+
+    fn from_row(row: &Row) -> Result<Total, RowError> {
+        Ok(Total {
+            number: row.get(0)?,
+            ends: moment_or_null_in(row, 1)?,
+            remaining: row.get(2)?,
+        })
+    }
+}
+
+/// The value of the first of the rows, where there is one.
+pub(crate) fn read_first_row<T: FromRow>(rows: &[Row]) -> Result<Option<T>, RowError>
+    ensures { ReadsFirstRow T.cells T.width T.proper T.own rows.now result }
+{
+    match rows.first() {
+        Some(row) => Ok(Some(T::from_row(row)?)),
+        None => Ok(None),
+    }
+}

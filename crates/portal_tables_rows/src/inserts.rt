@@ -1,0 +1,183 @@
+//! The statements that add a row, one each.
+
+ghost use Rattle.std.specs.Prelude.{◌<◌, ◌^◌};
+ghost use Rattle.portal_codes.specs.Code.{text_of};
+ghost use Rattle.portal_tables_rows.specs.Steps.{Writes, count_row, ends_row, first_head, granted_row, new_voucher};
+ghost use Rattle.portal_tables_rows.specs.Steps.{opened_row, with_batch, with_count, with_grant, with_head};
+ghost use Rattle.portal_tables_rows.specs.Steps.{with_plan, with_session, with_total, with_voucher};
+
+use crate::column_values::{PrintedText, Total, seconds_or_null};
+use portal_codes::Code;
+use portal_model::moment::Moment;
+use portal_model::name::Id;
+use portal_model::plan::Plan;
+use portal_model::record::{Batch, Session};
+use portal_tables_sql::query::write;
+use sqlite::{Alter, Error, Transaction, params};
+
+/// Adds a plan.
+pub(crate) fn insert_plan<S: Alter>(tx: &mut Transaction<'_, S>, plan: &Plan) -> Result<(), Error>
+    ensures { Writes S.Store (with_plan plan.now) tx.old tx.new result }
+{
+    write(
+        tx,
+        "INSERT INTO portal_plans (id, price, uses, seconds, bytes, shelf_days, extend) \
+         VALUES (?1, ?2, ?3, ?4, ?5, ?6, ?7)",
+        params![
+            plan.id.text(),
+            plan.price,
+            plan.uses,
+            plan.seconds,
+            plan.bytes as i64,
+            plan.shelf_days,
+            plan.extend
+        ],
+    )
+}
+
+/// Adds a batch.
+pub(crate) fn insert_batch<S: Alter>(
+    tx: &mut Transaction<'_, S>,
+    batch: &Batch,
+) -> Result<(), Error>
+    requires { batch.now.size < 2 ^ 63 }
+    ensures { Writes S.Store (with_batch batch.now) tx.old tx.new result }
+{
+    write(
+        tx,
+        "INSERT INTO portal_batches (id, plan_id, issued, expires, size) VALUES (?1, ?2, ?3, ?4, ?5)",
+        params![
+            batch.id.text(),
+            batch.plan.text(),
+            batch.issued.get() as i64,
+            batch.expires.get() as i64,
+            batch.size as i64
+        ],
+    )
+}
+
+/// Adds a voucher in its place in the batch.
+pub(crate) fn insert_voucher<S: Alter>(
+    tx: &mut Transaction<'_, S>,
+    code: &Code,
+    batch: &Id,
+    place: usize,
+) -> Result<(), Error>
+    requires { place < 2 ^ 63 }
+    ensures { Writes S.Store (with_voucher (new_voucher batch.now place (text_of code.now)))
+        tx.old tx.new result }
+{
+    let text = code.text();
+    write(
+        tx,
+        "INSERT INTO portal_vouchers (code, batch_id, place) VALUES (?1, ?2, ?3)",
+        params![
+            PrintedText {
+                bytes: text.as_bytes()
+            },
+            batch.text(),
+            place as i64
+        ],
+    )
+}
+
+/// Adds a session that is opened on the plan.
+pub(crate) fn insert_session<S: Alter>(
+    tx: &mut Transaction<'_, S>,
+    session: &Session,
+    plan: &Id,
+) -> Result<(), Error>
+    requires { session.now.number < 2 ^ 63 }
+    ensures { Writes S.Store (with_session (opened_row session.now plan.now)) tx.old tx.new result }
+{
+    let text = session.device.text();
+    write(
+        tx,
+        "INSERT INTO portal_sessions (number, device, plan_id, opened, used) VALUES (?1, ?2, ?3, ?4, 0)",
+        params![
+            session.number as i64,
+            PrintedText { bytes: &text },
+            plan.text(),
+            session.opened.get() as i64
+        ],
+    )
+}
+
+/// Adds a redemption of the code, on the terms of the plan.
+pub(crate) fn insert_grant<S: Alter>(
+    tx: &mut Transaction<'_, S>,
+    number: u64,
+    code: &Code,
+    session: u64,
+    at: Moment,
+    plan: &Plan,
+) -> Result<(), Error>
+    requires number_fits { number < 2 ^ 63 }
+    requires session_fits { session < 2 ^ 63 }
+    ensures { Writes S.Store (with_grant (granted_row number (text_of code.now) session at plan.now))
+        tx.old tx.new result }
+{
+    let text = code.text();
+    write(
+        tx,
+        "INSERT INTO portal_grants (number, code, session, moment, seconds, bytes) \
+         VALUES (?1, ?2, ?3, ?4, ?5, ?6)",
+        params![
+            number as i64,
+            PrintedText {
+                bytes: text.as_bytes()
+            },
+            session as i64,
+            at.get() as i64,
+            plan.seconds,
+            plan.bytes as i64
+        ],
+    )
+}
+
+/// Adds the count of a voucher.
+pub fn insert_count<S: Alter>(
+    tx: &mut Transaction<'_, S>,
+    code: &Code,
+    redeemed: u64,
+) -> Result<(), Error>
+    requires { redeemed < 2 ^ 63 }
+    ensures { Writes S.Store (with_count (count_row (text_of code.now) redeemed)) tx.old tx.new result }
+{
+    let text = code.text();
+    write(
+        tx,
+        "INSERT INTO portal_counts (code, redeemed) VALUES (?1, ?2)",
+        params![
+            PrintedText {
+                bytes: text.as_bytes()
+            },
+            redeemed as i64
+        ],
+    )
+}
+
+/// Adds the end of a session, and what remains of its allowance.
+pub fn insert_total<S: Alter>(tx: &mut Transaction<'_, S>, total: &Total) -> Result<(), Error>
+    requires { total.now.number < 2 ^ 63 }
+    ensures { Writes S.Store (with_total (ends_row total.now)) tx.old tx.new result }
+{
+    let ends = seconds_or_null(total.ends);
+    write(
+        tx,
+        "INSERT INTO portal_totals (number, ends, remaining) VALUES (?1, ?2, ?3)",
+        params![total.number as i64, ends, total.remaining],
+    )
+}
+
+/// Adds the row of the head: no row of the other tables, and nothing accepted.
+pub fn insert_head<S: Alter>(tx: &mut Transaction<'_, S>, schema_version: u64) -> Result<(), Error>
+    requires { schema_version < 2 ^ 63 }
+    ensures { Writes S.Store (with_head (first_head schema_version)) tx.old tx.new result }
+{
+    write(
+        tx,
+        "INSERT INTO portal_head (id, layout, last_moment, grants, sessions) VALUES (1, ?1, 0, 0, 0)",
+        params![schema_version as i64],
+    )
+}

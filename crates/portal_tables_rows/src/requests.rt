@@ -1,0 +1,130 @@
+//! Kept requests: one row more, and the row of a key.
+
+ghost use Rattle.std.specs.Prelude.{◌≡◌, ◌<◌, ◌^◌, pos, IfOk, IfSome, IsPermutation, filter, map, option_map};
+ghost use Rattle.sqlite.specs.declared.types.Value.TheVariants.{Text};
+ghost use Rattle.portal_ledger.specs.Ledger.{kept_with};
+ghost use Rattle.portal_ledger.specs.Fingerprint.{IsCaller};
+ghost use Rattle.portal_ledger.specs.RequestRow.{IsKeptTyped, row_of_request, text_of_caller};
+ghost use Rattle.portal_tables_sql.specs.Finds.{Finds};
+ghost use Rattle.portal_tables_rows.specs.Keyed.{has_keys};
+ghost use Rattle.portal_tables_rows.specs.Commands.{FitsAnswer};
+ghost use Rattle.portal_tables_rows.specs.Contents.{request_cells};
+ghost use Rattle.portal_tables_rows.specs.Foreign.{AreOwn, IsOwnRequest, NotForeign};
+ghost use Rattle.portal_tables_rows.specs.Requests.{key_of, request_read};
+ghost use Rattle.portal_tables_rows.specs.Steps.{Writes, with_request};
+ghost use Rattle.portal_tables_rows.specs.Selects.{ReadsRow, Selects};
+
+use crate::answers::{CallerText, answer_row};
+use crate::column_values::PrintedText;
+use crate::rows::RowError;
+use crate::stored_requests::{StoredRequest, parse_request, stored_request_of};
+use portal_ledger::caller::Caller;
+use portal_ledger::request::{KeptRequest, RequestMark, RequestNumber};
+use portal_model::change::Answer;
+use portal_tables_sql::query::{read_all, write};
+use sqlite::{Alter, Connection, Error, Row, Transaction, params};
+use std::alloc::Global;
+
+/// The number as a column of integers keeps it.
+fn integer_or_null(number: Option<u64>) -> Option<i64>
+    requires { IfSome number (λ n. n < 2 ^ 63) }
+    ensures { result ≡ option_map pos number }
+{
+    match number {
+        Some(number) => Some(number as i64),
+        None => None,
+    }
+}
+
+/// Adds the request of the mark with the answer that its caller is told.
+pub fn insert_request<S: Alter>(
+    tx: &mut Transaction<'_, S>,
+    mark: &RequestMark,
+    answer: &Answer,
+) -> Result<(), Error>
+    requires { FitsAnswer answer.now }
+    ensures { Writes S.Store (with_request (row_of_request (kept_with mark.now answer.now)))
+        tx.old tx.new result }
+{
+    let text = CallerText::of(&mark.caller);
+    let row = answer_row(answer);
+    let n2 = integer_or_null(row.n2);
+    let n3 = integer_or_null(row.n3);
+    write(
+        tx,
+        "INSERT INTO portal_requests (caller, number, method, path, body, kind, word, n1, n2, n3) \
+         VALUES (?1, ?2, ?3, ?4, ?5, ?6, ?7, ?8, ?9, ?10)",
+        params![
+            PrintedText {
+                bytes: text.as_bytes()
+            },
+            mark.number.text(),
+            mark.method.as_str(),
+            mark.path.as_str(),
+            mark.body.as_slice(),
+            row.kind,
+            &row.word,
+            row.n1 as i64,
+            n2,
+            n3
+        ],
+    )
+}
+
+/// The rows of the request.
+fn select_request<S: Alter>(
+    conn: &mut Connection<S>,
+    caller: &[u8],
+    number: &str,
+) -> Result<Vec<Row>, Error>
+    ensures { Selects S.Store conn.old conn.new result
+        (λ t rows. IsPermutation
+        (filter (has_keys 0 (Text caller.now) 1 (Text number.now)) (map request_cells t.requests))
+        rows.items) }
+{
+    read_all(
+        conn,
+        "SELECT caller, number, method, path, body, kind, word, n1, n2, n3 \
+         FROM portal_requests WHERE caller = ?1 AND number = ?2",
+        params![PrintedText { bytes: caller }, number],
+    )
+}
+
+/// The row of the request of the caller with the number.
+fn read_stored_request<S: Alter>(
+    conn: &mut Connection<S>,
+    caller: &[u8],
+    number: &str,
+) -> Result<Option<StoredRequest>, RowError>
+    ensures selects { Selects S.Store conn.old conn.new result
+        (λ t found. Finds key_of (caller.now, number.now) t.requests (option_map request_read found)) }
+    ensures foreign { NotForeign result }
+{
+    let rows = select_request(conn, caller, number)?;
+    match rows.first() {
+        Some(row) => Ok(Some(stored_request_of(row)?)),
+        None => Ok(None),
+    }
+}
+
+/// The kept request of the caller with the number.
+pub fn read_request_row<S: Alter>(
+    alloc: Global,
+    conn: &mut Connection<S>,
+    caller: &Caller,
+    number: &RequestNumber,
+) -> Result<Option<KeptRequest>, RowError>
+    ensures caller { IsCaller caller.now }
+    ensures typed { IfOk result (λ found. IfSome found IsKeptTyped) }
+    ensures reads { ReadsRow S.Store conn.old conn.new result
+        (λ t found. Finds key_of (text_of_caller caller.now, number.now) t.requests
+        (option_map row_of_request found))
+        (λ t. AreOwn IsOwnRequest t.requests) }
+{
+    let text = CallerText::of(caller);
+    let found = read_stored_request(conn, text.as_bytes(), number.text())?;
+    match found {
+        Some(row) => Ok(Some(parse_request(alloc, &row)?)),
+        None => Ok(None),
+    }
+}

@@ -1,0 +1,169 @@
+//! What is read of a row, and why a row is not read.
+
+ghost use Rattle.std.specs.Prelude.{◌≡◌, IfOk};
+ghost use Rattle.sqlite.specs.Order.{column};
+ghost use Rattle.sqlite.specs.declared.types.Value.TheVariants.{Text};
+ghost use Rattle.portal_codes.specs.Code.{text_of};
+ghost use Rattle.portal_model.specs.Device.{IsDevice, text_of_device};
+ghost use Rattle.portal_tables_sql.specs.Stored.{number, or_null};
+ghost use Rattle.portal_tables_rows.specs.Contents.{flag};
+ghost use Rattle.sqlite.specs.declared.error.Error.TheVariants.{SqliteFailure};
+ghost use Rattle.sqlite.specs.declared.error.ErrorCode.TheVariants.{OutOfMemory};
+ghost use Rattle.portal_model.specs.IdText.{IsIdText};
+ghost use Rattle.portal_tables_rows.specs.declared.rows.RowError.TheVariants.{Sql};
+ghost use Rattle.portal_tables_rows.specs.Foreign.{IsMomentCell, IsMomentIfSome, IsPrintedCode, IsPrintedDevice, SparesOwn};
+
+use portal_codes::Code;
+use portal_model::moment::Moment;
+use portal_model::name::{Device, Id};
+use sqlite::{Error, Row};
+use std::alloc::{AllocError, AllocFailed};
+
+/// Why the tables were not read.
+#[derive(Debug, Drop)]
+pub enum RowError {
+    /// The store answered an error.
+    Sql(Error),
+    /// A row is none that this product writes.
+    ForeignRow,
+}
+
+impl From<Error> for RowError {
+    ghost from_gives = { λ e f. f ≡ Sql e };
+
+    fn from(error: Error) -> RowError {
+        RowError::Sql(error)
+    }
+}
+
+impl<T: Drop> From<AllocFailed<T>> for RowError {
+    ghost from_gives = { λ _ f. f ≡ Sql (SqliteFailure OutOfMemory) };
+
+    fn from(failed: AllocFailed<T>) -> RowError {
+        RowError::Sql(Error::from(failed))
+    }
+}
+
+impl From<AllocError> for RowError {
+    ghost from_gives = { λ _ f. f ≡ Sql (SqliteFailure OutOfMemory) };
+
+    fn from(error: AllocError) -> RowError {
+        RowError::Sql(Error::from(error))
+    }
+}
+
+/// The row of portal_head.
+#[derive(Clone, Copy, Debug, PartialEq, Eq)]
+pub struct HeadValue {
+    pub schema_version: u64,
+    pub last: Moment,
+    pub grants: u64,
+    pub sessions: u64,
+}
+
+/// A row of portal_vouchers.
+#[derive(Clone, Copy, Debug, PartialEq, Eq)]
+pub struct VoucherValue {
+    pub code: Code,
+    pub batch: Id,
+    pub place: u64,
+    pub sold: Option<Moment>,
+    pub refunded: Option<Moment>,
+    pub amount: Option<u64>,
+}
+
+/// A row of portal_sessions.
+#[derive(Clone, Copy, Debug, PartialEq, Eq)]
+pub struct SessionValue {
+    pub number: u64,
+    pub device: Device,
+    pub plan: Id,
+    pub opened: Moment,
+    pub used: u64,
+    pub closed: Option<Moment>,
+}
+
+/// A row of portal_counts.
+#[derive(Clone, Copy, Debug, PartialEq, Eq)]
+pub struct CountValue {
+    pub code: Code,
+    pub redeemed: u64,
+}
+
+/// The id in a column.
+pub fn id_in(row: &Row, at: usize) -> Result<Id, RowError>
+    ensures column { IfOk result (λ id. column row.now at ≡ Text id) }
+    ensures own { SparesOwn Text IsIdText (column row.now at) result }
+{
+    let text: String = row.get(at)?;
+    Id::read(&text).ok_or(RowError::ForeignRow)
+}
+
+/// The code in a column, where it stands as it is printed.
+pub fn code_in(row: &Row, at: usize) -> Result<Code, RowError>
+    ensures column { IfOk result (λ code. column row.now at ≡ Text (text_of code)) }
+    ensures own { SparesOwn Text IsPrintedCode (column row.now at) result }
+{
+    let text: String = row.get(at)?;
+    let Ok(code) = Code::read(&text) else {
+        return Err(RowError::ForeignRow);
+    };
+    let printed = code.text();
+    if printed.as_bytes() == text.as_bytes() {
+        Ok(code)
+    } else {
+        Err(RowError::ForeignRow)
+    }
+}
+
+/// The device in a column, where it stands as it is printed.
+pub(crate) fn device_in(row: &Row, at: usize) -> Result<Device, RowError>
+    ensures column { IfOk result (λ device. column row.now at ≡ Text (text_of_device device)) }
+    ensures device { IfOk result IsDevice }
+    ensures own { SparesOwn Text IsPrintedDevice (column row.now at) result }
+{
+    let text: String = row.get(at)?;
+    let Ok(device) = Device::read(&text) else {
+        return Err(RowError::ForeignRow);
+    };
+    let printed = device.text();
+    if printed.as_slice() == text.as_bytes() {
+        Ok(device)
+    } else {
+        Err(RowError::ForeignRow)
+    }
+}
+
+/// The moment in a column.
+pub fn moment_in(row: &Row, at: usize) -> Result<Moment, RowError>
+    ensures column { IfOk result (λ moment. column row.now at ≡ number moment) }
+    ensures own { SparesOwn number IsMomentCell (column row.now at) result }
+{
+    let seconds: u64 = row.get(at)?;
+    Moment::new(seconds).ok_or(RowError::ForeignRow)
+}
+
+/// The moment in a column, where there is one.
+pub(crate) fn moment_or_null_in(row: &Row, at: usize) -> Result<Option<Moment>, RowError>
+    ensures column { IfOk result (λ moment. column row.now at ≡ or_null moment) }
+    ensures own { SparesOwn or_null IsMomentIfSome (column row.now at) result }
+{
+    let seconds: Option<u64> = row.get(at)?;
+    match seconds {
+        Some(seconds) => Ok(Some(Moment::new(seconds).ok_or(RowError::ForeignRow)?)),
+        None => Ok(None),
+    }
+}
+
+/// The flag in a column: 0 or 1.
+pub(crate) fn flag_in(row: &Row, at: usize) -> Result<bool, RowError>
+    ensures column { IfOk result (λ b. column row.now at ≡ flag b) }
+    ensures own { SparesOwn flag (λ _. Unit {0}) (column row.now at) result }
+{
+    let number: u64 = row.get(at)?;
+    match number {
+        0 => Ok(false),
+        1 => Ok(true),
+        _ => Err(RowError::ForeignRow),
+    }
+}

@@ -1,0 +1,182 @@
+//! The rows of portal_requests, and each as a kept request.
+
+ghost use Rattle.std.specs.Prelude.{◌≡◌, Some, None, IfOk};
+ghost use Rattle.portal_codes.specs.Code.{IsCode, text_of};
+ghost use Rattle.portal_ledger.specs.Fingerprint.{IsCaller};
+ghost use Rattle.portal_ledger.specs.RequestRow.{IsAnswerTyped, IsKeptTyped, cells, cells_of, row_of_request};
+ghost use Rattle.portal_ledger.specs.RequestRow.{text_of_caller, boolean};
+ghost use Rattle.portal_tables_sql.specs.Finds.{columns};
+ghost use Rattle.portal_tables_rows.specs.Contents.{request_cells};
+ghost use Rattle.portal_model.specs.IdText.{IsIdText};
+ghost use Rattle.portal_tables_rows.specs.Foreign.{IsMomentCell, IsOwnAnswer, IsOwnRequest, IsPrintedCode, NotForeign};
+ghost use Rattle.portal_tables_rows.specs.Foreign.{SparesOwn};
+ghost use Rattle.portal_tables_rows.specs.Requests.{request_read};
+
+use crate::rows::RowError;
+use portal_codes::Code;
+use portal_ledger::caller::Caller;
+use portal_ledger::request::{KeptRequest, RequestMark, RequestNumber};
+use portal_model::change::Answer;
+use portal_model::moment::Moment;
+use portal_model::name::{Device, Id};
+use sqlite::Row;
+use std::alloc::Global;
+
+/// A row of portal_requests.
+#[derive(Drop)]
+pub struct StoredRequest {
+    pub caller: String,
+    pub number: String,
+    pub method: String,
+    pub path: String,
+    pub body: Vec<u8>,
+    pub kind: u32,
+    pub word: Option<String>,
+    pub n1: u64,
+    pub n2: Option<u64>,
+    pub n3: Option<u64>,
+}
+
+pub(crate) fn stored_request_of(row: &Row) -> Result<StoredRequest, RowError>
+    ensures cells { IfOk result (λ request. request_cells (request_read request) ≡ columns 10 row.now) }
+    ensures own { NotForeign result }
+{
+    Ok(StoredRequest {
+        caller: row.get(0)?,
+        number: row.get(1)?,
+        method: row.get(2)?,
+        path: row.get(3)?,
+        body: row.get(4)?,
+        kind: row.get(5)?,
+        word: row.get(6)?,
+        n1: row.get(7)?,
+        n2: row.get(8)?,
+        n3: row.get(9)?,
+    })
+}
+
+/// The code that a text is, where it stands as it is printed.
+fn parse_printed_code(text: &str) -> Result<Code, RowError>
+    ensures text { IfOk result (λ code. text_of code ≡ text.now) }
+    ensures code { IfOk result IsCode }
+    ensures own { IsPrintedCode text.now → NotForeign result }
+{
+    let Ok(code) = Code::read(text) else {
+        return Err(RowError::ForeignRow);
+    };
+    let printed = code.text();
+    if printed.as_bytes() == text.as_bytes() {
+        Ok(code)
+    } else {
+        Err(RowError::ForeignRow)
+    }
+}
+
+/// The caller that a text is: `desk`, `gateway`, or a device as it is printed.
+fn parse_caller(text: &str) -> Result<Caller, RowError>
+    ensures text { IfOk result (λ caller. text_of_caller caller ≡ text.now) }
+    ensures caller { IfOk result IsCaller }
+    ensures own { SparesOwn text_of_caller IsCaller text.now result }
+{
+    if text.as_bytes() == b"desk".as_slice() {
+        return Ok(Caller::Desk);
+    }
+    if text.as_bytes() == b"gateway".as_slice() {
+        return Ok(Caller::Gateway);
+    }
+    let Ok(device) = Device::read(text) else {
+        return Err(RowError::ForeignRow);
+    };
+    let printed = device.text();
+    if printed.as_slice() == text.as_bytes() {
+        Ok(Caller::Guest(device))
+    } else {
+        Err(RowError::ForeignRow)
+    }
+}
+
+/// The flag that a number is: 0 or 1.
+fn parse_boolean(number: u64) -> Result<bool, RowError>
+    ensures boolean { IfOk result (λ b. boolean b ≡ number) }
+    ensures own { SparesOwn boolean (λ _. Unit {0}) number result }
+{
+    match number {
+        0 => Ok(false),
+        1 => Ok(true),
+        _ => Err(RowError::ForeignRow),
+    }
+}
+
+/// The answer to an issue, of its columns.
+fn parse_issue_answer(word: &str, count: u64, expires: u64) -> Result<Answer, RowError>
+    ensures cells { IfOk result (λ answer.
+        cells_of answer ≡ cells 2 (Some word.now) count (Some expires) None) }
+    ensures typed { IfOk result IsAnswerTyped }
+    ensures own { IsIdText word.now → IsMomentCell expires → NotForeign result }
+{
+    let Some(batch) = Id::read(word) else {
+        return Err(RowError::ForeignRow);
+    };
+    let Some(expires) = Moment::new(expires) else {
+        return Err(RowError::ForeignRow);
+    };
+    Ok(Answer::IssueAnswer {
+        batch,
+        count,
+        expires,
+    })
+}
+
+/// The answer, of the columns of its kind.
+fn parse_answer(row: &StoredRequest) -> Result<Answer, RowError>
+    ensures cells { IfOk result (λ answer. cells_of answer ≡ (request_read row.now).answer) }
+    ensures typed { IfOk result IsAnswerTyped }
+    ensures own { SparesOwn cells_of IsOwnAnswer (request_read row.now).answer result }
+{
+    match (row.kind, &row.word, row.n2, row.n3) {
+        (1, None, None, None) => Ok(Answer::LoadAnswer { plans: row.n1 }),
+        (2, Some(word), Some(expires), None) => parse_issue_answer(word.as_str(), row.n1, expires),
+        (3, Some(word), None, None) => Ok(Answer::SellAnswer {
+            code: parse_printed_code(word.as_str())?,
+            price: row.n1,
+        }),
+        (4, None, Some(uses_left), Some(flag)) => Ok(Answer::RedeemAnswer {
+            extended: parse_boolean(flag)?,
+            session: row.n1,
+            uses_left,
+        }),
+        (5, None, Some(used), Some(flag)) => Ok(Answer::ReportAnswer {
+            still_open: parse_boolean(flag)?,
+            session: row.n1,
+            used,
+        }),
+        (6, Some(word), None, None) => Ok(Answer::RefundAnswer {
+            amount: row.n1,
+            code: parse_printed_code(word.as_str())?,
+        }),
+        (7, None, None, None) => Ok(Answer::CloseAnswer { session: row.n1 }),
+        _ => Err(RowError::ForeignRow),
+    }
+}
+
+/// The request that a row keeps. A row that this product does not write is refused.
+pub fn parse_request(alloc: Global, row: &StoredRequest) -> Result<KeptRequest, RowError>
+    ensures row { IfOk result (λ kept. row_of_request kept ≡ request_read row.now) }
+    ensures typed { IfOk result IsKeptTyped }
+    ensures own { IsOwnRequest (request_read row.now) → NotForeign result }
+{
+    let caller = parse_caller(row.caller.as_str())?;
+    let Some(number) = RequestNumber::read(row.number.as_str()) else {
+        return Err(RowError::ForeignRow);
+    };
+    let answer = parse_answer(row)?;
+    let mark = RequestMark::new(
+        alloc,
+        caller,
+        number,
+        row.method.as_str(),
+        row.path.as_str(),
+        row.body.as_slice(),
+    )?;
+    Ok(KeptRequest { mark, answer })
+}

@@ -1,0 +1,175 @@
+//! The statements that change a row, one each.
+
+ghost use Rattle.std.specs.Prelude.{◌<◌, ◌^◌};
+ghost use Rattle.portal_codes.specs.Code.{text_of};
+ghost use Rattle.portal_tables_rows.specs.Steps.{Writes, ends_row, with_close, with_ends, with_schema_version, with_moment};
+ghost use Rattle.portal_tables_rows.specs.Steps.{with_numbers, with_redeemed, with_refund, with_sale, with_use};
+
+use crate::column_values::{PrintedText, Total, seconds_or_null};
+use portal_codes::Code;
+use portal_model::moment::Moment;
+use portal_tables_sql::query::write;
+use sqlite::{Alter, Error, Transaction, params};
+
+/// Notes that the voucher was sold.
+pub(crate) fn set_sold<S: Alter>(
+    tx: &mut Transaction<'_, S>,
+    code: &Code,
+    at: Moment,
+) -> Result<(), Error>
+    ensures { Writes S.Store (with_sale (text_of code.now) at) tx.old tx.new result }
+{
+    let text = code.text();
+    write(
+        tx,
+        "UPDATE portal_vouchers SET sold = ?2 WHERE code = ?1",
+        params![
+            PrintedText {
+                bytes: text.as_bytes()
+            },
+            at.get() as i64
+        ],
+    )
+}
+
+/// Notes the refund of the voucher.
+pub(crate) fn set_refunded<S: Alter>(
+    tx: &mut Transaction<'_, S>,
+    code: &Code,
+    at: Moment,
+    amount: u64,
+) -> Result<(), Error>
+    requires { amount < 2 ^ 63 }
+    ensures { Writes S.Store (with_refund (text_of code.now) at amount) tx.old tx.new result }
+{
+    let text = code.text();
+    write(
+        tx,
+        "UPDATE portal_vouchers SET refunded = ?2, amount = ?3 WHERE code = ?1",
+        params![
+            PrintedText {
+                bytes: text.as_bytes()
+            },
+            at.get() as i64,
+            amount as i64
+        ],
+    )
+}
+
+/// Sets the last moment.
+pub(crate) fn set_last_moment<S: Alter>(
+    tx: &mut Transaction<'_, S>,
+    at: Moment,
+) -> Result<(), Error>
+    ensures { Writes S.Store (with_moment at) tx.old tx.new result }
+{
+    write(
+        tx,
+        "UPDATE portal_head SET last_moment = ?1 WHERE id = 1",
+        params![at.get() as i64],
+    )
+}
+
+/// Sets the last moment and the numbers of redemptions and sessions.
+pub(crate) fn set_head_numbers<S: Alter>(
+    tx: &mut Transaction<'_, S>,
+    at: Moment,
+    grants: u64,
+    sessions: u64,
+) -> Result<(), Error>
+    requires grants_fit { grants < 2 ^ 63 }
+    requires sessions_fit { sessions < 2 ^ 63 }
+    ensures { Writes S.Store (with_numbers at grants sessions) tx.old tx.new result }
+{
+    write(
+        tx,
+        "UPDATE portal_head SET last_moment = ?1, grants = ?2, sessions = ?3 WHERE id = 1",
+        params![at.get() as i64, grants as i64, sessions as i64],
+    )
+}
+
+/// Sets the layout.
+pub fn set_schema_version<S: Alter>(
+    tx: &mut Transaction<'_, S>,
+    schema_version: u64,
+) -> Result<(), Error>
+    requires { schema_version < 2 ^ 63 }
+    ensures { Writes S.Store (with_schema_version schema_version) tx.old tx.new result }
+{
+    write(
+        tx,
+        "UPDATE portal_head SET layout = ?1 WHERE id = 1",
+        params![schema_version as i64],
+    )
+}
+
+/// Sets what the session has used.
+pub(crate) fn set_used<S: Alter>(
+    tx: &mut Transaction<'_, S>,
+    number: u64,
+    used: u64,
+) -> Result<(), Error>
+    requires number_fits { number < 2 ^ 63 }
+    requires used_fits { used < 2 ^ 63 }
+    ensures { Writes S.Store (with_use number used) tx.old tx.new result }
+{
+    write(
+        tx,
+        "UPDATE portal_sessions SET used = ?2 WHERE number = ?1",
+        params![number as i64, used as i64],
+    )
+}
+
+/// Notes that the session was closed.
+pub(crate) fn set_closed<S: Alter>(
+    tx: &mut Transaction<'_, S>,
+    number: u64,
+    at: Moment,
+) -> Result<(), Error>
+    requires { number < 2 ^ 63 }
+    ensures { Writes S.Store (with_close number at) tx.old tx.new result }
+{
+    write(
+        tx,
+        "UPDATE portal_sessions SET closed = ?2 WHERE number = ?1",
+        params![number as i64, at.get() as i64],
+    )
+}
+
+/// Sets how often the voucher was redeemed.
+pub(crate) fn set_redeemed<S: Alter>(
+    tx: &mut Transaction<'_, S>,
+    code: &Code,
+    redeemed: u64,
+) -> Result<(), Error>
+    requires { redeemed < 2 ^ 63 }
+    ensures { Writes S.Store (with_redeemed (text_of code.now) redeemed) tx.old tx.new result }
+{
+    let text = code.text();
+    write(
+        tx,
+        "UPDATE portal_counts SET redeemed = ?2 WHERE code = ?1",
+        params![
+            PrintedText {
+                bytes: text.as_bytes()
+            },
+            redeemed as i64
+        ],
+    )
+}
+
+/// Sets the end of the session, and what remains of its allowance.
+pub(crate) fn set_session_total<S: Alter>(
+    tx: &mut Transaction<'_, S>,
+    total: &Total,
+) -> Result<(), Error>
+    requires { total.now.number < 2 ^ 63 }
+    ensures { Writes S.Store (with_ends (ends_row total.now)) tx.old tx.new result }
+{
+    let ends = seconds_or_null(total.ends);
+    write(
+        tx,
+        "UPDATE portal_totals SET ends = ?2, remaining = ?3 WHERE number = ?1",
+        params![total.number as i64, ends, total.remaining],
+    )
+}

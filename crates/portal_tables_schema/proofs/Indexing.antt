@@ -1,0 +1,88 @@
+-- CREATE INDEX leaves all that the tables hold, and the index stands.
+use Rattle.portal_tables_schema.proofs.Common.{◌≡◌, ℕ, Bool, true, false, List, [], ◌∷◌, codes, Ok, refl, sym, ap, subst, ◌∙◌, Schema, Table, Database, State, ExecutesInside, Index, Order, next_tree, Has, all_has, head, plans, batches, vouchers, sessions, grants, counts, totals, requests, Contents, TablePlace, IsTableAt, TablesExist, HoldsIn, HasSessionIndex, KeepsOthers, moved, MakesRowsFrom}
+use Rattle.sqlite_schema.specs.Names.{same_name}
+use Rattle.sqlite_catalog.specs.Change.{with_index, indexed}
+use Rattle.sqlite_resolve.specs.Compile.{index_defined_by}
+use Rattle.sqlite_tied.specs.Compute.{everything}
+use Rattle.portal_tables_sql.proofs.IndexLemmas.{IsIndex, HasIndexed, indexes, still_stands_indexed, rows_indexed}
+use Rattle.portal_tables_sql.proofs.TableExistsLemmas.{has_last}
+use Rattle.portal_tables_sql.proofs.Texts.{same_value}
+
+still_at : (schema : Schema) (index : Index) (table : ℕ → Table) (place : TablePlace) → IsTableAt schema table place → IsTableAt (with_index schema index) table place
+still_at schema index table place h = record { exists = still_stands_indexed schema index place.at (table place.tree) h.exists; unacted = h.unacted }
+
+abbrev pub index_text : List ℕ
+index_text = codes "CREATE INDEX portal_sessions_by_device ON portal_sessions (device, number)"
+
+index_is : IsIndex index_text sessions
+unfolding everything
+index_is = record {
+  statement = _;
+  text = record { parsed = _; read = refl; is = refl; timeless = refl; counted = refl };
+  name = codes "portal_sessions_by_device";
+  untimed = λ schema. refl;
+  unshown = λ schema base. refl;
+  makes = λ schema at tree exists base. simp (exists.named, exists.there) refl;
+  whole = refl;
+}
+
+-- the index that the text makes, whatever its order
+abbrev index_at : ℕ → Order → Index
+index_at tree order = record { name = codes "portal_sessions_by_device"; tree = 0; table = tree; columns = 2 ∷ 0 ∷ []; order = order; is_unique = false }
+
+index_defined : (tree : ℕ) → (order : Order) × (index_defined_by (sessions tree) index_text ≡ Ok (index_at tree order))
+unfolding everything
+index_defined tree = (_, refl)
+
+-- the index stands
+now_indexed : (db : Database) (tree : ℕ) (after : Database) → HasIndexed db (sessions tree) index_text after → HasSessionIndex after.schema tree
+unfolding same_name
+now_indexed db tree after k =
+    let defined = index_defined tree in
+    let bare : k.index ≡ index_at tree defined.0 = same_value (sym k.defined ∙ defined.1) in
+    let made : Index = record (index_at tree defined.0) { tree = next_tree db.schema; table = tree } in
+    let is : after.schema ≡ with_index db.schema made = k.is ∙ ap (λ (i : Index). indexed db.schema (sessions tree) i) bare in
+    subst (λ (s : Schema). HasSessionIndex s tree) (sym is) (made, has_last db.schema.indexes made, record { name = refl; table = refl; columns = refl })
+
+still_holds : (schema_version : ℕ) (db after : Database) (t : Contents) (had : Bool) (h : HoldsIn schema_version had db t) → HasIndexed db (sessions h.places.sessions.tree) index_text after → HoldsIn schema_version true after t
+still_holds schema_version db after t had h k =
+    let index : Index = record k.index { tree = next_tree db.schema; table = h.places.sessions.tree } in
+    let here : TablesExist schema_version had db.schema h.places = h.tables_exist in
+    record {
+      places = h.places;
+      tables_exist = record {
+        heads = subst (λ s. IsTableAt s head h.places.heads) (sym k.is) (still_at db.schema index head h.places.heads here.heads);
+        plans = subst (λ s. IsTableAt s plans h.places.plans) (sym k.is) (still_at db.schema index plans h.places.plans here.plans);
+        batches = subst (λ s. IsTableAt s batches h.places.batches) (sym k.is) (still_at db.schema index batches h.places.batches here.batches);
+        vouchers = subst (λ s. IsTableAt s vouchers h.places.vouchers) (sym k.is) (still_at db.schema index vouchers h.places.vouchers here.vouchers);
+        sessions = subst (λ s. IsTableAt s sessions h.places.sessions) (sym k.is) (still_at db.schema index sessions h.places.sessions here.sessions);
+        grants = subst (λ s. IsTableAt s grants h.places.grants) (sym k.is) (still_at db.schema index grants h.places.grants here.grants);
+        counts = λ on. subst (λ s. IsTableAt s counts h.places.counts) (sym k.is) (still_at db.schema index counts h.places.counts (here.counts on));
+        totals = λ on. subst (λ s. IsTableAt s totals h.places.totals) (sym k.is) (still_at db.schema index totals h.places.totals (here.totals on));
+        requests = λ on. subst (λ s. IsTableAt s requests h.places.requests) (sym k.is) (still_at db.schema index requests h.places.requests (here.requests on));
+        index = λ on. now_indexed db h.places.sessions.tree after k;
+      };
+      store = record {
+        heads = moved (rows_indexed db _ _ after h.places.heads.at (head h.places.heads.tree) k here.heads.exists) h.store.heads;
+        plans = moved (rows_indexed db _ _ after h.places.plans.at (plans h.places.plans.tree) k here.plans.exists) h.store.plans;
+        batches = moved (rows_indexed db _ _ after h.places.batches.at (batches h.places.batches.tree) k here.batches.exists) h.store.batches;
+        vouchers = moved (rows_indexed db _ _ after h.places.vouchers.at (vouchers h.places.vouchers.tree) k here.vouchers.exists) h.store.vouchers;
+        sessions = moved (rows_indexed db _ _ after h.places.sessions.at (sessions h.places.sessions.tree) k here.sessions.exists) h.store.sessions;
+        grants = moved (rows_indexed db _ _ after h.places.grants.at (grants h.places.grants.tree) k here.grants.exists) h.store.grants;
+        counts = λ on. moved (rows_indexed db _ _ after h.places.counts.at (counts h.places.counts.tree) k (here.counts on).exists) (h.store.counts on);
+        totals = λ on. moved (rows_indexed db _ _ after h.places.totals.at (totals h.places.totals.tree) k (here.totals on).exists) (h.store.totals on);
+        requests = λ on. moved (rows_indexed db _ _ after h.places.requests.at (requests h.places.requests.tree) k (here.requests on).exists) (h.store.requests on);
+      };
+      sound = k.sound;
+    }
+
+others_indexed : (db : Database) (on : Table) (after : Database) → HasIndexed db on index_text after → KeepsOthers db after
+others_indexed db on after k x has other = (subst (λ (s : Schema). Has s.tables x) (sym k.is) has, all_has _ db.schema.tables x k.rows has)
+
+pub indexes_inside : (schema_version : ℕ) (had : Bool) (old new : State) (count : ℕ) → ExecutesInside 0 index_text [] old new (Ok count) → MakesRowsFrom schema_version had schema_version true (λ t. t) old new
+indexes_inside schema_version had old new count ran = record {
+  holds = λ t h. still_holds schema_version old.now new.now t had h (indexes index_text sessions h.places.sessions.at h.places.sessions.tree old new count index_is h.tables_exist.sessions.exists ran.0);
+  others = λ t h. others_indexed old.now (sessions h.places.sessions.tree) new.now (indexes index_text sessions h.places.sessions.at h.places.sessions.tree old new count index_is h.tables_exist.sessions.exists ran.0);
+  committed = ran.1.committed_is;
+  mode = ran.1.mode;
+}

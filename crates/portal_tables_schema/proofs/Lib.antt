@@ -1,0 +1,14 @@
+pub mod Common
+pub mod BesideLemmas
+pub mod CreateLemmas
+pub mod CreateTexts
+pub mod Frame
+pub mod FreeLemmas
+pub mod HeadVersion
+pub mod HeadScan
+pub mod IndexedLemmas
+pub mod Indexing
+pub mod MigrateLemmas
+pub mod OthersLemmas
+pub mod GivesOnce
+pub mod FromVersionLemmas

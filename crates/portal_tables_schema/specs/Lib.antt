@@ -1,0 +1,3 @@
+pub mod Migrations
+pub mod Creation
+pub mod SchemaVersions

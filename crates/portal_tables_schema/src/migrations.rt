@@ -1,0 +1,195 @@
+//! One transaction from the tables of an older layout to those of this version.
+
+ghost use Rattle.std.specs.Prelude.{◌≡◌, ◌<◌, ◌^◌, Bool, true, false, IsTrue, All};
+ghost use Rattle.portal_tables_sql.specs.Commits.{Commits};
+ghost use Rattle.portal_tables_sql.specs.Inside.{Inside};
+ghost use Rattle.portal_tables_sql.specs.States.{IsUndone};
+ghost use Rattle.portal_tables_rows.specs.Holds.{this_schema_version};
+ghost use Rattle.portal_tables_rows.specs.Steps.{Writes, with_counts};
+ghost use Rattle.portal_tables_schema.specs.Migrations.{HasFreeNames, has_free_names, MakesRowsFrom, CommitsFrom, MayCommitFrom};
+ghost use Rattle.portal_tables_schema.specs.Migrations.{version_number, without_counters, without_requests, with_empty_tables, with_totals, with_counters};
+ghost use Rattle.portal_tables_schema.specs.Migrations.{after_migration, counts_read, totals_read};
+
+use crate::creation::{
+    make_counts_table, make_requests_table, make_session_index, make_totals_table,
+};
+use crate::schema_versions::OldSchema;
+use portal_tables_rows::column_values::Total;
+use portal_tables_rows::inserts::{insert_count, insert_total};
+use portal_tables_rows::rows::CountValue;
+use portal_tables_rows::updates::set_schema_version;
+use portal_tables_sql::room::{has_autoincrement, has_no_action_on, has_sequence};
+use sqlite::{Alter, Connection, Error, Transaction};
+use sqlite_schema::schema::Schema;
+
+/// Makes the three tables that layout 1 lacks, with no row.
+fn add_tables_since_first<S: Alter>(tx: &mut Transaction<'_, S>) -> Result<(), Error>
+    ensures { Inside S.Store (λ old new. HasFreeNames old.now.schema → (had : Bool) →
+        MakesRowsFrom 1 had this_schema_version had (λ t. without_requests (without_counters t)) old new)
+        tx.old tx.new result }
+{
+    make_counts_table(tx)?;
+    make_totals_table(tx)?;
+    make_requests_table(tx)?;
+    Ok(())
+}
+
+/// Makes the table of requests that layout 2 lacks, with no row.
+fn add_tables_since_second<S: Alter>(tx: &mut Transaction<'_, S>) -> Result<(), Error>
+    ensures { Inside S.Store (λ old new. HasFreeNames old.now.schema → (had : Bool) →
+        MakesRowsFrom 2 had this_schema_version had without_requests old new)
+        tx.old tx.new result }
+{
+    make_requests_table(tx)?;
+    Ok(())
+}
+
+/// Makes the tables that the layout lacks, with no row.
+fn add_missing_tables<S: Alter>(tx: &mut Transaction<'_, S>, from: OldSchema) -> Result<(), Error>
+    ensures { Inside S.Store (λ old new. HasFreeNames old.now.schema → (had : Bool) →
+        MakesRowsFrom (version_number from) had this_schema_version had (with_empty_tables from) old new)
+        tx.old tx.new result }
+{
+    match from {
+        OldSchema::First => {
+            add_tables_since_first(tx)?;
+            Ok(())
+        }
+        OldSchema::Second => {
+            add_tables_since_second(tx)?;
+            Ok(())
+        }
+        OldSchema::Third => Ok(()),
+        OldSchema::Fourth => Ok(()),
+    }
+}
+
+/// Makes the index of the sessions where it is missing.
+fn add_missing_index<S: Alter>(tx: &mut Transaction<'_, S>, has_index: bool) -> Result<(), Error>
+    ensures { Inside S.Store (λ old new. MakesRowsFrom this_schema_version has_index this_schema_version true (λ t. t) old new)
+        tx.old tx.new result }
+{
+    if has_index {
+        return Ok(());
+    }
+    make_session_index(tx)?;
+    Ok(())
+}
+
+/// Makes the tables and the index that the layout lacks.
+fn add_tables_and_index<S: Alter>(
+    tx: &mut Transaction<'_, S>,
+    from: OldSchema,
+    has_index: bool,
+) -> Result<(), Error>
+    ensures { Inside S.Store (λ old new. HasFreeNames old.now.schema →
+        MakesRowsFrom (version_number from) has_index this_schema_version true (with_empty_tables from) old new)
+        tx.old tx.new result }
+{
+    add_missing_tables(tx, from)?;
+    add_missing_index(tx, has_index)?;
+    Ok(())
+}
+
+/// Adds the counts of vouchers, in order.
+fn insert_all_counts<S: Alter>(
+    tx: &mut Transaction<'_, S>,
+    kept: &[CountValue],
+) -> Result<(), Error>
+    requires { All (λ k. k.redeemed < 2 ^ 63) kept.now }
+    ensures { Writes S.Store (with_counts (counts_read kept.now)) tx.old tx.new result }
+{
+    for count in kept {
+        insert_count(tx, &count.code, count.redeemed)?;
+    }
+    Ok(())
+}
+
+/// Adds the ends of sessions and what remains of their allowances, in order.
+fn insert_totals<S: Alter>(tx: &mut Transaction<'_, S>, totals: &[Total]) -> Result<(), Error>
+    requires { All (λ m. m.number < 2 ^ 63) totals.now }
+    ensures { Writes S.Store (with_totals (totals_read totals.now)) tx.old tx.new result }
+{
+    for total in totals {
+        insert_total(tx, total)?;
+    }
+    Ok(())
+}
+
+/// Adds these counters.
+fn insert_counters<S: Alter>(
+    tx: &mut Transaction<'_, S>,
+    kept: &[CountValue],
+    totals: &[Total],
+) -> Result<(), Error>
+    requires counts_fit { All (λ k. k.redeemed < 2 ^ 63) kept.now }
+    requires totals_fit { All (λ m. m.number < 2 ^ 63) totals.now }
+    ensures { Writes S.Store (with_counters kept.now totals.now) tx.old tx.new result }
+{
+    insert_all_counts(tx, kept)?;
+    insert_totals(tx, totals)?;
+    Ok(())
+}
+
+fn migrate_inside<S: Alter>(
+    tx: &mut Transaction<'_, S>,
+    from: OldSchema,
+    kept: &[CountValue],
+    totals: &[Total],
+    has_index: bool,
+) -> Result<(), Error>
+    requires counts_fit { All (λ k. k.redeemed < 2 ^ 63) kept.now }
+    requires totals_fit { All (λ m. m.number < 2 ^ 63) totals.now }
+    ensures { Inside S.Store (λ old new. HasFreeNames old.now.schema →
+        MakesRowsFrom (version_number from) has_index this_schema_version true (after_migration from kept.now totals.now) old new)
+        tx.old tx.new result }
+{
+    add_tables_and_index(tx, from, has_index)?;
+    insert_counters(tx, kept, totals)?;
+    set_schema_version(tx, 4)?;
+    Ok(())
+}
+
+/// One transaction: the tables that the layout lacks, with these counters in this order, the index where
+/// `has_index` says that it is missing, and the number of this version's layout; or nothing.
+pub fn commit_migration<S: Alter>(
+    conn: &mut Connection<S>,
+    from: OldSchema,
+    kept: &[CountValue],
+    totals: &[Total],
+    has_index: bool,
+) -> Result<(), Error>
+    requires outside { conn.old.in_transaction ≡ false }
+    requires counts_fit { All (λ k. k.redeemed < 2 ^ 63) kept.now }
+    requires totals_fit { All (λ m. m.number < 2 ^ 63) totals.now }
+    ensures { Commits S.Store
+        (CommitsFrom (version_number from) has_index HasFreeNames (after_migration from kept.now totals.now))
+        (λ old new. HasFreeNames old.now.schema → IsUndone old new)
+        (MayCommitFrom (version_number from) has_index HasFreeNames (after_migration from kept.now totals.now))
+        conn.old conn.new result }
+{
+    let mut tx = conn.transaction();
+    migrate_inside(&mut tx, from, kept, totals, has_index)?;
+    tx.commit()?;
+    Ok(())
+}
+
+/// Whether no foreign key acts on a table of the names that came after layout 1.
+fn has_free_names(schema: &Schema) -> bool
+    ensures { result ≡ has_free_names schema.now }
+{
+    (!has_autoincrement(schema) || has_sequence(schema))
+        && has_no_action_on(schema, b"portal_counts")
+        && has_no_action_on(schema, b"portal_totals")
+        && has_no_action_on(schema, b"portal_requests")
+}
+
+/// Whether the schema has room for the tables that came after layout 1: no foreign key acts on a table of
+/// their names.
+pub fn can_add_later_tables(schema: &Schema) -> bool
+    ensures test { result ≡ has_free_names schema.now }
+    ensures room { IsTrue result → HasFreeNames schema.now }
+{
+    let can_add_tables = has_free_names(schema);
+    can_add_tables
+}

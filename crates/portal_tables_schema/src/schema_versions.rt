@@ -1,0 +1,163 @@
+//! What stands of the product's tables in a store, by their names, and the layout that the head tells.
+
+ghost use Rattle.std.specs.Prelude.{◌≡◌, ℕ, true, false, IsTrue, OnErr, IfOk, IfErr, IfSome, IfNone};
+ghost use Rattle.std.specs.List.{list_any};
+ghost use Rattle.sqlite.specs.Held.{state};
+ghost use Rattle.sqlite.specs.State.{HasCleanDisk, IsUnchanged, Survives};
+ghost use Rattle.sqlite.specs.declared.error.Error.TheVariants.{SqlInputError};
+ghost use Rattle.sqlite_resolve.specs.declared.error.CompileError.{CompileError};
+ghost use Rattle.portal_tables_sql.specs.States.{IsUndone};
+ghost use Rattle.portal_tables_rows.specs.Holds.{TablePlaces, TablesExist};
+ghost use Rattle.portal_tables_schema.specs.SchemaVersions.{is_name_taken, is_any_name_taken, has_our_tables, has_no_action_on_ours};
+ghost use Rattle.portal_tables_schema.specs.SchemaVersions.{is_usable_schema, is_indexed, is_session_index, IsNoQuery, QueryAnswers};
+ghost use Rattle.portal_tables_schema.specs.SchemaVersions.{IsOneRow};
+
+use portal_tables_sql::room::{has_no_action_on, has_table};
+use sqlite::types::ValueRef;
+use sqlite::{Alter, Connection, Error, Row};
+use sqlite_schema::names::same_name;
+use sqlite_schema::schema::{Index, Schema};
+
+/// A layout from which a store is brought to this version's. The fourth is this version's own, which may
+/// lack the index of the sessions.
+#[derive(Clone, Copy, Debug, PartialEq, Eq)]
+pub enum OldSchema {
+    First,
+    Second,
+    Third,
+    Fourth,
+}
+
+/// Whether a table or a view has the name.
+fn is_name_taken(schema: &Schema, name: &[u8]) -> bool
+    ensures { result ≡ is_name_taken schema.now name.now }
+{
+    schema.table_named(name).is_some() || schema.view_named(name).is_some()
+}
+
+/// Whether a table or a view has one of the names of the product's tables.
+pub fn is_any_name_taken(schema: &Schema) -> bool
+    ensures { result ≡ is_any_name_taken schema.now }
+{
+    is_name_taken(schema, b"portal_head")
+        || is_name_taken(schema, b"portal_plans")
+        || is_name_taken(schema, b"portal_batches")
+        || is_name_taken(schema, b"portal_vouchers")
+        || is_name_taken(schema, b"portal_sessions")
+        || is_name_taken(schema, b"portal_grants")
+        || is_name_taken(schema, b"portal_counts")
+        || is_name_taken(schema, b"portal_totals")
+        || is_name_taken(schema, b"portal_requests")
+}
+
+/// Whether no foreign key acts on a table of the product's names, whether such a table stands or not.
+pub fn has_no_action_on_ours(schema: &Schema) -> bool
+    ensures { result ≡ has_no_action_on_ours schema.now }
+{
+    has_no_action_on(schema, b"portal_head")
+        && has_no_action_on(schema, b"portal_plans")
+        && has_no_action_on(schema, b"portal_batches")
+        && has_no_action_on(schema, b"portal_vouchers")
+        && has_no_action_on(schema, b"portal_sessions")
+        && has_no_action_on(schema, b"portal_grants")
+        && has_no_action_on(schema, b"portal_counts")
+        && has_no_action_on(schema, b"portal_totals")
+        && has_no_action_on(schema, b"portal_requests")
+}
+
+/// Whether each of the product's tables stands.
+fn has_our_tables(schema: &Schema) -> bool
+    ensures { result ≡ has_our_tables schema.now }
+{
+    has_table(schema, b"portal_head")
+        && has_table(schema, b"portal_plans")
+        && has_table(schema, b"portal_batches")
+        && has_table(schema, b"portal_vouchers")
+        && has_table(schema, b"portal_sessions")
+        && has_table(schema, b"portal_grants")
+        && has_table(schema, b"portal_counts")
+        && has_table(schema, b"portal_totals")
+        && has_table(schema, b"portal_requests")
+}
+
+/// Whether each of the product's tables stands, and no foreign key acts on one of them.
+pub fn is_usable_schema(schema: &Schema) -> bool
+    ensures { result ≡ is_usable_schema schema.now }
+{
+    has_our_tables(schema) && has_no_action_on_ours(schema)
+}
+
+/// Whether the index is that by which the last session of a device is found: of its name, and on the
+/// devices and then the numbers of the sessions in this tree.
+fn is_session_index(index: &Index, tree: u32) -> bool
+    ensures { result ≡ is_session_index tree index.now }
+{
+    same_name(index.name.as_slice(), b"portal_sessions_by_device")
+        && index.table == tree
+        && index.columns.as_slice() == [2usize, 0].as_slice()
+}
+
+/// Whether one of the indexes is that of the sessions in this tree.
+fn is_any_session_index(indexes: &[Index], tree: u32) -> bool
+    ensures { result ≡ list_any (is_session_index tree) indexes.now }
+{
+    indexes.iter().any(|index| is_session_index(index, tree))
+}
+
+/// Whether an index of the product's table of sessions is that by which the last session of a device is
+/// found.
+fn has_session_index(schema: &Schema) -> bool
+    ensures { result ≡ is_indexed schema.now }
+{
+    let Some(at) = schema.table_named(b"portal_sessions") else {
+        return false;
+    };
+    match schema.tables.as_slice().get(at) {
+        Some(table) => is_any_session_index(schema.indexes.as_slice(), table.tree),
+        None => false,
+    }
+}
+
+/// Whether the index by which the last session of a device is found has been made.
+pub fn is_indexed(schema: &Schema) -> bool
+    ensures test { result ≡ is_indexed schema.now }
+    ensures index { IsTrue result → (schema_version : ℕ) (places : TablePlaces) → TablesExist schema_version false schema.now places
+        → TablesExist schema_version true schema.now places }
+{
+    let is_made = has_session_index(schema);
+    is_made
+}
+
+/// The rows of the head, whatever stands there under its name. An SQL fault is told only where nothing
+/// changed.
+pub fn select_schema_version<S: Alter>(conn: &mut Connection<S>) -> Result<Vec<Row>, Error>
+    ensures answers { HasCleanDisk (state S.Store conn.new)
+        → IfOk result (λ rows. QueryAnswers (state S.Store conn.old).now rows.items
+        × IsUnchanged (state S.Store conn.old) (state S.Store conn.new)) }
+    ensures is_no_query { HasCleanDisk (state S.Store conn.new)
+        → IfErr result (λ e. (fault : CompileError) → e ≡ SqlInputError fault
+        → IsNoQuery (state S.Store conn.old).now.schema
+        × IsUnchanged (state S.Store conn.old) (state S.Store conn.new)) }
+    ensures mode { (state S.Store conn.old).in_transaction ≡ false
+        → (state S.Store conn.new).in_transaction ≡ false }
+    ensures undone { HasCleanDisk (state S.Store conn.new) → (state S.Store conn.old).in_transaction ≡ false
+        → (state S.Store conn.old).now ≡ (state S.Store conn.old).committed
+        → OnErr result (IsUndone (state S.Store conn.old) (state S.Store conn.new)) }
+    ensures crash { Survives (state S.Store conn.old) (state S.Store conn.new) (λ _. ⊥) }
+{
+    conn.query_all("SELECT layout FROM portal_head", &[])
+}
+
+/// The layout, where the rows are one that begins with a whole number from 1 on.
+pub fn schema_version_in(rows: &[Row]) -> Option<u64>
+    ensures one { IfSome result (IsOneRow rows.now) }
+    ensures none { IfNone result ((schema_version : ℕ) → ¬ IsOneRow rows.now schema_version) }
+{
+    let [row] = rows else {
+        return None;
+    };
+    match row.get_ref(0) {
+        Ok(ValueRef::Int(schema_version)) if schema_version >= 1 => Some(schema_version as u64),
+        _ => None,
+    }
+}

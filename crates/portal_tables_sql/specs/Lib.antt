@@ -1,0 +1,10 @@
+pub mod Commits
+pub mod Finds
+pub mod Harmless
+pub mod Inside
+pub mod Looks
+pub mod Made
+pub mod TableExists
+pub mod Represents
+pub mod States
+pub mod Stored

@@ -1,0 +1,49 @@
+//! Queries and writes, and whether a connection still answers.
+
+ghost use Rattle.std.specs.Prelude.{IfOk, IsTrue};
+ghost use Rattle.sqlite.specs.Held.{state};
+ghost use Rattle.sqlite.specs.State.{HasCleanDisk, Survives, IsUnchanged, Shown};
+ghost use Rattle.sqlite.specs.Given.{IsPlain};
+ghost use Rattle.sqlite.specs.Listing.{understood};
+ghost use Rattle.sqlite.specs.Values.{bound};
+ghost use Rattle.portal_tables_sql.specs.Inside.{Inside, Runs};
+ghost use Rattle.portal_tables_sql.specs.Looks.{Looks};
+
+use sqlite::types::ValueRef;
+use sqlite::{Alter, Connection, Error, Row, Transaction};
+
+/// All rows of the answer of a query. A query that only reads changes nothing.
+pub fn read_all<S: Alter>(
+    conn: &mut Connection<S>,
+    sql: &str,
+    params: &[ValueRef<'_>],
+) -> Result<Vec<Row>, Error>
+    ensures shown { HasCleanDisk (state S.Store conn.new) → IfOk result (λ rows.
+        Shown sql.now (bound params.now) (state S.Store conn.old) (state S.Store conn.new) rows.items) }
+    ensures looks { Looks (λ schema. IsPlain (understood schema sql.now)) result
+        (state S.Store conn.old) (state S.Store conn.new) }
+{
+    conn.query_all(sql, params)
+}
+
+/// Runs a statement that writes, inside a transaction: it changes the store as the statement means, and
+/// commits nothing.
+pub fn write<S: Alter>(
+    tx: &mut Transaction<'_, S>,
+    sql: &str,
+    params: &[ValueRef<'_>],
+) -> Result<(), Error>
+    ensures { Inside S.Store (Runs sql.now (bound params.now)) tx.old tx.new result }
+{
+    tx.execute(sql, params)?;
+    Ok(())
+}
+
+/// Whether the connection is open and answers. It changes nothing.
+pub fn is_answering<S: Alter>(conn: &mut Connection<S>) -> bool
+    ensures same { HasCleanDisk (state S.Store conn.new) → IsTrue result
+        → IsUnchanged (state S.Store conn.old) (state S.Store conn.new) }
+    ensures crash { Survives (state S.Store conn.old) (state S.Store conn.new) (λ _. ⊥) }
+{
+    conn.prepare("SELECT 1").is_ok()
+}
