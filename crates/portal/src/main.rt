@@ -1,4 +1,4 @@
-//! The program `portal`: the voucher and session desk behind a captive portal.
+//! The program `portal`: the voucher and session desk behind a captive portal (RFC 8908).
 #![tactic(auto)]
 
 use portal_commands::words::words_of;
@@ -6,6 +6,8 @@ use portal_os::run_on_host;
 use sqlite::Unknown;
 use std::process::ExitCode;
 
+/// Runs the program over the arguments, the files and the streams of the process, and ends it with the exit
+/// code.
 fn main(rt: HostRuntime) -> ExitCode {
     let mut errors = rt.stderr();
     let status = match words_of(&rt) {

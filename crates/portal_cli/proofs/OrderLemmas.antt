@@ -19,7 +19,7 @@ twice : {A B C : Type 0} (f : B → C) (g : A → B) (o : Option A) → option_m
 twice f g None = refl
 twice f g (Some x) = refl
 
--- the name that stands beside the rows
+-- the name of a subcommand, beside its rows
 name_of_rows : (m : ArgMatches) → option_map (λ p. p.0) (subcommand_rows_of m) ≡ subcommand_name_of m
 name_of_rows m = twice _ _ (out-ArgMatches m).subcommand
 
@@ -47,7 +47,7 @@ Writes text n = (t : Text) × (text ≡ Some t) × WritesNumber t n
 abbrev pub IsWritten : Text → Type 0
 IsWritten t = IsNumeral 10 (without_leading_plus t) × (digits_value 10 (without_leading_plus t) < 2 ^ 64)
 
--- the number that is read of a text, where it writes one
+-- the number that is read from a text, if it writes one
 pub number_given : (text : Option Text) (result : Option ℕ) → (text ≡ None → result ≡ None)
     → ((n : ℕ) → result ≡ Some n → (t : Text) → text ≡ Some t → IsWritten t × (n ≡ digits_value 10 (without_leading_plus t)))
     → (result ≡ None → (t : Text) → text ≡ Some t → ¬ IsWritten t) → MatchOption result ((n : ℕ) → ¬ (Writes text n)) (Writes text)
@@ -61,7 +61,7 @@ pub finds_none : (Is : List Row → Order → Type 0) (rows : List Row) (result 
 finds_none Is rows None same none = none
 finds_none Is rows (Some order) same none = absurd (cc (same))
 
--- ---- no order of a subcommand, for want of an option
+-- ---- no order of a subcommand, since an option is missing
 
 module _ (rows : List Row) where
   abbrev NoFiles : Type 0
@@ -131,7 +131,7 @@ named_otherwise name rows a b c d e = λ order is.
 
 pub ruleset named = (named_serve, named_answer, named_print, named_takings, named_check, named_otherwise)
 
--- what is told of an error whose kind is among those that the words come to
+-- what is printed for an error whose kind is among those that the arguments give
 pub tells : (words : List Text) (kind : ErrorKind) (told : NoOrder) → GivesKind kind told
     → (kind ≡ OutOfMemory) ⊎ IsAmong kind (fault_of command_line words) → GivesNoOrder words told
 tells words kind NoMemory is among = tt
@@ -142,7 +142,7 @@ tells words kind Version is (inr here) = subst (λ (k : ErrorKind). IsAmong k (f
 tells words kind (Invalid text) is (inl full) = absurd (is.2 full)
 tells words kind (Invalid text) is (inr here) = inl (kind, here, is.0, is.1)
 
--- what is told where the words name no order
+-- what is printed if the arguments give no order
 pub told_none : (words : List Text) (told : NoOrder) → IsNoHelp told → IsNoOrder (subcommand_of command_line words) → GivesNoOrder words told
 told_none words NoMemory is none = tt
 told_none words (Help text) is none = absurd is

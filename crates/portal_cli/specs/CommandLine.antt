@@ -4,7 +4,7 @@ use Rattle.clap.specs.Simple.{on_top}
 use Rattle.clap.specs.Words.{App, Rule, new_app, new_rule, with_rule, with_subcommand}
 use Rattle.clap.specs.declared.builder.value_parser.ValueParser.TheVariants.{Unsigned}
 
--- `--db PATH`
+-- `--db PATH`, required.
 abbrev pub db_option : Rule
 db_option = record (new_rule (codes "db")) {
   long = Some (codes "db");
@@ -12,14 +12,14 @@ db_option = record (new_rule (codes "db")) {
   required = true;
 }
 
--- `--db PATH`, which may be left out
+-- `--db PATH`, optional.
 abbrev pub optional_db_option : Rule
 optional_db_option = record (new_rule (codes "db")) {
   long = Some (codes "db");
   value_names = 1;
 }
 
--- `--settings PATH`
+-- `--settings PATH`, required.
 abbrev pub settings_option : Rule
 settings_option = record (new_rule (codes "settings")) {
   long = Some (codes "settings");
@@ -27,14 +27,14 @@ settings_option = record (new_rule (codes "settings")) {
   required = true;
 }
 
--- `--settings PATH`, which may be left out
+-- `--settings PATH`, optional.
 abbrev pub optional_settings_option : Rule
 optional_settings_option = record (new_rule (codes "settings")) {
   long = Some (codes "settings");
   value_names = 1;
 }
 
--- `--port N`, which may be left out
+-- `--port N`, from 1 to 65535; 8080 if it is left out.
 abbrev pub port_option : Rule
 port_option = record (new_rule (codes "port")) {
   long = Some (codes "port");
@@ -43,7 +43,7 @@ port_option = record (new_rule (codes "port")) {
   defaults = codes "8080" ∷ [];
 }
 
--- `--count N`, which may be left out
+-- `--count N`, from 1 to 1000000000; 1000000000 if it is left out.
 abbrev pub count_option : Rule
 count_option = record (new_rule (codes "count")) {
   long = Some (codes "count");
@@ -52,7 +52,7 @@ count_option = record (new_rule (codes "count")) {
   defaults = codes "1000000000" ∷ [];
 }
 
--- `--now N`
+-- `--now N`, required, any unsigned number of 64 bits.
 abbrev pub now_option : Rule
 now_option = record (new_rule (codes "now")) {
   long = Some (codes "now");
@@ -61,7 +61,7 @@ now_option = record (new_rule (codes "now")) {
   required = true;
 }
 
--- `--seed HEX`
+-- `--seed HEX`, required.
 abbrev pub seed_option : Rule
 seed_option = record (new_rule (codes "seed")) {
   long = Some (codes "seed");
@@ -69,32 +69,32 @@ seed_option = record (new_rule (codes "seed")) {
   required = true;
 }
 
--- `BATCH`
+-- `BATCH`, required.
 abbrev pub batch_argument : Rule
 batch_argument = record (new_rule (codes "batch")) {
   value_names = 1;
   required = true;
 }
 
--- `FROM`
+-- `FROM`, required.
 abbrev pub from_argument : Rule
 from_argument = record (new_rule (codes "from")) {
   value_names = 1;
   required = true;
 }
 
--- `TO`
+-- `TO`, required.
 abbrev pub to_argument : Rule
 to_argument = record (new_rule (codes "to")) {
   value_names = 1;
   required = true;
 }
 
--- with the two files
+-- With the two files.
 abbrev pub with_files : App → App
 with_files app = with_rule (with_rule app db_option) settings_option
 
--- the same, where each may be left out
+-- With the two files, each of which may be left out.
 abbrev pub with_optional_files : App → App
 with_optional_files app = with_rule (with_rule app optional_db_option) optional_settings_option
 
@@ -104,7 +104,8 @@ serve_subcommand = with_rule (with_rule (with_files (new_app (codes "serve"))) p
 
 -- `answer --db PATH --settings PATH --now N --seed HEX`
 abbrev pub answer_subcommand : App
-answer_subcommand = with_rule (with_rule (with_optional_files (new_app (codes "answer"))) now_option) seed_option
+answer_subcommand =
+    with_rule (with_rule (with_optional_files (new_app (codes "answer"))) now_option) seed_option
 
 -- `print BATCH --db PATH --settings PATH`
 abbrev pub print_subcommand : App
@@ -118,18 +119,19 @@ takings_subcommand = with_rule (with_rule (with_files (new_app (codes "takings")
 abbrev pub check_subcommand : App
 check_subcommand = with_files (new_app (codes "check"))
 
--- the program without its subcommands, of which it wants one; `--version` asks for its version
+-- The program without its subcommands, one of which is required; `--version` asks for its version.
 abbrev pub bare_command_line : App
 bare_command_line = on_top (λ s. record s { subcommand_required = true; has_version = true }) (new_app (codes "portal"))
 
--- with the subcommands that answer requests
+-- With `serve` and `answer`.
 abbrev pub with_serving_subcommands : App
 with_serving_subcommands = with_subcommand (with_subcommand bare_command_line serve_subcommand.top) answer_subcommand.top
 
--- and with those that print
+-- With `serve`, `answer`, `print` and `takings`.
 abbrev pub with_printing_subcommands : App
-with_printing_subcommands = with_subcommand (with_subcommand with_serving_subcommands print_subcommand.top) takings_subcommand.top
+with_printing_subcommands =
+    with_subcommand (with_subcommand with_serving_subcommands print_subcommand.top) takings_subcommand.top
 
--- the whole command line
+-- With all five subcommands.
 abbrev pub command_line : App
 command_line = with_subcommand with_printing_subcommands check_subcommand.top

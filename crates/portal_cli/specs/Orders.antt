@@ -1,4 +1,4 @@
--- What the words of a command line ask for, and what is told where they ask for nothing.
+-- The order that the arguments of a command line give, and what is printed if they give none.
 use Rattle.std.specs.Prelude.{◌≡◌, ◌≢◌, ◌⊎◌, ◌^◌, ◌<◌, ℕ, List, [], Option, Some, None, MatchOption, option_map, codes, ⊤}
 use Rattle.std.specs.Borrow.{Bor}
 use Rattle.std.specs.Str.Parse.{IsNumeral, digits_value, without_leading_plus}
@@ -11,25 +11,26 @@ use Rattle.portal_cli.specs.declared.order.NoOrder.{NoOrder}
 use Rattle.portal_cli.specs.declared.order.NoOrder.TheVariants.{Help, Version, Invalid, NoMemory}
 use Rattle.portal_cli.specs.CommandLine.{command_line}
 
--- the text writes the number in decimal digits, with or without a plus before them
+-- The text writes the number in decimal digits, with or without a plus sign before them, and it is below
+-- 2^64.
 abbrev pub WritesNumber : Text → ℕ → Type 0
 WritesNumber text n =
     let digits = without_leading_plus text in
     IsNumeral 10 digits × (digits_value 10 digits < 2 ^ 64) × (n ≡ digits_value 10 digits)
 
--- the option was given that number
+-- The option was given that number.
 abbrev pub GivesNumber : Text → List Row → ℕ → Type 0
 GivesNumber name rows n = (text : Text) × (one_of name rows ≡ Some text) × WritesNumber text n
 
--- the option was given that text
+-- The option was given that text.
 abbrev pub GivesText : Text → List Row → Bor Text → Type 0
 GivesText name rows text = first_of name rows ≡ Some text.now
 
--- the option was given that text, or left out
+-- The option was given that text, or left out.
 abbrev pub MayGive : Text → List Row → Option (Bor Text) → Type 0
 MayGive name rows given = option_map (λ text. text.now) given ≡ first_of name rows
 
--- the two files were named
+-- The two files were given.
 abbrev pub GivesFiles : List Row → Bor Text → Bor Text → Type 0
 GivesFiles rows db settings = GivesText (codes "db") rows db × GivesText (codes "settings") rows settings
 
@@ -46,7 +47,8 @@ IsAnswerOrder rows (Answer db settings now seed) =
 IsAnswerOrder rows _ = ⊥
 
 abbrev pub IsPrintOrder : List Row → Order → Type 0
-IsPrintOrder rows (Print db settings batch) = GivesFiles rows db settings × GivesText (codes "batch") rows batch
+IsPrintOrder rows (Print db settings batch) =
+    GivesFiles rows db settings × GivesText (codes "batch") rows batch
 IsPrintOrder rows _ = ⊥
 
 abbrev pub IsTakingsOrder : List Row → Order → Type 0
@@ -58,15 +60,15 @@ abbrev pub IsCheckOrder : List Row → Order → Type 0
 IsCheckOrder rows (Check db settings) = GivesFiles rows db settings
 IsCheckOrder rows _ = ⊥
 
--- no order is such a one
+-- No order is one of that kind.
 abbrev pub IsNone : (List Row → Order → Type 0) → List Row → Type 0
 IsNone Is rows = (order : Order) → ¬ (Is rows order)
 
--- an order of that kind of what was found, or none where there is none
+-- The result is an order of that kind, or none if there is none.
 abbrev pub FindsOrder : (List Row → Order → Type 0) → List Row → Option Order → Type 0
 FindsOrder Is rows result = MatchOption result (IsNone Is rows) (Is rows)
 
--- the order of a subcommand, by its name and what was found for its options
+-- The order of a subcommand, by its name and what was found for its options.
 abbrev pub IsOrder : Option (Text × List Row) → Order → Type 0
 IsOrder None order = ⊥
 IsOrder (Some found) order =
@@ -76,20 +78,20 @@ IsOrder (Some found) order =
     ⊎ (((found.0 ≡ codes "takings") × IsTakingsOrder found.1 order)
     ⊎ ((found.0 ≡ codes "check") × IsCheckOrder found.1 order))))
 
--- the words name no order
+-- The arguments give no order.
 abbrev pub IsNoOrder : Option (Text × List Row) → Type 0
 IsNoOrder found = (order : Order) → ¬ (IsOrder found order)
 
--- the order of a subcommand, or none where it gives none
+-- The result is the order of a subcommand, or none if it gives none.
 abbrev pub FindsNamed : Option (Text × List Row) → Option Order → Type 0
 FindsNamed found result = MatchOption result (IsNoOrder found) (IsOrder found)
 
--- the words are right, and name that order
+-- The command line is valid, and gives that order.
 abbrev pub GivesOrder : List Text → Order → Type 0
 GivesOrder words order = (fault_of command_line words ≡ []) × IsOrder (subcommand_of command_line words) order
 
--- Help, or the version, where that is the first thing that the words ask for; a fault where another thing is
--- or they name no order. Out of memory may come at any words.
+-- Help, or the version, if that is the first thing that the arguments ask for; a message if something else
+-- is, or if they give no order. Out of memory is possible for any arguments.
 abbrev pub GivesNoOrder : List Text → NoOrder → Type 0
 GivesNoOrder words NoMemory = ⊤
 GivesNoOrder words (Help text) = IsAmong DisplayHelp (fault_of command_line words)
@@ -98,14 +100,14 @@ GivesNoOrder words (Invalid text) =
     ((kind : ErrorKind) × IsAmong kind (fault_of command_line words) × (kind ≢ DisplayHelp) × (kind ≢ DisplayVersion))
     ⊎ IsNoOrder (subcommand_of command_line words)
 
--- what is told of an error of that kind
+-- What is printed for an error of clap of that kind.
 abbrev pub GivesKind : ErrorKind → NoOrder → Type 0
 GivesKind kind NoMemory = ⊤
 GivesKind kind (Help text) = kind ≡ DisplayHelp
 GivesKind kind Version = kind ≡ DisplayVersion
 GivesKind kind (Invalid text) = (kind ≢ DisplayHelp) × (kind ≢ DisplayVersion) × (kind ≢ OutOfMemory)
 
--- a fault, or out of memory
+-- A message, or out of memory.
 abbrev pub IsNoHelp : NoOrder → Type 0
 IsNoHelp NoMemory = ⊤
 IsNoHelp (Help text) = ⊥

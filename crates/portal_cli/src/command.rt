@@ -1,8 +1,20 @@
-//! The subcommands.
+//! The subcommands, as clap is given them.
 ghost use Rattle.std.specs.Prelude.{◌≡◌, false, IfOk};
 ghost use Rattle.clap.specs.Words.{app_of, rule_of, with_rule};
 ghost use Rattle.clap.specs.declared.builder.command.Command.TheViews.{out-Command as fields_of};
-ghost use Rattle.portal_cli.specs.CommandLine.{serve_subcommand, answer_subcommand, print_subcommand, takings_subcommand, check_subcommand, with_files, with_optional_files, bare_command_line, with_serving_subcommands, with_printing_subcommands, command_line};
+ghost use Rattle.portal_cli.specs.CommandLine.{
+  serve_subcommand,
+  answer_subcommand,
+  print_subcommand,
+  takings_subcommand,
+  check_subcommand,
+  with_files,
+  with_optional_files,
+  bare_command_line,
+  with_serving_subcommands,
+  with_printing_subcommands,
+  command_line,
+};
 
 use crate::options::{
     batch_argument, count_option, db_option, from_argument, now_option, optional_db_option,
@@ -15,7 +27,7 @@ use crate::version::version_line;
 use clap::{Arg, Command};
 use std::alloc::{AllocError, Global};
 
-/// A subcommand with two more options, which are its own.
+/// Adds two options to a subcommand. They are its own, and not global ones.
 fn with_two_options<'a>(
     command: Command<'a>,
     first: Arg<'a>,
@@ -31,7 +43,7 @@ fn with_two_options<'a>(
     command.arg(first)?.arg(second)
 }
 
-/// A subcommand with `--db PATH` and `--settings PATH`.
+/// Adds `--db PATH` and `--settings PATH`, both required, to a subcommand.
 fn with_files<'a>(alloc: Global, command: Command<'a>) -> Result<Command<'a>, AllocError>
     requires { (fields_of command).has_globals ≡ false }
     ensures subcommand { IfOk result (λ c. app_of c ≡ with_files (app_of command.entry)) }
@@ -40,7 +52,7 @@ fn with_files<'a>(alloc: Global, command: Command<'a>) -> Result<Command<'a>, Al
     with_two_options(command, db_option(alloc), settings_option(alloc))
 }
 
-/// A subcommand with `--db PATH` and `--settings PATH`, which may be left out.
+/// Adds `--db PATH` and `--settings PATH`, both optional, to a subcommand.
 fn with_optional_files<'a>(alloc: Global, command: Command<'a>) -> Result<Command<'a>, AllocError>
     requires { (fields_of command).has_globals ≡ false }
     ensures subcommand { IfOk result (λ c. app_of c ≡ with_optional_files (app_of command.entry)) }
@@ -53,7 +65,7 @@ fn with_optional_files<'a>(alloc: Global, command: Command<'a>) -> Result<Comman
     )
 }
 
-/// `serve --db PATH --settings PATH --port N --count N`.
+/// Returns the subcommand `serve --db PATH --settings PATH --port N --count N`.
 fn serve_subcommand<'a>(alloc: Global) -> Result<Command<'a>, AllocError>
     ensures subcommand { IfOk result (λ c. app_of c ≡ serve_subcommand) }
     ensures here { IfOk result (λ c. (fields_of c).has_globals ≡ false) }
@@ -65,7 +77,7 @@ fn serve_subcommand<'a>(alloc: Global) -> Result<Command<'a>, AllocError>
     with_two_options(command, port_option(alloc), count_option(alloc))
 }
 
-/// `answer --db PATH --settings PATH --now N --seed HEX`.
+/// Returns the subcommand `answer --db PATH --settings PATH --now N --seed HEX`.
 fn answer_subcommand<'a>(alloc: Global) -> Result<Command<'a>, AllocError>
     ensures subcommand { IfOk result (λ c. app_of c ≡ answer_subcommand) }
     ensures here { IfOk result (λ c. (fields_of c).has_globals ≡ false) }
@@ -77,7 +89,7 @@ fn answer_subcommand<'a>(alloc: Global) -> Result<Command<'a>, AllocError>
     with_two_options(command, now_option(alloc), seed_option(alloc))
 }
 
-/// `print BATCH --db PATH --settings PATH`.
+/// Returns the subcommand `print BATCH --db PATH --settings PATH`.
 fn print_subcommand<'a>(alloc: Global) -> Result<Command<'a>, AllocError>
     ensures subcommand { IfOk result (λ c. app_of c ≡ print_subcommand) }
     ensures here { IfOk result (λ c. (fields_of c).has_globals ≡ false) }
@@ -88,7 +100,7 @@ fn print_subcommand<'a>(alloc: Global) -> Result<Command<'a>, AllocError>
     with_files(alloc, command)?.arg(batch_argument(alloc))
 }
 
-/// `takings FROM TO --db PATH --settings PATH`.
+/// Returns the subcommand `takings FROM TO --db PATH --settings PATH`.
 fn takings_subcommand<'a>(alloc: Global) -> Result<Command<'a>, AllocError>
     ensures subcommand { IfOk result (λ c. app_of c ≡ takings_subcommand) }
     ensures here { IfOk result (λ c. (fields_of c).has_globals ≡ false) }
@@ -100,7 +112,7 @@ fn takings_subcommand<'a>(alloc: Global) -> Result<Command<'a>, AllocError>
     with_two_options(command, from_argument(alloc), to_argument(alloc))
 }
 
-/// `check --db PATH --settings PATH`.
+/// Returns the subcommand `check --db PATH --settings PATH`.
 fn check_subcommand<'a>(alloc: Global) -> Result<Command<'a>, AllocError>
     ensures subcommand { IfOk result (λ c. app_of c ≡ check_subcommand) }
     ensures here { IfOk result (λ c. (fields_of c).has_globals ≡ false) }
@@ -111,7 +123,7 @@ fn check_subcommand<'a>(alloc: Global) -> Result<Command<'a>, AllocError>
     with_files(alloc, command)
 }
 
-/// The program without its subcommands.
+/// Returns the command line of the program without its subcommands. A subcommand is required.
 fn bare_command_line<'a>(alloc: Global) -> Command<'a>
     ensures { app_of result ≡ bare_command_line }
 {
@@ -122,7 +134,7 @@ fn bare_command_line<'a>(alloc: Global) -> Command<'a>
         .subcommand_required(true)
 }
 
-/// The program with the subcommands that answer requests.
+/// Returns the command line with `serve` and `answer`.
 fn with_serving_subcommands<'a>(alloc: Global) -> Result<Command<'a>, AllocError>
     ensures { IfOk result (λ c. app_of c ≡ with_serving_subcommands) }
 {
@@ -131,7 +143,7 @@ fn with_serving_subcommands<'a>(alloc: Global) -> Result<Command<'a>, AllocError
         .subcommand(answer_subcommand(alloc)?)
 }
 
-/// And with those that print.
+/// Returns the command line with `serve`, `answer`, `print` and `takings`.
 fn with_printing_subcommands<'a>(alloc: Global) -> Result<Command<'a>, AllocError>
     ensures { IfOk result (λ c. app_of c ≡ with_printing_subcommands) }
 {
@@ -140,7 +152,7 @@ fn with_printing_subcommands<'a>(alloc: Global) -> Result<Command<'a>, AllocErro
         .subcommand(takings_subcommand(alloc)?)
 }
 
-/// The whole command line.
+/// Returns the command line with all five subcommands.
 pub fn command_line<'a>(alloc: Global) -> Result<Command<'a>, AllocError>
     ensures { IfOk result (λ c. app_of c ≡ command_line) }
 {

@@ -1,4 +1,4 @@
-//! The command line of the program `portal`: from its words to an order.
+//! The command line of the program `portal`: from its arguments to an order.
 #![tactic(auto)]
 
 mod command;

@@ -1,4 +1,4 @@
-//! From words to an order.
+//! Parses a command line into an order.
 ghost use Rattle.std.specs.Prelude.{◌≡◌, Some, IfOk, IfErr, map};
 ghost use Rattle.clap.specs.Words.{found_of, kind_of, rows_of, subcommand_rows_of};
 ghost use Rattle.portal_cli.specs.Orders.{FindsNamed, GivesOrder, GivesNoOrder, GivesKind, IsNoHelp};
@@ -11,7 +11,8 @@ use clap::{ArgMatches, Error};
 use std::alloc::Global;
 use std::convert::AsStr;
 
-/// The order of a subcommand, by its name.
+/// Returns the order of the subcommand with this name, from the arguments that clap found. None if the name
+/// is no subcommand, or if an argument is missing.
 #[tactic(auto, using(crate::proofs::OrderLemmas::named))]
 fn order_by_name<'a>(name: &str, found: &ArgMatches<'a>) -> Option<Order<'a>>
     ensures { FindsNamed (Some (name.now, rows_of (found_of found.now))) result }
@@ -31,7 +32,8 @@ fn order_by_name<'a>(name: &str, found: &ArgMatches<'a>) -> Option<Order<'a>>
     }
 }
 
-/// The order that was found.
+/// Returns the order of the subcommand that clap found. None if there is no subcommand, or if an argument is
+/// missing.
 #[tactic(auto, using(crate::proofs::OrderLemmas::found_so))]
 fn order_of<'a>(matches: &ArgMatches<'a>) -> Option<Order<'a>>
     ensures { FindsNamed (subcommand_rows_of matches.now) result }
@@ -55,7 +57,7 @@ fn no_order_of(alloc: Global, error: &Error) -> NoOrder
     }
 }
 
-/// The message where the words are right and name no subcommand.
+/// Returns the error message for a command line without a subcommand.
 fn missing_subcommand(alloc: Global) -> NoOrder
     ensures { IsNoHelp result }
 {
@@ -65,10 +67,10 @@ fn missing_subcommand(alloc: Global) -> NoOrder
     }
 }
 
-/// Reads the words of a command line, of which the first is the program's own name.
+/// Parses the arguments of a command line, of which the first is the program's own name, into an order.
 ///
-/// An `Err` is what the program says instead: help or the version where the words ask for it, what is
-/// wrong with them, or out of memory.
+/// Err: help or the version if the arguments ask for it, the message about an invalid command line, or out of
+/// memory.
 pub fn parse_command_line<'a, S: AsStr>(alloc: Global, words: &'a [S]) -> Result<Order<'a>, NoOrder>
     ensures order { IfOk result (GivesOrder (map S.text words.entry.now)) }
     ensures no_order { IfErr result (GivesNoOrder (map S.text words.entry.now)) }

@@ -1,20 +1,29 @@
-//! From what was found for the options of a subcommand to an order.
+//! Makes the order of each subcommand from the arguments that clap found.
 ghost use Rattle.std.specs.Prelude.{◌≡◌, ℕ, List, option_map, MatchOption};
 ghost use Rattle.std.specs.Borrow.{Bor};
 ghost use Rattle.clap.specs.Words.{first_of, found_of, rows_of};
-ghost use Rattle.portal_cli.specs.Orders.{FindsOrder, GivesNumber, GivesFiles, IsServeOrder, IsAnswerOrder, IsPrintOrder, IsTakingsOrder, IsCheckOrder};
+ghost use Rattle.portal_cli.specs.Orders.{
+  FindsOrder,
+  GivesNumber,
+  GivesFiles,
+  IsServeOrder,
+  IsAnswerOrder,
+  IsPrintOrder,
+  IsTakingsOrder,
+  IsCheckOrder,
+};
 
 use crate::order::Order;
 use clap::ArgMatches;
 
-/// The text of an option, where it was given.
+/// Returns the text that an option was given. None if it was left out.
 fn option_text<'a>(found: &ArgMatches<'a>, name: &str) -> Option<&'a str>
     ensures { option_map (λ s. s.now) result ≡ first_of name.now (rows_of (found_of found.now)) }
 {
     found.get_str(name)
 }
 
-/// The number of an option, where it was given one.
+/// Returns the number that an option was given. None if it was left out.
 fn option_number<'a>(found: &ArgMatches<'a>, name: &str) -> Option<u64>
     ensures { MatchOption result
         ((n : ℕ) → ¬ (GivesNumber name.now (rows_of (found_of found.now)) n))
@@ -23,7 +32,7 @@ fn option_number<'a>(found: &ArgMatches<'a>, name: &str) -> Option<u64>
     found.get_one::<u64>(name)
 }
 
-/// The paths of the database file and the settings file, where both were given.
+/// Returns the paths of the database file and of the settings file, if both were given.
 fn file_paths<'a>(found: &ArgMatches<'a>) -> Option<(&'a str, &'a str)>
     ensures { MatchOption result
         ((db : Bor (List ℕ)) → (settings : Bor (List ℕ))
@@ -35,7 +44,7 @@ fn file_paths<'a>(found: &ArgMatches<'a>) -> Option<(&'a str, &'a str)>
     Some((db, settings))
 }
 
-/// The order of `serve`.
+/// Returns the order of `serve`, with its files, port and count. None if one of them is missing.
 pub(crate) fn serve_order<'a>(found: &ArgMatches<'a>) -> Option<Order<'a>>
     ensures { FindsOrder IsServeOrder (rows_of (found_of found.now)) result }
 {
@@ -50,7 +59,7 @@ pub(crate) fn serve_order<'a>(found: &ArgMatches<'a>) -> Option<Order<'a>>
     })
 }
 
-/// The order of `answer`.
+/// Returns the order of `answer`, with its files, time and seed. None if the time or the seed is missing.
 pub(crate) fn answer_order<'a>(found: &ArgMatches<'a>) -> Option<Order<'a>>
     ensures { FindsOrder IsAnswerOrder (rows_of (found_of found.now)) result }
 {
@@ -64,7 +73,7 @@ pub(crate) fn answer_order<'a>(found: &ArgMatches<'a>) -> Option<Order<'a>>
     })
 }
 
-/// The order of `print`.
+/// Returns the order of `print`, with its files and batch. None if one of them is missing.
 pub(crate) fn print_order<'a>(found: &ArgMatches<'a>) -> Option<Order<'a>>
     ensures { FindsOrder IsPrintOrder (rows_of (found_of found.now)) result }
 {
@@ -77,7 +86,7 @@ pub(crate) fn print_order<'a>(found: &ArgMatches<'a>) -> Option<Order<'a>>
     })
 }
 
-/// The order of `takings`.
+/// Returns the order of `takings`, with its files, first day and last day. None if one of them is missing.
 pub(crate) fn takings_order<'a>(found: &ArgMatches<'a>) -> Option<Order<'a>>
     ensures { FindsOrder IsTakingsOrder (rows_of (found_of found.now)) result }
 {
@@ -92,7 +101,7 @@ pub(crate) fn takings_order<'a>(found: &ArgMatches<'a>) -> Option<Order<'a>>
     })
 }
 
-/// The order of `check`.
+/// Returns the order of `check`, with its files. None if a file is missing.
 pub(crate) fn check_order<'a>(found: &ArgMatches<'a>) -> Option<Order<'a>>
     ensures { FindsOrder IsCheckOrder (rows_of (found_of found.now)) result }
 {

@@ -1,13 +1,25 @@
-//! The options of the subcommands.
+//! The options and arguments of the subcommands.
 ghost use Rattle.std.specs.Prelude.{◌≡◌, false};
 ghost use Rattle.clap.specs.Words.{rule_of};
-ghost use Rattle.portal_cli.specs.CommandLine.{db_option, optional_db_option, settings_option, optional_settings_option, port_option, count_option, now_option, seed_option, batch_argument, from_argument, to_argument};
+ghost use Rattle.portal_cli.specs.CommandLine.{
+  db_option,
+  optional_db_option,
+  settings_option,
+  optional_settings_option,
+  port_option,
+  count_option,
+  now_option,
+  seed_option,
+  batch_argument,
+  from_argument,
+  to_argument,
+};
 
 use clap::Arg;
 use clap::builder::ValueParser;
 use std::alloc::Global;
 
-/// `--db PATH`.
+/// Returns the required option `--db PATH`: the database file.
 pub(crate) fn db_option<'a>(alloc: Global) -> Arg<'a>
     ensures option { rule_of result ≡ db_option }
     ensures here { result.global ≡ false }
@@ -19,7 +31,7 @@ pub(crate) fn db_option<'a>(alloc: Global) -> Arg<'a>
         .required(true)
 }
 
-/// `--db PATH`, which may be left out.
+/// Returns the optional option `--db PATH`. Without it the database is empty and in memory.
 pub(crate) fn optional_db_option<'a>(alloc: Global) -> Arg<'a>
     ensures option { rule_of result ≡ optional_db_option }
     ensures here { result.global ≡ false }
@@ -29,7 +41,7 @@ pub(crate) fn optional_db_option<'a>(alloc: Global) -> Arg<'a>
     )
 }
 
-/// `--settings PATH`.
+/// Returns the required option `--settings PATH`: the settings file.
 pub(crate) fn settings_option<'a>(alloc: Global) -> Arg<'a>
     ensures option { rule_of result ≡ settings_option }
     ensures here { result.global ≡ false }
@@ -41,7 +53,7 @@ pub(crate) fn settings_option<'a>(alloc: Global) -> Arg<'a>
         .required(true)
 }
 
-/// `--settings PATH`, which may be left out.
+/// Returns the optional option `--settings PATH`. Without it the sample settings are used.
 pub(crate) fn optional_settings_option<'a>(alloc: Global) -> Arg<'a>
     ensures option { rule_of result ≡ optional_settings_option }
     ensures here { result.global ≡ false }
@@ -52,7 +64,7 @@ pub(crate) fn optional_settings_option<'a>(alloc: Global) -> Arg<'a>
         .help("The settings file; without it the sample settings")
 }
 
-/// `--port N`, which may be left out.
+/// Returns the option `--port N`, from 1 to 65535, with the default 8080.
 pub(crate) fn port_option<'a>(alloc: Global) -> Arg<'a>
     ensures option { rule_of result ≡ port_option }
     ensures here { result.global ≡ false }
@@ -65,7 +77,8 @@ pub(crate) fn port_option<'a>(alloc: Global) -> Arg<'a>
         .help("The port, 1 to 65535")
 }
 
-/// `--count N`, which may be left out.
+/// Returns the option `--count N`: the number of connections to serve, from 1 to 1000000000, which is the
+/// default.
 pub(crate) fn count_option<'a>(alloc: Global) -> Arg<'a>
     ensures option { rule_of result ≡ count_option }
     ensures here { result.global ≡ false }
@@ -78,7 +91,7 @@ pub(crate) fn count_option<'a>(alloc: Global) -> Arg<'a>
         .help("The number of connections to serve, 1 to 1000000000")
 }
 
-/// `--now N`.
+/// Returns the required option `--now N`: the time of the request in seconds since 1970 UTC, any `u64`.
 pub(crate) fn now_option<'a>(alloc: Global) -> Arg<'a>
     ensures option { rule_of result ≡ now_option }
     ensures here { result.global ≡ false }
@@ -91,7 +104,7 @@ pub(crate) fn now_option<'a>(alloc: Global) -> Arg<'a>
         .required(true)
 }
 
-/// `--seed HEX`.
+/// Returns the required option `--seed HEX`: the seed of a batch.
 pub(crate) fn seed_option<'a>(alloc: Global) -> Arg<'a>
     ensures option { rule_of result ≡ seed_option }
     ensures here { result.global ≡ false }
@@ -103,7 +116,7 @@ pub(crate) fn seed_option<'a>(alloc: Global) -> Arg<'a>
         .required(true)
 }
 
-/// `BATCH`.
+/// Returns the required argument `BATCH`: the id of a batch.
 pub(crate) fn batch_argument<'a>(alloc: Global) -> Arg<'a>
     ensures option { rule_of result ≡ batch_argument }
     ensures here { result.global ≡ false }
@@ -114,7 +127,7 @@ pub(crate) fn batch_argument<'a>(alloc: Global) -> Arg<'a>
         .required(true)
 }
 
-/// `FROM`.
+/// Returns the required argument `FROM`: the first day.
 pub(crate) fn from_argument<'a>(alloc: Global) -> Arg<'a>
     ensures option { rule_of result ≡ from_argument }
     ensures here { result.global ≡ false }
@@ -125,7 +138,7 @@ pub(crate) fn from_argument<'a>(alloc: Global) -> Arg<'a>
         .required(true)
 }
 
-/// `TO`.
+/// Returns the required argument `TO`: the last day.
 pub(crate) fn to_argument<'a>(alloc: Global) -> Arg<'a>
     ensures option { rule_of result ≡ to_argument }
     ensures here { result.global ≡ false }

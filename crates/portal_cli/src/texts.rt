@@ -1,8 +1,9 @@
 //! The texts below the help of the program and of each subcommand.
 //!
-//! Each text is that of a function, and not a constant, so that the proofs of the commands do not carry it
-//! along.
+//! Each text is returned by a function, and is not a constant, so that the proofs of the subcommands do not
+//! have to load it.
 
+/// Returns the text below the help of the program.
 pub(crate) fn examples() -> &'static str {
     "\
 Examples:
@@ -23,6 +24,7 @@ The database is the file of `--db` and its log, PATH-wal. Each subcommand copies
 as it ends; after a kill or a crash both files are needed."
 }
 
+/// Returns the text below the help of `serve`.
 pub(crate) fn serve_examples() -> &'static str {
     "\
 Example:
@@ -40,6 +42,7 @@ clock or memory fails, or if the server has stopped after an error of the databa
 next one is served."
 }
 
+/// Returns the text below the help of `answer`.
 pub(crate) fn answer_examples() -> &'static str {
     "\
 Example, for a device that has no session:
@@ -55,6 +58,7 @@ Exit codes: 0 if the response is a 200; 1 if the request was refused; 2 if the c
 or a value is out of range; 3 if reading, writing, a file or memory failed, or the server has stopped."
 }
 
+/// Returns the text below the help of `print`.
 pub(crate) fn print_examples() -> &'static str {
     "\
 Example:
@@ -64,6 +68,7 @@ Exit code 1 if there is no such batch (`portal: unknown_batch`). While `portal s
 is locked (`portal: file`, exit code 3): use `GET /desk/batches/b1/print` then."
 }
 
+/// Returns the text below the help of `takings`.
 pub(crate) fn takings_examples() -> &'static str {
     "\
 Example:
@@ -74,6 +79,7 @@ years 1969 to 9999 (otherwise `portal: usage`, exit code 2). While `portal serve
 locked (`portal: file`, exit code 3): use `GET /desk/takings` then."
 }
 
+/// Returns the text below the help of `check`.
 pub(crate) fn check_examples() -> &'static str {
     "\
 Example:

@@ -2,7 +2,7 @@
 ghost use Rattle.std.specs.Prelude.{◌≡◌};
 ghost use Rattle.portal_cli.specs.Version.{version_line};
 
-/// The line that `portal --version` prints: the release, and the version of the database schema that
+/// Returns the line that `portal --version` prints: the release, and the version of the database schema that
 /// the program writes. The file `VERSION` at the root of the repository has the same release.
 pub fn version_line() -> &'static str
     ensures { result.now ≡ version_line }

@@ -1,63 +1,98 @@
-//! Voucher codes: read from what a guest types, made from random words, and printed.
+//! Voucher codes: parsing typed text, making codes from random words, and printing them.
 //!
-//! A code has twelve signs, or sixteen, of an alphabet of 31: the digits and the capital letters
-//! without `0`, `1`, `I`, `L` and `O`, which are easily taken for one another. In the order
-//! `23456789ABCDEFGHJKMNPQRSTUVWXYZ` they have the values 0 to 30. All signs but the last are the
-//! body and have the weights from 2 on; the last is the check sign and has the weight 1. The
-//! sum of each value times its weight is divisible by 31.
+//! A code has twelve or sixteen characters of an alphabet of 31: the digits and the capital letters without
+//! `0`, `1`, `I`, `L` and `O`, which are easily confused. In the order `23456789ABCDEFGHJKMNPQRSTUVWXYZ`
+//! they have the values 0 to 30. All characters but the last are the body and have the weights from 2 on.
+//! The last is the check character and has the weight 1. The sum of each value times its weight is
+//! divisible by 31.
 //!
-//! As 31 is prime, and the weights are unequal and none of them is a multiple of 31, a code with
-//! one sign changed is never a code ([`one_change_is_detected`]), and neither is a code with two
-//! unequal signs exchanged ([`exchange_is_detected`]). Other mistakes may give another code.
+//! 31 is prime, and the weights differ and none is a multiple of 31. So a code with one wrong character is
+//! never valid ([`one_change_is_detected`]), nor is a code with two unequal characters exchanged
+//! ([`exchange_is_detected`]). Other mistakes may give another valid code.
 //!
-//! Nothing here takes memory, and each call answers for every input. Nothing is promised of
-//! guessing: whoever knows these rules can write codes, so how hard a voucher is to guess depends
-//! on the words that its code is made from.
+//! Nothing here allocates, and each call has a result for every input. The check character does not protect
+//! against guessing: whoever knows these rules can write valid codes. How hard a voucher is to guess
+//! depends on the random words of its code.
 #![tactic(auto)]
 
-ghost use Rattle.std.specs.Prelude.{bytes_eq, ◌≡◌, ◌+◌, ◌<◌, ◌≤◌, ℕ, List, All, IfOk, IfErr, IfSome, length, map, nat_eq, position, take, ◌⊎◌, ◌↔◌, IsTrue};
+ghost use Rattle.std.specs.Prelude.{
+  bytes_eq,
+  ◌≡◌,
+  ◌+◌,
+  ◌<◌,
+  ◌≤◌,
+  ℕ,
+  List,
+  All,
+  IfOk,
+  IfErr,
+  IfSome,
+  length,
+  map,
+  nat_eq,
+  position,
+  take,
+  ◌⊎◌,
+  ◌↔◌,
+  IsTrue,
+};
 ghost use Rattle.std.specs.Char.{to_ascii_uppercase};
 ghost use Rattle.std.specs.Str.{IsAscii};
-ghost use Rattle.portal_codes.specs.Code.{alphabet, code_of_words, character_of, characters_in, text_of, weighted_values, weights_of, with_zeros, Spells, SpellingIsUnique, PrintedTextSpells, OneChangeIsDetected, ExchangeIsDetected};
+ghost use Rattle.portal_codes.specs.Code.{
+  alphabet,
+  code_of_words,
+  character_of,
+  characters_in,
+  text_of,
+  weighted_values,
+  weights_of,
+  with_zeros,
+  Spells,
+  SpellingIsUnique,
+  PrintedTextSpells,
+  OneChangeIsDetected,
+  ExchangeIsDetected,
+};
 
 use std::marker::Model;
 
 mod keys;
 
-/// How many signs a short code has. The last is the check sign.
+/// The number of characters of a short code, with the check character.
 pub const CHARACTERS: usize = 12;
 
-/// How many signs a long code has.
+/// The number of characters of a long code, with the check character.
 pub const LONG_CHARACTERS: usize = 16;
 
-/// How many words make a short code: one for each sign of its body.
+/// The number of random words that make a short code: one for each character of its body.
 pub const WORDS: usize = CHARACTERS - 1;
 
-/// How many words make a long code.
+/// The number of random words that make a long code.
 pub const LONG_WORDS: usize = LONG_CHARACTERS - 1;
 
-/// How many bytes the printed text of a long code has: its signs, and a hyphen between two groups of four.
+/// The length in bytes of the printed text of a long code: its characters, and a hyphen between groups of
+/// four.
 pub const LONG_TEXT: usize = LONG_CHARACTERS + (LONG_CHARACTERS - 1) / 4;
 
-/// The signs, in the order of their values.
+/// The characters of codes, in the order of their values.
 const ALPHABET: [u8; 31] = *b"23456789ABCDEFGHJKMNPQRSTUVWXYZ";
 
-/// The weight of each sign of a short code.
+/// The weight of each character of a short code.
 const WEIGHTS: [u32; CHARACTERS] = [2, 3, 4, 5, 6, 7, 8, 9, 10, 11, 12, 1];
 
-/// The weight of each sign of a long code.
+/// The weight of each character of a long code.
 const LONG_WEIGHTS: [u32; LONG_CHARACTERS] = [
     2, 3, 4, 5, 6, 7, 8, 9, 10, 11, 12, 13, 14, 15, 16, 1,
 ];
 
-/// The refusal of a text that spells no code.
+/// The error for a text that spells no code.
 #[derive(Clone, Copy, Debug, PartialEq, Eq)]
 pub struct BadCode;
 
 /// A voucher code: twelve or sixteen values from 0 to 30 whose weighted sum is divisible by 31.
 ///
-/// Codes are equal where all their values are, and are ordered by their first unequal value; where a long
-/// code begins with all values of a short one, the short one comes first.
+/// Codes are equal if all their values are. They are ordered by their first unequal value; a short code
+/// comes before a long code that begins with all its values.
 #[derive(Clone, Copy, Debug)]
 pub struct Code {
     values: [u8; LONG_CHARACTERS],
@@ -79,7 +114,7 @@ impl Model for Code {
     ghost inverse_ok = { λ a h. Prim.rw (h.zeros, h.shown) };
 }
 
-/// The printed text of a code: 14 bytes of a short one, 19 of a long one.
+/// The printed text of a code: 14 bytes for a short code, 19 for a long one.
 #[derive(Clone, Copy, Debug, PartialEq, Eq)]
 pub struct CodeText {
     bytes: [u8; LONG_TEXT],
@@ -102,7 +137,7 @@ impl Model for CodeText {
 }
 
 impl CodeText {
-    /// The bytes of the text.
+    /// Returns the bytes of the text.
     pub fn as_bytes(&self) -> &[u8]
         ensures { result.now ≡ self.now }
     {
@@ -113,12 +148,13 @@ impl CodeText {
 impl Code {
     ghost use Rattle.portal_codes.specs.Code.{IsCode};
 
-    /// Reads the code that a text spells.
+    /// Parses the text of a code, as a guest types it.
     ///
-    /// Spaces and hyphens are dropped wherever they stand, and the ASCII letters `a` to `z` stand
-    /// for their capitals. What is left has to be exactly twelve or sixteen signs of the alphabet,
-    /// with a weighted sum divisible by 31. Any other text, of whatever length and with whatever
-    /// characters, is a [`BadCode`].
+    /// Spaces and hyphens are ignored wherever they occur, and the ASCII letters `a` to `z` count as
+    /// capitals. What is left has to be exactly twelve or sixteen characters of the alphabet, with a
+    /// weighted sum divisible by 31.
+    ///
+    /// Error: [`BadCode`] for any other text.
     pub fn read(text: &str) -> Result<Code, BadCode>
         ensures ok { IfOk result (λ code. Spells text.now code) }
         ensures found { (code : List ℕ) → Spells text.now code → result ≡ Ok code }
@@ -132,10 +168,10 @@ impl Code {
         Ok(Code { values, len })
     }
 
-    /// Makes the short code of eleven words.
+    /// Makes the short code of eleven random words.
     ///
-    /// Each word, in order, gives a sign of the body: its remainder modulo 31. The check sign
-    /// follows from these. Words with the same remainders give the same code.
+    /// Each word, in order, gives a character of the body: its remainder modulo 31. The check character
+    /// follows from the body. Words with the same remainders give the same code.
     pub fn from_words(words: &[u32; WORDS]) -> Code
         ensures value { result ≡ code_of_words words.now }
         ensures code { IsCode result }
@@ -143,7 +179,7 @@ impl Code {
         code_from_slice(words)
     }
 
-    /// Makes the long code of fifteen words, in the same way.
+    /// Makes the long code of fifteen random words, in the same way.
     pub fn from_words_long(words: &[u32; LONG_WORDS]) -> Code
         ensures value { result ≡ code_of_words words.now }
         ensures code { IsCode result }
@@ -151,7 +187,7 @@ impl Code {
         code_from_slice(words)
     }
 
-    /// How many signs the code has: twelve, or sixteen.
+    /// Returns the number of characters of the code: twelve or sixteen.
     pub fn signs(&self) -> usize
         ensures length { result ≡ length self.now }
         ensures code { IsCode self.now }
@@ -159,16 +195,16 @@ impl Code {
         self.len
     }
 
-    /// The two are the same code.
+    /// Returns whether two codes are equal.
     pub fn is(&self, other: &Code) -> bool
         ensures { result ≡ bytes_eq self.now other.now }
     {
         self.values[..self.len] == other.values[..other.len]
     }
 
-    /// Prints the code: its signs in three or four groups of four, with a hyphen between two groups.
+    /// Returns the printed text of the code: groups of four characters with hyphens between them.
     ///
-    /// The text is ASCII, and [`Code::read`] reads it as this code.
+    /// The text is ASCII, and [`Code::read`] reads it back as this code.
     pub fn text(&self) -> CodeText
         ensures value { result ≡ text_of self.now }
         ensures spells { Spells result self.now }
@@ -187,7 +223,7 @@ impl Code {
 
 ghost use Rattle.portal_codes.specs.Code.{IsCode};
 
-/// The code of eleven or fifteen words.
+/// Makes a code from a slice of eleven or fifteen random words, and computes its check character.
 fn code_from_slice(words: &[u32]) -> Code
     requires { (length words.now ≡ WORDS) ⊎ (length words.now ≡ LONG_WORDS) }
     ensures value { result ≡ code_of_words words.now }
@@ -206,7 +242,7 @@ fn code_from_slice(words: &[u32]) -> Code
     }
 }
 
-/// The weights of a code of so many signs.
+/// Returns the weights of the characters of a code with that many characters.
 fn weights_of(signs: usize) -> &'static [u32]
     ensures { result.now ≡ weights_of signs }
 {
@@ -217,7 +253,7 @@ fn weights_of(signs: usize) -> &'static [u32]
     }
 }
 
-/// The value of a sign, a letter in either case, or None for a byte outside the alphabet.
+/// Returns the value of a character, a letter in either case, or `None` for a byte outside the alphabet.
 fn value_of(character: u8) -> Option<usize>
     ensures value { result ≡ position (λ listed. nat_eq listed (to_ascii_uppercase character)) alphabet }
     ensures below { IfSome result (λ value. value < 31) }
@@ -226,7 +262,7 @@ fn value_of(character: u8) -> Option<usize>
     ALPHABET.iter().position(|listed| *listed == raised)
 }
 
-/// The sign of a value.
+/// Returns the character with that value.
 fn character_of(value: u8) -> u8
     requires { value < 31 }
     ensures { result ≡ character_of value }
@@ -234,7 +270,7 @@ fn character_of(value: u8) -> u8
     ALPHABET[usize::from(value)]
 }
 
-/// The weighted sum of the values of a code, or of the first few of them.
+/// Returns the sum of the values, each times its weight. There may be fewer values than weights.
 fn weighted_sum(weights: &[u32], values: &[u8]) -> u32
     requires weights { All (λ weight. weight ≤ 16) weights.now }
     requires few { length values.now ≤ length weights.now }
@@ -248,8 +284,9 @@ fn weighted_sum(weights: &[u32], values: &[u8]) -> u32
     sum
 }
 
-/// The values of the signs in a text, and their number, where there are as many as a code has. Zeros
-/// follow them.
+/// Reads the values of a text's characters into a buffer filled up with zeros, and counts them.
+///
+/// Error: `BadCode` if a character is outside the alphabet, or if there are not twelve or sixteen of them.
 fn read_characters(text: &[u8]) -> Result<([u8; LONG_CHARACTERS], usize), BadCode>
     ensures length { IfOk result (λ read. (read.1 ≡ 12) ⊎ (read.1 ≡ 16)) }
     ensures ok { IfOk result (λ read. characters_in text.now ≡ map character_of (take read.1 read.0)) }
@@ -278,32 +315,32 @@ fn read_characters(text: &[u8]) -> Result<([u8; LONG_CHARACTERS], usize), BadCod
     Ok((values, count))
 }
 
-/// Whether a code has so many signs.
+/// Returns whether a code can have that many characters.
 fn is_code_length(signs: usize) -> bool
     ensures { IsTrue result ↔ ((signs ≡ 12) ⊎ (signs ≡ 16)) }
 {
     signs == CHARACTERS || signs == LONG_CHARACTERS
 }
 
-/// A law: a text spells at most one code.
+/// Law: a text spells at most one code.
 #[tactic(auto, using(crate::proofs::Spelling::unique))]
 pub fn spelling_is_unique()
     ensures { SpellingIsUnique }
 {}
 
-/// A law: the printed text of a code spells that code.
+/// Law: the printed text of a code spells that code.
 #[tactic(auto, using(crate::proofs::Spelling::printed_spells))]
 pub fn printed_text_spells()
     ensures { PrintedTextSpells }
 {}
 
-/// A law: a code with one sign changed is no code.
+/// Law: a code with one character changed is not a code.
 #[tactic(auto, using(crate::proofs::Changed::one_change))]
 pub fn one_change_is_detected()
     ensures { OneChangeIsDetected }
 {}
 
-/// A law: a code with two unequal signs exchanged is no code.
+/// Law: a code with two unequal characters exchanged is not a code.
 #[tactic(auto, using(crate::proofs::Changed::exchange))]
 pub fn exchange_is_detected()
     ensures { ExchangeIsDetected }

@@ -1,4 +1,4 @@
--- An answer for which there is no memory.
+-- An answer that runs out of memory.
 use Rattle.portal_commands.proofs.Common.{◌≡◌, ℕ, List, Option, Some, None, inl, inr, refl, Keeps-refl, SettingsValue, Wire, NoMemory, AreLeftAlone, IsAnswered}
 use Rattle.std.specs.Borrow.{Bor}
 use Rattle.portal_exit.specs.Errors.{line_of, exit_code_of}

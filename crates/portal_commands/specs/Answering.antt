@@ -1,4 +1,4 @@
--- How the answer to one request ends.
+-- How the subcommand `answer` ends.
 use Rattle.std.specs.Prelude.{◌≡◌, ◌⊎◌, ◌≤◌, ℕ, List, [], length, Bool, false, ◌==◌, ◌&&◌, if◌then◌else◌, Option, None, Some, Result, Ok, Err, ⊤}
 use Rattle.std.specs.List.{AllPass}
 use Rattle.std.specs.Borrow.{Bor}
@@ -22,40 +22,40 @@ use Rattle.portal_commands.specs.declared.trouble.Trouble.{Trouble}
 use Rattle.portal_commands.specs.Places.{IsFileError, IsDatabaseError, IsForMemory, PlaceValue, AreReadSettings, IsNotRead, ByDesk}
 use Rattle.portal_commands.specs.Troubles.{NamesPath, Reports}
 
--- 0 after 200, 3 after the 503 of a desk that has stopped, 1 after any other
+-- 0 after 200, 3 after the 503 of a desk that has stopped, 1 after any other status.
 abbrev pub exit_code_for : ℕ → Bool → ℕ
 exit_code_for status is_stopped = if status == 200 then 0 else (if status == 503 && is_stopped then 3 else 1)
 
--- the status that belongs to how an exchange ended
+-- The exit code, or the error, that belongs to the end of an exchange.
 abbrev pub outcome : Result Done Break → Bool → Result ℕ ProgramError
 outcome (Ok done) is_stopped = Ok (exit_code_for done.status is_stopped)
 outcome (Err cut) is_stopped = Err Cut
 
--- an exchange ends, and the status is the one that belongs to it
+-- An exchange ends, and the result is the one that belongs to it.
 abbrev pub EndsAnswering : Wire → ℕ → List ℕ → (List Arrived → List (List ℕ) → Type 0) → Bool → Result ℕ ProgramError → Type 0
 EndsAnswering wire moment seed IsRun is_stopped result =
     (ended : Result Done Break) × EndsExchange wire moment seed IsRun ended × (result ≡ outcome ended is_stopped)
 
--- a moment of the years up to 9998, and 64 hexadecimal digits
+-- A time up to the end of the year 9998, and 64 hexadecimal digits.
 abbrev pub IsInRange : ℕ → List ℕ → Type 0
 IsInRange now seed = (now ≤ 253370764799) × (length seed ≡ 64) × AllPass is_hex_digit seed
 
--- nothing is read and nothing goes out
+-- Nothing is read, and nothing is written.
 abbrev pub AreLeftAlone : Wire → Type 0
 AreLeftAlone wire = Keeps wire.unread wire.unread_after × Keeps wire.sent wire.sent_after
 
--- the status is that of the answer, and a fault's line is printed
+-- The exit code is that of the answer; or it is that of an error, whose line is printed.
 abbrev pub EndsStatus : Result ℕ ProgramError → Option (List ℕ) → Option (List ℕ) → ℕ → Type 0
 EndsStatus (Ok given) errors errors_after status = (status ≡ given) × Keeps errors errors_after
 EndsStatus (Err error) errors errors_after status = (status ≡ exit_code_of error) × Prints errors errors_after (line_of error)
 
--- the file keeps the request from being answered: nothing is read then, and nothing goes out but what is told
--- of it
+-- A file cannot be used: nothing is read, and only the lines of the error are written.
 abbrev pub EndsBeforeReading : Wire → Option (List ℕ) → Option (List ℕ) → Trouble → ℕ → Type 0
 EndsBeforeReading wire errors errors_after trouble status =
     AreLeftAlone wire × (status ≡ exit_code_of trouble.error) × Reports trouble errors errors_after
 
--- Without a file that is named, a request is the one request of a run of a desk that nothing was told.
+-- Without a database file, the request is the only one of a run of a desk over an empty ledger; or there is
+-- no database in memory.
 abbrev pub AnswersFresh : (ProgramError → Type 0) → Wire → Option (List ℕ) → Option (List ℕ) → ℕ → List ℕ → SettingsValue → ℕ → Type 0
 AnswersFresh fails wire errors errors_after moment seed settings status =
     ((new : State) × (answered : Result ℕ ProgramError)
@@ -63,7 +63,8 @@ AnswersFresh fails wire errors errors_after moment seed settings status =
     × EndsStatus answered errors errors_after status)
     ⊎ ((error : ProgramError) × IsFileError error × ((error ≡ NoMemory) ⊎ fails error) × AreLeftAlone wire × EndsStatus (Err error) errors errors_after status)
 
--- Else it is that of the desk over the file, from the ledger that the file shows.
+-- With a database file, the request is the only one of a run of the desk over the file, from the ledger that
+-- the file holds; or the file cannot be used.
 abbrev pub AnswersStored : PlaceValue → List ℕ → Wire → Option (List ℕ) → Option (List ℕ) → ℕ → List ℕ → SettingsValue → ℕ → Type 0
 AnswersStored place path wire errors errors_after moment seed settings status =
     ((is_new : Bool) × ByDesk place path false is_new errors_after
@@ -75,20 +76,21 @@ AnswersStored place path wire errors errors_after moment seed settings status =
     ⊎ ((trouble : Trouble) × (IsDatabaseError trouble.error × NamesPath path trouble) × (IsForMemory trouble ⊎ place.refuses path trouble)
     × EndsBeforeReading wire errors errors_after trouble status)
 
--- with the settings of the file that is named, or else the sample settings
+-- With a database file or without one.
 abbrev pub IsAnswered : PlaceValue → Wire → Option (List ℕ) → Option (List ℕ) → ℕ → List ℕ → Option (Bor (List ℕ)) → SettingsValue → ℕ → Type 0
 IsAnswered place wire errors errors_after moment seed None settings status =
     AnswersFresh place.fails_to_make wire errors errors_after moment seed settings status
 IsAnswered place wire errors errors_after moment seed (Some path) settings status =
     AnswersStored place path.now wire errors errors_after moment seed settings status
 
--- the file with the settings is of no use, or there is no memory for the sample settings
+-- The settings file cannot be used, or there is no memory for the sample settings.
 abbrev pub IsOfNamed : (List ℕ → List ℕ → Type 0) → (List ℕ → Trouble → Type 0) → Option (Bor (List ℕ)) → Trouble → Type 0
 IsOfNamed reads fails settings trouble =
     (settings ≡ None → IsForMemory trouble)
     × ((path : Bor (List ℕ)) → settings ≡ Some path → NamesPath path.now trouble × IsNotRead (reads path.now) (fails path.now) trouble)
 
--- a value is out of its range, or the settings keep the request from being answered, or it is answered
+-- A value is out of its range; or there are no settings; or the request is answered with the settings that
+-- were read.
 abbrev pub EndsAnswer : PlaceValue → Wire → Option (List ℕ) → Option (List ℕ) → AnswerOptions → ℕ → Type 0
 EndsAnswer place wire errors errors_after request status =
     ((¬ IsInRange request.now request.seed.now) × AreLeftAlone wire × EndsStatus (Err Usage) errors errors_after status)

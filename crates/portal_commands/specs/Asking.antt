@@ -1,4 +1,4 @@
--- What the commands tell that only ask the desk: `print`, `takings` and `check`.
+-- The output of the subcommands that ask the desk one question: `print`, `takings` and `check`.
 use Rattle.std.specs.Prelude.{◌≡◌, ◌⊎◌, ℕ, List, Bool, true, false, Option, Some, Result, Ok, Err, ⊤}
 use Rattle.jiff_tz.specs.declared.timezone.TimeZone.{TimeZone}
 use Rattle.portal_days.specs.Span.{Span, IsSpan}
@@ -28,19 +28,19 @@ use Rattle.portal_commands.specs.declared.trouble.Trouble.{Trouble}
 use Rattle.portal_commands.specs.Places.{PlaceValue, AreReadSettings, ByDesk, Closes, FailsBeforeDesk}
 use Rattle.portal_commands.specs.Troubles.{Announces, EndsTrouble}
 
--- what a desk tells: its fault is a refusal
+-- The output of a desk, or a refusal as the error.
 abbrev pub IsDeskResult : Result Output ProgramError → Type 0
 IsDeskResult (Ok printout) = ⊤
 IsDeskResult (Err (Refused r)) = ⊤
 IsDeskResult (Err _) = ⊥
 
--- what is told is such a thing, and it is printed
+-- The output is such a one, and it is printed.
 abbrev pub PrintsOutput : (Result Output ProgramError → Type 0) → Outlets → ℕ → Type 0
 PrintsOutput Is o status = (printout : Result Output ProgramError) × Is printout × EndsWith printout o status
 
--- Asked of the desk over the files of a place: they keep it from the desk; or the desk tells it with the
--- settings that were read, from the ledger that the file shows, between a line that tells of a new database
--- and what is told of the close.
+-- The desk over the files of a place is asked: a file cannot be used; or the desk gives the output, with the
+-- settings that were read, from the ledger that the file holds. A line about a new database is printed before
+-- it, and the error of a failed close after it.
 abbrev pub AsksOver : PlaceValue → Files → (SettingsValue → State → Result Output ProgramError → State → Type 0) → Outlets → ℕ → Type 0
 AsksOver place files Tells o status =
     ((trouble : Trouble) × FailsBeforeDesk place.reads place.fails_to_read place.refuses files trouble × EndsTrouble trouble o status)
@@ -53,11 +53,11 @@ AsksOver place files Tells o status =
 
 -- ---- print
 
--- the print file of the batch of that id
+-- The print file of the batch with that id.
 abbrev pub IsBatchFile : TimeZone → List ℕ → History → List ℕ → Type 0
 IsBatchFile zone id H text = (sheet : BatchSheet) × (sheet_of H id ≡ Some sheet) × IsPrintFile zone sheet text
 
--- A text that is no id names no batch.
+-- The output of `print`. A text that is no valid id names no batch.
 abbrev pub PrintsBatch : TimeZone → List ℕ → State → Result Output ProgramError → State → Type 0
 PrintsBatch zone batch old (Ok (Text text)) new = ReadsThat old (λ H. IsBatchFile zone batch H text.items) new
 PrintsBatch zone batch old (Err (Refused r)) new =
@@ -66,20 +66,22 @@ PrintsBatch zone batch old _ new = ⊥
 
 -- ---- takings
 
--- the texts are the dates of the first and the last day of a range
+-- The texts are the dates of the first and the last day of a range.
 abbrev pub IsRangeText : List ℕ → List ℕ → Span → Type 0
 IsRangeText from to range = IsDayText from range.first × IsDayText to range.last × IsSpan range.first range.last
 
--- the takings report over those days
+-- The takings report over those days.
 abbrev pub IsReportOver : TimeZone → Span → History → List ℕ → Type 0
 IsReportOver zone range H text = IsReport (takings_over zone H range) text
 
+-- The output of `takings`.
 abbrev pub PrintsTakingsOver : TimeZone → Span → State → Result Output ProgramError → State → Type 0
-PrintsTakingsOver zone range old (Ok (Text text)) new = ReadsThat old (λ H. IsReportOver zone range H text.items) new
+PrintsTakingsOver zone range old (Ok (Text text)) new =
+    ReadsThat old (λ H. IsReportOver zone range H text.items) new
 PrintsTakingsOver zone range old (Err (Refused r)) new = CannotAnswer old r new
 PrintsTakingsOver zone range old _ new = ⊥
 
--- texts that name no range are a fault of usage, before anything else
+-- Texts that name no range are an invalid command line, before any other error.
 abbrev pub PrintsTakingsFrom : PlaceValue → Files → List ℕ → List ℕ → Outlets → ℕ → Type 0
 PrintsTakingsFrom place files from to outlets status =
     (((range : Span) → ¬ (IsRangeText from to range)) × EndsWith (Err Usage) outlets status)
@@ -87,7 +89,7 @@ PrintsTakingsFrom place files from to outlets status =
 
 -- ---- check
 
--- where the desk stands at a ledger, its counters agree
+-- The output of `check`: if the desk represents a ledger, its counters agree with its rows.
 abbrev pub ChecksCounters : State → Result Output ProgramError → State → Type 0
 ChecksCounters old (Ok Agrees) new = ReadsThat old (λ H. ⊤) new
 ChecksCounters old (Err (Refused r)) new = CannotAnswer old r new
@@ -95,7 +97,7 @@ ChecksCounters old _ new = ⊥
 
 -- ---- what is asked
 
--- what the desk tells at a question
+-- The output for a question.
 abbrev pub ResultOf : Question → SettingsValue → State → Result Output ProgramError → State → Type 0
 ResultOf (Batch id) settings = PrintsBatch settings.zone id.now
 ResultOf (Takings range) settings = PrintsTakingsOver settings.zone range
@@ -103,26 +105,27 @@ ResultOf Counters settings = ChecksCounters
 
 -- ---- what the audit has to answer
 
--- `ok` or `differs` is told where the audit has to answer so
+-- `ok` or `differs` is printed only if the audit has to give that answer.
 abbrev pub AuditIsRight : (Bool → Type 0) → Result Output ProgramError → Type 0
 AuditIsRight audits (Ok Agrees) = audits true
 AuditIsRight audits (Ok Differs) = audits false
 AuditIsRight audits (Err (Refused r)) = ⊤
 AuditIsRight audits _ = ⊥
 
+-- The output for a question is right about the counters.
 abbrev pub IsRight : Question → (Bool → Type 0) → Result Output ProgramError → Type 0
 IsRight (Batch id) audits printout = ⊤
 IsRight (Takings range) audits printout = ⊤
 IsRight Counters audits printout = AuditIsRight audits printout
 
--- Whatever the file at the path holds: the settings or the file keep a question from the desk, or what is
--- told is right about the desk as it was opened, which stands at the ledger that the file shows, if it shows
--- one. The desk is closed then.
+-- Whatever the file at the path holds: a file cannot be used; or the output is right about the desk as it was
+-- opened. That desk represents the ledger that the file holds, if it holds one. The desk is closed then.
 abbrev pub AsksRightly : PlaceValue → Files → Question → Outlets → ℕ → Type 0
 AsksRightly place files question o status =
     ((trouble : Trouble) × FailsBeforeDesk place.reads place.fails_to_read place.refuses files trouble × EndsTrouble trouble o status)
     ⊎ ((before after : place.Desk) × (is_new : Bool) × (begun printed : Option (List ℕ)) × place.opens files.db.now false before
     × Announces files.db.now is_new o.errors begun × Closes place.closes place.fails_to_close after files.db.now printed o.errors_after
-    × ((printout : Result Output ProgramError) × EndsWith printout (record o { errors = begun; errors_after = printed }) status
+    × ((printout : Result Output ProgramError)
+    × EndsWith printout (record o { errors = begun; errors_after = printed }) status
     × (place.is_fault_free after → place.is_fault_free before × ((L : Ledger) → place.holds_ledger files.db.now L → place.represents before (running L))
     × IsRight question (place.audits before) printout)))

@@ -1,4 +1,4 @@
--- What is supposed of a place and of a network, by what the bounds of a function name.
+-- What is assumed of a place and of a network, by the traits that a function names.
 use Rattle.std.specs.declared.io.Read.{Ghosts as ReadOf}
 use Rattle.std.specs.declared.io.Write.{Ghosts as WriteOf}
 use Rattle.portal_desk.specs.declared.Desk.{Ghosts as DeskOf}
@@ -9,7 +9,7 @@ use Rattle.portal_commands.specs.declared.place.Place.{Ghosts as PlaceOf}
 use Rattle.portal_commands.specs.Places.{PlaceValue}
 use Rattle.portal_commands.specs.Serving.{NetworkValue}
 
--- a place, and the desks over its files
+-- A place, and the desks over its files.
 abbrev pub place_of : {P Stored Fresh : Type 0} → PlaceOf P Stored Fresh → DeskOf Stored → P → PlaceValue
 place_of place desk at = record {
   Desk = _;
@@ -30,7 +30,7 @@ place_of place desk at = record {
   fails_to_make = place.fails_to_make;
 }
 
--- a network, and the hosts at its ports
+-- A network, and the hosts at its ports.
 abbrev pub network_of : {N Bound Reader Writer : Type 0}
     → NetworkOf N Bound Reader Writer → HostOf Bound Reader Writer → ReadOf Reader → WriteOf Writer → N → NetworkValue
 network_of network host reader writer at = record { host = host_of host reader writer; listens = network.listens at }

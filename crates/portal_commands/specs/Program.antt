@@ -1,4 +1,4 @@
--- What the program does, by the words of its command line.
+-- What the program does, by the arguments of its command line.
 use Rattle.std.specs.Prelude.{◌≡◌, ◌⊎◌, ◌<◌, ◌≤◌, ℕ, List, Option, Result, Err, MatchResult, string_bytes}
 use Rattle.std.specs.declared.io.ErrorKind.{ErrorKind}
 use Rattle.std.specs.declared.io.ErrorKind.TheVariants.{InvalidData}
@@ -22,38 +22,37 @@ use Rattle.portal_commands.specs.declared.asking.Question.TheVariants.{Counters}
 use Rattle.portal_commands.specs.Places.{PlaceValue}
 use Rattle.portal_commands.specs.Serving.{NetworkValue, ServesOver}
 
--- why the words of the command line could not be copied: what the user wrote is not UTF-8, or there was no
--- memory
+-- Why the arguments could not be copied: one is not UTF-8, or out of memory.
 abbrev pub error_of_words : ErrorKind → ProgramError
 error_of_words InvalidData = Usage
 error_of_words _ = NoMemory
 
--- a fault of the words
+-- An error of copying the arguments.
 abbrev pub IsWordsError : ProgramError → Type 0
 IsWordsError error = (error ≡ Usage) ⊎ (error ≡ NoMemory)
 
--- help and the version end the program with 0, a fault in the words with 2 and out of memory with 3
+-- The exit code is 0 for help and the version, 2 for an invalid command line, and 3 for out of memory.
 abbrev pub EndsPrintingText : NoOrder → Outlets → ℕ → Type 0
 EndsPrintingText (printout.Help text) o status = EndsPrinting (string_bytes text) 0 o status
 EndsPrintingText printout.Version o status = EndsPrinting version_line 0 o status
 EndsPrintingText (printout.Invalid text) o status = (status ≡ 2) × Keeps o.output o.output_after × Prints o.errors o.errors_after (string_bytes text)
 EndsPrintingText printout.NoMemory o status = EndsWith (Err NoMemory) o status
 
--- serving at a port; one past 65,535 is a fault of usage
+-- Serving at a port; a port past 65,535 is an invalid command line.
 abbrev pub EndsServing : PlaceValue → Files → NetworkValue → ℕ → ℕ → Outlets → ℕ → Type 0
 EndsServing place files network port count o status =
     ((65535 < port) × EndsWith (Err Usage) o status)
     ⊎ ((port ≤ 65535) × ServesOver place files network (record { port = port; count = count }) o status)
 
--- where standard output and standard error go
+-- Where standard output and standard error go.
 abbrev pub outlets_of : Wire → Option (List ℕ) → Option (List ℕ) → Outlets
 outlets_of wire errors errors_after = record { output = wire.sent; output_after = wire.sent_after; errors = errors; errors_after = errors_after }
 
--- the files that an order names
+-- The files that an order names.
 abbrev pub files_of : Bor (List ℕ) → Bor (List ℕ) → Files
 files_of db settings = record { db = db; settings = settings }
 
--- an order is carried out over the files of a place; one without a request leaves the input alone
+-- An order is carried out over the files of a place. Only `answer` reads the input.
 abbrev pub EndsOrder : PlaceValue → NetworkValue → Wire → Option (List ℕ) → Option (List ℕ) → Order → ℕ → Type 0
 EndsOrder place network wire errors errors_after (order.Serve db settings port count) status =
     Keeps wire.unread wire.unread_after × EndsServing place (files_of db settings) network port count (outlets_of wire errors errors_after) status
@@ -64,13 +63,15 @@ EndsOrder place network wire errors errors_after (order.Print db settings batch)
     × AsksOver place (files_of db settings) (λ s. PrintsBatch s.zone batch.now) (outlets_of wire errors errors_after) status
 EndsOrder place network wire errors errors_after (order.Takings db settings from to) status =
     Keeps wire.unread wire.unread_after
-    × PrintsTakingsFrom place (files_of db settings) from.now to.now (outlets_of wire errors errors_after) status
+    × PrintsTakingsFrom place (files_of db settings) from.now to.now
+    (outlets_of wire errors errors_after) status
 EndsOrder place network wire errors errors_after (order.Check db settings) status =
     Keeps wire.unread wire.unread_after
     × AsksOver place (files_of db settings) (λ s. ChecksCounters) (outlets_of wire errors errors_after) status
     × AsksRightly place (files_of db settings) Counters (outlets_of wire errors errors_after) status
 
--- the order of the words is carried out, or what they come to in its place is told, with the input left alone
+-- The order of the command line is carried out; or it gives no order, and what is printed instead leaves the
+-- input alone.
 abbrev pub EndsProgram : PlaceValue → NetworkValue → Wire → Option (List ℕ) → Option (List ℕ) → List (List ℕ) → ℕ → Type 0
 EndsProgram place network wire errors errors_after words status =
     (read : Result Order NoOrder) × MatchResult read

@@ -1,4 +1,4 @@
--- How the command `serve` ends.
+-- How the subcommand `serve` ends.
 use Rattle.std.specs.Prelude.{◌≡◌, ◌⊎◌, ℕ, Bool, true, Result, Err}
 use Rattle.portal_exit.specs.declared.error.ProgramError.{ProgramError}
 use Rattle.portal_exit.specs.declared.error.ProgramError.TheVariants.{Network, NoMemory}
@@ -16,31 +16,35 @@ use Rattle.portal_commands.specs.declared.trouble.Trouble.{Trouble}
 use Rattle.portal_commands.specs.Places.{PlaceValue, AreReadSettings, ByDesk, FailsBeforeDesk}
 use Rattle.portal_commands.specs.Troubles.{EndsTrouble}
 
--- it is served, or a fault keeps it from that: the port, or want of memory
+-- Connections are served; or an error comes before: the port cannot be bound, or out of memory.
 abbrev pub IsServed : ServeOptions → Outlets → ℕ → Type 0
 IsServed at o status =
-    ((ended : Result (Unit {0}) ProgramError) × (status ≡ exit_code_at ended) × PrintsAll at.port at.count o ended)
+    ((ended : Result (Unit {0}) ProgramError) × (status ≡ exit_code_at ended)
+    × PrintsAll at.port at.count o ended)
     ⊎ ((error : ProgramError) × ((error ≡ Network) ⊎ (error ≡ NoMemory)) × EndsWith (Err error) o status)
 
--- What is supposed of a network: which host was had at a port.
+-- What is assumed of a network: which hosts may be bound at a port.
 pub record NetworkValue : Type 1 where
   pub host : HostValue
   pub listens : ℕ → host.Host → Type 0
 
--- The port was had, and turns are taken of the host there; or it was not, and nothing comes of it.
+-- The port is bound, and connections of the host there are served in turn; or it is not bound, and the desk
+-- is as it was.
 abbrev pub ServesAt : NetworkValue → ServeOptions → SettingsValue → Outlets → ℕ → State → State → Type 0
 ServesAt network at settings o status old new =
-    ((error : ProgramError) × ((error ≡ Network) ⊎ (error ≡ NoMemory)) × EndsWith (Err error) o status × (new ≡ old))
+    ((error : ProgramError) × ((error ≡ Network) ⊎ (error ≡ NoMemory)) × EndsWith (Err error) o status
+    × (new ≡ old))
     ⊎ ((before : network.host.Host) × (after : network.host.Host) × (ended : Result (Unit {0}) ProgramError)
     × network.listens at.port before × (status ≡ exit_code_at ended) × PrintsTurns network.host settings at.port at.count o before old ended after new)
 
--- Served by the desk over the files of a place: they keep it from the desk; or it is served with the settings
--- that were read, from the ledger that the file shows, by a desk that was opened after what the log held was
+-- Served by the desk over the files of a place: a file cannot be used; or connections are served with the
+-- settings that were read, from the ledger that the file holds, by a desk that was opened after the log was
 -- copied into the file.
 abbrev pub ServesOver : PlaceValue → Files → NetworkValue → ServeOptions → Outlets → ℕ → Type 0
 ServesOver place files network at o status =
     ((trouble : Trouble) × FailsBeforeDesk place.reads place.fails_to_read place.refuses files trouble × EndsTrouble trouble o status)
-    ⊎ ((settings : SettingsValue) × AreReadSettings (place.reads files.settings.now) settings × (is_new : Bool)
+    ⊎ ((settings : SettingsValue) × AreReadSettings (place.reads files.settings.now) settings
+    × (is_new : Bool)
     × ByDesk place files.db.now true is_new o.errors_after (λ printed. IsServed at (record o { errors_after = printed }) status)
     (λ printed old new. ServesAtMost at.count (λ arrivals responses. Run settings old arrivals responses new))
     × ByDesk place files.db.now true is_new o.errors_after (λ printed. IsServed at (record o { errors_after = printed }) status)

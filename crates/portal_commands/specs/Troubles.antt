@@ -1,4 +1,4 @@
--- What is printed of a file that is of no use, and of a database that is new.
+-- What is printed about a file that cannot be used, and about a new database.
 use Rattle.std.specs.Prelude.{◌≡◌, ◌≢◌, ℕ, List, ◌++◌, codes, All, Option, MatchOption, Bool, true, false, ⊤, string_bytes}
 use Rattle.std.specs.Io.KnownBytes.{Keeps}
 use Rattle.portal_exit.specs.declared.error.ProgramError.TheVariants.{File}
@@ -6,35 +6,35 @@ use Rattle.portal_exit.specs.Errors.{line_of, exit_code_of}
 use Rattle.portal_exit.specs.Streams.{Outlets, Prints}
 use Rattle.portal_commands.specs.declared.trouble.Trouble.{Trouble}
 
--- the line that may follow that of `file`
+-- The line that may follow that of `file`.
 unfoldable pub second_line : List ℕ → List ℕ → List ℕ
 second_line path text = codes "  " ++ (path ++ (codes ": " ++ (text ++ codes "\n")))
 
--- no line feed
+-- No line feed.
 abbrev pub IsOneLine : List ℕ → Type 0
 IsOneLine text = All (λ byte. byte ≢ 10) text
 
--- a line that follows is one line, follows that of `file`, and names the path
+-- A second line is one line, follows that of `file`, and names the path.
 abbrev pub NamesPath : List ℕ → Trouble → Type 0
 NamesPath path trouble = MatchOption trouble.line ⊤
     (λ line. (trouble.error ≡ File) × (text : List ℕ) × IsOneLine path × IsOneLine text × (string_bytes line ≡ second_line path text))
 
--- the line of the fault is printed, and the one that follows it, if there is one
+-- The line of the error is printed, and the second line, if there is one.
 abbrev pub Reports : Trouble → Option (List ℕ) → Option (List ℕ) → Type 0
 Reports trouble printed printed_after =
     (between : Option (List ℕ)) × Prints printed between (line_of trouble.error)
     × MatchOption trouble.line (Keeps between printed_after) (λ line. Prints between printed_after (string_bytes line))
 
--- that, and the status of the fault
+-- Both lines are printed, and the exit code is that of the error.
 abbrev pub EndsTrouble : Trouble → Outlets → ℕ → Type 0
 EndsTrouble trouble o status =
     (status ≡ exit_code_of trouble.error) × Keeps o.output o.output_after × Reports trouble o.errors o.errors_after
 
--- the line that tells of a new database
+-- The line about a new database.
 unfoldable pub new_database_line : List ℕ → List ℕ
 new_database_line path = codes "portal: new database " ++ (path ++ codes "\n")
 
--- it is printed where the database is new
+-- The line is printed if the database is new.
 abbrev pub Announces : List ℕ → Bool → Option (List ℕ) → Option (List ℕ) → Type 0
 Announces path true printed printed_after = Prints printed printed_after (new_database_line path)
 Announces path false printed printed_after = Keeps printed printed_after

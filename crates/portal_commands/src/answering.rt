@@ -1,5 +1,19 @@
-//! The command `answer`.
-ghost use Rattle.std.specs.Prelude.{◌≡◌, ⊤, ℕ, List, Bool, IfErr, IfOk, MatchResult, Option, Result, Ok, None, Some};
+//! The subcommand `answer`.
+ghost use Rattle.std.specs.Prelude.{
+  ◌≡◌,
+  ⊤,
+  ℕ,
+  List,
+  Bool,
+  IfErr,
+  IfOk,
+  MatchResult,
+  Option,
+  Result,
+  Ok,
+  None,
+  Some,
+};
 ghost use Rattle.std.specs.Borrow.{Bor};
 ghost use Rattle.hex.specs.Hex.{decode_of};
 ghost use Rattle.portal_ledger.specs.Ledger.{Ledger};
@@ -12,7 +26,17 @@ ghost use Rattle.portal_server.specs.Asks.{KeepsSettings, LeadsDesk};
 ghost use Rattle.portal_server.specs.Turns.{wire_of};
 ghost use Rattle.portal_commands.specs.Places.{AreReadSettings};
 ghost use Rattle.portal_commands.specs.Bounds.{place_of};
-ghost use Rattle.portal_commands.specs.Answering.{exit_code_for, EndsAnswering, EndsStatus, IsInRange, IsOfNamed, AnswersFresh, AnswersStored, IsAnswered, EndsAnswer};
+ghost use Rattle.portal_commands.specs.Answering.{
+  exit_code_for,
+  EndsAnswering,
+  EndsStatus,
+  IsInRange,
+  IsOfNamed,
+  AnswersFresh,
+  AnswersStored,
+  IsAnswered,
+  EndsAnswer,
+};
 
 use crate::place::{Opened, Place, close_opened_desk, read_settings_at};
 use crate::seed::read_seed;
@@ -26,21 +50,21 @@ use portal_model::moment::Moment;
 use std::alloc::Global;
 use std::io::{Read, Write};
 
-/// What `answer` is asked for.
+/// The options of `answer`.
 #[derive(Clone, Copy, Debug)]
 pub struct AnswerOptions<'a> {
-    /// The path of the database file. None: an empty store in memory.
+    /// The path of the database file. None: an empty database in memory.
     pub db: Option<&'a str>,
     /// The path of the settings file. None: the sample settings.
     pub settings: Option<&'a str>,
-    /// The moment at which the request comes, in whole UTC seconds.
+    /// The time of the request, in whole seconds UTC since 1970.
     pub now: u64,
     /// The seed of a batch, as 64 hexadecimal digits.
     pub seed: &'a str,
 }
 
-/// The status with which the program ends after a response: 0 after 200, 3 after the 503 of a desk that has
-/// stopped, 1 after any other.
+/// Returns the exit code after a response: 0 after 200, 3 after the 503 of a desk that has stopped, 1 after
+/// any other status.
 fn exit_code_for(status: u16, is_stopped: bool) -> u8
     ensures { result ≡ exit_code_for status is_stopped }
 {
@@ -53,9 +77,9 @@ fn exit_code_for(status: u16, is_stopped: bool) -> u8
     }
 }
 
-/// Answers the request on `input` with a response on `output`, as `exchange` does, and gives the status with
-/// which the program ends: 0 after a response of status 200, 3 after a 503 where the desk has then stopped, 1
-/// after any other. Fault: `Cut`.
+/// Answers the request on `input` with a response on `output` by a desk, as `exchange` does, and returns the
+/// exit code: 0 after status 200, 3 after a 503 if the desk has then stopped, 1 after any other status.
+/// Error: `Cut`, if a read or a write fails or there is no memory for the request or for any response.
 pub fn answer_at<D: Desk, R: Read, W: Write>(
     alloc: Global,
     desk: &mut D,
@@ -76,8 +100,8 @@ pub fn answer_at<D: Desk, R: Read, W: Write>(
     ensures survives { D.is_fault_free desk.new → (L : Ledger) → D.represents desk.old (running L)
         → (is_stopped : Bool)
         × EndsAnswering (wire_of R.Read W.Write input.old input.new output.old output.new) moment seed
-        (λ arrivals responses.
-        Survives D.Files (D.is_crash_state desk.new) D.holds_ledger (D.settings desk.old) L arrivals responses)
+        (λ arrivals responses. Survives D.Files (D.is_crash_state desk.new) D.holds_ledger
+        (D.settings desk.old) L arrivals responses)
         is_stopped result }
 {
     match exchange(alloc, desk, routes, moment, seed, input, output) {
@@ -86,7 +110,8 @@ pub fn answer_at<D: Desk, R: Read, W: Write>(
     }
 }
 
-/// The moment and the seed that a command line gives. Fault: `Usage`.
+/// Validates the time and the seed of the command line. Error: `Usage`, if the time is past the greatest one
+/// or the seed is not 64 hexadecimal digits.
 fn read_options(now: u64, seed: &str) -> Result<(Moment, [u8; 32]), ProgramError>
     ensures { MatchResult result
         (λ values. IsInRange now seed.now × (values.0 ≡ now) × (decode_of seed.now ≡ Ok values.1))
@@ -101,8 +126,8 @@ fn read_options(now: u64, seed: &str) -> Result<(Moment, [u8; 32]), ProgramError
     }
 }
 
-/// The settings in the file at a path, or the sample settings where none is named. Faults: those of
-/// `read_settings_at`.
+/// Reads the settings file at a path, or makes the sample settings if there is no path. Errors: those of
+/// `read_settings_at`; `NoMemory` for the sample settings.
 fn settings_or_sample<P: Place>(
     alloc: Global,
     place: &P,
@@ -110,7 +135,8 @@ fn settings_or_sample<P: Place>(
 ) -> Result<Settings, Trouble>
     ensures sample { IfOk result (λ settings. path.entry ≡ None → IsSample settings) }
     ensures read { IfOk result (λ settings.
-        (file : Bor (List ℕ)) → path.entry ≡ Some file → AreReadSettings (P.reads place.now file.now) settings) }
+        (file : Bor (List ℕ)) → path.entry ≡ Some file
+        → AreReadSettings (P.reads place.now file.now) settings) }
     ensures why { IfErr result (IsOfNamed (P.reads place.now) (P.fails_to_read place.now) path.entry) }
 {
     match path {
@@ -119,7 +145,7 @@ fn settings_or_sample<P: Place>(
     }
 }
 
-/// The status of an answer. A fault's line is printed.
+/// Returns the exit code of an answer. If the answer failed, prints the line of the error first.
 fn exit_code_of_answer<E: Write>(answered: Result<u8, ProgramError>, errors: &mut E) -> u8
     ensures { EndsStatus answered (E.contents errors.old) (E.contents errors.new) result }
 {
@@ -129,8 +155,8 @@ fn exit_code_of_answer<E: Write>(answered: Result<u8, ProgramError>, errors: &mu
     }
 }
 
-/// The answer of a desk over an empty store in memory. Faults: those of the store before anything is read,
-/// and `Cut`.
+/// Answers one request by a desk over an empty database in memory, and returns the exit code. Errors: those
+/// of the database, before anything is read, and `Cut`.
 fn answer_in_memory<P: Place, R: Read, W: Write, E: Write>(
     alloc: Global,
     settings: Settings,
@@ -155,8 +181,9 @@ fn answer_in_memory<P: Place, R: Read, W: Write, E: Write>(
     }
 }
 
-/// The answer of a desk over a file, which is closed then. Faults: those of the file before anything is read,
-/// and `Cut`; a fault of closing is told after it, and the status stays.
+/// Answers one request by a desk over a database file, closes the file, and returns the exit code. Errors:
+/// those of the file, before anything is read, and `Cut`. An error of the close is printed last and does not
+/// change the exit code.
 fn answer_from_file<P: Place, R: Read, W: Write, E: Write>(
     alloc: Global,
     place: P,
@@ -188,7 +215,7 @@ fn answer_from_file<P: Place, R: Read, W: Write, E: Write>(
     }
 }
 
-/// The answer, once the moment, the seed and the settings are read.
+/// Answers one request, with the time, the seed and the settings that were read, and returns the exit code.
 fn answer_with_settings<P: Place, R: Read, W: Write, E: Write>(
     alloc: Global,
     place: P,
@@ -217,16 +244,16 @@ fn answer_with_settings<P: Place, R: Read, W: Write, E: Write>(
     }
 }
 
-/// Answers the request on `input` with a response on `output`, and gives the status with which the program
-/// ends: 0 where the response's status is 200, 3 where it is 503 and the desk has then stopped, 1 at any
-/// other.
+/// Runs `answer`: answers the request on `input` with a response on `output`, and returns the exit code: 0 if
+/// the status of the response is 200, 3 if it is 503 and the desk has then stopped, 1 for any other status.
 ///
-/// A fault is printed on `errors`. The faults are found in this order, all but the last before anything is
-/// read: `usage`, status 2, where `now` is past the greatest moment, 253,370,764,799, or `seed` is not 64
-/// hexadecimal digits; those of the settings file (`file`, `no_memory`, `settings`); those of the database
-/// file (`file`, `no_memory`, `not_ours`, `newer`); `cut`, where a read or a write fails or there is no
-/// memory for the request or for any response; each status 3. A database file is closed then: a fault of that
-/// is told last, and the status stays.
+/// An error is printed on `errors`. The first of these that applies is the one, and all but the last are
+/// found before anything is read: `usage`, exit code 2, if `now` is past the greatest time, 253,370,764,799,
+/// or `seed` is not 64 hexadecimal digits; the errors of the settings file (`file`, `no_memory`, `settings`);
+/// the errors of the database file (`file`, `no_memory`, `not_ours`, `newer`); `cut`, if a read or a write
+/// fails or there is no memory for the request or for any response. All of these but `usage` have exit code
+/// 3. The database file is then closed; an error of the close is printed last and does not change the exit
+/// code.
 pub fn answer<P: Place, R: Read, W: Write, E: Write>(
     alloc: Global,
     place: P,

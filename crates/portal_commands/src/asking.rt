@@ -1,7 +1,14 @@
-//! What the commands share that only ask the desk: `print`, `takings` and `check`.
+//! What the subcommands `print`, `takings` and `check` share: each asks the desk one question.
 ghost use Rattle.portal_exit.specs.Streams.{outlets};
 ghost use Rattle.portal_server.specs.Asks.{KeepsSettings, LeadsDesk};
-ghost use Rattle.portal_commands.specs.Asking.{AsksOver, AsksRightly, IsDeskResult, IsRight, PrintsOutput, ResultOf};
+ghost use Rattle.portal_commands.specs.Asking.{
+  AsksOver,
+  AsksRightly,
+  IsDeskResult,
+  IsRight,
+  PrintsOutput,
+  ResultOf,
+};
 ghost use Rattle.portal_commands.specs.Bounds.{place_of};
 
 use crate::checking::check_at;
@@ -14,19 +21,19 @@ use portal_desk::Desk;
 use std::alloc::Global;
 use std::io::Write;
 
-/// What a desk is asked.
+/// A question to the desk.
 #[derive(Clone, Copy, Debug)]
 pub enum Question<'a> {
-    /// The print file of the batch of this id.
+    /// The print file of the batch with this id.
     Batch(&'a str),
     /// The takings report over these days.
     Takings(DayRange),
-    /// Whether the counters of the file agree with its rows.
+    /// Whether the counters of the database agree with its rows.
     Counters,
 }
 
-/// Asks the desk, prints what it tells, and gives the status with which the program ends, as `print_at`,
-/// `takings_at` and `check_at` say.
+/// Asks the desk a question, prints the result, and returns the exit code, as `print_at`, `takings_at` and
+/// `check_at` do.
 pub fn ask_desk<D: Desk, W: Write, E: Write>(
     alloc: Global,
     desk: &mut D,
@@ -51,13 +58,13 @@ pub fn ask_desk<D: Desk, W: Write, E: Write>(
     }
 }
 
-/// Asks the desk over a file, prints what it tells, closes the desk, and gives the status with which the
-/// program ends.
+/// Opens a database file, asks the desk over it a question, prints the result, closes the file, and returns
+/// the exit code.
 ///
-/// The faults are found in this order: those of the settings file (`file`, `no_memory`, `settings`), those of
-/// the database file (`file`, `no_memory`, `not_ours`, `newer`), each status 3, and then those of `ask_desk`. A
-/// database that is made, since none stood there, is told on `errors` in one line first, and a fault of
-/// closing last; the status stays.
+/// The first of these errors that applies is printed: those of the settings file (`file`, `no_memory`,
+/// `settings`); those of the database file (`file`, `no_memory`, `not_ours`, `newer`), each with exit code 3;
+/// those of `ask_desk`. If a new database is made, a line on `errors` says so first. An error of the close is
+/// printed last and does not change the exit code.
 pub fn ask_database<P: Place, W: Write, E: Write>(
     alloc: Global,
     place: P,

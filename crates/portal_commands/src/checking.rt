@@ -1,7 +1,14 @@
-//! The command `check`.
+//! The subcommand `check`.
 ghost use Rattle.portal_exit.specs.Streams.{outlets};
 ghost use Rattle.portal_server.specs.Asks.{KeepsSettings, LeadsDesk};
-ghost use Rattle.portal_commands.specs.Asking.{AsksOver, AsksRightly, IsDeskResult, ChecksCounters, PrintsOutput, AuditIsRight};
+ghost use Rattle.portal_commands.specs.Asking.{
+  AsksOver,
+  AsksRightly,
+  IsDeskResult,
+  ChecksCounters,
+  PrintsOutput,
+  AuditIsRight,
+};
 ghost use Rattle.portal_commands.specs.declared.asking.Question.TheVariants.{Counters};
 ghost use Rattle.portal_commands.specs.Bounds.{place_of};
 
@@ -12,7 +19,8 @@ use portal_exit::{Output, ProgramError, print_result};
 use std::alloc::Global;
 use std::io::Write;
 
-/// What `check` tells.
+/// Compares the counters of the database with its rows, and returns the output of `check`. Errors: the
+/// refusals of the desk.
 fn output_of_check<D: Desk>(alloc: Global, desk: &mut D) -> Result<Output, ProgramError>
     ensures desk { IsDeskResult result }
     ensures settings { KeepsSettings D.Desk desk.old desk.new }
@@ -26,9 +34,9 @@ fn output_of_check<D: Desk>(alloc: Global, desk: &mut D) -> Result<Output, Progr
     }
 }
 
-/// Prints `ok` on `output` where the counters of the file agree with its rows, else `differs`, and gives the
-/// status with which the program ends: 0 at `ok`, 1 at `differs` and where there is no memory, 3 where the
-/// desk has stopped or the word goes out in part alone. A fault's line is printed on `errors`.
+/// Prints `ok` on `output` if the counters of the desk's database agree with its rows, else `differs`, and
+/// returns the exit code: 0 for `ok`; 1 for `differs` and out of memory; 3 if the desk has stopped or not all
+/// of the word is written. The line of an error is printed on `errors`.
 pub fn check_at<D: Desk, W: Write, E: Write>(
     alloc: Global,
     desk: &mut D,
@@ -41,17 +49,18 @@ pub fn check_at<D: Desk, W: Write, E: Write>(
     ensures check { LeadsDesk D.Desk desk.old desk.new (λ old new.
         PrintsOutput (λ printout. ChecksCounters old printout new)
         (outlets W.Write E.Write output.old output.new errors.old errors.new) result) }
-    ensures exact { PrintsOutput (λ printout. D.is_fault_free desk.new → AuditIsRight (D.audits desk.old) printout)
+    ensures exact { PrintsOutput
+        (λ printout. D.is_fault_free desk.new → AuditIsRight (D.audits desk.old) printout)
         (outlets W.Write E.Write output.old output.new errors.old errors.new) result }
 {
     let printout = output_of_check(alloc, desk);
     print_result(&printout, output, errors)
 }
 
-/// Prints whether the counters of the desk over a file agree with its rows on `output`, `ok` or `differs`,
-/// and gives the status with which the program ends.
+/// Runs `check`: prints on `output` whether the counters of the database file agree with its rows, `ok` or
+/// `differs`, and returns the exit code.
 ///
-/// The faults are found in the order of `ask_database`.
+/// The errors are those of `ask_database`, in its order.
 pub fn check<P: Place, W: Write, E: Write>(
     alloc: Global,
     place: P,

@@ -1,20 +1,20 @@
-//! Where the program is reached.
+//! Where the program accepts connections.
 ghost use Rattle.std.specs.Prelude.{◌≡◌, ℕ, IfOk, IfErr};
 ghost use Rattle.portal_exit.specs.declared.error.ProgramError.TheVariants.{Network as OfNetwork};
 
 use portal_exit::ProgramError;
 use portal_server::Host;
 
-/// Where the program is reached: the loopback address of the host, or one of a test.
+/// Where the program accepts connections: the loopback address of the machine, or a test's stand-in.
 pub trait Network: Drop {
-    /// A port that was taken.
+    /// A port that was bound.
     type Bound: Host + Drop;
 
-    /// What was had at a port.
+    /// Which hosts may be bound at a port.
     ghost listens: { Self → ℕ → Self.Bound → Type 0 };
 
-    /// Takes a port of the loopback address: connections wait from then on. Fault: `Network`, where it cannot
-    /// be had.
+    /// Binds a port of the loopback address; connections wait from then on. Error: `Network`, if the port
+    /// cannot be bound.
     fn listen(&self, port: u16) -> Result<Self::Bound, ProgramError>
         ensures why { IfErr result (λ error. error ≡ OfNetwork) }
         ensures bound { IfOk result (listens self.now port) };

@@ -4,7 +4,16 @@ ghost use Rattle.portal_ledger.specs.Ledger.{Ledger};
 ghost use Rattle.portal_ledger.specs.States.{running};
 ghost use Rattle.portal_exit.specs.declared.error.ProgramError.{ProgramError as Failure};
 ghost use Rattle.portal_commands.specs.declared.trouble.Trouble.{Trouble as Why};
-ghost use Rattle.portal_commands.specs.Places.{IsFileError, IsSettingsError, IsDatabaseError, AreReadSettings, IsNotRead, AreNone, Closes, FailsBeforeDesk};
+ghost use Rattle.portal_commands.specs.Places.{
+  IsFileError,
+  IsSettingsError,
+  IsDatabaseError,
+  AreReadSettings,
+  IsNotRead,
+  AreNone,
+  Closes,
+  FailsBeforeDesk,
+};
 ghost use Rattle.portal_commands.specs.Troubles.{NamesPath};
 
 use crate::trouble::Trouble;
@@ -18,55 +27,55 @@ use std::io::Write;
 pub struct Opened<D> {
     /// The desk.
     pub desk: D,
-    /// Whether the database was made: none stood in the file.
+    /// Whether the database was made: the file held none.
     pub is_new: bool,
 }
 
-/// A place that holds files: the host, or one of a test. No contract says what its files hold.
+/// A place that holds files: the machine, or a test's stand-in. No contract says what its files hold.
 pub trait Place: Drop {
-    /// A desk over a file.
+    /// A desk over a database file.
     type Stored: Desk;
 
-    /// A desk over an empty store in memory, which returns what was written to it.
+    /// A desk over an empty database in memory, which is fault-free.
     type Fresh: Desk;
 
-    /// What may be read of the file at a path.
+    /// Which bytes may be read from the file at a path.
     ghost reads: { Self → List ℕ → List ℕ → Type 0 };
 
-    /// Which ledger the file at a path is supposed to show.
+    /// Which ledger the file at a path is assumed to hold.
     ghost holds_ledger: { Self → List ℕ → Ledger → Type 0 };
 
-    /// Whether the file at a path is supposed to hold no database.
+    /// Whether the file at a path is assumed to hold no database.
     ghost finds: { Self → List ℕ → Bool → Type 0 };
 
-    /// The file at a path was opened to a desk; where it is true, what its log held was copied into the file
+    /// Which desk was opened over the file at a path. If the flag is true, the log was copied into the file
     /// before.
     ghost opens: { Self → List ℕ → Bool → Self.Stored → Type 0 };
 
-    /// What is left of a desk over a file once it is closed.
+    /// What holds after a desk over a file was closed.
     ghost closes: { Self.Stored → Type 0 };
 
-    /// What is answered where the file at a path is not read.
+    /// Which errors a read of the file at a path gives.
     ghost fails_to_read: { Self → List ℕ → Why → Type 0 };
 
-    /// What is answered where the file at a path is not opened.
+    /// Which errors an open of the file at a path gives.
     ghost refuses: { Self → List ℕ → Why → Type 0 };
 
-    /// What is answered where a desk over the file at a path is not closed.
+    /// Which errors a close of a desk over the file at a path gives.
     ghost fails_to_close: { Self.Stored → List ℕ → Why → Type 0 };
 
-    /// What is answered where no store is made in memory.
+    /// Which errors the making of a database in memory gives.
     ghost fails_to_make: { Failure → Type 0 };
 
-    /// The bytes of a file. Faults: `File`, and `NoMemory`.
+    /// Reads the bytes of a file. Errors: `File`, `NoMemory`.
     fn read(&self, alloc: Global, path: &str) -> Result<Vec<u8>, Trouble>
         ensures why { IfErr result (λ trouble. IsFileError trouble.error × NamesPath path.now trouble) }
         ensures fails { IfErr result (λ trouble. fails_to_read self.now path.now trouble) }
         ensures bytes { IfOk result (λ bytes. reads self.now path.now bytes.items) };
 
-    /// The desk over the file at a path, which is made where it is missing. Where it `copies`, what its log
-    /// holds stands in the file itself then. Faults: `File`, `NoMemory`, `NotOurs` where tables of another
-    /// program stand there, and `Newer` where a later version wrote it.
+    /// Opens a desk over the database file at a path, which is made if it is missing. If `copies` is true,
+    /// its log is then copied into the file. Errors: `File`; `NoMemory`; `NotOurs`, if it holds tables of
+    /// another program; `Newer`, if a later version wrote it.
     fn open(
         self,
         alloc: Global,
@@ -84,27 +93,27 @@ pub trait Place: Drop {
         ensures found { IfOk result (λ opened.
             Self.Stored.is_fault_free opened.desk → finds self path.now opened.is_new) };
 
-    /// Closes a desk over the file at a path: what its log holds is copied into the file, which then holds
-    /// everything. Faults: `File`, and `NoMemory`; the file and its log together hold everything then.
+    /// Closes a desk over the database file at a path: its log is copied into the file, which then holds
+    /// everything. Errors: `File`, `NoMemory`; then the file and its log together hold everything.
     fn close(alloc: Global, path: &str, desk: Self::Stored) -> Result<(), Trouble>
         ensures why { IfErr result (λ trouble. IsFileError trouble.error × NamesPath path.now trouble) }
         ensures fails { IfErr result (λ trouble. fails_to_close desk path.now trouble) }
         ensures closed { OnOk result (closes desk) };
 
-    /// A desk over an empty store in memory. Faults: `NoMemory`, and `File` where the store failed.
+    /// Opens a desk over an empty database in memory. Errors: `NoMemory`; `File`, if the database failed.
     fn open_desk_in_memory(alloc: Global, settings: Settings) -> Result<Self::Fresh, ProgramError>
         ensures why { IfErr result IsFileError }
         ensures fails { IfErr result (λ error. fails_to_make error) }
         ensures same_settings { IfOk result (λ desk. Self.Fresh.settings desk ≡ settings) }
         ensures fresh { IfOk result (λ desk. Self.Fresh.represents desk (running [])) };
 
-    /// Lets go of a desk in memory.
+    /// Closes a desk over a database in memory. Its contents are gone then.
     fn close_desk_in_memory(desk: Self::Fresh);
 
     ghost is_fresh_fault_free: { (desk : Self.Fresh) → Self.Fresh.is_fault_free desk };
 }
 
-/// The files that a command names.
+/// The files that a command line names.
 #[derive(Clone, Copy, Debug, PartialEq, Eq)]
 pub struct Files<'a> {
     /// The path of the database file.
@@ -113,7 +122,8 @@ pub struct Files<'a> {
     pub settings: &'a str,
 }
 
-/// The settings in a file. Faults: `File`, `NoMemory`, and `Settings` where it is no settings file.
+/// Reads the settings file at a path. Errors: `File`; `NoMemory`; `Settings`, if the file is no valid
+/// settings file.
 pub fn read_settings_at<P: Place>(alloc: Global, place: &P, path: &str) -> Result<Settings, Trouble>
     ensures why { IfErr result (λ trouble. IsSettingsError trouble.error × NamesPath path.now trouble) }
     ensures read { IfOk result (AreReadSettings (P.reads place.now path.now)) }
@@ -130,8 +140,8 @@ pub fn read_settings_at<P: Place>(alloc: Global, place: &P, path: &str) -> Resul
     }
 }
 
-/// The desk over the files that a command names. Faults: those of `read_settings_at`, and then those of
-/// `Place::open`.
+/// Reads the settings file and opens a desk over the database file. Errors: those of `read_settings_at`, then
+/// those of `Place::open`.
 pub fn open_desk<P: Place>(
     alloc: Global,
     place: P,
@@ -144,7 +154,8 @@ pub fn open_desk<P: Place>(
         AreReadSettings (P.reads place files.entry.settings.now) (P.Stored.settings opened.desk)) }
     ensures opened { IfOk result (λ opened. P.opens place files.entry.db.now copies opened.desk) }
     ensures represents { (L : Ledger) → P.holds_ledger place files.entry.db.now L
-        → IfOk result (λ opened. P.Stored.is_fault_free opened.desk → P.Stored.represents opened.desk (running L)) }
+        → IfOk result (λ opened.
+        P.Stored.is_fault_free opened.desk → P.Stored.represents opened.desk (running L)) }
     ensures found { IfOk result (λ opened.
         P.Stored.is_fault_free opened.desk → P.finds place files.entry.db.now opened.is_new) }
 {
@@ -152,7 +163,7 @@ pub fn open_desk<P: Place>(
     place.open(alloc, files.db, settings, copies)
 }
 
-/// Closes a desk over the file at a path. Where that fails, its fault is told on `errors`.
+/// Closes a desk over the file at a path. If the close fails, prints its error on `errors`.
 pub fn close_opened_desk<P: Place, E: Write>(
     alloc: Global,
     path: &str,

@@ -1,11 +1,17 @@
-//! The command `print`.
+//! The subcommand `print`.
 ghost use Rattle.std.specs.Prelude.{MatchResult};
 ghost use Rattle.portal_ledger.specs.Calls.{ReadsThat};
 ghost use Rattle.portal_desk.specs.Calls.{RefusesUnknown};
 ghost use Rattle.portal_desk.specs.Sheets.{sheet_of};
 ghost use Rattle.portal_exit.specs.Streams.{outlets};
 ghost use Rattle.portal_server.specs.Asks.{KeepsSettings, LeadsDesk};
-ghost use Rattle.portal_commands.specs.Asking.{AsksOver, IsDeskResult, IsBatchFile, PrintsBatch, PrintsOutput};
+ghost use Rattle.portal_commands.specs.Asking.{
+  AsksOver,
+  IsDeskResult,
+  IsBatchFile,
+  PrintsBatch,
+  PrintsOutput,
+};
 ghost use Rattle.portal_commands.specs.Bounds.{place_of};
 
 use crate::asking::{Question, ask_database};
@@ -18,7 +24,7 @@ use portal_model::refusal::Refusal;
 use std::alloc::Global;
 use std::io::Write;
 
-/// The print file of a batch. Refusals: `UnknownBatch`, `NoMemory`, `Stopped`.
+/// Returns the print file of a batch. Refusals: `UnknownBatch`, `NoMemory`, `Stopped`.
 fn batch_file<D: Desk>(alloc: Global, desk: &mut D, id: &Id) -> Result<Vec<u8>, Refusal>
     ensures settings { KeepsSettings D.Desk desk.old desk.new }
     ensures file { LeadsDesk D.Desk desk.old desk.new (λ old new. MatchResult result
@@ -32,7 +38,8 @@ fn batch_file<D: Desk>(alloc: Global, desk: &mut D, id: &Id) -> Result<Vec<u8>, 
     }
 }
 
-/// What `print` tells.
+/// Returns the output of `print`: the print file of the batch with this id. Errors: the refusals of the desk;
+/// `unknown_batch` also if the text is no valid id.
 fn output_of_print<D: Desk>(
     alloc: Global,
     desk: &mut D,
@@ -52,9 +59,9 @@ fn output_of_print<D: Desk>(
     }
 }
 
-/// Prints the print file of a batch on `output`, and gives the status with which the program ends: 0; or 1
-/// where there is no such batch, as where `batch` is no id, and where there is no memory; or 3 where the desk
-/// has stopped or the file goes out in part alone. A fault's line is printed on `errors`.
+/// Prints the print file of a batch of the desk on `output`, and returns the exit code: 0; or 1 if there is
+/// no such batch, also if `batch` is no valid id, and if out of memory; or 3 if the desk has stopped or not
+/// all of the file is written. The line of an error is printed on `errors`.
 pub fn print_at<D: Desk, W: Write, E: Write>(
     alloc: Global,
     desk: &mut D,
@@ -73,10 +80,10 @@ pub fn print_at<D: Desk, W: Write, E: Write>(
     print_result(&printout, output, errors)
 }
 
-/// Prints the print file of a batch of the desk over the file at `db` on `output`, and gives the status with
-/// which the program ends.
+/// Runs `print`: prints the print file of a batch in the database file on `output`, and returns the exit
+/// code.
 ///
-/// The faults are found in the order of `ask_database`.
+/// The errors are those of `ask_database`, in its order.
 pub fn print<P: Place, W: Write, E: Write>(
     alloc: Global,
     place: P,

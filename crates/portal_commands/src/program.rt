@@ -1,4 +1,4 @@
-//! The whole program, over its words, a place that holds its files, a reader and two writers.
+//! The whole program, over its arguments, a place that holds its files, a network, a reader and two writers.
 ghost use Rattle.std.specs.Prelude.{◌≡◌, map};
 ghost use Rattle.portal_commands.specs.Bounds.{network_of, place_of};
 ghost use Rattle.portal_server.specs.Turns.{wire_of};
@@ -17,9 +17,9 @@ use std::alloc::Global;
 use std::convert::AsStr;
 use std::io::{Read, Write};
 
-/// Prints what the program says in place of an order, and gives the status: 0 at help and the version,
-/// which go to `output`, 2 at a fault in the words, which goes to `errors`, and 3 where memory ran out
-/// or the text for `output` cannot be printed.
+/// Prints help, the version or a message if the command line gives no order, and returns the exit code: 0 for
+/// help and the version, which go to `output`; 2 for an invalid command line, whose message goes to `errors`;
+/// 3 if out of memory or if not all of the text for `output` is written.
 fn print_no_order<W: Write, E: Write>(printout: &NoOrder, output: &mut W, errors: &mut E) -> u8
     ensures { EndsPrintingText printout.now
         (outlets W.Write E.Write output.old output.new errors.old errors.new) result }
@@ -32,7 +32,7 @@ fn print_no_order<W: Write, E: Write>(printout: &NoOrder, output: &mut W, errors
     }
 }
 
-/// Prints what is wrong with the words, or as much of it as goes out, and gives 2.
+/// Prints the message about an invalid command line, as far as it can be written, and returns 2.
 fn report_usage<E: Write>(text: &[u8], errors: &mut E) -> u8
     ensures status { result ≡ 2 }
     ensures prints { Prints (E.contents errors.old) (E.contents errors.new) text.now }
@@ -41,8 +41,7 @@ fn report_usage<E: Write>(text: &[u8], errors: &mut E) -> u8
     2
 }
 
-/// Serves at a port, and gives the status with which the program ends. Fault: `usage`, where the port is past
-/// 65,535.
+/// Runs `serve` at a port, and returns the exit code. Error: `usage`, if the port is past 65,535.
 fn run_serve<P: Place, N: Network, W: Write, E: Write>(
     alloc: Global,
     place: P,
@@ -67,7 +66,7 @@ fn run_serve<P: Place, N: Network, W: Write, E: Write>(
     serve(alloc, place, network, files, at, output, errors)
 }
 
-/// Carries out an order, and gives the status with which the program ends.
+/// Runs the subcommand of an order, and returns the exit code.
 fn run_order<P: Place, N: Network, R: Read, W: Write, E: Write>(
     alloc: Global,
     place: P,
@@ -145,8 +144,8 @@ fn run_order<P: Place, N: Network, R: Read, W: Write, E: Write>(
     }
 }
 
-/// Does what the words of the command line ask for, of which the first is the program's own name, and
-/// gives the status with which the program ends.
+/// Runs the program: parses its arguments, of which the first is the program's own name, runs the subcommand,
+/// and returns the exit code.
 pub fn run_program<P: Place, N: Network, S: AsStr, R: Read, W: Write, E: Write>(
     alloc: Global,
     place: P,

@@ -1,4 +1,4 @@
-//! The command `serve`.
+//! The subcommand `serve`.
 ghost use Rattle.portal_exit.specs.Streams.{outlets};
 ghost use Rattle.portal_server.specs.Asks.{KeepsSettings, LeadsDesk, ServesRun};
 ghost use Rattle.portal_commands.specs.Serving.{IsServed, ServesAt, ServesOver};
@@ -13,7 +13,7 @@ use portal_server::serve as serve_bound;
 use std::alloc::Global;
 use std::io::Write;
 
-/// Where the program listens, and for how many connections.
+/// The options of `serve`.
 #[derive(Clone, Copy, Debug, PartialEq, Eq)]
 pub struct ServeOptions {
     /// The port, from 1 on.
@@ -22,11 +22,11 @@ pub struct ServeOptions {
     pub count: u64,
 }
 
-/// Takes the port and serves so many connections, as `portal_server::serve` says, and gives the status with
-/// which the program ends.
+/// Binds the port, serves so many connections by a desk, as `portal_server::serve` does, and returns the exit
+/// code.
 ///
-/// A fault before anything is served is printed on `errors`, status 3: `no_memory`, and `network` where the
-/// port cannot be had.
+/// An error before the first connection is printed on `errors`, with exit code 3: `no_memory`, or `network`
+/// if the port cannot be bound.
 pub fn serve_at<D: Desk, N: Network, W: Write, E: Write>(
     alloc: Global,
     desk: &mut D,
@@ -55,12 +55,13 @@ pub fn serve_at<D: Desk, N: Network, W: Write, E: Write>(
     }
 }
 
-/// Serves connections by the desk over a file, and gives the status with which the program ends. What the
-/// file's log holds is copied into the file first, and again at the end: a fault of that is told last, and
-/// the status stays.
+/// Runs `serve`: opens the database file, serves connections by the desk over it, closes the file, and
+/// returns the exit code. The log of the file is copied into it at the start and at the end. An error of the
+/// close is printed last and does not change the exit code.
 ///
-/// The faults are found in this order: those of the settings file (`file`, `no_memory`, `settings`), those of
-/// the database file (`file`, `no_memory`, `not_ours`, `newer`), each status 3, and then those of `serve_at`.
+/// The first of these errors that applies is printed: those of the settings file (`file`, `no_memory`,
+/// `settings`); those of the database file (`file`, `no_memory`, `not_ours`, `newer`), each with exit code 3;
+/// those of `serve_at`.
 pub fn serve<P: Place, N: Network, W: Write, E: Write>(
     alloc: Global,
     place: P,

@@ -1,11 +1,18 @@
-//! The command `takings`.
+//! The subcommand `takings`.
 ghost use Rattle.std.specs.Prelude.{MatchResult, MatchOption};
 ghost use Rattle.portal_days.specs.Span.{Span};
 ghost use Rattle.portal_ledger.specs.Calls.{ReadsThat};
 ghost use Rattle.portal_desk.specs.Calls.{CannotAnswer};
 ghost use Rattle.portal_exit.specs.Streams.{outlets};
 ghost use Rattle.portal_server.specs.Asks.{KeepsSettings, LeadsDesk};
-ghost use Rattle.portal_commands.specs.Asking.{IsDeskResult, IsReportOver, IsRangeText, PrintsOutput, PrintsTakingsOver, PrintsTakingsFrom};
+ghost use Rattle.portal_commands.specs.Asking.{
+  IsDeskResult,
+  IsReportOver,
+  IsRangeText,
+  PrintsOutput,
+  PrintsTakingsOver,
+  PrintsTakingsFrom,
+};
 ghost use Rattle.portal_commands.specs.Bounds.{place_of};
 
 use crate::asking::{Question, ask_database};
@@ -19,8 +26,8 @@ use portal_model::refusal::Refusal;
 use std::alloc::Global;
 use std::io::Write;
 
-/// The days that two texts name, the first and the last. None where one is no day as `YYYY-MM-DD` of the
-/// years 1969 to 9999, or they are no range of at most 366 days.
+/// Reads a range of days from the texts of its first and its last day. None if one is no date `YYYY-MM-DD` of
+/// the years 1969 to 9999, or if they are no range of at most 366 days.
 pub fn read_range(from: &str, to: &str) -> Option<DayRange>
     ensures { MatchOption result
         ((range : Span) → ¬ (IsRangeText from.now to.now range))
@@ -32,7 +39,7 @@ pub fn read_range(from: &str, to: &str) -> Option<DayRange>
     DayRange::new(first, last)
 }
 
-/// The takings report over the days. Refusals: `NoMemory`, `Stopped`.
+/// Returns the takings report over the days. Refusals: `NoMemory`, `Stopped`.
 fn takings_report<D: Desk>(alloc: Global, desk: &mut D, range: DayRange) -> Result<Vec<u8>, Refusal>
     ensures settings { KeepsSettings D.Desk desk.old desk.new }
     ensures report { LeadsDesk D.Desk desk.old desk.new (λ old new. MatchResult result
@@ -46,7 +53,7 @@ fn takings_report<D: Desk>(alloc: Global, desk: &mut D, range: DayRange) -> Resu
     }
 }
 
-/// What `takings` tells.
+/// Returns the output of `takings`: the report over the days. Errors: the refusals of the desk.
 fn output_of_takings<D: Desk>(
     alloc: Global,
     desk: &mut D,
@@ -63,9 +70,9 @@ fn output_of_takings<D: Desk>(
     }
 }
 
-/// Prints the takings report over the days on `output`, and gives the status with which the program ends: 0;
-/// or 1 where there is no memory; or 3 where the desk has stopped or the report goes out in part alone. A
-/// fault's line is printed on `errors`.
+/// Prints the takings report of the desk over the days on `output`, and returns the exit code: 0; or 1 if out
+/// of memory; or 3 if the desk has stopped or not all of the report is written. The line of an error is
+/// printed on `errors`.
 pub fn takings_at<D: Desk, W: Write, E: Write>(
     alloc: Global,
     desk: &mut D,
@@ -84,11 +91,11 @@ pub fn takings_at<D: Desk, W: Write, E: Write>(
     print_result(&printout, output, errors)
 }
 
-/// Prints the takings report of the desk over a file on `output`, over the days from `from` to `to`, and
-/// gives the status with which the program ends.
+/// Runs `takings`: prints the takings report of the database file over the days from `from` to `to` on
+/// `output`, and returns the exit code.
 ///
-/// The faults are found in this order: `usage`, status 2, where `read_range` gives None; and then in that of
-/// `ask_database`.
+/// The first of these errors that applies is printed: `usage`, exit code 2, if `read_range` gives None; those
+/// of `ask_database`.
 pub fn takings<P: Place, W: Write, E: Write>(
     alloc: Global,
     place: P,

@@ -1,27 +1,34 @@
-//! Why a file is of no use, and what is printed of it.
+//! Why a file cannot be used, and what is printed about it.
 ghost use Rattle.std.specs.Prelude.{◌≡◌, None, IsTrue, IfOk, MatchOption, string_bytes};
 ghost use Rattle.std.specs.Io.KnownBytes.{Keeps};
 ghost use Rattle.portal_exit.specs.declared.error.ProgramError.TheVariants.{File};
 ghost use Rattle.portal_exit.specs.Errors.{exit_code_of};
 ghost use Rattle.portal_exit.specs.Streams.{Prints};
-ghost use Rattle.portal_commands.specs.Troubles.{second_line, new_database_line, IsOneLine, NamesPath, Announces, Reports};
+ghost use Rattle.portal_commands.specs.Troubles.{
+  second_line,
+  new_database_line,
+  IsOneLine,
+  NamesPath,
+  Announces,
+  Reports,
+};
 
 use portal_exit::{ProgramError, print_best_effort};
 use std::alloc::{AllocError, Global};
 use std::io::Write;
 
-/// Why a file is of no use.
+/// Why a file cannot be used.
 #[derive(Debug, Drop)]
 pub struct Trouble {
-    /// What it is called.
+    /// The error.
     pub error: ProgramError,
-    /// The line that is printed after that of `file`: two spaces, the path, and what the system says. None
-    /// where that is not known, or there is no memory for it.
+    /// The line that is printed after that of `file`: two spaces, the path, and the system's message. None if
+    /// there is no message, or no memory for the line.
     pub line: Option<String>,
 }
 
 impl Trouble {
-    /// A fault of which no more is said.
+    /// Makes a trouble without a second line.
     pub fn plain(error: ProgramError) -> Trouble
         ensures error { result.error ≡ error }
         ensures line { result.line ≡ None }
@@ -29,8 +36,8 @@ impl Trouble {
         Trouble { error, line: None }
     }
 
-    /// `file`, with what the system says of the file at a path. A second line is left out where it would be
-    /// more than one.
+    /// Makes the trouble `file`, with the system's message about the file at a path. The second line is left
+    /// out if the path or the message has a line feed.
     pub fn of_file(alloc: Global, path: &str, text: &str) -> Trouble
         ensures error { result.error ≡ File }
         ensures at { NamesPath path.now result }
@@ -44,7 +51,8 @@ impl Trouble {
         }
     }
 
-    /// Prints the fault's line, and the one after it, as far as they go out, and gives the status.
+    /// Prints the line of the error, and the second line if there is one, as far as they can be written, and
+    /// returns the exit code.
     pub fn report<E: Write>(self, errors: &mut E) -> u8
         ensures status { result ≡ exit_code_of self.error }
         ensures prints { Reports self (E.contents errors.old) (E.contents errors.new) }
@@ -55,21 +63,21 @@ impl Trouble {
     }
 }
 
-/// Whether a text has no line feed.
+/// Checks that a text has no line feed.
 fn is_one_line(text: &str) -> bool
     ensures { IsTrue result → IsOneLine text.now }
 {
     text.as_bytes().iter().all(|&byte| byte != 10)
 }
 
-/// The line that is printed after that of `file`.
+/// Makes the line that is printed after that of `file`: two spaces, the path, and the system's message.
 fn second_line(alloc: Global, path: &str, text: &str) -> Result<String, AllocError>
     ensures { IfOk result (λ line. string_bytes line ≡ second_line path.now text.now) }
 {
     format!(in alloc; "  {path}: {text}\n")
 }
 
-/// Prints a line, if there is one, as far as it goes out.
+/// Prints the second line, if there is one, as far as it can be written.
 fn print_second_line<E: Write>(line: &Option<String>, errors: &mut E)
     ensures { MatchOption line.now (Keeps (E.contents errors.old) (E.contents errors.new))
         (λ line. Prints (E.contents errors.old) (E.contents errors.new) (string_bytes line)) }
@@ -80,15 +88,14 @@ fn print_second_line<E: Write>(line: &Option<String>, errors: &mut E)
     }
 }
 
-/// The line that tells of a new database.
+/// Makes the line that says that the database at a path is new.
 fn new_database_line(alloc: Global, path: &str) -> Result<String, AllocError>
     ensures { IfOk result (λ line. string_bytes line ≡ new_database_line path.now) }
 {
     format!(in alloc; "portal: new database {path}\n")
 }
 
-/// Tells that the database at a path is new, where it is: none stood there. Nothing is told where there is no
-/// memory.
+/// Prints that the database at a path is new, if `is_new` is true. Prints nothing if out of memory.
 pub fn announce_if_new<E: Write>(alloc: Global, path: &str, is_new: bool, errors: &mut E)
     ensures { Announces path.now is_new (E.contents errors.old) (E.contents errors.new) }
 {
@@ -97,7 +104,7 @@ pub fn announce_if_new<E: Write>(alloc: Global, path: &str, is_new: bool, errors
     }
 }
 
-/// Tells that the database at a path is new.
+/// Prints that the database at a path is new, as far as it can be written. Prints nothing if out of memory.
 fn announce_new<E: Write>(alloc: Global, path: &str, errors: &mut E)
     ensures { Prints (E.contents errors.old) (E.contents errors.new) (new_database_line path.now) }
 {

@@ -1,4 +1,4 @@
-//! The words of the command line.
+//! The arguments of the program.
 ghost use Rattle.std.specs.Prelude.{◌≡◌, IfErr};
 ghost use Rattle.portal_commands.specs.Program.{error_of_words, IsWordsError};
 
@@ -6,8 +6,8 @@ use portal_exit::ProgramError;
 use std::env::{self, Env};
 use std::io::ErrorKind;
 
-/// Why the words could not be copied, by the kind of the error: `usage` where one is not UTF-8, else
-/// `no_memory`.
+/// Returns why the arguments could not be copied, by the kind of the system's error: `usage` if one is not
+/// UTF-8, else `no_memory`.
 pub fn error_of_words(kind: ErrorKind) -> ProgramError
     ensures kind { result ≡ error_of_words kind }
     ensures words { IsWordsError result }
@@ -18,9 +18,8 @@ pub fn error_of_words(kind: ErrorKind) -> ProgramError
     }
 }
 
-/// The words with which the program was called, its own name first.
-///
-/// An `Err` is `usage` where a word is not UTF-8, and `no_memory` where there was none to copy them.
+/// Returns the arguments with which the program was called, its own name first. Errors: `usage`, if one is
+/// not UTF-8; `no_memory`.
 pub fn words_of<R: Env + AllocGlobal>(rt: &R) -> Result<Vec<String>, ProgramError>
     ensures { IfErr result IsWordsError }
 {

@@ -1,5 +1,5 @@
-//! Whether a command is accepted, and what it then changes. Each decision answers the first refusal whose
-//! condition holds, in the order of its verdict; a lack of memory may come before any.
+//! The decisions on commands: whether a command is accepted, and what it changes. Each decision returns the
+//! first error that applies, in the order of its verdict. One that allocates may return `NoMemory` instead.
 ghost use Rattle.std.specs.Prelude.{◌≡◌, ◌≤◌};
 ghost use Rattle.portal_core.specs.Decision.{IsDecision};
 ghost use Rattle.portal_model.specs.History.{amount_left};
@@ -19,9 +19,10 @@ use portal_model::record::{Session, Voucher};
 use portal_model::refusal::Refusal;
 pub use redeem::decide_redeem;
 
-/// The sale of the voucher that was found under the code. A refunded voucher stays sold.
+/// Decides whether a voucher may be sold at `t`. A refunded voucher stays sold.
 ///
-/// Refused: `UnknownCode` where there is none, `SoldAlready`, `Expired` from its expiry moment on.
+/// Errors, the first that applies: `UnknownCode` without a voucher, `SoldAlready`, `Expired` from its
+/// expiry on.
 pub fn decide_sell(voucher: Option<Voucher>, t: Moment) -> Result<Changes, Refusal>
     ensures { IsDecision result (sell_verdict voucher t) (sell_change voucher t) }
 {
@@ -37,9 +38,9 @@ pub fn decide_sell(voucher: Option<Voucher>, t: Moment) -> Result<Changes, Refus
     Ok(Changes::SellChange(SellChange { at: t, voucher }))
 }
 
-/// A report of bytes for the session of that number, also one that is closed or has ended.
+/// Decides on a report of bytes for a session. A closed session and one that has ended accept reports too.
 ///
-/// Refused: `UnknownSession` where there is none.
+/// Error: `UnknownSession` without a session.
 pub fn decide_report(session: Option<Session>, bytes: u64, t: Moment) -> Result<Changes, Refusal>
     ensures { IsDecision result (report_verdict session) (report_change session bytes t) }
 {
@@ -53,7 +54,7 @@ pub fn decide_report(session: Option<Session>, bytes: u64, t: Moment) -> Result<
     }))
 }
 
-/// The price of the uses that are left, rounded down.
+/// Returns the price of the uses of a voucher that are left, rounded down to hundredths.
 fn amount_left(plan: Plan, redeemed: u64) -> u64
     requires { redeemed ≤ plan.uses }
     ensures { result ≡ amount_left plan redeemed }
@@ -61,9 +62,10 @@ fn amount_left(plan: Plan, redeemed: u64) -> u64
     u64::from(plan.price) * (u64::from(plan.uses) - redeemed) / u64::from(plan.uses)
 }
 
-/// The refund of the uses that are left of the voucher found under the code, also of an expired one.
+/// Decides whether the unused uses of a voucher may be refunded at `t`. An expired voucher may be refunded.
 ///
-/// Refused: `UnknownCode` where there is none, `NotSold`, `Refunded`, `NothingLeft` where no use is left.
+/// Errors, the first that applies: `UnknownCode` without a voucher, `NotSold`, `Refunded`, `NothingLeft` if
+/// no use is left.
 pub fn decide_refund(voucher: Option<Voucher>, t: Moment) -> Result<Changes, Refusal>
     ensures { IsDecision result (refund_verdict voucher) (refund_change voucher t) }
 {
@@ -86,7 +88,9 @@ pub fn decide_refund(voucher: Option<Voucher>, t: Moment) -> Result<Changes, Ref
     }))
 }
 
-/// The close of the session of that number. Refused: `UnknownSession` where there is none, `ClosedAlready`.
+/// Decides whether a session may be closed at `t`.
+///
+/// Errors, the first that applies: `UnknownSession` without a session, `ClosedAlready`.
 pub fn decide_close(session: Option<Session>, t: Moment) -> Result<Changes, Refusal>
     ensures { IsDecision result (close_verdict session) (close_change session t) }
 {

@@ -1,5 +1,5 @@
-//! The decisions of the desk over the records that were read for them, what is told of sessions, and the
-//! takings of days.
+//! The decisions of the desk over records that were read for them, the captive portal state of a device,
+//! and the takings of days.
 #![tactic(auto)]
 
 pub mod decide;

@@ -1,4 +1,4 @@
-//! What is told of sessions at a moment.
+//! The captive portal state of a device, and the open sessions, at a time.
 ghost use Rattle.std.specs.Prelude.{◌≡◌, max};
 ghost use Rattle.std.specs.Option.{option_copied};
 ghost use Rattle.portal_model.specs.Captive.{captive_state, left_below, open_session};
@@ -7,16 +7,16 @@ use portal_model::captive::{Captive, OpenSession};
 use portal_model::moment::Moment;
 use portal_model::record::{Session, is_open};
 
-/// The moment at which a request is carried out: the one handed in, or that of the last accepted command
-/// where the clock was set back behind it.
+/// Returns the effective time of a request: its own, or that of the last accepted command if the clock was
+/// set back behind it.
 pub fn effective(moment: Moment, last: Moment) -> Moment
     ensures { result ≡ max moment last }
 {
     moment.max(last)
 }
 
-/// What a device is told whose last session is that one, or which had none (RFC 8908 section 5). Where the
-/// session is not open at `t` the device is captive.
+/// Returns the captive portal state at `t` of a device whose last session is `last` (RFC 8908 section 5).
+/// Without an open session the device is captive.
 pub fn captive_of(last: Option<&Session>, t: Moment) -> Captive
     ensures { result ≡ captive_state t (option_copied last.entry) }
 {
@@ -36,7 +36,7 @@ pub fn captive_of(last: Option<&Session>, t: Moment) -> Captive
     }
 }
 
-/// What the gateway is told of a session that is open at `t`.
+/// Returns a session that is open at `t` as the gateway lists it.
 pub fn open_session(session: &Session, t: Moment) -> OpenSession
     ensures { result ≡ open_session t session.now }
 {
@@ -48,14 +48,14 @@ pub fn open_session(session: &Session, t: Moment) -> OpenSession
     }
 }
 
-/// The seconds until the session's end, where it is limited in time.
+/// Returns the seconds from `t` until the session ends, if it is limited in time.
 fn seconds_left(session: &Session, t: Moment) -> Option<u64>
     ensures { result ≡ left_below t session.now.ends }
 {
     Some(session.ends?.get().saturating_sub(t.get()))
 }
 
-/// The bytes that are left of the session's allowance, where it is limited in bytes.
+/// Returns the bytes left of the session's allowance, if it is limited in bytes.
 fn bytes_left(session: &Session) -> Option<u64>
     ensures { result ≡ left_below session.now.used session.now.allowance }
 {

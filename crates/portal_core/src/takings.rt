@@ -1,4 +1,4 @@
-//! Takings by the day.
+//! The takings of days, with the desk's error.
 ghost use Rattle.std.specs.Prelude.{◌≡◌, IfOk, IfErr, map};
 ghost use Rattle.portal_days.specs.Span.{days_of};
 ghost use Rattle.portal_days.specs.Takings.{takings_on, TotalsFit};
@@ -7,10 +7,12 @@ use portal_days::{Day, DayRange, DayTakings};
 use portal_model::refusal::Refusal;
 use std::alloc::Global;
 
-/// The takings of each day of the range, in order, from sales and refunds that each have a day and an amount
-/// in hundredths. Pairs of other days are left out. The totals over the days fit `u64` and `u128`.
+/// Computes the takings of each day of the range, in order, from sales and refunds that each have a day and
+/// an amount in hundredths.
 ///
-/// Only a lack of memory is refused: `NoMemory`.
+/// Pairs of days outside of the range are ignored. The totals over the days fit `u64` and `u128`.
+///
+/// Error: `NoMemory` when out of memory.
 pub fn add_takings(
     alloc: Global,
     range: DayRange,

@@ -1,4 +1,4 @@
--- What the pairs so far come to on a day: a pair more, and room for it.
+-- The sum of the pairs so far of a day: adding a pair does not overflow.
 use Rattle.portal_days.proofs.Common.{◌≡◌, ℕ, ◌+◌, ◌-◌, ◌^◌, ◌<◌, ◌≤◌, ℤ, pos, ◌+ℤ◌, cond, List, ◌++◌, length, get_or, take, drop, map, ap, sym, ◌∙◌, arith, inl, inr, All, count_by, range_with_len, mul-le-mul_right, cases_Bool, cond-true, cond-false, length-take, take-append-le, take_all, All-weaker, count_by-le-length, count_by_more_no, count_by_more_yes, sum_by_more, sum_by-le, Span, day_count, days_of, Pair, is_on, amount_on, day_sum, zero_sum, with_pair, CanAddPair, DayTakings}
 use Rattle.std.proofs.lemmas.List.FromFn.{fill_by_all, get_or-map-range_with_len, length-map-range_with_len}
 use Rattle.std.proofs.lemmas.Simd.{map-map}

@@ -1,2 +1,2 @@
--- What the contracts of private functions cite.
+-- The words that only the contracts of private functions use.
 pub mod DaySums

@@ -1,4 +1,4 @@
--- Days by their number from 1970-01-01 on, and ranges of them.
+-- Days by their number since 1970-01-01, and ranges of them.
 use Rattle.std.specs.Prelude.{ℕ, ◌+◌, ℤ, pos, negsuc, ◌+ℤ◌, ◌-ℤ◌, ◌≤ℤ◌, List, map}
 use Rattle.std.specs.Int.{int_gap}
 use Rattle.std.specs.List.{range_with_len}
@@ -23,7 +23,7 @@ pub record IsRange (first last : ℤ) : Type 0 where
   pub span : IsSpan first last
   pub last_is : IsDay last
 
--- how many days there are
+-- the number of days
 abbrev pub day_count : Span → ℕ
 day_count s = int_gap s.first s.last + 1
 

@@ -1,11 +1,11 @@
-//! Civil days by their number, and ranges of them.
+//! Civil days by their number, and ranges of days.
 ghost use Rattle.std.specs.Prelude.{◌≡◌, ◌↔◌, ◌<◌, ℕ, pos, ◌+ℤ◌, IsSome, IfSome, IfNone, false};
 ghost use Rattle.std.specs.Ordering.{int_eq};
 ghost use Rattle.portal_days.specs.Span.{Span, IsSpan, day_count};
 
 use std::marker::Model;
 
-/// A civil day, by its number from 1970-01-01 on: from 1969-01-01 (-365) to 9999-12-31 (2,932,896).
+/// A civil day, by the number of days since 1970-01-01: from 1969-01-01 (-365) to 9999-12-31 (2,932,896).
 #[derive(Clone, Copy, Debug, PartialEq, Eq)]
 pub struct Day {
     number: i32,
@@ -27,7 +27,7 @@ impl Model for Day {
 impl Day {
     ghost use Rattle.portal_days.specs.Span.{IsDay};
 
-    /// The day of that number, or `None` outside of -365 to 2,932,896.
+    /// Makes the day with that number, or `None` outside of -365 to 2,932,896.
     pub fn new(number: i32) -> Option<Day>
         ensures accepts { IsSome result ↔ IsDay number }
         ensures value { IfSome result (λ day. day ≡ number) }
@@ -38,7 +38,7 @@ impl Day {
         Some(Day { number })
     }
 
-    /// The number of the day: the days from 1970-01-01 to it.
+    /// Returns the number of days from 1970-01-01 to this day.
     pub fn get(&self) -> i32
         ensures value { result ≡ self.now }
         ensures range { IsDay result }
@@ -47,7 +47,7 @@ impl Day {
     }
 }
 
-/// Days in a row, from a first to a last: at least one, at most 366.
+/// A range of consecutive days: at least one, at most 366.
 #[derive(Clone, Copy, Debug, PartialEq, Eq)]
 pub struct DayRange {
     first: Day,
@@ -67,8 +67,9 @@ impl Model for DayRange {
 }
 
 impl DayRange {
-    /// The days from one to another, both included; `None` where the second is before the first, and
-    /// where they are more than 366 days.
+    /// Makes the range from one day to another, both included.
+    ///
+    /// `None` if the second day is before the first, or if there are more than 366 days.
     pub fn new(from: Day, to: Day) -> Option<DayRange>
         ensures accepts { IsSome result ↔ IsSpan from to }
         ensures value { IfSome result (λ range. range ≡ record { first = from; last = to }) }
@@ -82,28 +83,29 @@ impl DayRange {
         })
     }
 
-    /// The first day.
+    /// Returns the first day of the range.
     pub fn first(&self) -> Day
         ensures { result ≡ self.now.first }
     {
         self.first
     }
 
-    /// The last day.
+    /// Returns the last day of the range.
     pub fn last(&self) -> Day
         ensures { result ≡ self.now.last }
     {
         self.last
     }
 
-    /// How many days there are.
+    /// Returns the number of days in the range.
     pub(crate) fn count(&self) -> u32
         ensures { result ≡ day_count self.now }
     {
         (self.last.get() - self.first.get() + 1) as u32
     }
 
-    /// How many days after the first the day is; `None` where it is not of the range.
+    /// Returns how many days after the first day of the range a day is, or `None` for a day outside of the
+    /// range.
     pub(crate) fn index_of(&self, day: Day) -> Option<u32>
         ensures within { IfSome result (λ k. k < day_count self.now) }
         ensures day { IfSome result (λ k. self.now.first +ℤ pos k ≡ day) }
@@ -116,7 +118,7 @@ impl DayRange {
         Some((day.get() - self.first.get()) as u32)
     }
 
-    /// The day that is so many after the first.
+    /// Returns the day that is so many days after the first.
     pub(crate) fn day(&self, after: u32) -> Day
         requires { after < day_count self.now }
         ensures { result ≡ self.now.first +ℤ pos after }

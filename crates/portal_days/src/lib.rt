@@ -1,4 +1,4 @@
-//! Civil days, ranges of days, and what was taken on each day.
+//! Civil days, ranges of days, and the takings of each day.
 #![tactic(auto)]
 
 mod calendar;

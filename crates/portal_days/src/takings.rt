@@ -1,4 +1,4 @@
-//! What was taken on each day of a range.
+//! The takings of each day of a range, from sales and refunds.
 ghost use Rattle.std.specs.Prelude.{◌≡◌, ◌^◌, ◌<◌, ◌+ℤ◌, ℕ, pos, IfOk, OnOk, length, map, slice_index_or};
 ghost use Rattle.portal_days.specs.Span.{day_count, days_of};
 ghost use Rattle.portal_days.specs.Takings.{takings_on, AreAmounts, TotalsFit};
@@ -7,29 +7,30 @@ ghost use Rattle.portal_days.specs.Private.DaySums.{day_sum, zero_sum, with_pair
 use crate::calendar::{Day, DayRange};
 use std::alloc::{AllocError, Global};
 
-/// What was sold and refunded on a day: counts, and sums in hundredths.
+/// The takings of a day: the numbers of sales and refunds, and their sums in hundredths.
 #[derive(Clone, Copy, Debug, PartialEq, Eq)]
 pub struct DayTakings {
     /// The day.
     pub day: Day,
-    /// How many vouchers were sold.
+    /// The number of vouchers sold.
     pub sold: u64,
-    /// What was paid for them, in hundredths.
+    /// The sum of their prices, in hundredths.
     pub sales: u128,
-    /// How many vouchers were refunded.
+    /// The number of vouchers refunded.
     pub refunded: u64,
-    /// What was paid back for them, in hundredths.
+    /// The sum of the refunds, in hundredths.
     pub refunds: u128,
 }
 
-/// What pairs of a day come to: how many there are, and the sum of their amounts.
+/// The number of pairs of a day, and the sum of their amounts.
 #[derive(Clone, Copy)]
 struct DaySum {
     count: u64,
     amount: u128,
 }
 
-/// Adds a pair to the sum of its day. A pair of another day is left out.
+/// Adds a pair of a day and an amount to the sum of its day. A pair of a day outside of the range is
+/// ignored.
 fn add_pair(sums: &mut [DaySum], range: DayRange, day: Day, amount: u64)
     requires days { length sums.old ≡ day_count range }
     requires can_add { (k : ℕ) → k < day_count range → CanAddPair (slice_index_or sums.old k zero_sum) }
@@ -45,7 +46,9 @@ fn add_pair(sums: &mut [DaySum], range: DayRange, day: Day, amount: u64)
     }
 }
 
-/// What the pairs of each day of the range come to, in order, in one pass over the pairs.
+/// Sums the pairs of each day of the range, in order, in one pass over the pairs.
+///
+/// Error: `AllocError` when out of memory.
 fn sums_by_day(
     alloc: Global,
     range: DayRange,
@@ -65,8 +68,12 @@ fn sums_by_day(
     Ok(sums)
 }
 
-/// The takings of each day of the range, in order, from sales and refunds that each have a day and an
-/// amount in hundredths. Pairs of other days are left out. The totals over the days fit `u64` and `u128`.
+/// Computes the takings of each day of the range, in order, from sales and refunds that each have a day and
+/// an amount in hundredths.
+///
+/// Pairs of days outside of the range are ignored. The totals over the days fit `u64` and `u128`.
+///
+/// Error: `AllocError` when out of memory.
 pub fn add_takings(
     alloc: Global,
     range: DayRange,

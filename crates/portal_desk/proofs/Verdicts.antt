@@ -1,4 +1,4 @@
--- No verdict says that the desk has stopped, whatever the records are that it is given over, and no repetition does.
+-- No verdict is the error that the desk has stopped, whatever records it depends on, and neither is the result of a repetition.
 use Rattle.std.proofs.Common.{◌≡◌, ℕ, List, [], ◌∷◌, Bool, true, false, cond, not, ◌||◌, nat_lt, nat_le, ◌+◌, Option, Some, None, refl, sym, ap, subst, ◌∙◌}
 use Rattle.std.specs.Prelude.{◌≢◌, Result, Ok, Err, is_some, is_none}
 use Rattle.std.specs.List.{list_any}
@@ -18,7 +18,7 @@ use Rattle.portal_ledger.specs.declared.request.KeptRequest.{KeptRequest}
 use Rattle.portal_ledger.specs.Fingerprint.{Fingerprint, same_request}
 use Rattle.portal_ledger.specs.Ledger.{repeat_of}
 
--- a refusal that is not that of a desk that has stopped
+-- an error other than `Stopped`
 abbrev pub is_own : Refusal → Bool
 is_own Stopped = false
 is_own _ = true
@@ -103,7 +103,7 @@ verdict_own H (Close n) t r is = close_own (session_of H n) r is
 pub verdict_is_no_stop : (H : History) (command : Command) (t : ℕ) (r : Refusal) → verdict H command t ≡ Some r → r ≢ Stopped
 verdict_is_no_stop H command t r is = own_is_no_stop r (verdict_own H command t r is)
 
--- what is kept under a key refuses with one refusal alone
+-- a kept request gives no error but `IdReused`
 pub repeat_is_no_stop : (kept : Option KeptRequest) (mark : Fingerprint) (r : Refusal) → repeat_of kept mark ≡ Err r → r ≢ Stopped
 repeat_is_no_stop None mark r h = absurd (cc)
 repeat_is_no_stop (Some k) mark r h = by (same_request k.mark mark) h

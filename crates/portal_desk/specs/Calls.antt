@@ -1,4 +1,4 @@
--- What each call of a desk may answer, from the state before it to the state after it.
+-- The result of each call of a desk, and the states before and after it.
 use Rattle.std.specs.Prelude.{◌≡◌, ◌≢◌, ◌⊎◌, ℕ, Bool, true, false, Option, Some, None, Result, Ok, Err, MatchResult}
 use Rattle.portal_model.specs.declared.command.Command.{Command}
 use Rattle.portal_model.specs.declared.change.Answer.{Answer}
@@ -20,21 +20,22 @@ abbrev pub is_stopped_state : State → Bool
 is_stopped_state (running L) = false
 is_stopped_state (stopped L doubt) = true
 
--- Whether the desk has stopped, before a refusal and after it: after `Stopped` it has, and any other leaves that as it was.
+-- Whether the desk has stopped, before an error and after it: after `Stopped` it has, and any other error
+-- leaves that unchanged.
 abbrev pub RefusalGivesStop : Bool → Bool → Refusal → Type 0
 RefusalGivesStop old new r = ((r ≡ Stopped) × (new ≡ true)) ⊎ ((r ≢ Stopped) × (new ≡ old))
 
--- the same of a call, whatever the disk did: an answer leaves it as it was
+-- the same for a call, whatever the disk did: a result without an error leaves it unchanged
 abbrev pub KeepsStop : {T : Type 0} → Bool → Bool → Result T Refusal → Type 0
 KeepsStop old new result = MatchResult result (λ _. new ≡ old) (RefusalGivesStop old new)
 
--- several calls of a desk: one that had stopped has stopped still
+-- over several calls of a desk: a stopped desk stays stopped
 abbrev pub StaysStopped : Bool → Bool → Type 0
 StaysStopped old new = old ≡ true → new ≡ true
 
--- A call of a desk, by the desk's own words for its settings, for an honest disk, for having stopped and for where it stands. Whatever the
--- disk did, the settings stay, and the answer tells whether the desk has stopped. A disk that is honest after the call was so before it, and
--- then the call leads from where the desk stood before to where it stands after.
+-- A call of a desk, by the desk's relations. Whatever the disk did, the settings are unchanged, and the
+-- result tells whether the desk has stopped. A disk that is fault-free after the call was so before it, and
+-- then the call leads from the state before to a state after.
 pub record Moves {D A : Type 0} (settings : D → SettingsValue) (is_fault_free : D → Type 0) (has_stopped : D → Bool) (represents : D → State → Type 0)
     (old new : D) (result : Result A Refusal) (Step : State → State → Type 0) : Type 0 where
   pub same_settings : settings new ≡ settings old
@@ -42,52 +43,55 @@ pub record Moves {D A : Type 0} (settings : D → SettingsValue) (is_fault_free 
   pub stops : KeepsStop (has_stopped old) (has_stopped new) result
   pub step : is_fault_free new → (before : State) → represents old before → (after : State) × represents new after × Step before after
 
--- it answers what the history gives, and stays as it is
+-- the result is the one that the history determines, and the state is unchanged
 abbrev pub Answers : {A : Type 0} → (History → A) → State → A → State → Type 0
 Answers given old answer new = ReadsThat old (λ H. answer ≡ given H) new
 
--- it cannot answer: want of memory leaves it as it is, a fault of its store stops it, and one that stopped stays so
+-- the call fails: out of memory leaves the state unchanged, an error of the database stops the desk, and a
+-- stopped desk stays stopped
 abbrev pub CannotAnswer : State → Refusal → State → Type 0
 CannotAnswer old r new = FailsToRead NoMemory Stopped old r new
 
--- it tells what is so of the history, and changes nothing; or it cannot answer
+-- the result holds of the history and the state is unchanged, or the call fails
 abbrev pub Returns : {A : Type 0} → Result A Refusal → (A → History → Type 0) → State → State → Type 0
 Returns result Is old new =
     MatchResult result (λ found. ReadsThat old (λ H. Is found H) new) (λ r. CannotAnswer old r new)
 
--- the history gives nothing there, and that refusal says so; or it cannot answer
+-- the history has no such record, and the error says so, or the call fails
 abbrev pub RefusesUnknown : {A : Type 0} → Refusal → (History → Option A) → State → Refusal → State → Type 0
 RefusesUnknown unknown given old r new = ((r ≡ unknown) × Answers given old None new) ⊎ CannotAnswer old r new
 
--- it answers what the history gives there, or it refuses where that is nothing
+-- the result is the record of the history, or an error if there is none
 abbrev pub Finds : {A : Type 0} → Refusal → (History → Option A) → Result A Refusal → State → State → Type 0
 Finds unknown given result old new =
     MatchResult result (λ found. Answers given old (Some found) new) (λ r. RefusesUnknown unknown given old r new)
 
--- a command that is no repetition and that the verdict accepts, with what it changes and its mark; nothing is kept yet
+-- a command that is not a repetition and that the verdict accepts, with its changes and its fingerprint;
+-- nothing is committed yet
 abbrev pub Prepares : State → Command → ℕ → Option Fingerprint → MarkedChanges → State → Type 0
 Prepares old command moment mark marked new =
     ReadsOf old (λ L. (repeat_in L mark ≡ Ok None) × Fits (running L) marked (accepted_at L moment command mark)) new
 
--- a repetition, with what its caller was told
+-- a repetition, with the kept answer
 abbrev pub Repeats : State → Fingerprint → Answer → State → Type 0
 Repeats old mark answer new = ReadsOf old (λ L. repeat_in L (Some mark) ≡ Ok (Some answer)) new
 
--- a request that acts once: a new one, or a repetition
+-- an idempotent request: a new one, or a repetition
 abbrev pub PreparesMarked : State → Command → ℕ → Fingerprint → Marked → State → Type 0
 PreparesMarked old command moment mark (Fresh prepared) new = Prepares old command moment (Some mark) prepared new
 PreparesMarked old command moment mark (Kept answer) new = Repeats old mark answer new
 
--- what the ledger has against a command: its number was used for another request, or else its verdict
+-- the error of a command after the ledger: its idempotency key was used for another request, or else its
+-- verdict
 abbrev pub IsRefused : Ledger → Command → ℕ → Option Fingerprint → Refusal → Type 0
 IsRefused L command moment mark r =
     (repeat_in L mark ≡ Err r)
     ⊎ ((repeat_in L mark ≡ Ok None) × (verdict (history_of L) command (effective_moment (history_of L) moment) ≡ Some r))
 
--- a command that is refused, or one that cannot be judged
+-- the command is refused, or the call fails
 abbrev pub Refuses : State → Command → ℕ → Option Fingerprint → Refusal → State → Type 0
 Refuses old command moment mark r new = ReadsOf old (λ L. IsRefused L command moment mark r) new ⊎ CannotAnswer old r new
 
--- a command is not kept, or it is in doubt
+-- the command is not committed, or it is in doubt
 abbrev pub CannotKeep : State → Accepted → Refusal → State → Type 0
 CannotKeep old a r new = FailsToKeep NoMemory Stopped old a r new

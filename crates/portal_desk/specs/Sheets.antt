@@ -1,4 +1,4 @@
--- What the counter prints of a history: the sheet of a batch, and the takings of days.
+-- What the counter prints: the batch sheet, and the takings of days.
 use Rattle.std.specs.Prelude.{ℕ, List, map, Option, option_map, option_and_then}
 use Rattle.jiff_tz.specs.declared.timezone.TimeZone.{TimeZone}
 use Rattle.portal_days.specs.Span.{Span, days_of}

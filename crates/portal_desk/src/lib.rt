@@ -1,4 +1,4 @@
-//! The desk: what every desk answers, whatever keeps its records.
+//! The trait `Desk`: the service behind HTTP, whatever stores its records.
 #![tactic(auto)]
 
 ghost use Rattle.std.specs.Prelude.{◌≡◌, Bool, true, None, Some, IfOk, MatchResult};
@@ -10,7 +10,16 @@ ghost use Rattle.portal_files.specs.SettingsFile.{SettingsValue};
 ghost use Rattle.portal_ledger.specs.Ledger.{Accepted, Ledger, IsSound};
 ghost use Rattle.portal_ledger.specs.States.{State, MayBeFound};
 ghost use Rattle.portal_ledger.specs.Calls.{Fits, Keeps};
-ghost use Rattle.portal_desk.specs.Calls.{is_stopped_state, CannotKeep, Finds, KeepsStop, Moves, Prepares, PreparesMarked, Refuses};
+ghost use Rattle.portal_desk.specs.Calls.{
+  is_stopped_state,
+  CannotKeep,
+  Finds,
+  KeepsStop,
+  Moves,
+  Prepares,
+  PreparesMarked,
+  Refuses,
+};
 ghost use Rattle.portal_desk.specs.Calls.{Returns};
 ghost use Rattle.portal_desk.specs.Sheets.{sheet_of, takings_over};
 
@@ -29,20 +38,22 @@ use portal_model::refusal::Refusal;
 pub use prepared::{Marked, Prepared};
 use std::alloc::Global;
 
-/// A desk, seen by what it stands for. Several ledgers may show in the same records, so what a desk stands
-/// for is a relation.
+/// A desk: the service behind HTTP, over one database.
 ///
-/// What a desk stands for is known as long as its store returns what was written to it (`is_fault_free`), which
-/// may fail at any call. `is_crash_state` says which files a stop at this moment may leave, and `holds_ledger` which
-/// ledgers files stand for. By the law `leaves` they show what a reopening may find, and by the law `sound`
-/// each ledger that files show is sound. `audits` says of an answer to `audit` that it is right about what
-/// the store holds, ledger or not.
+/// `represents` relates a desk to its state, which is running with a ledger, or stopped. It is a relation,
+/// since the same records may represent several ledgers.
 ///
-/// Whatever the store returns, `has_stopped` is known: after the answer `Stopped` the desk has stopped, and
-/// any other answer leaves it stopped or working as it was.
+/// The state is known while the disk has returned what was written to it (`is_fault_free`).
+/// `is_crash_state` gives the possible contents of the files after a crash, and `holds_ledger` the ledgers
+/// that files hold. By the law `leaves`, every crash state holds a ledger that the state allows; by the law
+/// `sound`, each ledger that files hold is sound. `audits` states that a result of `audit` is right for the
+/// content of the database, even if that holds no ledger.
 ///
-/// A desk that works stands at a ledger. `NoMemory` leaves it as it was. After `Stopped` it stands between
-/// the ledger and the same with one command more, and answers `Stopped` until it is made anew from its store.
+/// `has_stopped` is known whatever the disk returns: after the error `Stopped` the desk has stopped, and
+/// any other result leaves it stopped or running as it was.
+///
+/// `NoMemory` leaves a running desk unchanged. After `Stopped`, the last command may be in doubt, and the
+/// desk returns `Stopped` until the database is opened again.
 pub trait Desk {
     ghost Files: { Type 0 };
 
@@ -60,67 +71,66 @@ pub trait Desk {
 
     ghost audits: { Self → Bool → Type 0 };
 
-    /// The settings that it was made with.
+    /// Returns the settings of the desk.
     fn settings(&self) -> &Settings
         ensures { result.now ≡ settings self.now };
 
-    /// Whether it has stopped.
+    /// Returns whether the desk has stopped.
     fn is_stopped(&self) -> bool
         ensures value { result ≡ has_stopped self.now }
         ensures over { (s : State) → represents self.now s → result ≡ is_stopped_state s };
 
-    /// What a device is told at a moment (RFC 8908 section 5).
+    /// Returns the captive portal state of a device at a time (RFC 8908 section 5).
     ///
-    /// Refusals: `NoMemory` and `Stopped`.
+    /// Errors: `NoMemory`, `Stopped`.
     fn state(&mut self, moment: Moment, device: Device) -> Result<Captive, Refusal>
         ensures { Moves settings is_fault_free has_stopped represents self.old self.new result
             (Returns result (λ captive H. captive ≡ captive_of H device moment)) };
 
-    /// The voucher of a code, as it stands.
+    /// Returns the voucher of a code, with its sale, refund and redemptions so far.
     ///
-    /// Refusals: `UnknownCode` where the code was never issued; `NoMemory` and `Stopped` before any.
+    /// Errors: `NoMemory`, `Stopped`; `UnknownCode` if the code was never issued.
     fn voucher(&mut self, code: &Code) -> Result<Voucher, Refusal>
         ensures { Moves settings is_fault_free has_stopped represents self.old self.new result
             (Finds Refusal.UnknownCode (λ H. voucher_of H code.now) result) };
 
-    /// A batch with its plan, and its codes in order of issue: what its print file shows.
+    /// Returns a batch with its plan, and its codes in order of issue, for its print file.
     ///
-    /// Refusals: `UnknownBatch` where no such batch was issued; `NoMemory` and `Stopped` before any.
+    /// Errors: `NoMemory`, `Stopped`; `UnknownBatch` if no such batch was issued.
     fn batch(&mut self, alloc: Global, id: &Id) -> Result<BatchSheet, Refusal>
         ensures { Moves settings is_fault_free has_stopped represents self.old self.new result
             (Finds Refusal.UnknownBatch (λ H. sheet_of H id.now) result) };
 
-    /// The sessions that are open at a moment, by their numbers, as the gateway is told of them (RFC 8952
+    /// Lists the sessions that are open at a time, in the order of their numbers, for the gateway (RFC 8952
     /// section 2.4).
     ///
-    /// Refusals: `NoMemory` and `Stopped`.
+    /// Errors: `NoMemory`, `Stopped`.
     fn open_now(&mut self, alloc: Global, moment: Moment) -> Result<Vec<OpenSession>, Refusal>
         ensures { Moves settings is_fault_free has_stopped represents self.old self.new result
             (Returns result (λ sessions H. sessions.items ≡ open_sessions_of H moment)) };
 
-    /// The takings of each day of a range, in order, by the civil days of the settings' zone. Their totals
-    /// fit the numbers that a day has.
+    /// Computes the takings of each day of a range, in order, by the civil days of the settings' time zone.
+    /// The totals over the days fit the types of the fields.
     ///
-    /// Refusals: `NoMemory` and `Stopped`.
+    /// Errors: `NoMemory`, `Stopped`.
     fn takings(&mut self, alloc: Global, range: DayRange) -> Result<Vec<DayTakings>, Refusal>
         ensures totals { IfOk result (λ days. TotalsFit days.items) }
         ensures moves { Moves settings is_fault_free has_stopped represents self.old self.new result
             (Returns result (λ days H. days.items ≡ takings_over (settings self.old).zone H range)) };
 
-    /// Whether the counters that it keeps agree with what they count, exactly. They do wherever the desk
-    /// stands at a ledger.
+    /// Audits the database: returns whether its counters agree exactly with the rows that they count. They
+    /// do whenever the desk represents a ledger.
     ///
-    /// Refusals: `NoMemory` and `Stopped`.
+    /// Errors: `NoMemory`, `Stopped`.
     fn audit(&mut self, alloc: Global) -> Result<bool, Refusal>
         ensures moves { Moves settings is_fault_free has_stopped represents self.old self.new result
             (Returns result (λ agrees H. agrees ≡ true)) }
         ensures exact { is_fault_free self.new → IfOk result (audits self.old) };
 
-    /// Whether the command of a request without a number may be accepted at a moment, and what it then
-    /// changes. Nothing is kept yet.
+    /// Decides whether a command without an idempotency key is accepted at a time, and returns its changes.
+    /// Nothing is committed yet.
     ///
-    /// Refusals: the first whose condition holds, in the order of the command; `NoMemory` and `Stopped`
-    /// before any.
+    /// Errors: `NoMemory`, `Stopped`; else the verdict on the command.
     fn prepare(
         &mut self,
         alloc: Global,
@@ -132,11 +142,11 @@ pub trait Desk {
             (λ old new. MatchResult result (λ p. Prepares old command moment None p new)
             (λ r. Refuses old command moment None r new)) };
 
-    /// The same for a request that acts once: `Kept` where it was carried out before, which changes nothing.
-    /// Nothing is kept yet.
+    /// Decides on the command of an idempotent request: `Kept` with the first answer if it was carried out
+    /// before, which changes nothing, else as `prepare`. Nothing is committed yet.
     ///
-    /// Refusals: `IdReused` where its number was used for another request, then those of `prepare`;
-    /// `NoMemory` and `Stopped` before any.
+    /// Errors: `NoMemory`, `Stopped`; `IdReused` if its idempotency key was used for another request; else
+    /// the verdict on the command.
     fn prepare_marked(
         &mut self,
         alloc: Global,
@@ -149,9 +159,9 @@ pub trait Desk {
             (λ old new. MatchResult result (λ p. PreparesMarked old command moment mark.now p new)
             (λ r. Refuses old command moment (Some mark.now) r new)) };
 
-    /// Keeps what was prepared, whole or not at all: the changes and the mark.
+    /// Commits prepared changes, with their fingerprint, in one transaction.
     ///
-    /// Refusals: `NoMemory` leaves the desk as it was; after `Stopped` the command is in doubt.
+    /// Errors: `NoMemory` leaves the desk unchanged; after `Stopped` the command is in doubt.
     fn finish(&mut self, prepared: Prepared) -> Result<(), Refusal>
         ensures same_settings { settings self.new ≡ settings self.old }
         ensures fault_free { is_fault_free self.new → is_fault_free self.old }
@@ -160,7 +170,8 @@ pub trait Desk {
             → (a : Accepted) → Fits old prepared a → (new : State) × represents self.new new
             × MatchResult result (λ _. Keeps old a new) (λ r. CannotKeep old a r new) };
 
-    ghost leaves: { (desk : Self) (s : State) → represents desk s → (files : Files) → is_crash_state desk files
+    ghost leaves: { (desk : Self) (s : State) → represents desk s
+        → (files : Files) → is_crash_state desk files
         → (found : Ledger) × MayBeFound s found × holds_ledger files found };
 
     ghost sound: { (files : Files) (found : Ledger) → holds_ledger files found → IsSound found };

@@ -77,7 +77,7 @@ pub made_of : {A : Type 0} {make : A → Changes} {found : Option A} {changes : 
 made_of {make = make} {found = found} {changes = changes} e Is holds =
     let it = some-of-map make found changes e in subst Is it.2 (holds it.0 it.1)
 
--- the changes lead the sessions to those after the command
+-- the changes give the sessions after the command
 abbrev Lead : History → Command → ℕ → Changes → Type 0
 Lead H command t changes = all_sessions (entry t command ∷ H) ≡ sessions_after_changes changes (all_sessions H)
 

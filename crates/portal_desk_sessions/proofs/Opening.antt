@@ -51,7 +51,7 @@ was_open t u later s h = open-sooner s s.used t u later (omega arith) h
 pub open_was_open : OpenWasOpen
 open_was_open H t later = filter-twice (is_open_at (last_moment H)) (is_open_at t) (was_open (last_moment H) t later) (all_sessions H)
 
--- what the gateway is told comes of what is open at the last moment
+-- the list for the gateway comes from the sessions open at the time of the last command
 pub sessions_at-open : (H : History) (moment : ℕ)
     → map (open_session (effective_moment H moment)) (filter (is_open_at (effective_moment H moment)) (open_at_last H).sessions) ≡ open_sessions_of H moment
 sessions_at-open H moment = ap (map (open_session (effective_moment H moment))) (sym (open_was_open H (effective_moment H moment) (omega arith)))
@@ -137,7 +137,7 @@ pub open_follows : OpenFollows
 open_follows H legal command t follows ch e =
     ap (filter (is_open_at t)) (changes_give_sessions H legal command t follows ch e) ∙ alike H command t follows.in_order ch e
 
--- the changes have the moment of their command
+-- the changes have the time of their command
 pub moment_is : (H : History) (command : Command) (t : ℕ) (ch : Changes) → changes_of H command t ≡ Some ch → moment_of ch ≡ t
 moment_is H (Load plans) t ch e =
     let is : load_change (plan_of H) plans t ≡ ch = cc in sym (ap moment_of is)

@@ -1,4 +1,5 @@
--- The sessions that are open at the last moment, and what a command changes among sessions.
+-- The sessions that are open at the time of the last command of a history, and the changes of a command to
+-- a list of sessions.
 use Rattle.std.specs.Prelude.{ℕ, cond, nat_eq, List, [], ◌∷◌, ◌++◌, map, filter, Option, Some, None}
 use Rattle.portal_model.specs.declared.record.Session.{Session}
 use Rattle.portal_model.specs.declared.change.Changes.{Changes}
@@ -7,16 +8,16 @@ use Rattle.portal_model.specs.Captive.{all_sessions}
 use Rattle.portal_model.specs.Change.{with_report}
 use Rattle.portal_model.specs.History.{History, is_open_at, last_moment}
 
--- sessions that are open at a moment, by their numbers
+-- the sessions that are open at a time, by their numbers
 pub record OpenAt : Type 0 where
   pub moment : ℕ
   pub sessions : List Session
 
--- those of the history that are open at its last moment
+-- the sessions of the history that are open at the time of its last command
 abbrev pub open_at_last : History → OpenAt
 open_at_last H = record { moment = last_moment H; sessions = filter (is_open_at (last_moment H)) (all_sessions H) }
 
--- the moment of an accepted command
+-- the time of an accepted command
 abbrev pub moment_of : Changes → ℕ
 moment_of (LoadChange c) = c.at
 moment_of (IssueChange c) = c.at
@@ -26,18 +27,19 @@ moment_of (ReportChange c) = c.at
 moment_of (RefundChange c) = c.at
 moment_of (CloseChange c) = c.at
 
--- the session of that number, as it is now
+-- the session, replaced by `now` if both have the same number
 abbrev pub replaced_if_same : Session → Session → Session
 replaced_if_same now s = cond (nat_eq now.number s.number) now s
 
--- a redemption changes the session that it extends, or adds the one that it opens
+-- the sessions after a redemption: the extended one is replaced, or the opened one is appended
 abbrev pub after_redemption : Option Session → Session → List Session → List Session
 after_redemption (Some running) now sessions = map (replaced_if_same now) sessions
 after_redemption None now sessions = sessions ++ now ∷ []
 
--- what the changes make of sessions: one is added at the end, or one is changed in its place
+-- the sessions after the changes: one is appended, or one is replaced
 abbrev pub sessions_after_changes : Changes → List Session → List Session
 sessions_after_changes (RedeemChange c) sessions = after_redemption c.running c.session sessions
 sessions_after_changes (ReportChange c) sessions = map (replaced_if_same (with_report c.bytes c.session)) sessions
-sessions_after_changes (CloseChange c) sessions = map (replaced_if_same (record c.session { closed = Some c.at })) sessions
+sessions_after_changes (CloseChange c) sessions =
+    map (replaced_if_same (record c.session { closed = Some c.at })) sessions
 sessions_after_changes _ sessions = sessions

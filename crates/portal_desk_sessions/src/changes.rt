@@ -1,4 +1,4 @@
-//! What the changes of a command make of a list of sessions.
+//! Applying the changes of a command to a list of sessions.
 ghost use Rattle.std.specs.Prelude.{◌≡◌, IfOk, map};
 ghost use Rattle.portal_desk_sessions.specs.Open.{replaced_if_same, sessions_after_changes, moment_of};
 
@@ -7,7 +7,7 @@ use portal_model::moment::Moment;
 use portal_model::record::Session;
 use std::alloc::AllocError;
 
-/// The moment of the command.
+/// Returns the time of the command.
 pub(crate) fn moment_of(changes: &Changes) -> Moment
     ensures { result ≡ moment_of changes.now }
 {
@@ -22,7 +22,7 @@ pub(crate) fn moment_of(changes: &Changes) -> Moment
     }
 }
 
-/// The session, or that one where it has its number.
+/// Returns the session, replaced by `now` if both have the same number.
 fn replace_if_same(session: &Session, now: &Session) -> Session
     ensures { result ≡ replaced_if_same now.now session.now }
 {
@@ -33,7 +33,7 @@ fn replace_if_same(session: &Session, now: &Session) -> Session
     }
 }
 
-/// The sessions with that one in the place of the one of its number.
+/// Replaces the session that has the number of `now`.
 fn replace_session(sessions: &mut [Session], now: &Session)
     ensures { sessions.new ≡ map (replaced_if_same now.now) sessions.old }
 {
@@ -42,8 +42,9 @@ fn replace_session(sessions: &mut [Session], now: &Session)
     }
 }
 
-/// The sessions with what the command changes: one put at the end, or one changed in its place. Only want of
-/// memory is an error.
+/// Applies the changes of a command to a list of all sessions: appends one, or replaces one.
+///
+/// Error: `AllocError` when out of memory.
 pub(crate) fn apply_to_sessions(
     sessions: &mut Vec<Session>,
     changes: &Changes,

@@ -1,6 +1,6 @@
-//! The sessions that are open at the last moment of a history: what is kept of them from one accepted command
-//! to the next, and told of them later. A session that is not open at a moment is never open again, so none
-//! but these matters.
+//! The sessions that are open after the last command. A desk keeps this list from one command to the next,
+//! and answers the gateway from it. A session that is not open at a time is never open again, so no other
+//! sessions are needed.
 #![tactic(auto)]
 
 ghost use Rattle.std.specs.Prelude.{◌≡◌, ◌∷◌, ℕ, IfOk, Some};
@@ -23,7 +23,7 @@ use portal_model::record::{Session, is_open};
 use std::alloc::{AllocError, Global};
 use std::marker::Model;
 
-/// Sessions that are open at a moment, by their numbers.
+/// The sessions that are open at the time of the last command, by their numbers.
 #[derive(Drop)]
 pub struct OpenSessions {
     moment: Moment,
@@ -39,15 +39,17 @@ impl Model for OpenSessions {
 }
 
 impl OpenSessions {
-    /// The sessions that are open at the moment. The caller lists them, by their numbers.
+    /// Wraps a list of sessions that are open at a time. The caller lists them by their numbers.
     pub fn new(moment: Moment, sessions: Vec<Session>) -> OpenSessions
         ensures { result ≡ record { moment = moment; sessions = sessions.items } }
     {
         OpenSessions { moment, sessions }
     }
 
-    /// What the gateway is told where that is the moment handed in (RFC 8952 section 2.4), in seconds and
-    /// bytes. A moment before the last one counts as the last. Only want of memory is an error.
+    /// Lists the sessions that are open at a time, with their remaining seconds and bytes, for the gateway
+    /// (RFC 8952 section 2.4). A time before that of the last command counts as that time.
+    ///
+    /// Error: `AllocError` when out of memory.
     pub fn sessions_at(&self, alloc: Global, moment: Moment) -> Result<Vec<OpenSession>, AllocError>
         ensures { (H : History) → self.now ≡ open_at_last H
             → IfOk result (λ listing. listing.items ≡ open_sessions_of H moment) }
@@ -62,8 +64,9 @@ impl OpenSessions {
         Ok(listing)
     }
 
-    /// The sessions that are open after an accepted command, by what it changes. Only want of memory is an
-    /// error: they are dropped then.
+    /// Updates the list after an accepted command, from its changes.
+    ///
+    /// Error: `AllocError` when out of memory; the list is dropped.
     pub fn update(self, changes: &Changes) -> Result<OpenSessions, AllocError>
         ensures { (H : History) → IsLegal H → (command : Command) (t : ℕ) → Follows H t command
             → changes_of H command t ≡ Some changes.now → self ≡ open_at_last H
@@ -80,22 +83,24 @@ impl OpenSessions {
     }
 }
 
-// The laws behind it. The functions do nothing.
+// Laws that the list relies on. The functions do nothing.
 
-/// An accepted command makes of the sessions what its changes say: one is put at the end, or one is changed
-/// in its place.
+/// Law: the sessions after an accepted command are those before it with its changes: one appended, or one
+/// replaced.
 #[tactic(auto, using(crate::proofs::Leading::changes_give_sessions))]
 pub fn changes_give_sessions()
     ensures { ChangesGiveSessions }
 {}
 
-/// A session that is open later, with nothing accepted meanwhile, was open at the last moment.
+/// Law: a session that is open at a later time, with no command in between, was open at the time of the
+/// last command.
 #[tactic(auto, using(crate::proofs::Opening::open_was_open))]
 pub fn open_was_open()
     ensures { OpenWasOpen }
 {}
 
-/// What is open after an accepted command is what it makes of the sessions that were open before it.
+/// Law: the sessions that are open after an accepted command are those open before it, with its changes,
+/// that are still open.
 #[tactic(auto, using(crate::proofs::Opening::open_follows))]
 pub fn open_follows()
     ensures { OpenFollows }

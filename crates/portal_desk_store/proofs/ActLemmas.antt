@@ -1,10 +1,10 @@
--- A command that is prepared and then kept.
+-- A command that is prepared and then committed.
 use Rattle.portal_desk_store.proofs.Common.{◌≡◌, inl, inr, ℕ, Bool, Option, Some, ap, sym, subst, ◌∙◌, option_map, None, Err, Ok, MatchResult, Result, Ghosts, Command, Answer, Refusal, answer_of, MarkedChanges, Fingerprint, Accepted, Ledger, repeat_in, accepted_at, State, running, stopped, Fits, Keeps, CannotKeep, KeepsStop, Prepares, PreparesMarked, StoreDesk, DeskRepresents, DeskIsFaultFree, MovesDesk, settings_of, stop_flag}
 use Rattle.portal_desk.specs.declared.prepared.Marked.{Marked}
 use Rattle.portal_desk.specs.declared.prepared.Marked.TheVariants.{Fresh}
 use Rattle.portal_desk_store.specs.Acting.{EndsExecution}
 
--- what the call that keeps a prepared command leads to
+-- the state after committing a prepared command
 abbrev IsKept : MarkedChanges → Result Answer Refusal → State → Accepted → State → Type 0
 IsKept prepared result before a after = MatchResult result
     (λ answer. (answer ≡ answer_of prepared.changes) × Keeps before a after) (λ r. CannotKeep before a r after)
@@ -18,7 +18,7 @@ carries_so command moment mark prepared (Err r) L after is (inl none) = inl (inr
 carries_so command moment mark prepared (Err r) L after is (inr over) = inr (over.0, inr (is.1.0, over.1))
 
 module _ {S : Type 0} (g : Ghosts S) (command : Command) (moment : ℕ) where
-  -- it is prepared, and it is kept, or it is not, or it is in doubt
+  -- it is prepared, and it is committed, or it is not, or it is in doubt
   pub carries : (mark : Option Fingerprint) {old mid new : StoreDesk S} {prepared : MarkedChanges} (result : Result Answer Refusal)
       → MovesDesk g old mid (Ok prepared) (λ before after. Prepares before command moment mark prepared after)
       → settings_of new ≡ settings_of mid → (DeskIsFaultFree g new → DeskIsFaultFree g mid) → KeepsStop (stop_flag mid) (stop_flag new) result

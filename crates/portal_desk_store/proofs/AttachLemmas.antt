@@ -1,4 +1,4 @@
--- What the tables say of a store that they take over, in a desk's words.
+-- Attaching a database: from the words of the tables to those of a desk.
 use Rattle.portal_desk_store.proofs.Common.{◌≡◌, ℕ, IsTrue, Option, subst, sym, Result, Ok, Err, IfErr, IsErrAnd, MatchResult, Held, state, Ghosts}
 use Rattle.sqlite.specs.State.{Survives}
 use Rattle.portal_tables.specs.Attaching.{IsUnchangedConn, IsKnown, IsCauseIn, GivesOwnVersion}

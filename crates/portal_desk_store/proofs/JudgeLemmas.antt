@@ -1,4 +1,4 @@
--- A command judged over the records that were read is judged as the history judges it.
+-- The decision on a command over the records that were read is the verdict of the history.
 use Rattle.portal_desk_store.proofs.Common.{◌≡◌, ◌⊎◌, inl, inr, ℕ, ◌+◌, ◌<◌, ◌≤◌, lit≤, take, length, get_or, List, [], ◌∷◌, ◌++◌, append_assoc, append-nil, Option, Some, None, refl, sym, subst, ap, ◌∙◌, ◌≢◌, Result, Ok, Err, IfOk, IfErr, max, option_to_list, Ghosts, Command, Load, Redeem, Plan, Changes, Refusal, History, entry, head_of, last_moment, effective_moment, plan_of, voucher_of, last_session_of, changes_of, plan_among, load_change, redeem_change, plans_of, verdict, Follows, IsLegal, IsTyped, IsWellFormed, greatest_moment, load_verdict, redeem_verdict, held_among, Ledger, history_of, State, running, CannotAnswer, StoreDesk, stop_flag, Judges, Decides, MovesFromLedger}
 use Rattle.std.proofs.Math.Nat.{le-max_right, max-le}
 use Rattle.std.proofs.lemmas.List.{take_more}
@@ -13,7 +13,7 @@ use Rattle.portal_model_laws.proofs.Plans.{plan_is_row}
 use Rattle.portal_core.specs.Decision.{IsDecisionOrNoMemory}
 use Rattle.portal_desk_store.proofs.StepLemmas.{decided_stop}
 
--- a decision, judged as the history judges the command
+-- a decision is the verdict of the history
 judges_at : (L : Ledger) (command : Command) (t : ℕ) (judgement : Option Refusal) (made : Option Changes) (result : Result Changes Refusal)
     → IsDecisionOrNoMemory result judgement made → judgement ≡ verdict (history_of L) command t → made ≡ changes_of (history_of L) command t
     → Judges result command t L (running L)
@@ -67,7 +67,7 @@ module _ {S : Type 0} {g : Ghosts S} where
           (ap (λ h. redeem_verdict h voucher last t) is ∙ ap (λ v. redeem_verdict (head_of H) v last t) found ∙ ap (λ s. redeem_verdict (head_of H) (voucher_of H code) s t) former)
           (ap (λ h. redeem_change h voucher last device t) is ∙ ap (λ v. redeem_change (head_of H) v last device t) found ∙ ap (λ s. redeem_change (head_of H) (voucher_of H code) s device t) former)
 
--- ---- the plans that are held of the listed ids
+-- ---- the loaded plans with the listed ids
 
 held_append : (rows xs ys : List Plan) → held_among rows (xs ++ ys) ≡ held_among rows xs ++ held_among rows ys
 held_append rows [] ys = refl
@@ -85,7 +85,7 @@ held_more H listed i p found below is item =
     ∙ ap (λ (ps : List Plan). held_among (plans_of H) (take i listed) ++ ps) (append-nil (option_to_list (plan_among (plans_of H) p.id)))
     ∙ ap (λ (o : Option Plan). held_among (plans_of H) (take i listed) ++ option_to_list o) (sym (plan_is_row H p.id) ∙ sym is)
 
--- over the plans that are held of the listed ids a load is judged as over all
+-- the verdict on a load is the same over the loaded plans with the listed ids as over all
 pub loads_alike : (H : History) (t : ℕ) (listed held : List Plan) → held ≡ held_among (plans_of H) listed
     → (load_verdict (plan_among held) listed ≡ verdict H (Load listed) t) × (Some (load_change (plan_among held) listed t) ≡ changes_of H (Load listed) t)
 loads_alike H t listed held is =
@@ -93,7 +93,7 @@ loads_alike H t listed held is =
     let alike = held_plans_decide_load H held listed serves t in
     (alike.verdict, alike.changes)
 
--- ---- a command, decided where that is the moment handed in
+-- ---- the decision on a command for a request at a time
 
 last_in_range : (H : History) → IsLegal H → last_moment H ≤ greatest_moment
 last_in_range [] legal = lit≤ tt

@@ -1,4 +1,4 @@
--- The sessions that a desk keeps stay those of its ledger where a command is kept, and where it is not.
+-- The open sessions that a desk keeps are those of its ledger, whether a command is committed or not.
 use Rattle.portal_desk_store.proofs.Common.{◌≡◌, inl, inr, ℕ, ◌∷◌, Option, Some, sym, subst, IfSome, Ghosts, Command, Changes, Refusal, changes_of, entry, History, Follows, IsLegal, MarkedChanges, Accepted, history_of, State, running, stopped, Fits, Keeps, CannotKeep, OpenAt, open_at_last, Tables}
 use Rattle.portal_tables.specs.TablesRepresent.{TablesRepresent}
 use Rattle.portal_desk_store.specs.KeepsOpenSessions.{KeepsOpenSessions}
@@ -9,7 +9,7 @@ abbrev pub FollowsOn : Option OpenAt → Option OpenAt → Changes → Type 0
 FollowsOn kept now changes = (H : History) → IsLegal H → (command : Command) (t : ℕ) → Follows H t command → changes_of H command t ≡ Some changes
     → IfSome kept (λ list. list ≡ open_at_last H) → IfSome now (λ list. list ≡ open_at_last (entry t command ∷ H))
 
--- it is kept
+-- it is committed
 pub keeps_on : {S : Type 0} (g : Ghosts S) (before after : Tables S) (kept now : Option OpenAt) (marked : MarkedChanges) (a : Accepted)
     → FollowsOn kept now marked.changes → (old : State) → TablesRepresent g before old → KeepsOpenSessions kept old → Fits old marked a
     → ((x : State) × TablesRepresent g after x × Keeps old a x) → (x : State) × (TablesRepresent g after x × KeepsOpenSessions now x) × Keeps old a x
@@ -18,7 +18,7 @@ keeps_on g before after kept now marked a follows (running L) at is fits got =
     (got.0, (got.1, subst (λ (s : State). KeepsOpenSessions now s) (sym got.2) led), got.2)
 keeps_on g before after kept now marked a follows (stopped L doubt) at is fits got = absurd got.2
 
--- a command is not kept, or it is in doubt
+-- a command is not committed, or it is in doubt
 pub keeps_all : {S : Type 0} (g : Ghosts S) (after : Tables S) (kept : Option OpenAt) (a : Accepted) (r : Refusal) (old : State) → KeepsOpenSessions kept old
     → ((x : State) × TablesRepresent g after x × CannotKeep old a r x) → (x : State) × (TablesRepresent g after x × KeepsOpenSessions kept x) × CannotKeep old a r x
 keeps_all g after kept a r (running L) is got =

@@ -8,17 +8,17 @@ use Rattle.portal_tables.specs.declared.errors.StoreFault.TheVariants.{Stopped}
 memory_is_no_stop : refusal.NoMemory ≢ refusal.Stopped
 memory_is_no_stop e = cc
 
--- want of memory
+-- out of memory
 pub full : (r : Refusal) → r ≡ refusal.NoMemory → r ≢ refusal.Stopped
 full r is = subst (λ (x : Refusal). x ≢ refusal.Stopped) (sym is) memory_is_no_stop
 
--- the same of what a call refused
+-- the same for an error of a call
 pub lacks_memory : {T : Type 0} (result : Result T Refusal) → IfErr result (λ r. r ≡ refusal.NoMemory) → IfErr result (λ r. r ≢ refusal.Stopped)
 lacks_memory (Ok x) memory = memory
 lacks_memory (Err r) memory = full r memory
 
 module _ (old new : Bool) where
-  -- a fault of the tables
+  -- an error of the tables
   pub faulted : (fault : StoreFault) (r : Refusal) → ((fault ≡ Memory) × (new ≡ old)) ⊎ ((fault ≡ Stopped) × (new ≡ true))
       → (fault ≡ Memory → r ≡ refusal.NoMemory) → (fault ≡ Stopped → r ≡ refusal.Stopped) → RefusalGivesStop old new r
   faulted fault r (inl it) memory over = inr (full r (memory it.0), it.1)

@@ -1,4 +1,4 @@
--- Takings are added up from the payments within a window that has each moment of their days.
+-- Takings are computed from the payments between two times that enclose their days.
 use Rattle.portal_desk_store.proofs.Common.{◌≡◌, ◌⊎◌, inl, inr, ℕ, zero, suc, ◌+◌, ◌<◌, ◌≤◌, ℤ, pos, negsuc, ◌+ℤ◌, ◌-ℤ◌, ◌*ℤ◌, ◌≤ℤ◌, Bool, true, false, cond, List, [], ◌∷◌, ◌++◌, Option, Some, None, map, refl, ap, subst, ◌∙◌, arith, option_map, filter, length, sum_by, count_by, IsPermutation, ◌&&◌, nat_le, IfOk, IfErr, Result, Ok, Err, option_to_list, ints, Ghosts, Load, Issue, Sell, Redeem, Report, Refund, Close, History, IssuedVoucher, entry, issued_of, uses_of, amount_left, IsLegal, greatest_moment, local_day_of, takings_over, payment_of, is_paid_within, AreSales, AreRefunds, Refusal, Ledger, history_of, running, Returns, paid_days, StoreDesk, stop_flag, MovesFromLedger}
 use Rattle.std.specs.Int.{int_div_euclid, int_gap}
 use Rattle.std.specs.List.{range_with_len, AllByRecursion}
@@ -55,7 +55,7 @@ not_after zone t day h =
     let high : (pos t +ℤ off) ≤ℤ (day *ℤ pos 86400 +ℤ pos 86399) = to_day (pos t +ℤ off) day h in
     omega (arith, ints)
 
--- ---- each payment's moment is in range
+-- ---- each payment's time is in range
 
 abbrev InRange : Payment → Type 0
 InRange p = p.at ≤ greatest_moment
@@ -93,11 +93,11 @@ refunded_in_range (entry t (Refund c) ∷ H) legal = more_in_range (refunds_of H
     one (Some v) = (legal.0.in_range, tt)
 refunded_in_range (entry t (Close n) ∷ H) legal = refunded_in_range H legal.1
 
--- the test tells that two days are one
+-- the test shows that two days are equal
 int_eq-true : (x y : ℤ) → int_eq x y ≡ true → x ≡ y
 int_eq-true x y is = grind (arith, ints, Decides-int_eq x y)
 
--- ---- what a second test leaves, where the first passes nothing that it refuses
+-- ---- a second test removes nothing, if the first passes nothing that the second rejects
 
 filter-narrower : (f g : Payment → Bool) (ps : List Payment) → AllByRecursion (λ p. f p ≡ true → g p ≡ true) ps → filter f (filter g ps) ≡ filter f ps
 filter-narrower f g [] all = refl
@@ -134,7 +134,7 @@ at_most (pos a) (negsuc b) (suc k) below = absurd (omega arith)
 at_most (negsuc a) (pos b) (suc k) below = inr (omega (arith, ints))
 at_most (negsuc a) (negsuc b) (suc k) below = inr (omega (arith, ints))
 
--- the window has each moment of the days
+-- each time of the days is between the two times
 abbrev pub Holds : Span → ℕ → ℕ → Type 0
 Holds range from to = (zone : TimeZone) (t k : ℕ) → t ≤ greatest_moment → k < day_count range
     → local_day_of zone t ≡ range.first +ℤ pos k → (from ≤ t) × (t ≤ to)
@@ -179,7 +179,7 @@ module _ (zone : TimeZone) (range : Span) (from to : ℕ) (holds : Holds range f
   taken H legal sales refunds sold refunded = alike range (takings_on (paid_days zone sales) (paid_days zone refunds)) (takings_of zone H) 0 (day_count range)
       (λ k below. one_day H legal sales refunds sold refunded k (omega (arith, below)))
 
--- the answer over what was read
+-- the result from the payments that were read
 pub added_up : (zone : TimeZone) (range : Span) (from to : ℕ) → Holds range from to → (sales refunds : List (ℕ × ℕ)) (sold refunded : List Pair)
     → sold ≡ paid_days zone sales → refunded ≡ paid_days zone refunds → (H : History) → IsLegal H → AreSales H from to sales → AreRefunds H from to refunds
     → map (takings_on sold refunded) (days_of range) ≡ takings_over zone H range
@@ -188,7 +188,7 @@ added_up zone range from to holds sales refunds sold refunded one two H legal so
     ∙ ap (λ (ps : List Pair). map (takings_on (paid_days zone sales) ps) (days_of range)) two
     ∙ taken zone range from to holds H legal sales refunds some others
 
--- an answer over them, where they are those of the ledger
+-- the result, if the payments are those of the ledger
 adds_so : {V : Type 0} (result : Result V Refusal) (items : V → List DayTakings) (zone : TimeZone) (range : Span) (L : Ledger) (days : List DayTakings)
     → IfOk result (λ v. items v ≡ days) → IfErr result (λ r. r ≡ NoMemory) → days ≡ takings_over zone (history_of L) range
     → Returns result (λ v H. items v ≡ takings_over zone H range) (running L) (running L)

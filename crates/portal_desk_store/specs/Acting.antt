@@ -1,4 +1,4 @@
--- What a command comes to that is carried out in one call.
+-- The result of a command that is prepared and committed in one call.
 use Rattle.std.specs.Prelude.{◌≡◌, ◌⊎◌, ◌∷◌, ℕ, Option, Some, None, Ok, Result, MatchResult}
 use Rattle.portal_model.specs.declared.command.Command.{Command}
 use Rattle.portal_model.specs.declared.change.Answer.{Answer}
@@ -9,12 +9,12 @@ use Rattle.portal_ledger.specs.Ledger.{Accepted, Ledger, history_of, answer_in, 
 use Rattle.portal_ledger.specs.States.{State, running, stopped}
 use Rattle.portal_desk.specs.Calls.{IsRefused}
 
--- a new command that the ledger accepts, and what its caller is told
+-- a new command that the ledger accepts, and its answer
 abbrev pub IsNewCommand : Ledger → Accepted → Answer → Type 0
 IsNewCommand L a answer =
     (repeat_in L a.mark ≡ Ok None) × MayFollow L a × (answer_in (history_of L) a ≡ Some answer)
 
--- Answered: the command is kept; or it was kept before under its mark, which changes nothing.
+-- An answer: the command is committed, or it is a repetition, which changes nothing.
 abbrev pub Executes : State → Command → ℕ → Option Fingerprint → Answer → State → Type 0
 Executes (running L) command moment mark answer new =
     let a = accepted_at L moment command mark in
@@ -22,7 +22,7 @@ Executes (running L) command moment mark answer new =
     ⊎ ((repeat_in L mark ≡ Ok (Some answer)) × (new ≡ running L))
 Executes (stopped L doubt) command moment mark answer new = ⊥
 
--- Refused: nothing is changed. After `stopped` the ledger is as it was, or it is in doubt whether it has the command.
+-- An error: nothing is changed. After `Stopped` the ledger is unchanged, or the command is in doubt.
 abbrev pub FailsToExecute : State → Command → ℕ → Option Fingerprint → Refusal → State → Type 0
 FailsToExecute (running L) command moment mark r new =
     let a = accepted_at L moment command mark in
@@ -30,7 +30,7 @@ FailsToExecute (running L) command moment mark r new =
     ⊎ ((r ≡ Stopped) × ((new ≡ stopped L None) ⊎ (MayFollow L a × (new ≡ stopped L (Some a)))))
 FailsToExecute (stopped L doubt) command moment mark r new = (r ≡ Stopped) × (new ≡ stopped L doubt)
 
--- a command that is carried out
+-- the result of a command, with the states before and after it
 abbrev pub EndsExecution : Result Answer Refusal → Command → ℕ → Option Fingerprint → State → State → Type 0
 EndsExecution result command moment mark old new =
     MatchResult result (λ answer. Executes old command moment mark answer new) (λ r. FailsToExecute old command moment mark r new)

@@ -1,4 +1,5 @@
--- How a desk over a store stands, and what a stop may leave of it. The layers above cite these words and none of SQL.
+-- The state that a desk over a database represents, and its crash states. The layers above use these words
+-- and none of SQL.
 use Rattle.std.specs.Prelude.{Bool, Result}
 use Rattle.sqlite_trees.specs.declared.store.Store.{Ghosts}
 use Rattle.portal_files.specs.SettingsFile.{SettingsValue}
@@ -10,19 +11,19 @@ use Rattle.portal_desk_store.specs.declared.desks.StoreDesk.{StoreDesk}
 use Rattle.portal_desk_store.specs.KeepsOpenSessions.{KeepsOpenSessions}
 
 module _ {S : Type 0} (g : Ghosts S) where
-  -- the desk stands so: as its tables do, and it keeps what is open there
+  -- the desk represents the state: its tables do, and the kept open sessions are those of the ledger
   abbrev pub DeskRepresents : StoreDesk S → State → Type 0
   DeskRepresents desk s = TablesRepresent g desk.tables s × KeepsOpenSessions desk.open s
 
-  -- the disk has returned what was written
+  -- the disk has returned what was written to it
   abbrev pub DeskIsFaultFree : StoreDesk S → Type 0
   DeskIsFaultFree desk = IsFaultFree g desk.tables
 
-  -- a stop at this moment may leave these files
+  -- the files are a crash state of the desk
   abbrev pub IsCrashStateOfDesk : StoreDesk S → Files → Type 0
   IsCrashStateOfDesk desk files = IsCrashState g desk.tables files
 
--- the settings that it was made with
+-- the settings of the desk
 abbrev pub settings_of : {S : Type 0} → StoreDesk S → SettingsValue
 settings_of desk = desk.settings
 
@@ -32,4 +33,5 @@ stop_flag desk = desk.tables.is_stopped
 
 -- a call of the desk
 abbrev pub MovesDesk : {S A : Type 0} → Ghosts S → StoreDesk S → StoreDesk S → Result A Refusal → (State → State → Type 0) → Type 0
-MovesDesk g old new result Step = Moves settings_of (DeskIsFaultFree g) stop_flag (DeskRepresents g) old new result Step
+MovesDesk g old new result Step =
+    Moves settings_of (DeskIsFaultFree g) stop_flag (DeskRepresents g) old new result Step

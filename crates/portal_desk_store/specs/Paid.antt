@@ -1,4 +1,4 @@
--- Payments with their civil days, and the moments among which those of some days lie.
+-- Payments with their civil days.
 use Rattle.std.specs.Prelude.{ℕ, ℤ, List, map}
 use Rattle.jiff_tz.specs.declared.timezone.TimeZone.{TimeZone}
 use Rattle.portal_files.specs.LocalDay.{local_day_of}

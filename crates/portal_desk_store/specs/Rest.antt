@@ -1,7 +1,7 @@
--- What a call over the tables leaves of a desk.
+-- What a call on the tables leaves unchanged in a desk.
 use Rattle.std.specs.Prelude.{◌≡◌}
 use Rattle.portal_desk_store.specs.declared.desks.StoreDesk.{StoreDesk}
 
--- all but the tables is as it was
+-- all but the tables is unchanged
 abbrev pub KeepsRest : {S : Type 0} → StoreDesk S → StoreDesk S → Type 0
 KeepsRest old new = (new.settings ≡ old.settings) × (new.open ≡ old.open)

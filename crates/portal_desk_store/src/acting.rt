@@ -1,4 +1,4 @@
-//! A command, carried out in one call.
+//! A command, prepared and committed in one call.
 ghost use Rattle.std.specs.Prelude.{◌≡◌, Some, None, MatchResult};
 ghost use Rattle.portal_model.specs.Change.{answer_of};
 ghost use Rattle.portal_model.specs.Verdict.{IsWellFormed};
@@ -7,7 +7,13 @@ ghost use Rattle.portal_ledger.specs.Ledger.{Accepted};
 ghost use Rattle.portal_ledger.specs.States.{State};
 ghost use Rattle.portal_desk.specs.Calls.{CannotKeep, KeepsStop};
 ghost use Rattle.portal_desk_store.specs.Acting.{EndsExecution};
-ghost use Rattle.portal_desk_store.specs.DeskRepresents.{DeskRepresents, DeskIsFaultFree, MovesDesk, settings_of, stop_flag};
+ghost use Rattle.portal_desk_store.specs.DeskRepresents.{
+  DeskRepresents,
+  DeskIsFaultFree,
+  MovesDesk,
+  settings_of,
+  stop_flag,
+};
 
 use crate::desks::StoreDesk;
 use portal_desk::Desk;
@@ -21,11 +27,10 @@ use sqlite::Alter;
 use std::alloc::Global;
 
 impl<S: Alter> StoreDesk<S> {
-    /// Carries out the command of a request without a number: prepares it and keeps it. Answers what its
-    /// caller is told.
+    /// Carries out a command without an idempotency key: prepares it, commits it, and returns its answer.
     ///
-    /// Refusals: those of `prepare` and of `finish`. After `Stopped` the files may hold the command or not;
-    /// after any other refusal nothing has changed.
+    /// Errors: those of `prepare` and of `finish`. After `Stopped` the command may or may not be in the
+    /// database; after any other error nothing has changed.
     pub fn act(
         &mut self,
         alloc: Global,
@@ -39,10 +44,10 @@ impl<S: Alter> StoreDesk<S> {
         self.finish_with_answer(prepared)
     }
 
-    /// The same for a request that acts once: where it was carried out before, it is answered as then, and
-    /// changes nothing.
+    /// Executes and commits a command under the idempotency key in `mark`. A repetition gets the first answer,
+    /// and changes nothing.
     ///
-    /// Refusals: `IdReused` where its number was used for another request, then those of `act`.
+    /// Errors: `IdReused` if its idempotency key was used for another request, then those of `act`.
     pub fn act_marked(
         &mut self,
         alloc: Global,
@@ -51,7 +56,8 @@ impl<S: Alter> StoreDesk<S> {
         mark: &RequestMark,
     ) -> Result<Answer, Refusal>
         requires { IsWellFormed command }
-        ensures { MovesDesk S.Store self.old self.new result (EndsExecution result command moment (Some mark.now)) }
+        ensures { MovesDesk S.Store self.old self.new result
+            (EndsExecution result command moment (Some mark.now)) }
     {
         match self.prepare_marked(alloc, moment, command, mark)? {
             Marked::Fresh(fresh) => self.finish_with_answer(fresh),
@@ -59,9 +65,9 @@ impl<S: Alter> StoreDesk<S> {
         }
     }
 
-    /// Keeps what was prepared. Answers what its caller is told.
+    /// Commits prepared changes, and returns the answer to their command.
     ///
-    /// Refusals: those of `finish`.
+    /// Errors: those of `finish`.
     fn finish_with_answer(&mut self, prepared: Prepared) -> Result<Answer, Refusal>
         ensures same_settings { settings_of self.new ≡ settings_of self.old }
         ensures fault_free { DeskIsFaultFree S.Store self.new → DeskIsFaultFree S.Store self.old }

@@ -1,6 +1,12 @@
-//! The desk.
+//! The desk over a database.
 ghost use Rattle.std.specs.Prelude.{◌≡◌};
-ghost use Rattle.portal_tables.specs.TablesRepresent.{Files, FilesHold, IsFaultFree, IsCrashState, TablesRepresent};
+ghost use Rattle.portal_tables.specs.TablesRepresent.{
+  Files,
+  FilesHold,
+  IsFaultFree,
+  IsCrashState,
+  TablesRepresent,
+};
 ghost use Rattle.portal_desk_store.specs.Counters.{CountersAre};
 ghost use Rattle.portal_desk_store.specs.Laws.{crash_state_is_allowed, found_is_sound};
 ghost use Rattle.portal_desk_store.specs.KeepsOpenSessions.{KeepsOpenSessions};
@@ -27,9 +33,11 @@ use portal_tables::tables::Tables;
 use sqlite::Alter;
 use std::alloc::Global;
 
-/// A desk over the tables of a store. Of its own it keeps the settings, and the sessions that are open at the
-/// last moment, so that their list reads no table. It finds these by the tables when they are first listed,
-/// and again where there was no room to follow them.
+/// A desk over the tables of a database.
+///
+/// Beside the tables it keeps the settings, and the sessions that are open at the time of the last command,
+/// so that listing them reads no table. It reads these from the tables when they are first listed, and
+/// again after it ran out of memory while updating them.
 pub struct StoreDesk<S: Alter> {
     pub(crate) tables: Tables<S>,
     pub(crate) settings: Settings,
@@ -77,7 +85,7 @@ impl<S: Alter> Desk for StoreDesk<S> {
 
     fn batch(&mut self, alloc: Global, id: &Id) -> Result<BatchSheet, Refusal> {
         let batch = self.find_batch(id)?.ok_or(Refusal::UnknownBatch)?;
-        // the plan of a batch is always there
+        // The plan of a batch always exists.
         let plan = self.find_plan(&batch.plan)?.ok_or(Refusal::UnknownBatch)?;
         let codes = self.find_codes(alloc, id)?;
         let codes = Codes::from_slice(alloc, codes.as_slice())?;

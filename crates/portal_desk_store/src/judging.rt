@@ -1,7 +1,16 @@
-//! Each command, judged over the records that it needs.
+//! Deciding on each command, over the records that it needs. Besides the error of the verdict, each call
+//! may fail with `NoMemory` or `Stopped` while reading.
 ghost use Rattle.std.specs.Prelude.{◌≡◌, ◌++◌, IfOk, IfErr};
 ghost use Rattle.std.specs.Option.{option_to_list};
-ghost use Rattle.portal_model.specs.declared.command.Command.TheVariants.{Load, Issue, Sell, Redeem, Report, Refund, Close};
+ghost use Rattle.portal_model.specs.declared.command.Command.TheVariants.{
+  Load,
+  Issue,
+  Sell,
+  Redeem,
+  Report,
+  Refund,
+  Close,
+};
 ghost use Rattle.portal_model.specs.History.{head_of};
 ghost use Rattle.portal_model.specs.Rows.{plans_of};
 ghost use Rattle.portal_model.specs.Verdict.{any_held, IsWellFormed};
@@ -28,7 +37,9 @@ use portal_model::refusal::Refusal;
 use sqlite::Alter;
 use std::alloc::Global;
 
-/// Adds the plan, where one was found.
+/// Adds a plan to the list, if one was found.
+///
+/// Error: `NoMemory` when out of memory.
 fn add_plan_if_found(held: &mut Vec<Plan>, found: Option<Plan>) -> Result<(), Refusal>
     ensures ok { IfOk result (λ _. held.new.items ≡ held.old.items ++ option_to_list found) }
     ensures err { IfErr result (λ r. r ≡ Refusal.NoMemory) }
@@ -40,7 +51,10 @@ fn add_plan_if_found(held: &mut Vec<Plan>, found: Option<Plan>) -> Result<(), Re
 }
 
 impl<S: Alter> StoreDesk<S> {
-    /// A command, judged where that is the moment handed in. The head is read once.
+    /// Decides on a command at a time: reads the head row and the records that the command needs, and
+    /// returns the changes.
+    ///
+    /// Errors: `NoMemory`, `Stopped`; else the verdict on the command.
     pub(crate) fn decide(
         &mut self,
         alloc: Global,
@@ -56,7 +70,7 @@ impl<S: Alter> StoreDesk<S> {
         self.judge_by_head(alloc, &head, command, effective(moment, head.last))
     }
 
-    /// A command, by the head that was read for it.
+    /// Decides on a command at `t`, by the head row and the records that it reads.
     fn judge_by_head(
         &mut self,
         alloc: Global,
@@ -80,6 +94,7 @@ impl<S: Alter> StoreDesk<S> {
         }
     }
 
+    /// Reads the voucher, and decides on selling it.
     fn judge_sell(&mut self, code: &Code, t: Moment) -> Result<Changes, Refusal>
         ensures { MovesFromLedger S.Store self.old self.new result
             (λ L new. Judges result (Sell code.now) t L new) }
@@ -88,6 +103,7 @@ impl<S: Alter> StoreDesk<S> {
         decide_sell(found, t)
     }
 
+    /// Reads the session, and decides on a report for it.
     fn judge_report(&mut self, session: u64, bytes: u64, t: Moment) -> Result<Changes, Refusal>
         ensures { MovesFromLedger S.Store self.old self.new result
             (λ L new. Judges result (Report session bytes) t L new) }
@@ -96,6 +112,7 @@ impl<S: Alter> StoreDesk<S> {
         decide_report(found, bytes, t)
     }
 
+    /// Reads the voucher, and decides on refunding it.
     fn judge_refund(&mut self, code: &Code, t: Moment) -> Result<Changes, Refusal>
         ensures { MovesFromLedger S.Store self.old self.new result
             (λ L new. Judges result (Refund code.now) t L new) }
@@ -104,6 +121,7 @@ impl<S: Alter> StoreDesk<S> {
         decide_refund(found, t)
     }
 
+    /// Reads the session, and decides on closing it.
     fn judge_close(&mut self, session: u64, t: Moment) -> Result<Changes, Refusal>
         ensures { MovesFromLedger S.Store self.old self.new result
             (λ L new. Judges result (Close session) t L new) }
@@ -112,6 +130,7 @@ impl<S: Alter> StoreDesk<S> {
         decide_close(found, t)
     }
 
+    /// Reads the voucher and the device's last session, and decides on redeeming the voucher.
     fn judge_redeem(
         &mut self,
         head: &Head,
@@ -128,6 +147,7 @@ impl<S: Alter> StoreDesk<S> {
         decide_redeem(head, voucher, last, *device, t)
     }
 
+    /// Reads the loaded plans with the listed ids, and decides on loading the list.
     fn judge_load(&mut self, alloc: Global, plans: &[Plan], t: Moment) -> Result<Changes, Refusal>
         ensures { MovesFromLedger S.Store self.old self.new result
             (λ L new. Judges result (Load plans.now) t L new) }
@@ -137,6 +157,7 @@ impl<S: Alter> StoreDesk<S> {
         decide_plans(alloc, held.as_slice(), plans, t)
     }
 
+    /// Reads the plan, the batch and the codes, and decides on issuing the batch.
     fn judge_issue(
         &mut self,
         alloc: Global,
@@ -154,7 +175,7 @@ impl<S: Alter> StoreDesk<S> {
         decide_issue(alloc, found, held, taken, *batch, codes, t)
     }
 
-    /// Adds the plans that are held of the listed ids.
+    /// Adds the loaded plans with the listed ids to the list `held`.
     fn add_held_plans(&mut self, listed: &[Plan], held: &mut Vec<Plan>) -> Result<(), Refusal>
         ensures { MovesFromLedger S.Store self.old self.new result (λ L new. Returns result
             (λ _ H. held.new.items ≡ held.old.items ++ held_among (plans_of H) listed.now) (running L) new) }
@@ -166,7 +187,7 @@ impl<S: Alter> StoreDesk<S> {
         Ok(())
     }
 
-    /// Whether one of the codes was issued.
+    /// Returns whether one of the codes was issued.
     fn is_any_code_held(&mut self, codes: &[Code]) -> Result<bool, Refusal>
         ensures { MovesFromLedger S.Store self.old self.new result (λ L new. Returns result
             (λ taken H. taken ≡ any_held H codes.now) (running L) new) }

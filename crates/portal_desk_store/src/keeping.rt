@@ -1,4 +1,4 @@
-//! The sessions that the desk keeps: those that are open at the last moment.
+//! The list of open sessions that the desk keeps between commands.
 ghost use Rattle.std.specs.Prelude.{◌≡◌, ◌∷◌, ℕ, IfSome, Some};
 ghost use Rattle.portal_model.specs.declared.command.Command.{Command};
 ghost use Rattle.portal_model.specs.Change.{changes_of};
@@ -18,7 +18,7 @@ use sqlite::Alter;
 use std::alloc::Global;
 
 impl<S: Alter> StoreDesk<S> {
-    /// The sessions that are open at the last moment, by the tables.
+    /// Reads the sessions that are open at the time of the last command from the tables.
     fn find_sessions_open_at_last(&mut self, alloc: Global) -> Result<OpenSessions, Refusal>
         ensures { Reads S.Store self.old self.new result (λ list H. list ≡ open_at_last H) }
     {
@@ -27,8 +27,9 @@ impl<S: Alter> StoreDesk<S> {
         Ok(OpenSessions::new(head.last, sessions))
     }
 
-    /// The sessions that are open at the last moment: those that are kept, and are then kept no longer, or
-    /// else by the tables. A desk that stopped has none.
+    /// Takes the kept list of open sessions out of the desk, or reads it from the tables if none is kept.
+    ///
+    /// Errors: `Stopped` if the desk has stopped; else those of reading.
     pub(crate) fn take_open_sessions(&mut self, alloc: Global) -> Result<OpenSessions, Refusal>
         ensures { MovesDesk S.Store self.old self.new result
             (Returns result (λ list H. list ≡ open_at_last H)) }
@@ -43,8 +44,8 @@ impl<S: Alter> StoreDesk<S> {
     }
 }
 
-/// What is kept after an accepted command, by what it changes: nothing where nothing was kept, or where there
-/// is no room.
+/// Updates the kept list of open sessions after an accepted command, from its changes. Returns `None` if
+/// none was kept, or when out of memory.
 pub(crate) fn update_open_sessions(
     kept: Option<OpenSessions>,
     changes: &Changes,

@@ -1,4 +1,4 @@
-//! A desk over the tables of a store. It knows neither HTTP nor SQL.
+//! A desk over a database. It knows neither HTTP nor SQL.
 #![tactic(auto)]
 
 mod acting;

@@ -1,4 +1,4 @@
-//! The lists of the tables, in the words of a desk.
+//! Reading lists from the tables, with the errors of a desk: `NoMemory` and `Stopped`.
 ghost use Rattle.std.specs.Prelude.{◌≡◌, ◌++◌, ◌≤◌, true, IfOk, filter, map};
 ghost use Rattle.portal_model.specs.Captive.{all_sessions};
 ghost use Rattle.portal_model.specs.History.{codes_of, is_open_at};
@@ -20,18 +20,18 @@ use portal_model::refusal::Refusal;
 use sqlite::Alter;
 use std::alloc::{AllocError, Global};
 
-/// A payment of the tables: its moment, and its amount in hundredths.
+/// A payment: its time, and its amount in hundredths.
 pub(crate) type Paid = (Moment, u64);
 
 impl<S: Alter> StoreDesk<S> {
-    /// The codes of the batch, by place.
+    /// Reads the codes of a batch, in order of issue.
     pub(crate) fn find_codes(&mut self, alloc: Global, id: &Id) -> Result<Vec<Code>, Refusal>
         ensures { Reads S.Store self.old self.new result (λ found H. found.items ≡ codes_of H id.now) }
     {
         self.tables.batch_rows(alloc, id).map_err(refusal_of_fault)
     }
 
-    /// The sessions that are open at `t`, by number.
+    /// Reads the sessions that are open at `t`, by their numbers.
     pub(crate) fn find_open_sessions(
         &mut self,
         alloc: Global,
@@ -45,7 +45,7 @@ impl<S: Alter> StoreDesk<S> {
             .map_err(refusal_of_fault)
     }
 
-    /// The sales within the two moments, both included, in the order in which their vouchers were issued.
+    /// Reads the sales between two times, both included, in the order in which their vouchers were issued.
     pub(crate) fn find_sales(
         &mut self,
         alloc: Global,
@@ -59,7 +59,7 @@ impl<S: Alter> StoreDesk<S> {
             .map_err(refusal_of_fault)
     }
 
-    /// The refunds within the two moments, both included.
+    /// Reads the refunds between two times, both included.
     pub(crate) fn find_refunds(
         &mut self,
         alloc: Global,
@@ -73,16 +73,19 @@ impl<S: Alter> StoreDesk<S> {
             .map_err(refusal_of_fault)
     }
 
-    /// Whether the counters agree with what they count, exactly.
+    /// Audits the tables: returns whether the counters agree exactly with the rows that they count.
     pub(crate) fn check_counters(&mut self) -> Result<bool, Refusal>
         ensures reads { Reads S.Store self.old self.new result (λ agrees H. agrees ≡ true) }
-        ensures exact { IsFaultFree S.Store self.new.tables → IfOk result (CountersAre S.Store self.old.tables) }
+        ensures exact { IsFaultFree S.Store self.new.tables
+            → IfOk result (CountersAre S.Store self.old.tables) }
     {
         self.tables.audit().map_err(refusal_of_fault)
     }
 }
 
-/// The payments with their civil days in the settings' zone. Only want of memory is an error.
+/// Pairs each payment's amount with its civil day in the settings' time zone.
+///
+/// Error: `AllocError` when out of memory.
 pub(crate) fn payments_with_days(
     alloc: Global,
     settings: &Settings,

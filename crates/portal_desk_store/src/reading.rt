@@ -1,6 +1,14 @@
-//! The records of the tables, in the words of a desk.
+//! Reading records from the tables, with the errors of a desk: `NoMemory` and `Stopped`.
 ghost use Rattle.std.specs.Prelude.{◌≡◌, ◌⊎◌, Ok, Err, Some, is_some, MatchResult};
-ghost use Rattle.portal_model.specs.History.{head_of, plan_of, batch_of, issued_of, voucher_of, session_of, last_session_of};
+ghost use Rattle.portal_model.specs.History.{
+  head_of,
+  plan_of,
+  batch_of,
+  issued_of,
+  voucher_of,
+  session_of,
+  last_session_of,
+};
 ghost use Rattle.portal_ledger.specs.Ledger.{repeat_in};
 ghost use Rattle.portal_ledger.specs.Calls.{ReadsOf};
 ghost use Rattle.portal_desk.specs.Calls.{CannotAnswer};
@@ -20,7 +28,7 @@ use portal_tables::errors::StoreFault;
 use sqlite::Alter;
 use std::alloc::Global;
 
-/// What a fault of the tables is called.
+/// Converts an error of the tables into an error of the desk: `NoMemory` or `Stopped`.
 pub(crate) fn refusal_of_fault(fault: StoreFault) -> Refusal
     ensures memory { fault ≡ Memory → result ≡ Refusal.NoMemory }
     ensures stopped { fault ≡ Stopped → result ≡ Refusal.Stopped }
@@ -32,58 +40,59 @@ pub(crate) fn refusal_of_fault(fault: StoreFault) -> Refusal
 }
 
 impl<S: Alter> StoreDesk<S> {
-    /// The head.
+    /// Reads the head row.
     pub(crate) fn find_head(&mut self) -> Result<Head, Refusal>
         ensures { Reads S.Store self.old self.new result (λ found H. found ≡ head_of H) }
     {
         self.tables.head().map_err(refusal_of_fault)
     }
 
-    /// The plan of the id.
+    /// Reads the plan with that id, if there is one.
     pub(crate) fn find_plan(&mut self, id: &Id) -> Result<Option<Plan>, Refusal>
         ensures { Reads S.Store self.old self.new result (λ found H. found ≡ plan_of H id.now) }
     {
         self.tables.plan(id).map_err(refusal_of_fault)
     }
 
-    /// The batch of the id.
+    /// Reads the batch with that id, if there is one.
     pub(crate) fn find_batch(&mut self, id: &Id) -> Result<Option<Batch>, Refusal>
         ensures { Reads S.Store self.old self.new result (λ found H. found ≡ batch_of H id.now) }
     {
         self.tables.batch(id).map_err(refusal_of_fault)
     }
 
-    /// The voucher of the code.
+    /// Reads the voucher of that code, if there is one.
     pub(crate) fn find_voucher(&mut self, code: &Code) -> Result<Option<Voucher>, Refusal>
         ensures { Reads S.Store self.old self.new result (λ found H. found ≡ voucher_of H code.now) }
     {
         self.tables.voucher(code).map_err(refusal_of_fault)
     }
 
-    /// Whether a voucher of the code was issued.
+    /// Returns whether the code was issued.
     pub(crate) fn is_held(&mut self, code: &Code) -> Result<bool, Refusal>
         ensures { Reads S.Store self.old self.new result (λ held H. held ≡ is_some (issued_of H code.now)) }
     {
         self.tables.is_held(code).map_err(refusal_of_fault)
     }
 
-    /// The session of the number.
+    /// Reads the session with that number, if there is one.
     pub(crate) fn find_session(&mut self, number: u64) -> Result<Option<Session>, Refusal>
         ensures { Reads S.Store self.old self.new result (λ found H. found ≡ session_of H number) }
     {
         self.tables.session(number).map_err(refusal_of_fault)
     }
 
-    /// The last session of the device.
+    /// Reads the last session of the device, if it had one.
     pub(crate) fn find_last_session(&mut self, device: &Device) -> Result<Option<Session>, Refusal>
         ensures { Reads S.Store self.old self.new result (λ found H. found ≡ last_session_of H device.now) }
     {
         self.tables.last_session(device).map_err(refusal_of_fault)
     }
 
-    /// The answer that is kept for the request, where it was carried out before.
+    /// Returns the kept answer if the request is a repetition, and `None` if no request with its key is
+    /// kept.
     ///
-    /// Refused: `IdReused` where its number was used for another request.
+    /// Errors: `NoMemory`, `Stopped`; `IdReused` if its idempotency key was used for another request.
     pub(crate) fn find_repeat(
         &mut self,
         alloc: Global,

@@ -1,4 +1,4 @@
-//! The takings of days, over the payments of the tables.
+//! The takings of days, from the payments in the tables.
 ghost use Rattle.std.specs.Prelude.{◌≡◌, ◌<◌, ◌≤◌, ℕ, ◌+ℤ◌, ◌≤ℤ◌, IfErr, IfOk, map, pos};
 ghost use Rattle.jiff_tz.specs.declared.timezone.TimeZone.{TimeZone as Zone};
 ghost use Rattle.portal_days.specs.Span.{day_count, days_of};
@@ -19,11 +19,13 @@ use portal_model::refusal::Refusal;
 use sqlite::Alter;
 use std::alloc::Global;
 
+/// The seconds of a day.
 const SECONDS_PER_DAY: i64 = 86_400;
 
+/// The last second of the year 9998.
 const GREATEST: i64 = 253_370_764_799;
 
-/// The moment of the second, or the nearest that there is.
+/// Returns the time of that second since 1970, or the nearest time within the limits.
 fn nearest_moment(second: i64) -> Moment
     ensures early { (t : ℕ) → second ≤ℤ pos t → result ≤ t }
     ensures late { (t : ℕ) → t ≤ greatest_moment → pos t ≤ℤ second → t ≤ result }
@@ -38,21 +40,22 @@ fn nearest_moment(second: i64) -> Moment
     Moment::new(seconds).unwrap()
 }
 
-/// A moment before which no clock shows the day, nor one after it. A zone's clock is less than two days off.
+/// Returns a time before which the civil day, in any time zone, is earlier than this day. Local time
+/// differs from UTC by less than two days.
 fn earliest_moment(day: Day) -> Moment
     ensures { (zone : Zone) (t : ℕ) → day ≤ℤ local_day_of zone t → result ≤ t }
 {
     nearest_moment((i64::from(day.get()) - 2) * SECONDS_PER_DAY)
 }
 
-/// A moment after which no clock shows the day, nor one before it.
+/// Returns a time after which the civil day, in any time zone, is later than this day.
 fn latest_moment(day: Day) -> Moment
     ensures { (zone : Zone) (t : ℕ) → t ≤ greatest_moment → local_day_of zone t ≤ℤ day → t ≤ result }
 {
     nearest_moment((i64::from(day.get()) + 3) * SECONDS_PER_DAY)
 }
 
-/// Two moments among which each moment lies at which a clock shows a day of the range.
+/// Returns two times between which lies every time whose civil day, in any time zone, is in the range.
 fn moments_of_range(range: DayRange) -> (Moment, Moment)
     ensures { (zone : Zone) (t k : ℕ) → t ≤ greatest_moment → k < day_count range
         → local_day_of zone t ≡ range.first +ℤ pos k → (result.0 ≤ t) × (t ≤ result.1) }
@@ -64,8 +67,10 @@ fn moments_of_range(range: DayRange) -> (Moment, Moment)
     )
 }
 
-/// The takings of each day of the range, in order, from payments that each have a moment and an amount in
-/// hundredths. Only a lack of memory is refused: `NoMemory`.
+/// Computes the takings of each day of the range, in order, from payments with their times and amounts in
+/// hundredths.
+///
+/// Error: `NoMemory` when out of memory.
 fn add_payments(
     alloc: Global,
     settings: &Settings,
@@ -84,8 +89,10 @@ fn add_payments(
 }
 
 impl<S: Alter> StoreDesk<S> {
-    /// The takings of each day of the range, in order, by the civil days of the settings' zone. Payments that
-    /// no clock can show on these days are not read.
+    /// Reads the payments around the range, and computes the takings of each of its days, in order, by the
+    /// civil days of the settings' time zone.
+    ///
+    /// Errors: `NoMemory`, `Stopped`.
     pub(crate) fn sum_takings(
         &mut self,
         alloc: Global,

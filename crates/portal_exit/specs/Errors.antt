@@ -1,4 +1,4 @@
--- What the program says, and the status with which it ends, when it cannot do what it was asked.
+-- The line and the exit code of each error of the program.
 use Rattle.std.specs.Prelude.{ℕ, List, ◌++◌, codes}
 use Rattle.portal_model.specs.Refusal.{word_of as word_of_refusal}
 use Rattle.portal_exit.specs.declared.error.ProgramError.{ProgramError}
@@ -6,7 +6,7 @@ use Rattle.portal_exit.specs.declared.error.ProgramError.TheVariants.{Usage, Set
 use Rattle.portal_model.specs.declared.refusal.Refusal.{Refusal}
 use Rattle.portal_model.specs.declared.refusal.Refusal.TheVariants.{Stopped}
 
--- the word after `portal: `
+-- The word after `portal: `.
 abbrev pub error_word_of : ProgramError → List ℕ
 error_word_of Usage = codes "usage"
 error_word_of Settings = codes "settings"
@@ -18,20 +18,20 @@ error_word_of Cut = codes "cut"
 error_word_of NoMemory = codes "no_memory"
 error_word_of (Refused refusal) = word_of_refusal refusal
 
--- the line with a word
+-- The line with a word.
 abbrev pub line_with : List ℕ → List ℕ
 line_with word = codes "portal: " ++ (word ++ codes "\n")
 
--- the line that is printed
+-- The line of an error.
 abbrev pub line_of : ProgramError → List ℕ
 line_of error = line_with (error_word_of error)
 
--- a refusal ends the program with 1, that of a desk that has stopped with 3
+-- A refusal ends the program with exit code 1; that of a desk that has stopped with 3.
 abbrev pub status_of_refusal : Refusal → ℕ
 status_of_refusal Stopped = 3
 status_of_refusal _ = 1
 
--- 2 for what the user wrote, 1 for what the desk refused, 3 for what the program met
+-- 2 for an invalid command line, 1 for a refusal of the desk, 3 for each other error.
 abbrev pub exit_code_of : ProgramError → ℕ
 exit_code_of Usage = 2
 exit_code_of (Refused refusal) = status_of_refusal refusal

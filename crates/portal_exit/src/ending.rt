@@ -1,4 +1,4 @@
-//! The end of a command: what it tells, or its fault, is printed, and the status follows.
+//! The end of a subcommand: its output or its error is printed, and the exit code follows.
 ghost use Rattle.portal_exit.specs.Ends.{EndsPrinting, EndsWith};
 ghost use Rattle.portal_exit.specs.Streams.{outlets};
 
@@ -6,19 +6,19 @@ use crate::error::ProgramError;
 use crate::printing::print_text;
 use std::io::Write;
 
-/// What a command tells that was carried out.
+/// The output of a subcommand that was carried out.
 #[derive(Debug, Drop)]
 pub enum Output {
-    /// A text, as it is printed.
+    /// A text, printed as it is.
     Text(Vec<u8>),
-    /// The counters of the file are what its rows add up to.
+    /// The counters of the database agree with its rows: `ok`.
     Agrees,
-    /// They are not.
+    /// The counters of the database do not agree with its rows: `differs`.
     Differs,
 }
 
-/// Prints a text on `output` and gives `good`; where it goes out in part alone, prints `portal: cut` on
-/// `errors` and gives 3.
+/// Prints a text on `output` and returns the exit code `good`. If not all of it can be written, prints the
+/// line `portal: cut` on `errors` and returns 3.
 pub fn print_for_exit_code<W: Write, E: Write>(
     text: &[u8],
     good: u8,
@@ -34,9 +34,9 @@ pub fn print_for_exit_code<W: Write, E: Write>(
     }
 }
 
-/// Prints what a command told on `output`, or its fault on `errors`, and gives the status with which the
-/// program ends: 0 for a text and where the counters agree, 1 where they differ, and at a fault the fault's
-/// own.
+/// Prints the output of a subcommand on `output`, or the line of its error on `errors`, and returns the exit
+/// code: 0 for a text and for counters that agree, 1 for counters that differ, and after an error the exit
+/// code of the error.
 pub fn print_result<W: Write, E: Write>(
     outcome: &Result<Output, ProgramError>,
     output: &mut W,

@@ -1,4 +1,4 @@
-//! What the program says when it cannot do what it was asked.
+//! The errors of the program, with their words and exit codes.
 ghost use Rattle.std.specs.Prelude.{◌≡◌};
 ghost use Rattle.portal_exit.specs.declared.error.ProgramError.TheVariants.{NoMemory};
 ghost use Rattle.portal_exit.specs.Errors.{line_of, line_with, exit_code_of, error_word_of};
@@ -9,31 +9,32 @@ use portal_model::refusal::Refusal;
 use std::alloc::AllocError;
 use std::io::Write;
 
-/// Why the program ends without having done what it was asked.
+/// Why the program did not do what it was asked to do.
 #[derive(Clone, Copy, Debug, PartialEq, Eq)]
 pub enum ProgramError {
     /// A value on the command line is out of its range.
     Usage,
-    /// The settings file is none.
+    /// The settings file is invalid.
     Settings,
-    /// Tables of another program stand under the desk's names.
+    /// The database holds tables of another program with the names of ours.
     NotOurs,
-    /// The file was written by a later version.
+    /// A later version of the program wrote the database.
     Newer,
-    /// A file cannot be read or opened, or its store failed.
+    /// A file cannot be read or opened, or the disk, the clock or the random numbers of the machine failed.
     File,
-    /// The port cannot be had, or a connection could not be accepted.
+    /// The port cannot be bound, or a connection cannot be accepted.
     Network,
     /// The input or the output broke off.
     Cut,
-    /// There was no memory to begin.
+    /// Out of memory in the program, outside of a command of the desk.
     NoMemory,
-    /// The desk refused the command itself.
+    /// The desk refused the command.
     Refused(Refusal),
 }
 
 impl ProgramError {
-    /// The word that names the fault; a refusal's is its own.
+    /// Returns the word of the error, which is printed after `portal: `. That of a refusal is the refusal's
+    /// own word.
     pub fn word(self) -> &'static str
         ensures { result.now ≡ error_word_of self }
     {
@@ -50,8 +51,8 @@ impl ProgramError {
         }
     }
 
-    /// The status with which the program ends: 1 for a refusal, want of memory for the command included; 2
-    /// for usage; 3 for every other fault, and where the desk has stopped.
+    /// Returns the exit code of the error: 2 for `Usage`; 1 for a refusal, also for `no_memory` of the desk;
+    /// 3 for each other error and for a desk that has stopped.
     pub fn exit_code(self) -> u8
         ensures { result ≡ exit_code_of self }
     {
@@ -63,8 +64,8 @@ impl ProgramError {
         }
     }
 
-    /// Prints the line of the fault, `portal: ` and its word, or as much of it as goes out, and gives the
-    /// status.
+    /// Prints the line of the error, `portal: ` and its word, as far as it can be written, and returns the
+    /// exit code.
     pub fn report<E: Write>(self, errors: &mut E) -> u8
         ensures status { result ≡ exit_code_of self }
         ensures prints { Prints (E.contents errors.old) (E.contents errors.new) (line_of self) }
@@ -82,7 +83,8 @@ impl From<AllocError> for ProgramError {
     }
 }
 
-/// Prints `portal: `, a word and a line feed, as far as they go out. Fault: `Cut`, where a part does not.
+/// Prints `portal: `, a word and a line feed, as far as they can be written. Error: `Cut`, if a part cannot
+/// be written.
 fn print_error_line<E: Write>(errors: &mut E, word: &str) -> Result<(), ProgramError>
     ensures { Prints (E.contents errors.old) (E.contents errors.new) (line_with word.now) }
 {

@@ -1,7 +1,8 @@
-//! How the program ends: what it prints on standard output and standard error, and its exit status.
+//! How the program ends: what it prints on standard output and standard error, and its exit code.
 //!
-//! Status 0: done. 1: refused, or the counters of the file differ. 2: usage. 3: a fault of a file, of the
-//! network, of the output or of memory before the command began, or a desk that has stopped.
+//! Exit code 0: done. 1: the desk refused the command, or the counters of the database differ from its rows.
+//! 2: the command line is invalid. 3: an error of a file, the clock, the network or the output, out of memory
+//! outside of the desk, or a desk that has stopped.
 #![tactic(auto)]
 
 mod ending;

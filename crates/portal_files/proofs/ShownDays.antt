@@ -1,4 +1,4 @@
--- The day that a clock shows.
+-- The local date.
 use Rattle.portal_files.proofs.Common.{◌≡◌, ℕ, ◌<◌, ◌≤◌, ℤ, pos, negsuc, ◌+ℤ◌, ◌*ℤ◌, ◌≤ℤ◌, ◌<ℤ◌, arith, sym, ◌∙◌, int_div_euclid, ints, IsOffsetSeconds, epoch_day, TimeZone, UTC, Unknown, Fixed, Posix, Tzif, IsDay, local_seconds, local_day_of}
 use Rattle.jiff_tz.specs.Zone.{offset_at}
 use Rattle.jiff_core.specs.Time.{time_seconds}
@@ -22,7 +22,7 @@ whole_seconds : (t off seconds : ℤ) (rest : ℕ) → rest < 1000000000 → (se
     → seconds ≡ t +ℤ off
 whole_seconds t off seconds rest h e = omega (arith, ints)
 
--- the time that a zone shows at an instant of whole seconds
+-- the local time in a zone at a timestamp of whole seconds
 pub shown-seconds : (zone place : TimeZone) (t : ℕ) (nanos : ℤ) (at : DateTime) → place ≡ zone → nanos ≡ pos t *ℤ pos 1000000000
     → civil_nanos at ≡ nanos +ℤ nanos_of_seconds (offset_at place nanos) → civil_seconds at ≡ local_seconds zone t
 shown-seconds zone place t nanos at same is shown =
@@ -41,7 +41,7 @@ time_seconds-lt t = omega (arith, t.hour_in, t.minute_in, t.second_in)
 day_of-seconds : (z day : ℤ) (rest : ℕ) → rest < 86400 → z ≡ (day *ℤ pos 86400) +ℤ pos rest → int_div_euclid z (pos 86400) ≡ day
 day_of-seconds z day rest h e = whole_days z day (omega (arith, ints)) (omega (arith, ints))
 
--- the day of the civil time that the zone shows
+-- the date of the local time in the zone
 pub day-from_seconds : (zone : TimeZone) (t : ℕ) (at : DateTime) → civil_seconds at ≡ local_seconds zone t → local_day_of zone t ≡ epoch_day at.date
 unfolding civil_seconds
 day-from_seconds zone t at e = day_of-seconds (local_seconds zone t) (epoch_day at.date) (time_seconds at.time) (time_seconds-lt at.time) (sym e)

@@ -1,4 +1,4 @@
--- Worked takings, by computing them from what the rules of the zones say.
+-- The test vectors for takings, computed from the rules of the zones.
 use Rattle.portal_files.proofs.Common.{◌≡◌, ℕ, ◌+◌, ◌-◌, ◌%◌, ℤ, pos, ◌+ℤ◌, ◌-ℤ◌, ◌*ℤ◌, List, [], ◌∷◌, codes, Some, None, refl, sym, ap, ◌∙◌, lit≤, rules, length, filter, if◌then◌else◌, ◌&&◌, ◌||◌, int_lt, int_div_euclid, int_eq, Date, read_whole, TzText, DstText, DayTakings, Payment, payment, local_day_of, sum_of, TakingsLocalDay, TakingsRefundDay}
 use Rattle.jiff_tz.proofs.OnLiterals.{jiff_tz_on_literals}
 use Rattle.jiff_core.specs.Calendar.{day_count, days_from_civil, weekday_number}

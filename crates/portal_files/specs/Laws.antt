@@ -1,4 +1,4 @@
--- What the descriptions of the files settle.
+-- What the files determine.
 use Rattle.std.specs.Prelude.{◌≡◌, ◌↔◌, ℕ, ℤ, List}
 use Rattle.jiff.specs.Placed.{IsPosixZone}
 use Rattle.portal_model.specs.declared.plan.Plan.{Plan}
@@ -6,11 +6,11 @@ use Rattle.portal_files.specs.PlansFile.{IsPlansFile}
 use Rattle.portal_files.specs.SettingsFile.{SettingsValue, IsSettingsFile}
 use Rattle.portal_files.specs.DayText.{IsDayText}
 
--- the bytes settle the plans
+-- the bytes determine the plans
 abbrev pub FixesPlans : Type 0
 FixesPlans = (bytes : List ℕ) (ps qs : List Plan) → IsPlansFile bytes ps → IsPlansFile bytes qs → ps ≡ qs
 
--- the same texts, and zones of one rule
+-- The same texts, and zones of one rule.
 pub record SameSettings (s t : SettingsValue) : Type 0 where
   pub rule : List ℕ
   pub first_zone : IsPosixZone rule s.zone
@@ -20,7 +20,7 @@ pub record SameSettings (s t : SettingsValue) : Type 0 where
   pub desk_token : s.desk_token ≡ t.desk_token
   pub gateway_token : s.gateway_token ≡ t.gateway_token
 
--- the bytes settle the texts of the settings, and the rule of their zone
+-- the bytes determine the texts of the settings, and the rule of their zone
 abbrev pub FixesSettings : Type 0
 FixesSettings = (bytes : List ℕ) (s t : SettingsValue) → IsSettingsFile bytes s → IsSettingsFile bytes t → SameSettings s t
 

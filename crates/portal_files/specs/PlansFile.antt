@@ -1,16 +1,16 @@
--- What a plans file says.
+-- The content of a plans file.
 use Rattle.std.specs.Prelude.{◌≡◌, ℕ, ◌+◌, ◌≤◌, false, List, [], ◌∷◌, length, codes, pos, IsUtf8, Some}
 use Rattle.portal_model.specs.declared.plan.Plan.{Plan}
 use Rattle.portal_model.specs.Verdict.{has_duplicate_id}
 use Rattle.toml.specs.Data.{Data, string, integer, boolean, array, table, Items, no_items, item, Members, no_members, member, get_member}
 use Rattle.toml.specs.Parse.{parse_document}
 
--- how many keys a table has
+-- the number of keys of a table
 abbrev pub member_count : Members → ℕ
 member_count no_members = 0
 member_count (member k d ms) = member_count ms + 1
 
--- a table with exactly the seven keys of this plan
+-- A table with exactly the seven keys of this plan.
 pub record IsPlanTable (ms : Members) (p : Plan) : Type 0 where
   pub seven : member_count ms ≡ 7
   pub id : get_member (codes "id") ms ≡ Some (string p.id)
@@ -32,7 +32,7 @@ ArePlanTables no_items [] = Unit {0}
 ArePlanTables (item d items) (p ∷ ps) = IsPlanData d p × ArePlanTables items ps
 ArePlanTables _ _ = ⊥
 
--- the bytes are a file of these plans
+-- The bytes are a file of these plans.
 pub record IsPlansFile (bytes : List ℕ) (plans : List Plan) : Type 0 where
   pub items : Items
   pub utf8 : IsUtf8 bytes

@@ -1,4 +1,4 @@
--- What was taken on a civil day.
+-- The takings of a local date.
 use Rattle.std.specs.Prelude.{◌≡◌, ℕ, ℤ, pos, List, ◌∷◌, length, filter, sum_by, codes, IsPermutation}
 use Rattle.std.specs.Ordering.{int_eq}
 use Rattle.jiff.specs.Placed.{IsPosixZone}
@@ -11,15 +11,16 @@ use Rattle.portal_model.specs.Payments.{Payment, sales_of, refunds_of, by_day}
 use Rattle.portal_model.specs.TestVectors.{hour, code2, code3, history_with_plans, sold_at, gig_redeemed}
 use Rattle.portal_files.specs.LocalDay.{local_day_of}
 
--- the payments whose moment falls on that civil day of the zone
+-- the payments whose moment falls on that local date of the zone
 abbrev pub paid_on : TimeZone → ℤ → List Payment → List Payment
 paid_on zone day payments = filter (λ p. int_eq (local_day_of zone p.at) day) payments
 
--- what they come to
+-- their sum
 abbrev pub sum_of : List Payment → ℕ
 sum_of payments = sum_by (λ p. p.amount) payments
 
--- the takings of a civil day in the zone: how many sales and refunds the history has on it, and what they come to
+-- the takings of a local date in the zone: the number of sales and of refunds in the history on it, and
+-- their sums
 abbrev pub takings_of : TimeZone → History → ℤ → DayTakings
 takings_of zone H day = record {
   day = day;
@@ -29,7 +30,7 @@ takings_of zone H day = record {
   refunds = sum_of (paid_on zone day (refunds_of H));
 }
 
--- the pairs are those of the payments with their civil days, in any order
+-- the pairs are those of the payments with their local dates, in any order
 abbrev pub ArePaid : TimeZone → List Payment → List Pair → Type 0
 ArePaid zone payments pairs = IsPermutation (by_day (local_day_of zone) payments) pairs
 
@@ -39,14 +40,14 @@ TakingsAreAdded = (zone : TimeZone) (H : History) (sales refunds : List Pair)
     → ArePaid zone (sales_of H) sales → ArePaid zone (refunds_of H) refunds
     → (day : ℤ) → takings_on sales refunds day ≡ takings_of zone H day
 
--- zones of one rule have the same civil days
+-- zones of one rule have the same local dates
 abbrev pub RuleFixesDays : Type 0
 RuleFixesDays = (rule : List ℕ) (zone other : TimeZone) → IsPosixZone rule zone → IsPosixZone rule other
     → (t : ℕ) → local_day_of zone t ≡ local_day_of other t
 
--- Worked takings
+-- ---- test vectors
 
--- so many sales and refunds on the day, and what they come to
+-- so many sales and refunds on the day, and their sums
 abbrev pub takings_with : ℤ → ℕ → ℕ → ℕ → ℕ → DayTakings
 takings_with day sold sales refunded refunds = record { day = day; sold = sold; sales = sales; refunded = refunded; refunds = refunds }
 

@@ -1,4 +1,4 @@
--- The texts of settings, where they stand in a table.
+-- The texts of settings, as they are in a table.
 use Rattle.std.specs.Prelude.{option_map}
 use Rattle.jiff.specs.ZoneView.{plain_zone}
 use Rattle.portal_files.specs.SettingsFile.{SettingsValue}

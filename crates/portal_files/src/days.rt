@@ -1,6 +1,19 @@
-//! Civil days and times of a zone, and the texts of days.
+//! Local dates and times in the zone of the settings, and dates as text.
 
-ghost use Rattle.std.specs.Prelude.{◌≡◌, ◌≤◌, ℕ, ℤ, pos, ◌*ℤ◌, length, IsOk, IfOk, IfSome, None, string_bytes};
+ghost use Rattle.std.specs.Prelude.{
+  ◌≡◌,
+  ◌≤◌,
+  ℕ,
+  ℤ,
+  pos,
+  ◌*ℤ◌,
+  length,
+  IsOk,
+  IfOk,
+  IfSome,
+  None,
+  string_bytes,
+};
 ghost use Rattle.jiff.specs.Words.{civil_seconds};
 ghost use Rattle.jiff_core.specs.declared.civil.date.Date.{Date as PlainDate};
 ghost use Rattle.portal_files.specs.DayText.{IsDayText, IsDateText, IsPair};
@@ -15,7 +28,7 @@ use portal_days::Day;
 use portal_model::moment::Moment;
 use std::alloc::{AllocError, Global};
 
-/// The instant of a moment.
+/// Converts a time to a timestamp of the library `jiff`.
 fn timestamp_of(t: Moment) -> Timestamp
     ensures at { result.nanosecond ≡ pos t *ℤ pos 1000000000 }
     ensures limit { t ≤ 253370764799 }
@@ -23,7 +36,7 @@ fn timestamp_of(t: Moment) -> Timestamp
     Timestamp::from_second(t.get() as i64).unwrap()
 }
 
-/// The civil date and time that a clock in the settings' zone shows at the moment.
+/// Returns the local date and time of a moment in the zone of the settings.
 pub fn local_time(settings: &Settings, t: Moment) -> DateTime
     ensures time { civil_seconds result ≡ local_seconds settings.now.zone t }
     ensures limit { t ≤ 253370764799 }
@@ -31,7 +44,7 @@ pub fn local_time(settings: &Settings, t: Moment) -> DateTime
     settings.zone().to_datetime(timestamp_of(t))
 }
 
-/// The civil day that a calendar in the settings' zone shows at the moment. It takes no memory.
+/// Returns the local date of a moment in the zone of the settings. It allocates nothing and never fails.
 pub fn local_day(settings: &Settings, t: Moment) -> Result<Day, FileFault>
     ensures ok { IsOk result }
     ensures day { IfOk result (λ day. day ≡ local_day_of settings.now.zone t) }
@@ -41,7 +54,9 @@ pub fn local_day(settings: &Settings, t: Moment) -> Result<Day, FileFault>
     Ok(Day::new(number).unwrap())
 }
 
-/// The text of a day, `YYYY-MM-DD` (RFC 3339 section 5.6, full-date), from which it reads back.
+/// Writes a day as `YYYY-MM-DD` (RFC 3339, section 5.6, full-date), as `read_day` reads it.
+///
+/// The only error is out of memory.
 pub fn day_text(alloc: Global, day: Day) -> Result<String, AllocError>
     ensures { IfOk result (λ text. IsDayText (string_bytes text) day) }
 {
@@ -49,7 +64,7 @@ pub fn day_text(alloc: Global, day: Day) -> Result<String, AllocError>
     Date::from_plain(plain).to_string(alloc)
 }
 
-/// The number of two digits.
+/// Returns the number of two ASCII digits, 0 to 99; none if a byte is not a digit.
 fn two_digits(digits: &[u8]) -> Option<u8>
     requires { length digits.now ≡ 2 }
     ensures some { IfSome result (IsPair digits.now) }
@@ -62,7 +77,7 @@ fn two_digits(digits: &[u8]) -> Option<u8>
     Some((tens - b'0') * 10 + (ones - b'0'))
 }
 
-/// The date that a text is as `YYYY-MM-DD`, where it is one.
+/// Reads a date as `YYYY-MM-DD`; none for any other text.
 fn read_date(text: &[u8]) -> Option<Date>
     ensures some { IfSome result (IsDateText text.now) }
     ensures none { result ≡ None → (date : PlainDate) → IsDateText text.now date → ⊥ }
@@ -85,8 +100,9 @@ fn read_date(text: &[u8]) -> Option<Date>
     .ok()
 }
 
-/// The day that a text is as `YYYY-MM-DD` (RFC 3339 section 5.6, full-date), a civil date of the years
-/// 1969 to 9999; `None` for any other text.
+/// Reads a day as `YYYY-MM-DD` (RFC 3339, section 5.6, full-date), of the years 1969 to 9999.
+///
+/// None for any other text.
 pub fn read_day(text: &str) -> Option<Day>
     ensures some { IfSome result (IsDayText text.now) }
     ensures none { result ≡ None → (day : ℤ) → IsDayText text.now day → ⊥ }

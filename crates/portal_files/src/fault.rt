@@ -1,16 +1,16 @@
-//! Why a file was not read.
+//! The faults in reading a file.
 
 ghost use Rattle.std.specs.Prelude.{◌≡◌};
 ghost use Rattle.portal_files.specs.declared.fault.FileFault.TheVariants.{Memory};
 
 use std::alloc::AllocError;
 
-/// Why a file was not read, or a text not made.
+/// Why a file was not read, or a text not written.
 #[derive(Clone, Copy, Debug, PartialEq, Eq)]
 pub enum FileFault {
-    /// It is no file of the form that is asked for.
+    /// The file does not have the form that is required.
     Bad,
-    /// There was no memory for it.
+    /// Out of memory.
     Memory,
 }
 

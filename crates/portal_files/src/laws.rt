@@ -1,37 +1,44 @@
-//! Laws of the files: what a file fixes, and how takings are added up. Each contract is a law.
+//! Laws of the files: what a file determines, and how takings are added up. The functions do nothing: each
+//! contract is a law, which `specs/` states.
 
 ghost use Rattle.portal_files.specs.Laws.{FixesPlans, FixesSettings, NamesDays};
-ghost use Rattle.portal_files.specs.Takings.{RuleFixesDays, TakingsAreAdded, TakingsLocalDay, TakingsRefundDay};
+ghost use Rattle.portal_files.specs.Takings.{
+  RuleFixesDays,
+  TakingsAreAdded,
+  TakingsLocalDay,
+  TakingsRefundDay,
+};
 
-/// A plans file has one list of plans.
+/// Law: the bytes of a plans file determine its list of plans.
 pub fn file_fixes_plans()
     ensures { FixesPlans }
 {}
 
-/// A settings file has one portal URL, one venue URL or none, one token each, and one rule of its zone.
+/// Law: the bytes of a settings file determine the URLs, the tokens, and the rule of the zone.
 pub fn file_fixes_settings()
     ensures { FixesSettings }
 {}
 
-/// Two days have the same text just where they are the same day.
+/// Law: two days have the same text exactly if they are the same day.
 pub fn text_names_day()
     ensures { NamesDays }
 {}
 
-/// Two zones of one rule have the same civil days.
+/// Law: two zones of one rule give every moment the same local date.
 #[tactic(auto, using(crate::proofs::Rules::rule_fixes_days))]
 pub fn rule_fixes_days()
     ensures { RuleFixesDays }
 {}
 
-/// The takings of a day are added up from the sales and the refunds with their days, whatever the order
-/// of these.
+/// Law: the takings of a day are the sums over the sales and the refunds of that local date, in any order.
 #[tactic(auto, using(crate::proofs::Added::takings_added))]
 pub fn takings_are_added()
     ensures { TakingsAreAdded }
 {}
 
-/// Worked takings: a sale before midnight in UTC that is one after midnight in the settings' zone, and a
+/// Test vectors for takings: local dates decide the day of a sale, and of a refund.
+///
+/// One is a sale before midnight in UTC that is after midnight in the zone of the settings; the other is a
 /// refund on the day after its sale.
 pub fn takings_vectors_hold()
     ensures takings_local_day { TakingsLocalDay }

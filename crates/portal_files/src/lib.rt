@@ -1,5 +1,5 @@
-//! What an operator writes by hand: plans and settings from TOML. Also the civil days of the settings'
-//! zone, and what the print file of a batch shows.
+//! Reads the files that an operator writes: plans and settings, in TOML. Also the local dates in the zone
+//! of the settings, and the data for the print file of a batch.
 #![tactic(auto)]
 
 mod days;

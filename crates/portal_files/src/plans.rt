@@ -1,4 +1,4 @@
-//! The plans of a plans file.
+//! Reads a plans file.
 
 ghost use Rattle.std.specs.Prelude.{◌≡◌, List, IfSome, IfOk, IfErr, None, bytes_eq, codes};
 ghost use Rattle.std.specs.List.{list_any};
@@ -18,7 +18,9 @@ use std::alloc::Global;
 use toml::value::Array;
 use toml::{Table, Value};
 
-/// The plan of a table, if the table has just its seven keys.
+/// Reads a plan from its table.
+///
+/// None unless the table has exactly the seven keys, with values within the limits of a plan.
 fn read_plan(table: &Table) -> Option<Plan>
     ensures some { IfSome result (IsPlanTable (table_view table.now)) }
     ensures none { result ≡ None → (p : Plan) → IsPlanTable (table_view table.now) p → ⊥ }
@@ -36,7 +38,7 @@ fn read_plan(table: &Table) -> Option<Plan>
     Plan::new(id, price, uses, seconds, bytes, shelf_days, extend).ok()
 }
 
-/// The plan of a value, if the value is a plan's table.
+/// Reads a plan from a TOML value; none unless the value is a plan's table.
 fn read_plan_value(value: &Value) -> Option<Plan>
     ensures some { IfSome result (IsPlanData (view value.now)) }
     ensures none { result ≡ None → (p : Plan) → IsPlanData (view value.now) p → ⊥ }
@@ -44,7 +46,7 @@ fn read_plan_value(value: &Value) -> Option<Plan>
     read_plan(value.as_table()?)
 }
 
-/// The array under `plan`, where the table has no other key.
+/// Returns the array under the key `plan`; none if the table has another key too.
 fn plan_array(table: &Table) -> Option<&Array>
     ensures some { IfSome result
         (λ a. table_view table.now ≡ member (codes "plan") (array (array_view a.now)) no_members) }
@@ -57,14 +59,14 @@ fn plan_array(table: &Table) -> Option<&Array>
     table.get("plan")?.as_array()
 }
 
-/// Whether one of the plans has the id.
+/// Whether one of the plans has that id.
 fn has_id(plans: &[Plan], id: Id) -> bool
     ensures { result ≡ list_any (λ p. bytes_eq id p.id) plans.now }
 {
     plans.iter().any(move |plan| id.is(&plan.id))
 }
 
-/// Whether two of the plans have one id.
+/// Whether two of the plans have the same id.
 fn has_repeated_id(plans: &[Plan]) -> bool
     ensures { result ≡ has_duplicate_id plans.now }
 {
@@ -78,7 +80,9 @@ fn has_repeated_id(plans: &[Plan]) -> bool
     false
 }
 
-/// The plans of the values, in order.
+/// Reads the plans from TOML values, in order.
+///
+/// Faults: `Bad` if a value is not a plan's table; `Memory`.
 fn read_plan_values(alloc: Global, values: &[Value]) -> Result<Plans, FileFault>
     ensures ok { IfOk result (λ plans. ArePlanTables (items_view values.now) plans) }
     ensures bad { IfErr result (λ e. e ≡ FileFault.Bad
@@ -94,9 +98,11 @@ fn read_plan_values(alloc: Global, values: &[Value]) -> Result<Plans, FileFault>
     Ok(plans)
 }
 
-/// The plans of a plans file: TOML with 1 to 500 tables `plan`, each with just the keys `id`,
-/// `price`, `uses`, `seconds`, `bytes`, `shelf_days` and `extend`, within the limits of a plan, and no
-/// id twice. Any other bytes are `FileFault::Bad`.
+/// Reads a plans file: TOML with 1 to 500 tables `plan`.
+///
+/// Each table has exactly the keys `id`, `price`, `uses`, `seconds`, `bytes`, `shelf_days` and `extend`,
+/// with values within the limits of a plan, and no id is there twice. Faults: `Bad` for any other bytes;
+/// `Memory`.
 pub fn read_plans(alloc: Global, bytes: &[u8]) -> Result<Plans, FileFault>
     ensures ok { IfOk result (IsPlansFile bytes.now) }
     ensures bad { IfErr result (λ e. e ≡ FileFault.Bad

@@ -1,4 +1,4 @@
-//! The settings of a desk.
+//! The settings of the server.
 
 ghost use Rattle.std.specs.Prelude.{◌≡◌, option_map};
 ghost use Rattle.jiff.specs.ZoneView.{plain_zone};
@@ -6,14 +6,19 @@ ghost use Rattle.jiff.specs.ZoneView.{plain_zone};
 use jiff::tz::TimeZone;
 use std::marker::Model;
 
-/// What the desk is told at its start: the zone of its civil days, the URLs that guests are given, and
-/// the tokens of the counter and of the gateway.
+/// The settings of the server: the time zone of the venue, the URLs for guests, and the tokens of the desk
+/// and of the gateway.
 #[derive(Drop)]
 pub struct Settings {
+    /// The time zone of the venue.
     pub(crate) zone: TimeZone<'static>,
+    /// The URL of the portal.
     pub(crate) portal_url: String,
+    /// The URL of the venue, if it has one.
     pub(crate) venue_url: Option<String>,
+    /// The token in the requests of the desk.
     pub(crate) desk_token: String,
+    /// The token in the requests of the gateway.
     pub(crate) gateway_token: String,
 }
 
@@ -34,35 +39,35 @@ impl Model for Settings {
 }
 
 impl Settings {
-    /// The zone in which days and times are told.
+    /// Returns the time zone for dates and times.
     pub fn zone(&self) -> TimeZone<'static>
         ensures { plain_zone result ≡ self.now.zone }
     {
         self.zone
     }
 
-    /// The URL of the portal (`user-portal-url`, RFC 8908 section 5).
+    /// Returns the URL of the portal (`user-portal-url`, RFC 8908, section 5).
     pub fn portal_url(&self) -> &str
         ensures { result.now ≡ self.now.portal_url }
     {
         self.portal_url.as_str()
     }
 
-    /// The URL of the venue, if it has one (`venue-info-url`, RFC 8908 section 5).
+    /// Returns the URL of the venue, if it has one (`venue-info-url`, RFC 8908, section 5).
     pub fn venue_url(&self) -> Option<&str>
         ensures { option_map (λ url. url.now) result ≡ self.now.venue_url }
     {
         self.venue_url.as_ref().map(|url| url.as_str())
     }
 
-    /// The token that the counter's requests carry.
+    /// Returns the token in the requests of the desk.
     pub fn desk_token(&self) -> &str
         ensures { result.now ≡ self.now.desk_token }
     {
         self.desk_token.as_str()
     }
 
-    /// The token that the gateway's requests carry.
+    /// Returns the token in the requests of the gateway.
     pub fn gateway_token(&self) -> &str
         ensures { result.now ≡ self.now.gateway_token }
     {

@@ -1,11 +1,37 @@
-//! The settings of a settings file.
+//! Reads a settings file.
 
-ghost use Rattle.std.specs.Prelude.{◌≡◌, ℕ, ◌≤◌, List, Option, IfSome, IfOk, IfErr, None, option_map, bytes_eq, codes, take, string_bytes, length};
+ghost use Rattle.std.specs.Prelude.{
+  ◌≡◌,
+  ℕ,
+  ◌≤◌,
+  List,
+  Option,
+  IfSome,
+  IfOk,
+  IfErr,
+  None,
+  option_map,
+  bytes_eq,
+  codes,
+  take,
+  string_bytes,
+  length,
+};
 ghost use Rattle.std.specs.List.{list_all};
 ghost use Rattle.jiff.specs.ZoneView.{plain_zone};
 ghost use Rattle.jiff_tz.specs.declared.timezone.TimeZone.{TimeZone as PlainZone};
 ghost use Rattle.toml.specs.View.{table_view};
-ghost use Rattle.portal_files.specs.SettingsFile.{SettingsValue, is_visible, is_url, is_token, IsTextAt, IsVenueAt, IsZoneAt, IsSettingsTable, IsSettingsFile};
+ghost use Rattle.portal_files.specs.SettingsFile.{
+  SettingsValue,
+  is_visible,
+  is_url,
+  is_token,
+  IsTextAt,
+  IsVenueAt,
+  IsZoneAt,
+  IsSettingsTable,
+  IsSettingsFile,
+};
 ghost use Rattle.portal_files.specs.SettingsFile as file;
 ghost use Rattle.portal_files.specs.Texts.{value_of};
 ghost use Rattle.portal_files.specs.Sample.{IsSample};
@@ -18,23 +44,25 @@ use jiff::tz::TimeZone;
 use std::alloc::{AllocError, Global};
 use toml::Table;
 
-/// The text of the sample settings.
+/// The settings file with the sample settings.
 const SAMPLE: &str = "zone = \"UTC0\"\nportal_url = \"https://wifi.example/portal\"\n\
     desk_token = \"desk-token\"\ngateway_token = \"gate-token\"\n";
 
+/// Whether a byte can be in a URL or a token: 33 to 126, the visible ASCII characters.
 fn is_visible(b: u8) -> bool
     ensures { result ≡ is_visible b }
 {
     b >= 33 && b <= 126
 }
 
+/// Whether all bytes are from 33 to 126.
 fn are_visible(bytes: &[u8]) -> bool
     ensures { result ≡ list_all is_visible bytes.now }
 {
     bytes.iter().all(|b| is_visible(*b))
 }
 
-/// Whether the first eight bytes are the scheme.
+/// Whether the first eight bytes are `https://`.
 fn has_https_scheme(bytes: &[u8]) -> bool
     requires { 8 ≤ length bytes.now }
     ensures { result ≡ bytes_eq (take 8 bytes.now) (codes "https://") }
@@ -43,6 +71,7 @@ fn has_https_scheme(bytes: &[u8]) -> bool
     scheme == b"https://".as_slice()
 }
 
+/// Whether a text is a URL: 9 to 2,048 visible ASCII characters that begin with `https://`.
 fn is_url(text: &str) -> bool
     ensures { result ≡ is_url text.now }
 {
@@ -50,6 +79,7 @@ fn is_url(text: &str) -> bool
     bytes.len() >= 9 && bytes.len() <= 2048 && are_visible(bytes) && has_https_scheme(bytes)
 }
 
+/// Whether a text is a token: 8 to 128 visible ASCII characters.
 fn is_token(text: &str) -> bool
     ensures { result ≡ is_token text.now }
 {
@@ -57,7 +87,7 @@ fn is_token(text: &str) -> bool
     bytes.len() >= 8 && bytes.len() <= 128 && are_visible(bytes)
 }
 
-/// The URL at a key, if the key holds one.
+/// Returns the URL under a key, if the key has one.
 fn url_at<'a>(table: &'a Table, key: &str) -> Option<&'a str>
     ensures some { IfSome result (λ u. IsTextAt is_url key.now (table_view table.now) u.now) }
     ensures none { result ≡ None → (u : List ℕ) → IsTextAt is_url key.now (table_view table.now) u → ⊥ }
@@ -69,7 +99,7 @@ fn url_at<'a>(table: &'a Table, key: &str) -> Option<&'a str>
     Some(text)
 }
 
-/// The token at a key, if the key holds one.
+/// Returns the token under a key, if the key has one.
 fn token_at<'a>(table: &'a Table, key: &str) -> Option<&'a str>
     ensures some { IfSome result (λ u. IsTextAt is_token key.now (table_view table.now) u.now) }
     ensures none { result ≡ None → (u : List ℕ) → IsTextAt is_token key.now (table_view table.now) u → ⊥ }
@@ -81,7 +111,9 @@ fn token_at<'a>(table: &'a Table, key: &str) -> Option<&'a str>
     Some(text)
 }
 
-/// The venue's URL, or none; no answer where the key holds another value.
+/// Returns the URL of the venue, which the table can leave out.
+///
+/// The inner value is none if the key is left out, the outer one if the key has another value than a URL.
 fn venue_at<'a>(table: &'a Table) -> Option<Option<&'a str>>
     ensures some { IfSome result (λ o. IsVenueAt (table_view table.now) (option_map (λ u. u.now) o)) }
     ensures none { result ≡ None → (o : Option (List ℕ)) → IsVenueAt (table_view table.now) o → ⊥ }
@@ -93,7 +125,7 @@ fn venue_at<'a>(table: &'a Table) -> Option<Option<&'a str>>
     Some(Some(url))
 }
 
-/// The zone, if its key holds a rule of 1 to 64 bytes.
+/// Returns the time zone, if its key has a POSIX TZ rule of 1 to 64 bytes.
 fn zone_at(table: &Table) -> Option<TimeZone<'static>>
     ensures some { IfSome result (λ zone. IsZoneAt (table_view table.now) (plain_zone zone)) }
     ensures none { result ≡ None → (zone : PlainZone) → IsZoneAt (table_view table.now) zone → ⊥ }
@@ -105,7 +137,7 @@ fn zone_at(table: &Table) -> Option<TimeZone<'static>>
     TimeZone::posix(text).ok()
 }
 
-/// The values of settings, where they stand in a table.
+/// The values of settings, borrowed from a TOML table.
 #[derive(Clone, Copy)]
 struct Texts<'a> {
     zone: TimeZone<'static>,
@@ -115,7 +147,7 @@ struct Texts<'a> {
     gateway_token: &'a str,
 }
 
-/// How many keys the settings have.
+/// Returns the number of keys of a settings file, with the URL of a venue or without it.
 fn key_count(venue_url: Option<&str>) -> usize
     ensures { result ≡ file.key_count (option_map (λ u. u.now) venue_url.entry) }
 {
@@ -125,7 +157,9 @@ fn key_count(venue_url: Option<&str>) -> usize
     }
 }
 
-/// The values of a settings table, if the table has just their keys.
+/// Reads the values of settings from a table.
+///
+/// None unless the table has exactly their keys, with valid values, and the tokens differ.
 fn texts_of_table<'a>(table: &'a Table) -> Option<Texts<'a>>
     ensures some { IfSome result (λ t. IsSettingsTable (table_view table.now) (value_of t)) }
     ensures none { result ≡ None → (s : SettingsValue) → IsSettingsTable (table_view table.now) s → ⊥ }
@@ -150,6 +184,7 @@ fn texts_of_table<'a>(table: &'a Table) -> Option<Texts<'a>>
     })
 }
 
+/// Copies a text, if there is one. The only error is out of memory.
 fn copy_of_text(alloc: Global, text: Option<&str>) -> Result<Option<String>, AllocError>
     ensures { IfOk result (λ o. option_map string_bytes o ≡ option_map (λ u. u.now) text.entry) }
 {
@@ -159,7 +194,7 @@ fn copy_of_text(alloc: Global, text: Option<&str>) -> Result<Option<String>, All
     }
 }
 
-/// Settings of their own memory.
+/// Copies borrowed values into settings. The only error is out of memory.
 fn owned_settings(alloc: Global, texts: Texts<'_>) -> Result<Settings, AllocError>
     ensures { IfOk result (λ s. s ≡ value_of texts.entry) }
 {
@@ -176,12 +211,14 @@ fn owned_settings(alloc: Global, texts: Texts<'_>) -> Result<Settings, AllocErro
     })
 }
 
-/// The settings of a settings file: TOML with just the keys `zone`, `portal_url`, `desk_token`,
-/// `gateway_token` and, where the venue has a page, `venue_url`.
+/// Reads a settings file, in TOML.
 ///
-/// The zone is a POSIX TZ rule of 1 to 64 bytes. A URL begins with `https://` (RFC 8908 section 5 asks
-/// for it) and has 9 to 2,048 bytes, a token 8 to 128 bytes, each byte from 33 to 126. The tokens
-/// differ. Any other bytes are `FileFault::Bad`.
+/// It has exactly the keys `zone`, `portal_url`, `desk_token`, `gateway_token` and, if the venue has a
+/// page, `venue_url`. The zone is a POSIX TZ rule of 1 to 64 bytes. A URL begins with `https://` (as RFC
+/// 8908, section 5 requires) and has 9 to 2,048 bytes; a token has 8 to 128 bytes; each byte is from 33 to
+/// 126. The tokens differ.
+///
+/// Faults: `Bad` for any other bytes; `Memory`.
 pub fn read_settings(alloc: Global, bytes: &[u8]) -> Result<Settings, FileFault>
     ensures ok { IfOk result (IsSettingsFile bytes.now) }
     ensures bad { IfErr result (λ e. e ≡ FileFault.Bad
@@ -192,8 +229,10 @@ pub fn read_settings(alloc: Global, bytes: &[u8]) -> Result<Settings, FileFault>
     Ok(owned_settings(alloc, texts)?)
 }
 
-/// The sample settings: zone `UTC0`, portal `https://wifi.example/portal`, tokens `desk-token` and
-/// `gate-token`, no venue.
+/// Makes the sample settings, which are used if no settings file is given.
+///
+/// Zone `UTC0`, portal `https://wifi.example/portal`, tokens `desk-token` and `gate-token`, no venue.
+/// Fault: `Memory`.
 pub fn sample_settings(alloc: Global) -> Result<Settings, FileFault>
     ensures ok { IfOk result IsSample }
     ensures memory { IfErr result (λ e. e ≡ FileFault.Memory) }

@@ -1,4 +1,4 @@
--- Fields that CSV writes as they stand, and the lines of a print file.
+-- Fields that CSV writes without quotes, and the lines of a print file.
 use Rattle.portal_files_print.proofs.Common.{Bool, ◌≡◌, ℕ, suc, ℤ, pos, negsuc, ◌+◌, ◌/◌, ◌%◌, ◌^◌, ◌<◌, ◌≤◌, true, false, nat_le, List, [], ◌∷◌, ◌++◌, map, refl, ◌∙◌, arith, append-nil, decimal, All, ◌==◌, list_all, character_of, text_of, IsCode, Date, DateTime, date_text, two_digits, amount_text, minute_text, line_of, limit_text}
 use Rattle.std.proofs.lemmas.Bool.Decides.{nat_tests}
 use Rattle.std.proofs.lemmas.Bool.{cond_both, cond-false, leb-true, agree_below_at}
@@ -54,7 +54,7 @@ id-sign b h = grind (arith, nat_tests)
 pub plain-id : (text : List ℕ) → IsIdText text → IsPlain text
 plain-id text is = tested is_id_character (λ b h. plain-byte b (id-sign b h)) text is.characters
 
--- the signs of codes
+-- the characters of codes
 plain-code_sign : (v : ℕ) → v < 31 → IsPlainByte (character_of v)
 plain-code_sign v h = plain-byte (character_of v) (leb-true 45 (character_of v) (agree_below_at (λ v. nat_le 45 (character_of v)) (λ _. true) 31 v refl h))
 
@@ -85,7 +85,7 @@ plain-minute at =
     append (date_text at.date) _ (plain-date at.date)
     (cons 32 _ refl (plain-two at.time.hour _ (cons 58 _ refl (plain-two at.time.minute [] empty))))
 
--- a plain field stands as it is
+-- a plain field is written as it is
 field-plain : (f : List ℕ) → IsPlain f → field_text default_writer f ≡ f
 field-plain f h = cond-false (needs_quotes default_writer f) (quoted default_writer f) f (list_any_none (needs_byte default_writer) f h.each)
 

@@ -4,7 +4,7 @@ use Rattle.std.proofs.lemmas.List.{take_more}
 use Rattle.std.proofs.lemmas.Slice.Zip.{all_zipped_more}
 use Rattle.portal_files_print.specs.Report.{header_line, takings_line, IsDayLine, total_line, net_line, IsReport}
 
--- a label of ten places stands as it is
+-- a label of ten columns stays as it is
 wide : (label : List ℕ) → length label ≡ 10 → label ≡ left_in 10 label
 wide label h =
     let none : 10 - length label ≡ 0 = omega arith in

@@ -9,10 +9,10 @@ two_digits n = (48 + n / 10) ∷ (48 + n % 10) ∷ []
 abbrev pub amount_text : ℕ → List ℕ
 amount_text n = decimal (n / 100) ++ 46 ∷ two_digits (n % 100)
 
--- the text, with spaces before it where it has fewer places
+-- the text, aligned to the right in so many columns
 abbrev pub right_in : ℕ → List ℕ → List ℕ
 right_in places text = replicate (places - length text) 32 ++ text
 
--- the text, with spaces after it where it has fewer places
+-- the text, aligned to the left in so many columns
 abbrev pub left_in : ℕ → List ℕ → List ℕ
 left_in places text = text ++ replicate (places - length text) 32

@@ -1,4 +1,4 @@
--- The civil time of a moment in a zone, to the minute.
+-- The local time of a moment in a zone, to the minute.
 use Rattle.std.specs.Prelude.{◌≡◌, ℕ, List, ◌∷◌, ◌++◌}
 use Rattle.jiff_tz.specs.declared.timezone.TimeZone.{TimeZone}
 use Rattle.jiff_core.specs.declared.civil.datetime.DateTime.{DateTime}
@@ -10,7 +10,7 @@ use Rattle.portal_files_print.specs.Amount.{two_digits}
 abbrev pub minute_text : DateTime → List ℕ
 minute_text at = date_text at.date ++ 32 ∷ (two_digits at.time.hour ++ 58 ∷ two_digits at.time.minute)
 
--- what a clock in the zone shows at the moment, the seconds cut off
+-- The local time in the zone at the moment; the seconds are cut off.
 pub record IsMinuteText (zone : TimeZone) (t : ℕ) (text : List ℕ) : Type 0 where
   pub at : DateTime
   pub shown : civil_seconds at ≡ local_seconds zone t

@@ -8,15 +8,15 @@ use Rattle.portal_files.specs.declared.sheet.BatchSheet.{BatchSheet}
 use Rattle.portal_files_print.specs.Amount.{amount_text}
 use Rattle.portal_files_print.specs.Minute.{IsMinuteText}
 
--- a limit, or nothing where there is none
+-- a limit; empty if there is none
 abbrev pub limit_text : ℕ → List ℕ
 limit_text n = if n == 0 then [] else decimal n
 
--- the fields on a line, with commas between them
+-- the fields of a line, with commas between them
 abbrev pub line_of : List (List ℕ) → List ℕ
 line_of fields = join_with_byte 44 fields ++ 10 ∷ []
 
--- the words over the columns
+-- the names of the columns
 abbrev pub header : List (List ℕ)
 header = codes "code" ∷ codes "plan" ∷ codes "seconds" ∷ codes "bytes" ∷ codes "price" ∷ codes "expires" ∷ []
 
@@ -24,7 +24,7 @@ header = codes "code" ∷ codes "plan" ∷ codes "seconds" ∷ codes "bytes" ∷
 abbrev pub code_fields : Plan → List ℕ → List ℕ → List (List ℕ)
 code_fields plan expires code = text_of code ∷ plan.id ∷ limit_text plan.seconds ∷ limit_text plan.bytes ∷ amount_text plan.price ∷ expires ∷ []
 
--- the words, and a line for each code in order of issue
+-- The header, and a line for each code in order of issue.
 pub record IsPrintFile (zone : TimeZone) (sheet : BatchSheet) (text : List ℕ) : Type 0 where
   pub expires : List ℕ
   pub shown : IsMinuteText zone sheet.batch.expires expires

@@ -10,11 +10,11 @@ abbrev pub line_of : (label sold sales refunded refunds : List ℕ) → List ℕ
 line_of label sold sales refunded refunds =
     join_with_byte 32 (left_in 10 label ∷ right_in 8 sold ∷ right_in 17 sales ∷ right_in 8 refunded ∷ right_in 17 refunds ∷ []) ++ 10 ∷ []
 
--- the words over the columns
+-- the names of the columns
 abbrev pub header_line : List ℕ
 header_line = line_of (codes "day") (codes "sold") (codes "sales") (codes "refunded") (codes "refunds")
 
--- a line of numbers
+-- a line with a label and numbers
 abbrev pub takings_line : (label : List ℕ) (sold sales refunded refunds : ℕ) → List ℕ
 takings_line label sold sales refunded refunds = line_of label (decimal sold) (amount_text sales) (decimal refunded) (amount_text refunds)
 
@@ -28,7 +28,7 @@ pub record IsDayLine (d : DayTakings) (line : List ℕ) : Type 0 where
 abbrev pub total_line : List DayTakings → List ℕ
 total_line days = takings_line (codes "total") (sum_by (λ d. d.sold) days) (sum_by (λ d. d.sales) days) (sum_by (λ d. d.refunded) days) (sum_by (λ d. d.refunds) days)
 
--- what the sales come to without the refunds, with a hyphen before it where the refunds are more
+-- the sales less the refunds, with a hyphen before it if the refunds are greater
 abbrev pub net_text : (sales refunds : ℕ) → List ℕ
 net_text sales refunds = if nat_lt sales refunds then 45 ∷ amount_text (refunds - sales) else amount_text (sales - refunds)
 
@@ -36,7 +36,7 @@ net_text sales refunds = if nat_lt sales refunds then 45 ∷ amount_text (refund
 abbrev pub net_line : List DayTakings → List ℕ
 net_line days = codes "net " ++ net_text (sum_by (λ d. d.sales) days) (sum_by (λ d. d.refunds) days) ++ 10 ∷ []
 
--- the words, a line for each day in order, the totals and the net sum
+-- The header, a line for each day in order, the totals and the net sum.
 pub record IsReport (days : List DayTakings) (text : List ℕ) : Type 0 where
   pub lines : List (List ℕ)
   pub day_lines : AllZip IsDayLine days lines

@@ -1,11 +1,11 @@
-//! Amounts of money as text.
+//! Writes amounts of money as text.
 
 ghost use Rattle.std.specs.Prelude.{◌≡◌, IfOk, string_bytes};
 ghost use Rattle.portal_files_print.specs.Amount.{amount_text, right_in};
 
 use std::alloc::{AllocError, Global};
 
-/// An amount in hundredths, as whole units, a point and two digits.
+/// Writes an amount in hundredths as whole units, a point and two digits. The only error is out of memory.
 pub(crate) fn amount_text(alloc: Global, amount: u128) -> Result<String, AllocError>
     ensures { IfOk result (λ text. string_bytes text ≡ amount_text amount) }
 {
@@ -14,7 +14,8 @@ pub(crate) fn amount_text(alloc: Global, amount: u128) -> Result<String, AllocEr
     format!(in alloc; "{whole}.{hundredths:02}")
 }
 
-/// The same, right in 17 places, so that the points stand below each other.
+/// Writes an amount as `amount_text` does, aligned to the right in 17 columns. The only error is out of
+/// memory.
 pub(crate) fn amount_column(alloc: Global, amount: u128) -> Result<String, AllocError>
     ensures { IfOk result (λ text. string_bytes text ≡ right_in 17 (amount_text amount)) }
 {

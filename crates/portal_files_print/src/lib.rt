@@ -1,4 +1,4 @@
-//! What the counter prints: the print file of a batch, and the takings report.
+//! Writes what the counter prints: the print file of a batch, and the takings report.
 #![tactic(auto)]
 
 mod amounts;

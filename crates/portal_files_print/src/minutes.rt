@@ -1,4 +1,4 @@
-//! Minutes as a clock shows them.
+//! Writes local times to the minute.
 
 ghost use Rattle.std.specs.Prelude.{◌≡◌, IfOk, string_bytes};
 ghost use Rattle.portal_files_print.specs.Minute.{minute_text, IsMinuteText};
@@ -8,7 +8,7 @@ use portal_files::{Settings, local_time};
 use portal_model::moment::Moment;
 use std::alloc::{AllocError, Global};
 
-/// `YYYY-MM-DD HH:MM`, the seconds cut off.
+/// Writes a date and time as `YYYY-MM-DD HH:MM`; the seconds are cut off. The only error is out of memory.
 fn minute_text(alloc: Global, at: DateTime) -> Result<String, AllocError>
     ensures { IfOk result (λ text. string_bytes text ≡ minute_text at) }
 {
@@ -19,7 +19,8 @@ fn minute_text(alloc: Global, at: DateTime) -> Result<String, AllocError>
     format!(in alloc; "{date} {hour:02}:{minute:02}")
 }
 
-/// The minute that a clock in the settings' zone shows at the moment.
+/// Writes the local time of a moment in the zone of the settings as `YYYY-MM-DD HH:MM`. The only error is
+/// out of memory.
 pub(crate) fn local_minute_text(
     alloc: Global,
     settings: &Settings,

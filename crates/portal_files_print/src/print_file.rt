@@ -1,9 +1,16 @@
-//! The print file of a batch.
+//! Writes the print file of a batch.
 
 ghost use Rattle.std.specs.Prelude.{◌≡◌, ◌++◌, IfOk, IfErr, OnOk, string_bytes};
 ghost use Rattle.std.specs.List.{flat_map};
 ghost use Rattle.portal_files_print.specs.PrintFile.{limit_text, IsPrintFile};
-ghost use Rattle.portal_files_print.specs.Private.Written.{IsReady, written_text, shared_of, row, header_row, code_row};
+ghost use Rattle.portal_files_print.specs.Private.Written.{
+  IsReady,
+  written_text,
+  shared_of,
+  row,
+  header_row,
+  code_row,
+};
 
 use crate::amounts::amount_text;
 use crate::minutes::local_minute_text;
@@ -12,7 +19,7 @@ use portal_codes::Code;
 use portal_files::{BatchSheet, FileFault, Settings};
 use std::alloc::{AllocError, Global};
 
-/// A limit, or nothing where there is none.
+/// Writes a limit of a plan; empty for 0, which means no limit. The only error is out of memory.
 fn limit_text(alloc: Global, limit: u64) -> Result<String, AllocError>
     ensures { IfOk result (λ text. string_bytes text ≡ limit_text limit) }
 {
@@ -22,7 +29,7 @@ fn limit_text(alloc: Global, limit: u64) -> Result<String, AllocError>
     limit.to_string(alloc)
 }
 
-/// Writes a line of six fields.
+/// Writes a row of six fields. An error is that of the writer.
 fn write_row<'a>(
     writer: &mut Writer<Vec<u8>>,
     first: &'a [u8],
@@ -40,7 +47,7 @@ fn write_row<'a>(
     writer.write_fields(&[first, plan, seconds, bytes, price, expires])
 }
 
-/// Writes the words over the columns.
+/// Writes the row with the names of the columns. An error is that of the writer.
 fn write_header(writer: &mut Writer<Vec<u8>>) -> Result<(), Error>
     requires { IsReady writer.old }
     ensures ready { OnOk result (IsReady writer.new) }
@@ -51,7 +58,9 @@ fn write_header(writer: &mut Writer<Vec<u8>>) -> Result<(), Error>
     )
 }
 
-/// The lines of the codes, under the words over the columns.
+/// Writes the header and a row for each code. The other fields are the same in all rows.
+///
+/// An error is that of the writer.
 fn write_code_lines(
     alloc: Global,
     codes: &[Code],
@@ -81,12 +90,13 @@ fn write_code_lines(
     writer.into_inner().map_err(|e| e.into_error())
 }
 
-/// The print file of a batch, as CSV (RFC 4180, with a line feed alone at the end of each line): the
-/// columns code, plan, seconds, bytes, price and expires, and a line for each code in order of issue.
+/// Writes the print file of a batch as CSV (RFC 4180, but with a line feed alone at the end of a line).
 ///
-/// Seconds and bytes are empty where the plan does not limit them. The price is in whole units with
-/// two places. The expiry is the minute that a clock in the settings' zone shows. Only want of memory
-/// is an error.
+/// The columns are code, plan, seconds, bytes, price and expires, with a row for each code in order of
+/// issue. Seconds and bytes are empty if the plan does not limit them. The price is in whole units with two
+/// decimal places. The time of expiry is the local time in the zone of the settings, to the minute.
+///
+/// Fault: `Memory`.
 pub fn print_batch(
     alloc: Global,
     settings: &Settings,

@@ -1,21 +1,31 @@
-//! The takings report.
+//! Writes the takings report.
 
 ghost use Rattle.std.specs.Prelude.{◌≡◌, ◌++◌, ◌∷◌, [], codes, IfOk, IfErr, length, string_bytes, sum_by};
 ghost use Rattle.portal_days.specs.Takings.{TotalsFit};
-ghost use Rattle.portal_files_print.specs.Report.{takings_line, IsDayLine, total_line, net_text, net_line, IsReport};
+ghost use Rattle.portal_files_print.specs.Report.{
+  takings_line,
+  IsDayLine,
+  total_line,
+  net_text,
+  net_line,
+  IsReport,
+};
 
 use crate::amounts::{amount_column, amount_text};
 use portal_days::DayTakings;
 use portal_files::{FileFault, day_text};
 use std::alloc::{AllocError, Global};
 
-/// The words over the columns.
+/// The line with the names of the columns.
 const HEADER: &str = "day            sold             sales refunded           refunds\n";
 
-/// The label of the totals, in as many places as a day.
+/// The label of the totals, padded to the width of a day.
 const TOTAL: &str = "total     ";
 
-/// A line of numbers under a label of ten places.
+/// Returns a line of the takings report: a label of ten characters, then the counts and the sums of sales
+/// and of refunds.
+///
+/// The only error is out of memory.
 fn takings_line(
     alloc: Global,
     label: &str,
@@ -32,7 +42,7 @@ fn takings_line(
     format!(in alloc; "{label} {sold:>8} {sales} {refunded:>8} {refunds}\n")
 }
 
-/// The line of a day.
+/// Writes the line of a day. The only error is out of memory.
 fn day_line(alloc: Global, takings: &DayTakings) -> Result<String, AllocError>
     ensures { IfOk result (λ line. IsDayLine takings.now (string_bytes line)) }
 {
@@ -47,7 +57,7 @@ fn day_line(alloc: Global, takings: &DayTakings) -> Result<String, AllocError>
     )
 }
 
-/// What the sales of the days come to.
+/// Returns the sum of the sales of the days, in hundredths.
 fn total_sales(days: &[DayTakings]) -> u128
     requires { TotalsFit days.now }
     ensures { result ≡ sum_by (λ d. d.sales) days.now }
@@ -55,7 +65,7 @@ fn total_sales(days: &[DayTakings]) -> u128
     days.iter().map(|day| day.sales).sum()
 }
 
-/// What the refunds of the days come to.
+/// Returns the sum of the refunds of the days, in hundredths.
 fn total_refunds(days: &[DayTakings]) -> u128
     requires { TotalsFit days.now }
     ensures { result ≡ sum_by (λ d. d.refunds) days.now }
@@ -63,7 +73,7 @@ fn total_refunds(days: &[DayTakings]) -> u128
     days.iter().map(|day| day.refunds).sum()
 }
 
-/// The line of the totals.
+/// Writes the line of the totals. The only error is out of memory.
 fn total_line(alloc: Global, days: &[DayTakings]) -> Result<String, AllocError>
     requires { TotalsFit days.now }
     ensures { IfOk result (λ line. string_bytes line ≡ total_line days.now) }
@@ -80,7 +90,7 @@ fn total_line(alloc: Global, days: &[DayTakings]) -> Result<String, AllocError>
     )
 }
 
-/// The line of the net sum.
+/// Writes the line of the net sum: the sales less the refunds. The only error is out of memory.
 fn net_line(alloc: Global, days: &[DayTakings]) -> Result<String, AllocError>
     requires { TotalsFit days.now }
     ensures { IfOk result (λ line. string_bytes line ≡ net_line days.now) }
@@ -95,13 +105,14 @@ fn net_line(alloc: Global, days: &[DayTakings]) -> Result<String, AllocError>
     format!(in alloc; "net {net}\n")
 }
 
-/// The takings report: words over the columns, a line for each day in order, the totals, and the net
-/// sum.
+/// Writes the takings report: a header, a line for each day in order, the totals, and the net sum.
 ///
-/// Each line has the day or a word, left in 10 places; the count of the sales, right in 8, and their
-/// sum, right in 17; and the same of the refunds. Between two columns stands a space. Sums are in whole
-/// units with two places. A number that needs more places takes them. The net sum stands after `net `,
-/// with a `-` where the refunds are more than the sales. Only want of memory is an error.
+/// Each line has the day or a word, aligned to the left in 10 columns; the count of the sales, aligned to
+/// the right in 8, and their sum, in 17; and the same for the refunds. There is a space between two
+/// columns. A number that needs more columns takes them. Sums are in whole units with two decimal places.
+/// The net sum follows `net `, with a `-` if the refunds are greater than the sales.
+///
+/// Fault: `Memory`.
 pub fn takings_text(alloc: Global, days: &[DayTakings]) -> Result<String, FileFault>
     requires { TotalsFit days.now }
     ensures ok { IfOk result (λ text. IsReport days.now (string_bytes text)) }

@@ -18,13 +18,13 @@ pub one_served : (settings : SettingsValue) (old new : State) (a arrived : Arriv
     → Step settings old arrived response new → ServesInOrder settings old (a ∷ []) (response ∷ []) new
 one_served settings old new a arrived response same step = (new, subst (λ (x : Arrived). Step settings old x response new) same step, refl)
 
--- there was no room: nothing was done
+-- out of memory: nothing was done
 pub no_room : (IsRun : List Arrived → List (List ℕ) → Type 0) (wire : Wire) (moment : ℕ) (seed : List ℕ) (cut : Cut)
     → cut ≡ record { cause = NoRoom; written = 0; whole = 0 } → IsOutOfMemory wire → Keeps wire.sent wire.sent_after → IsRun [] []
     → CutsOff wire moment seed IsRun cut.cause cut.written cut.whole
 no_room IsRun wire moment seed cut same full kept none = rw same (refl, refl, full, kept, none)
 
--- what such a run is, told otherwise
+-- another description of such a run
 module _ (IsRun Other : List Arrived → List (List ℕ) → Type 0) (also : (xs : List Arrived) (rs : List (List ℕ)) → IsRun xs rs → Other xs rs) (wire : Wire) (moment : ℕ) (seed : List ℕ) where
   carries_also : (response : List ℕ) (written : ℕ) → ReadsAndServes wire moment seed IsRun response written → ReadsAndServes wire moment seed Other response written
   carries_also response written (received, reads, is_run, out) =

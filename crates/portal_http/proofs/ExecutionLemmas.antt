@@ -1,10 +1,10 @@
--- A whole life keeps what was acknowledged.
+-- An execution keeps what was acknowledged.
 use Rattle.portal_http.proofs.Common.{◌≡◌, ◌⊎◌, inl, inr, ℕ, List, [], ◌∷◌, length, take, refl, sym, subst, Accepted, Ledger, SettingsValue, State, MayBeFound, Arrived, Leads, IsInDoubt}
 use Rattle.portal_http.specs.Executions.{ServerSession, without_desk, with_desk, Execution, IsKeptByExecution, ExecutionIsKept}
 use Rattle.portal_http.proofs.HeadlineLemmas.{Ends, works, halts, doubts, ends}
 
 module _ (settings : SettingsValue) where
-  -- what one round leaves
+  -- what one session leaves
   abbrev Leaves : Ledger → List Arrived → List (List ℕ) → Ledger → Type 0
   Leaves L arrivals responses next =
       (last : Ledger) × Leads settings L (take (length responses) arrivals) responses last

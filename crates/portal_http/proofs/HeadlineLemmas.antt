@@ -130,7 +130,7 @@ module _ (settings : SettingsValue) where
     halts : (last : Ledger) → Leads settings L xs rs last → new ≡ stopped last None → Ends L xs rs new
     doubts : (last : Ledger) → Leads settings L xs rs last → (own : Accepted) → IsInDoubt settings L xs rs own → new ≡ stopped last (Some own) → Ends L xs rs new
 
-  -- a request that did not stop the desk, and the run after it
+  -- a request after which the desk has not stopped, and the run after it
   more : (L after : Ledger) (a : Arrived) (r : List ℕ) (xs : List Arrived) (rs : List (List ℕ)) (new : State)
       → Comes L a r after → Replies settings L a r after → Ends after xs rs new → Ends L (a ∷ xs) (r ∷ rs) new
   more L after a r xs rs new comes reply (works last leads is) = works last (after, comes.0, reply, leads) is
@@ -173,7 +173,7 @@ module _ (settings : SettingsValue) where
     | inr (operation, checked, other, inr over) ↦ here L a r xs rs run.0 new operation checked over.0 over.1 run.2
   ]
 
-  -- ---- what a stop leaves
+  -- ---- what is found after a crash
 
   module _ (Files : Type 0) (is_crash_state : Files → Type 0) (holds_ledger : Files → Ledger → Type 0) (L : Ledger) (xs : List Arrived) (rs : List (List ℕ)) (new : State) where
     abbrev Left : Type 0

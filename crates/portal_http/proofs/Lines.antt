@@ -1,4 +1,4 @@
--- The bytes of a response tell whether it is a 200, and whether it is that of a desk that stopped.
+-- The bytes of a response determine whether it is a 200, and whether it is that of a desk that has stopped.
 use Rattle.portal_http.proofs.Common.{◌≡◌, ◌+◌, ◌-◌, ◌≤◌, ℕ, Bool, true, false, List, ◌++◌, length, drop, nat_eq, nat_le, refl, sym, ◌∙◌, ap, arith, Option, None, ◌≢◌, codes, Answer, Refusal, Stopped, status_of, SettingsValue, last_lines, media_type_of, phrase_of, Json, IsRefusal, is_ok}
 use Rattle.std.specs.Fmt.{digits}
 use Rattle.std.specs.List.{ends_with}

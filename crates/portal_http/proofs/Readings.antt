@@ -26,7 +26,7 @@ module _ (checked_once : ChecksAreExact) where
       let same = acknowledged_once settings L a r is.0 also.0 is.1 also.1 in
       leads_once settings is.0 rest rs last other is.3 (subst (λ (K : Ledger). Leads settings K rest rs other) (sym same) also.3)
 
-  -- the command and the mark of a request
+  -- the command and the fingerprint of a request
   abbrev command_in : Command → Option Fingerprint → Result Operation Rejection → Command
   command_in command mark (Ok (Act c m)) = c
   command_in command mark _ = command

@@ -1,4 +1,4 @@
--- The body of a response, by what was written, and the status that its bytes show.
+-- The body of a response, by what was written, and the status in its bytes.
 use Rattle.portal_http.proofs.Common.{◌≡◌, ℕ, List, ◌++◌, None, Option, ap, ◌∙◌, refl, subst, Result, Ok, Err, Refusal, Stopped, status_of, IsResponse}
 use Rattle.std.specs.Fmt.{digits}
 use Rattle.portal_http_message.specs.declared.responses.ContentType.{ContentType}
@@ -23,7 +23,7 @@ with_text Is content_type moment body text (Ok response) so same is =
     record { ok = (text, so, subst (λ (b : List ℕ). IsOkResponse content_type moment b response.bytes.items) same is.ok); err = tt }
 with_text Is content_type moment body text (Err r) so same is = record { ok = tt; err = is.err }
 
--- ---- the status that a response shows
+-- ---- the status in a response
 
 accepted_line : (phrase date media_type : List ℕ) (size : ℕ) (last body : List ℕ) → status_in (head_bytes 200 phrase date media_type size last ++ body) ≡ 200
 unfolding head_bytes digits

@@ -1,5 +1,6 @@
--- What the functions that call a desk leave of it. Of each: it keeps the desk's settings; a desk that is honest after it was honest
--- before it; and one that had stopped has stopped still.
+-- The contracts of the functions that call a desk. Each of them keeps the settings of the desk. If the disk
+-- is fault-free after the call, it was so before. A desk that had stopped before the call has stopped after
+-- it.
 use Rattle.std.specs.Prelude.{◌≡◌, ◌<◌, List, ◌++◌, length, ℕ, Result, IfErr, MatchResult, Vec, ⊤}
 use Rattle.std.specs.declared.alloc.Global.{Global}
 use Rattle.portal_model.specs.declared.refusal.Refusal.{Refusal}
@@ -21,32 +22,34 @@ use Rattle.portal_http.specs.Serving.{Finishes, ServesOperation}
 use Rattle.portal_http.specs.Headline.{Survives}
 use Rattle.portal_http.specs.Exchanges.{Wire, EndsExchange}
 
--- As long as the desk is honest, it leads from each state that the desk stands at to one that it stands at then, as Does says.
+-- As long as the disk is fault-free, the call leads from each state that the desk represents to one that it
+-- represents then, as Does says.
 pub record MovesState {D : Type 0} (g : Ghosts D) (Does : State → State → Type 0) (old new : D) : Type 0 where
   pub same_settings : g.settings new ≡ g.settings old
   pub fault_free : g.is_fault_free new → g.is_fault_free old
   pub stays : StaysStopped (g.has_stopped old) (g.has_stopped new)
   pub step : g.is_fault_free new → (before : State) → g.represents old before → (after : State) × g.represents new after × Does before after
 
--- what is wanted is carried out, or there was no memory for it, with a response of those bytes
+-- the operation is executed, or there was no memory for it, with a response of those bytes
 abbrev pub ServesAt : {D : Type 0} → Ghosts D → Operation → ℕ → List ℕ → D → D → Type 0
 ServesAt g asked moment bytes old new = MovesState g (λ before after. ServesOperation (g.settings old) asked before moment bytes after) old new
 
--- a command that was prepared is kept and answered, or it is not
+-- A command that was prepared is committed and answered, or it is not.
 pub record FinishesAt {D : Type 0} (g : Ghosts D) (prepared : MarkedChanges) (moment : ℕ) (bytes : List ℕ) (old new : D) : Type 0 where
   pub same_settings : g.settings new ≡ g.settings old
   pub fault_free : g.is_fault_free new → g.is_fault_free old
   pub stays : StaysStopped (g.has_stopped old) (g.has_stopped new)
   pub finishes : g.is_fault_free new → (L : Ledger) → g.represents old (running L) → (a : Accepted) → Fits (running L) prepared a
-      → (after : State) × g.represents new after × Finishes L a (answer_of prepared.changes) moment bytes after
+      → (after : State) × g.represents new after
+      × Finishes L a (answer_of prepared.changes) moment bytes after
 
--- the first requests were served, with the responses that were added: all of them, or not all at an error
+-- The first requests were served, and their responses were added: all of them, or fewer and an error.
 abbrev pub AddsResponses : SettingsValue → State → List Arrived → List (Vec ℕ Global) → List (Vec ℕ Global) → Result (Unit {0}) Refusal → State → Type 0
 AddsResponses settings before arrivals out out_after result after =
     (responses : List (Vec ℕ Global)) × (out_after ≡ out ++ responses) × ServesInOrder settings before arrivals (bytes_of_responses responses) after
     × MatchResult result (λ _. length responses ≡ length arrivals) (λ _. length responses < length arrivals)
 
--- A run of the requests, which adds one response for each that it serves.
+-- A run of the requests, which adds one response for each request that it serves.
 pub record RunsOn {D : Type 0} (g : Ghosts D) (arrivals : List Arrived) (old new : D) (out out_after : List (Vec ℕ Global))
     (result : Result (Unit {0}) Refusal) : Type 0 where
   pub same_settings : g.settings new ≡ g.settings old
@@ -59,7 +62,8 @@ pub record RunsOn {D : Type 0} (g : Ghosts D) (arrivals : List Arrived) (old new
       × MatchResult result (λ _. length responses ≡ length arrivals) (λ _. length responses < length arrivals)
   pub survives : g.is_fault_free new → (L : Ledger) → g.represents old (running L)
       → (responses : List (Vec ℕ Global)) × (out_after ≡ out ++ responses)
-      × Survives g.Files (g.is_crash_state new) g.holds_ledger (g.settings old) L arrivals (bytes_of_responses responses)
+      × Survives g.Files (g.is_crash_state new) g.holds_ledger (g.settings old) L arrivals
+      (bytes_of_responses responses)
 
 -- One exchange over a connection.
 pub record ExchangesOn {D : Type 0} (g : Ghosts D) (connection : Wire) (moment : ℕ) (seed : List ℕ) (old new : D) (result : Result Done Cut)
@@ -68,7 +72,8 @@ pub record ExchangesOn {D : Type 0} (g : Ghosts D) (connection : Wire) (moment :
   pub fault_free : g.is_fault_free new → g.is_fault_free old
   pub stays : StaysStopped (g.has_stopped old) (g.has_stopped new)
   pub wire : EndsExchange connection moment seed (λ arrivals responses. ⊤) result
-  pub serves : g.is_fault_free new → (before : State) → g.represents old before → (after : State) × g.represents new after
+  pub serves : g.is_fault_free new → (before : State) → g.represents old before
+      → (after : State) × g.represents new after
       × EndsExchange connection moment seed (λ arrivals responses. ServesInOrder (g.settings old) before arrivals responses after) result
   pub survives : g.is_fault_free new → (L : Ledger) → g.represents old (running L)
       → EndsExchange connection moment seed

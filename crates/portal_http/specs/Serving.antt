@@ -1,4 +1,4 @@
--- What one command comes to, and the response to it.
+-- The result of one command, and the response to it.
 use Rattle.std.specs.Prelude.{◌≡◌, ◌≢◌, ◌⊎◌, ℕ, List, ◌∷◌, Option, Some, Ok}
 use Rattle.portal_model.specs.declared.command.Command.{Command}
 use Rattle.portal_model.specs.declared.change.Answer.{Answer}
@@ -13,21 +13,22 @@ use Rattle.portal_http_request.specs.declared.operation.Operation.TheVariants.{A
 use Rattle.portal_http.specs.Replies.{IsRefusal, IsAnswer}
 use Rattle.portal_http.specs.Runs.{CarriesOut}
 
--- the response of a refusal, or that of want of memory in its place
+-- the response to a refusal, or that for out of memory in its place
 abbrev pub GivesRefusal : Refusal → ℕ → List ℕ → Type 0
 GivesRefusal r moment bytes = IsRefusal r moment bytes ⊎ ((r ≢ Stopped) × IsRefusal NoMemory moment bytes)
 
--- it is kept and answered; or there was no memory, and nothing has changed; or the desk stopped, and the command is in doubt
+-- The command is committed and answered; or there was no memory, and nothing has changed; or the desk has
+-- stopped, and the command is in doubt.
 abbrev pub Finishes : Ledger → Accepted → Answer → ℕ → List ℕ → State → Type 0
 Finishes L a answer moment bytes new =
     (IsAnswer answer moment bytes × (new ≡ running (a ∷ L)))
     ⊎ ((IsRefusal NoMemory moment bytes × (new ≡ running L)) ⊎ (IsRefusal Stopped moment bytes × (new ≡ stopped L (Some a))))
 
--- there was no memory, and nothing has changed; or what is wanted is carried out
+-- there was no memory, and nothing has changed; or the operation is executed
 abbrev pub ServesOperation : SettingsValue → Operation → State → ℕ → List ℕ → State → Type 0
 ServesOperation settings asked old moment bytes new =
     (IsRefusal NoMemory moment bytes × (new ≡ old)) ⊎ CarriesOut settings (Ok asked) old moment bytes new
 
--- the same of a command
+-- the same for a command
 abbrev pub ServesCommand : SettingsValue → Command → Option Fingerprint → State → ℕ → List ℕ → State → Type 0
 ServesCommand settings command mark old moment bytes new = ServesOperation settings (Act command mark) old moment bytes new

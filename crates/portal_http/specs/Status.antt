@@ -1,10 +1,10 @@
--- The status that the bytes of a response show.
+-- The status in the bytes of a response.
 use Rattle.std.specs.Prelude.{ℕ, ◌+◌, ◌-◌, ◌*◌, List, get_or}
 
--- the digit that a response shows at a place
+-- the digit at a place of a response
 abbrev pub digit_at : List ℕ → ℕ → ℕ
 digit_at response place = get_or response place 48 - 48
 
--- the status that a response shows: the three digits after `HTTP/1.1 `
+-- the status of a response: the three digits after `HTTP/1.1 `
 abbrev pub status_in : List ℕ → ℕ
 status_in response = 100 * digit_at response 9 + 10 * digit_at response 10 + digit_at response 11

@@ -1,4 +1,4 @@
-//! One exchange with a peer: its request is read, carried out, and answered.
+//! Serves one request over a connection: reads it, executes it, and writes the response.
 ghost use Rattle.std.specs.Prelude.{◌≡◌, ◌≤◌, ⊤};
 ghost use Rattle.portal_http.specs.Runs.{ServesInOrder};
 ghost use Rattle.portal_http.specs.Exchanges.{between, EndsExchange, StatusIsInResponse};
@@ -14,38 +14,39 @@ use portal_model::moment::Moment;
 use std::alloc::Global;
 use std::io::{Read, Write};
 
-/// A response that went out whole.
+/// A response that was written whole.
 #[derive(Clone, Copy, Debug, PartialEq, Eq)]
 pub struct Done {
-    /// The status that it shows.
+    /// The HTTP status of the response.
     pub status: u16,
-    /// The number of its bytes.
+    /// The length of the response in bytes.
     pub written: usize,
 }
 
-/// What cut an exchange off.
+/// Why an exchange broke off.
 #[derive(Clone, Copy, Debug, PartialEq, Eq)]
 pub enum Cause {
     /// A read failed.
     Read,
-    /// There was no room for the request, or for any response.
+    /// Out of memory for the request, or for any response.
     NoRoom,
-    /// A write failed, or took nothing.
+    /// A write failed, or took no bytes.
     Write,
 }
 
-/// An exchange that was cut off. Before a `Write` the request was carried out; before a `Read` and a `NoRoom`
-/// nothing was, and both counts are 0.
+/// An exchange that broke off. With the cause `Write`, the request was executed; with `Read` and `NoRoom`,
+/// nothing was executed and both counts are 0.
 #[derive(Clone, Copy, Debug, PartialEq, Eq)]
 pub struct Cut {
+    /// Why it broke off.
     pub cause: Cause,
-    /// The number of bytes of the response that went out.
+    /// The number of bytes of the response that were written.
     pub written: usize,
-    /// The number of bytes that the response has.
+    /// The length of the response in bytes.
     pub whole: usize,
 }
 
-/// A cut before anything was done.
+/// Makes a `Cut` with that cause before any response: both counts are 0.
 fn cut_without_response(cause: Cause) -> Cut
     ensures { result ≡ record { cause = cause; written = 0; whole = 0 } }
 {
@@ -56,7 +57,7 @@ fn cut_without_response(cause: Cause) -> Cut
     }
 }
 
-/// The digit that a response shows at a place.
+/// Returns the digit at a place of a response, counted from 0; 0 past its end.
 fn digit_at(response: &[u8], place: usize) -> u16
     ensures digit { result ≡ digit_at response.now place }
     ensures small { result ≤ 255 }
@@ -67,19 +68,21 @@ fn digit_at(response: &[u8], place: usize) -> u16
     }
 }
 
-/// The status that a response shows (RFC 9112 section 4).
+/// Reads the status from the status line of a response (RFC 9112, section 4).
 pub fn status_in(response: &[u8]) -> u16
     ensures { result ≡ status_in response.now }
 {
     100 * digit_at(response, 9) + 10 * digit_at(response, 10) + digit_at(response, 11)
 }
 
-/// A law: a response shows its status.
+/// Law: `status_in` gives the status with which a response was encoded.
 pub fn status_is_in_response()
     ensures { StatusIsInResponse }
 {}
 
-/// The exchange, as far as the desk goes.
+/// Reads one request, serves it and writes the response, as `exchange` says.
+///
+/// This contract covers the desk while it runs; that of `exchange` adds the crash states.
 fn read_serve_and_write<D: Desk, R: Read, W: Write>(
     alloc: Global,
     desk: &mut D,
@@ -120,20 +123,20 @@ fn read_serve_and_write<D: Desk, R: Read, W: Write>(
     }
 }
 
-/// Reads one request until its reply is decided or the input ends, carries it out at that moment, and writes
-/// the response. `seed` is where the codes of a new batch come from.
+/// Reads one request from a connection, executes it at `moment`, and writes the response.
 ///
-/// Each read asks for at most 4,096 bytes, none is made once the reply is decided, and at most 77,824 bytes
-/// are read. Each write is offered the whole rest of the response. A read or a write that is interrupted is
-/// one that failed.
+/// `seed` gives the codes of a new batch. Reading ends once the response is decided or the input ends. Each
+/// read asks for at most 4,096 bytes, and at most 77,824 bytes are read. Each write is offered all the rest
+/// of the response. An interrupted read or write is one that failed.
 ///
-/// `Done`: the response went out whole. `Cut`: at `Read` and `NoRoom` no command was carried out and nothing
-/// went out. At `Write` the request was carried out as the one request of a run, and the first `written`
-/// bytes of its response went out.
+/// With `Done`, the response was written whole. With `Cut` and the cause `Read` or `NoRoom`, nothing was
+/// executed or written. With the cause `Write`, the request was executed as the one request of a `run`, and
+/// the first `written` bytes of the response were written.
 ///
-/// A stop at the end of the exchange, however it ends, leaves the commands of before with that of the
-/// request, where its response is 200, also if no byte of it went out; and at most one more, where its
-/// response is that of `stopped`. A desk that has stopped stays so, whatever the disk did.
+/// After a crash at any point, as long as the disk is fault-free, the ledger is the one from before, with
+/// the command of the request if its response is a 200, even if no byte of it was written; and at most one
+/// command more, if the response is that of `stopped`. A desk that has stopped stays so, whatever the disk
+/// did.
 pub fn exchange<D: Desk, R: Read, W: Write>(
     alloc: Global,
     desk: &mut D,

@@ -1,4 +1,5 @@
-//! The desk over HTTP: a request's bytes in, a response's bytes out (RFC 8908, RFC 9110, RFC 9112).
+//! The server over HTTP: the bytes of requests in, the bytes of responses out (RFC 8908, RFC 9110, RFC
+//! 9112).
 #![tactic(auto)]
 
 mod arrivals;

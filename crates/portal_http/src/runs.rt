@@ -1,4 +1,4 @@
-//! A run of requests.
+//! Serves a sequence of requests.
 ghost use Rattle.std.specs.Prelude.{◌≡◌, IfErr};
 ghost use Rattle.portal_http.specs.Calls.{AddsResponses, MovesState, RunsOn};
 
@@ -11,19 +11,19 @@ use std::alloc::Global;
 
 /// Serves the requests in order and appends one response for each to `out`.
 ///
-/// As long as the disk returns what was written to it, each response is the reply that the commands accepted
-/// by then give at the moment handed in, or that of `no_memory`, which has changed nothing, or that of
-/// `stopped`, after which each request that reaches the desk is answered `stopped` or `no_memory`. The
-/// response and the room for it in `out` are taken before the desk is asked to keep a command, so want of
-/// memory never covers an accepted one.
+/// As long as the disk is fault-free, each response is one of these: the reply that the commands accepted
+/// so far give at the time of arrival; that of `no_memory`, and the request has changed nothing; or that of
+/// `stopped`, and then each later request that reaches the desk is answered `stopped` or `no_memory`.
+/// Memory for the response and for its place in `out` is taken before a command is committed, so an
+/// accepted command is never answered `no_memory`.
 ///
-/// A stop at the end of the run, wherever it ends, then leaves the commands of before with those that were
-/// answered 200, and at most one more: the command that was first answered `stopped`.
+/// Then also, after a crash at any point of the run, the ledger is the one from before, then the commands
+/// that were answered 200, in order, and at most one command more: the one that was first answered
+/// `stopped`.
 ///
 /// A desk that has stopped stays so, whatever the disk did.
 ///
-/// Refusal: `NoMemory` alone, where no response could be made: that request changed nothing, and the run ends
-/// there.
+/// Refusal: `NoMemory`, if no response can be made. That request changed nothing, and the run ends there.
 pub fn run<D: Desk>(
     alloc: Global,
     desk: &mut D,
@@ -36,7 +36,9 @@ pub fn run<D: Desk>(
     serve_each(alloc, desk, routes, arrivals, out)
 }
 
-/// The requests one after another, as `run` says.
+/// Serves the requests one after another, as `run` says.
+///
+/// The contract of `run` adds the crash states.
 fn serve_each<D: Desk>(
     alloc: Global,
     desk: &mut D,

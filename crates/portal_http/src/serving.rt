@@ -1,4 +1,4 @@
-//! One request, from its bytes to its response.
+//! Serves one request, from its bytes to its response.
 ghost use Rattle.std.specs.Prelude.{◌≡◌, ◌≢◌, ◌⊎◌, Some, None, IfErr, MatchResult};
 ghost use Rattle.portal_model.specs.Verdict.{IsWellFormed};
 ghost use Rattle.portal_http_request.specs.declared.operation.Operation.TheVariants as operation;
@@ -28,16 +28,17 @@ use portal_model::name::{Device, Id};
 use portal_model::refusal::Refusal;
 use std::alloc::Global;
 
-/// The two responses that may be wanted when there is no memory for one: they are made before the desk is
-/// asked.
+/// The two responses that are made before the desk is called, for errors after which there may be no memory
+/// for one.
 #[derive(Drop)]
 pub struct Spare {
+    /// The response for out of memory.
     pub no_memory: Response,
+    /// The response for a desk that has stopped.
     pub stopped: Response,
 }
 
-/// The response to a request that does not reach the desk, or that of `NoMemory` where there is no memory for
-/// it.
+/// Returns the response to a rejected request, or that of `NoMemory` if there is no memory for it.
 fn rejection_or_spare(alloc: Global, moment: Moment, rejected: Rejection, spare: Spare) -> Response
     requires { IsRefusal Refusal.NoMemory moment spare.no_memory.bytes.items }
     ensures { IsRejection rejected moment result.bytes.items
@@ -49,7 +50,7 @@ fn rejection_or_spare(alloc: Global, moment: Moment, rejected: Rejection, spare:
     }
 }
 
-/// The response of a refusal of the desk, or that of `NoMemory` where there is no memory for it.
+/// Returns the response to a refusal of the desk, or that of `NoMemory` if there is no memory for it.
 fn refusal_or_spare(alloc: Global, moment: Moment, refusal: Refusal, spare: Spare) -> Response
     requires { IsSpare moment spare }
     ensures { GivesRefusal refusal moment result.bytes.items }
@@ -63,7 +64,9 @@ fn refusal_or_spare(alloc: Global, moment: Moment, refusal: Refusal, spare: Spar
     }
 }
 
-/// The response to a command that was not kept: after `Stopped` it is in doubt, and else nothing has changed.
+/// Returns the response to a command that was not committed.
+///
+/// For `Stopped` the command is in doubt, else nothing has changed.
 fn commit_failure_response(refusal: Refusal, spare: Spare) -> Response
     ensures stopped { (refusal ≡ Refusal.Stopped) → result.bytes.items ≡ spare.stopped.bytes.items }
     ensures no_memory { (refusal ≢ Refusal.Stopped) → result.bytes.items ≡ spare.no_memory.bytes.items }
@@ -74,7 +77,7 @@ fn commit_failure_response(refusal: Refusal, spare: Spare) -> Response
     }
 }
 
-/// The captive state of a device.
+/// Answers with the captive state of a device.
 fn answer_state<D: Desk>(
     alloc: Global,
     desk: &mut D,
@@ -94,7 +97,7 @@ fn answer_state<D: Desk>(
     }
 }
 
-/// The print file of a batch.
+/// Answers with the print file of a batch.
 fn answer_sheet<D: Desk>(
     alloc: Global,
     desk: &mut D,
@@ -114,7 +117,7 @@ fn answer_sheet<D: Desk>(
     }
 }
 
-/// The state of a voucher.
+/// Answers with the state of a voucher.
 fn answer_voucher<D: Desk>(
     alloc: Global,
     desk: &mut D,
@@ -134,7 +137,7 @@ fn answer_voucher<D: Desk>(
     }
 }
 
-/// The takings of a range of days.
+/// Answers with the takings of a range of days.
 fn answer_takings<D: Desk>(
     alloc: Global,
     desk: &mut D,
@@ -154,7 +157,7 @@ fn answer_takings<D: Desk>(
     }
 }
 
-/// The open sessions.
+/// Answers with the open sessions.
 fn answer_sessions<D: Desk>(alloc: Global, desk: &mut D, moment: Moment, spare: Spare) -> Response
     requires { IsSpare moment spare }
     ensures { ServesAt D.Desk operation.OpenSessions moment result.bytes.items desk.old desk.new }
@@ -168,7 +171,7 @@ fn answer_sessions<D: Desk>(alloc: Global, desk: &mut D, moment: Moment, spare: 
     }
 }
 
-/// A command that was prepared. Its 200 response is made before the desk is asked to keep it.
+/// Commits a command that the desk has prepared. Its response of status 200 is made before.
 fn commit_prepared<D: Desk>(
     alloc: Global,
     desk: &mut D,
@@ -188,7 +191,7 @@ fn commit_prepared<D: Desk>(
     }
 }
 
-/// A command of a request without a number.
+/// Executes a command of a request without an idempotency key.
 fn serve_plain<D: Desk>(
     alloc: Global,
     desk: &mut D,
@@ -206,7 +209,8 @@ fn serve_plain<D: Desk>(
     }
 }
 
-/// A command of a request that acts once.
+/// Executes the command of a request with an idempotency key, and makes the response. A repetition of the
+/// request changes nothing and gets the answer of the first one.
 fn serve_idempotent<D: Desk>(
     alloc: Global,
     desk: &mut D,
@@ -230,7 +234,10 @@ fn serve_idempotent<D: Desk>(
     }
 }
 
-/// The responses that are made before the desk is asked; without memory for both, that of `NoMemory` alone.
+/// Makes the two spare responses.
+///
+/// An inner `Err` is the response of `NoMemory`, if there is memory for that one only. Refusal: `NoMemory`,
+/// if there is memory for none.
 fn spare_responses(alloc: Global, moment: Moment) -> Result<Result<Spare, Response>, Refusal>
     ensures { MatchResult result
         (λ made. MatchResult made (IsSpare moment)
@@ -244,7 +251,7 @@ fn spare_responses(alloc: Global, moment: Moment) -> Result<Result<Spare, Respon
     }
 }
 
-/// What a request wants of the desk.
+/// Executes an operation on the desk and makes the response.
 fn serve_operation<D: Desk>(
     alloc: Global,
     desk: &mut D,
@@ -269,7 +276,9 @@ fn serve_operation<D: Desk>(
     }
 }
 
-/// One request, with the two responses that are made before it.
+/// Checks one request, and executes its operation or answers with the rejection.
+///
+/// The spare responses are made before.
 fn check_and_serve<D: Desk>(
     alloc: Global,
     desk: &mut D,
@@ -294,7 +303,9 @@ fn check_and_serve<D: Desk>(
     }
 }
 
-/// One request. An `Err` is `NoMemory`: no response could be made, and nothing has changed.
+/// Serves one request: checks it, executes it and makes the response.
+///
+/// Refusal: `NoMemory`, if no response can be made; nothing has changed then.
 pub fn serve_request<D: Desk>(
     alloc: Global,
     desk: &mut D,

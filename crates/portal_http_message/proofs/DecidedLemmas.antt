@@ -101,7 +101,7 @@ pub by_one : (bytes : List ℕ) (head : RequestHead) → BeginsWith (take head_l
 by_one bytes head begins d =
     subst (λ (h : RequestHead). IsSettled (length_of h) (length (bytes_after h bytes))) (one_head (take head_limit bytes) d.0 head d.1 begins) d.2
 
--- the rest of the body is wanted
+-- the rest of the body is missing
 open_at : (bytes : List ℕ) (head : RequestHead) (start declared : ℕ) → BeginsWith (take head_limit bytes) head
     → start ≡ length (print_request head) → start ≤ head_limit
     → length_of head ≡ Ok declared → declared ≤ body_limit → length (drop start bytes) < declared → IsIncomplete bytes

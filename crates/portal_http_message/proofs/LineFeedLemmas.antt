@@ -185,7 +185,7 @@ ends_in_feed h = by _ (flat_map print_field h.fields) h.last
     )
     by start lines lf = (start ++ lines, sym (append_assoc start lines (10 ∷ [])))
 
--- a line feed behind the bytes counts, but where nothing stands before it
+-- a line feed after the bytes counts, unless nothing is before it
 feed_counts : (xs : List ℕ) → (feeds (from_start xs) ≡ 0) ⊎ (feeds (from_start (xs ++ 10 ∷ [])) ≡ feeds (from_start xs) + 1)
 unfolding from_start
 feed_counts [] = inl refl

@@ -6,7 +6,7 @@ use Rattle.httpdate.specs.Date.{unix_secs, date_text}
 use Rattle.portal_http_message.specs.declared.responses.ContentType.{ContentType}
 use Rattle.portal_http_message.specs.declared.responses.ContentType.TheVariants.{CaptiveJson, Json, Csv, PlainText}
 
--- the phrase beside a status; no phrase beside a status that the desk never answers
+-- the reason phrase for a status; empty for a status that the server never sends
 abbrev pub phrase_of : ℕ → List ℕ
 phrase_of status =
     if status == 200 then codes "OK" else (
@@ -27,7 +27,7 @@ media_type_of Json = codes "application/json"
 media_type_of Csv = codes "text/csv; charset=utf-8"
 media_type_of PlainText = codes "text/plain; charset=utf-8"
 
--- the lines after `Cache-Control`, with the empty line that ends the head
+-- the lines of the head after `Cache-Control`, with the empty line at its end
 abbrev pub last_lines : Option (List ℕ) → List ℕ
 last_lines None = codes "Connection: close\r\n\r\n"
 last_lines (Some method) = codes "Allow: " ++ (method ++ codes "\r\nConnection: close\r\n\r\n")
@@ -41,18 +41,18 @@ head_bytes status phrase date media_type size last =
     ++ (codes "\r\nContent-Length: " ++ (decimal size
     ++ (codes "\r\nCache-Control: no-store\r\n" ++ last))))))))))
 
--- the bytes of a response that shows that date
+-- the bytes of a response with that date
 abbrev pub response_bytes : ℕ → List ℕ → ContentType → Option (List ℕ) → List ℕ → List ℕ
 response_bytes status date content_type allow body =
     head_bytes status (phrase_of status) date (media_type_of content_type) (length body) (last_lines allow) ++ body
 
--- the bytes are that response, dated with the moment
+-- the bytes are that response, with the date of the moment
 abbrev pub IsResponse : ℕ → ℕ → ContentType → Option (List ℕ) → List ℕ → List ℕ → Type 0
 IsResponse status moment content_type allow body bytes =
     (date : HttpDate) × (unix_secs date ≡ moment)
     × (bytes ≡ response_bytes status (date_text date) content_type allow body)
 
--- no two different texts are the response with that status, moment, media type, method and body
+-- status, moment, content type, allowed method and body determine the bytes of a response
 abbrev pub ResponseIsFixed : Type 0
 ResponseIsFixed =
     (status moment : ℕ) (content_type : ContentType) (allow : Option (List ℕ)) (body one other : List ℕ)

@@ -9,7 +9,7 @@ use Rattle.portal_http_message.specs.declared.errors.HeadError.TheVariants.{BadR
 abbrev pub FieldList : Type 0
 FieldList = List (List ℕ × List ℕ)
 
--- the names are the same but for the case of letters
+-- the names are equal without regard to case
 abbrev pub is_same_name : List ℕ → List ℕ → Bool
 is_same_name name other = pointwise nat_eq (map to_ascii_lowercase name) (map to_ascii_lowercase other)
 
@@ -17,13 +17,13 @@ is_same_name name other = pointwise nat_eq (map to_ascii_lowercase name) (map to
 unfoldable pub values_of : List ℕ → FieldList → List (List ℕ)
 values_of name fields = map (λ field. field.1) (filter (λ field. is_same_name field.0 name) fields)
 
--- the value, where there is just one
+-- the value, if there is exactly one
 abbrev pub only_of : List (List ℕ) → Option (List ℕ)
 only_of [] = None
 only_of (value ∷ []) = Some value
 only_of (value ∷ other ∷ rest) = None
 
--- the value, where there is one; more than one are a fault
+-- the value, or none; more than one value are an error
 abbrev pub at_most_one_of : List (List ℕ) → Result (Option (List ℕ)) HeadError
 at_most_one_of [] = Ok None
 at_most_one_of (value ∷ []) = Ok (Some value)

@@ -1,4 +1,4 @@
--- What the bytes of a request say.
+-- The message in the bytes of a request.
 use Rattle.std.specs.Prelude.{◌≡◌, ℕ, ◌≤◌, List, length, take, drop, map, nat_lt, if◌then◌else◌, Option, Some, None, option_map, Result, Ok, Err, codes}
 use Rattle.std.specs.Borrow.{Bor}
 use Rattle.httparse.specs.Grammar.{RequestHead, ReadsRequest, print_request}
@@ -10,24 +10,24 @@ use Rattle.portal_http_message.specs.declared.head.ParsedRequest.{ParsedRequest}
 use Rattle.portal_http_message.specs.Fields.{FieldList, values_of, only_of, at_most_one_of}
 use Rattle.portal_http_message.specs.Lengths.{declared_length}
 
--- the bytes begin with that head, and it has few enough fields
+-- the bytes begin with that head, which has at most `field_limit` fields
 abbrev pub BeginsWith : List ℕ → RequestHead → Type 0
 BeginsWith bytes head = (rest : List ℕ) × ReadsRequest bytes head rest × (length head.fields ≤ field_limit)
 
--- the head that the front of the bytes begins with, or none
+-- the head that the first `head_limit` bytes begin with, or none
 abbrev pub HeadOf : List ℕ → Option RequestHead → Type 0
 HeadOf bytes None = (head : RequestHead) → ¬ (BeginsWith (take head_limit bytes) head)
 HeadOf bytes (Some head) = BeginsWith (take head_limit bytes) head
 
--- the names and values of a head's fields
+-- the names and the values of a head's fields
 abbrev pub fields_of : RequestHead → FieldList
 fields_of head = map name_and_value head.fields
 
--- the bytes that come after a head
+-- the bytes that follow a head
 abbrev pub bytes_after : RequestHead → List ℕ → List ℕ
 bytes_after head bytes = drop (length (print_request head)) bytes
 
--- the length that a head declares for its body
+-- the declared length of the body, or the error in the fields
 abbrev pub length_of : RequestHead → Result ℕ HeadError
 length_of head = declared_length head.minor (fields_of head)
 
@@ -36,18 +36,19 @@ abbrev pub body_after : Result ℕ HeadError → List ℕ → Result (List ℕ) 
 body_after (Err error) after = Err error
 body_after (Ok declared) after = if nat_lt (length after) declared then Err BadRequest else Ok (take declared after)
 
--- what a request says
+-- The message of a request.
 pub record Message : Type 0 where
   pub method : List ℕ
   pub target : List ℕ
-  -- the values of Portal-Token and Portal-Device, each where there is just one
+  -- the values of Portal-Token and of Portal-Device, each if there is exactly one such field
   pub token : Option (List ℕ)
   pub device : Option (List ℕ)
-  -- the value of Portal-Request, where there is one; a fault where there are more
+  -- the value of Portal-Request, the idempotency key, or none; an error if there is more than one such
+  -- field
   pub number : Result (Option (List ℕ)) HeadError
   pub body : List ℕ
 
--- what a request of that head says, where its body is as it should be
+-- the message of a request with that head and that body, or the error of its body
 abbrev pub message_with : RequestHead → Result (List ℕ) HeadError → Result Message HeadError
 message_with head (Err error) = Err error
 message_with head (Ok body) = Ok (record {
@@ -59,12 +60,12 @@ message_with head (Ok body) = Ok (record {
   body = body;
 })
 
--- what the bytes say that begin with that head
+-- the message in bytes that begin with that head
 abbrev pub message_in : Option RequestHead → List ℕ → Result Message HeadError
 message_in None bytes = Err BadRequest
 message_in (Some head) bytes = message_with head (body_after (length_of head) (bytes_after head bytes))
 
--- the bytes of a value in place of the borrow
+-- the value in place of the borrow
 abbrev pub value_in : Result (Option (Bor (List ℕ))) HeadError → Result (Option (List ℕ)) HeadError
 value_in (Err error) = Err error
 value_in (Ok value) = Ok (option_map (λ v. v.now) value)
@@ -80,12 +81,12 @@ message_of_request request = record {
   body = request.body.now;
 }
 
--- the same, or the fault
+-- the same, or the error
 abbrev pub message_of : Result ParsedRequest HeadError → Result Message HeadError
 message_of (Err error) = Err error
 message_of (Ok request) = Ok (message_of_request request)
 
--- what the bytes say, by the head that they begin with
+-- the bytes parse to that result, by the head that they begin with
 abbrev pub ParsesTo : List ℕ → Result ParsedRequest HeadError → Type 0
 ParsesTo bytes result = (head : Option RequestHead) × HeadOf bytes head × (message_of result ≡ message_in head bytes)
 

@@ -1,4 +1,4 @@
--- What single steps find. No public contract cites these words: they stand here for the contracts of private functions.
+-- What single steps find. Only the contracts of private functions use these words.
 use Rattle.std.specs.Prelude.{◌≡◌, ℕ, ◌<◌, ◌≤◌, ◌⊎◌, List, [], ◌∷◌, ◌++◌, length, take, Option, None, Result, Ok, Err, IfOk}
 use Rattle.std.specs.Io.KnownBytes.{Consumes, Keeps, IsAtEnd}
 use Rattle.httparse.specs.Grammar.{RequestHead, NeverHasRequest, MayBecomeRequest}
@@ -17,7 +17,7 @@ use Rattle.portal_http_message.specs.Received.{Incoming}
 
 -- ---- the fields of a name
 
--- the values of a name are none, that one, or more than one
+-- the values of a name: none, that one, or more than one
 abbrev pub IsOccurrence : List (List ℕ) → Occurrence → Type 0
 IsOccurrence values Absent = values ≡ []
 IsOccurrence values (Once value) = values ≡ value.now ∷ []
@@ -26,7 +26,7 @@ IsOccurrence values Repeated =
 
 -- ---- a head
 
--- the bytes begin with the head, and its parts and its length are there
+-- The bytes begin with the head; its parts and its length are at those places.
 pub record IsHeadAt (bytes : List ℕ) (at : Head) (head : RequestHead) : Type 0 where
   pub begins : BeginsWith (take head_limit bytes) head
   pub early : at.spans.len ≤ head_limit
@@ -35,7 +35,7 @@ pub record IsHeadAt (bytes : List ℕ) (at : Head) (head : RequestHead) : Type 0
   pub declared : at.declared ≡ length_of head
   pub small : IfOk at.declared (λ length. length ≤ body_limit)
 
--- the head that is there; or there is none yet; or none can come
+-- the complete head; or no head yet; or no head with any further bytes
 abbrev pub IsFinding : List ℕ → Finding → Type 0
 IsFinding bytes (finding.Whole at) = (head : RequestHead) × IsHeadAt bytes at head
 IsFinding bytes finding.Unfinished = HeadOf bytes None × MayBecomeRequest (take head_limit bytes)
@@ -44,8 +44,8 @@ IsFinding bytes finding.Invalid =
 
 -- ---- one read
 
--- A read gave a piece, which is empty only at the end of the input, and it was added; or the read failed, and took nothing; or there was
--- no room for the piece that it took.
+-- A read gave a piece, which is empty only at the end of the input, and it was added; or the read failed
+-- and took nothing; or there was no memory for the piece that it took.
 abbrev pub Receives : Option (List ℕ) → Option (List ℕ) → Incoming → Incoming → Result ℕ ReadError → Type 0
 Receives old new before after (Ok count) =
     (piece : List ℕ) × Consumes old new piece × (after ≡ record { bytes = before.bytes ++ piece; last = count })

@@ -1,4 +1,4 @@
-//! Whether what was read of a request decides its reply.
+//! Whether the bytes that were read of a request already decide its response.
 ghost use Rattle.std.specs.Prelude.{◌↔◌, IsTrue};
 ghost use Rattle.std.specs.Bool.{MatchBool};
 ghost use Rattle.portal_http_message.specs.Decided.{IsDecided, IsIncomplete, ExceedsHeadLimits};
@@ -8,15 +8,16 @@ use crate::head::{Finding, parse_head};
 use crate::limits::HEAD_LIMIT;
 use crate::lines::has_too_many_lines;
 
-/// Whether a head that is not whole by now comes too late: `HEAD_LIMIT` bytes are there, or more
-/// lines than a head of `FIELD_LIMIT` fields has.
+/// Whether a head that is not complete by now exceeds `HEAD_LIMIT` bytes or `FIELD_LIMIT` fields.
 fn exceeds_head_limits(bytes: &[u8]) -> bool
     ensures { IsTrue result ↔ ExceedsHeadLimits bytes.now }
 {
     bytes.len() >= HEAD_LIMIT || has_too_many_lines(bytes)
 }
 
-/// Whether the reply is decided, by the head that was found in the bytes.
+/// Whether the bytes decide the response, by the head that was found in them.
+///
+/// This is `is_decided` for a caller that has parsed the head already.
 pub fn is_decided_by_finding(found: &Finding, bytes: &[u8]) -> bool
     requires { IsFinding bytes.now found.now }
     ensures { MatchBool result (IsDecided bytes.now) (IsIncomplete bytes.now) }
@@ -31,13 +32,15 @@ pub fn is_decided_by_finding(found: &Finding, bytes: &[u8]) -> bool
     }
 }
 
-/// Whether the reply to a request is decided by its first bytes.
+/// Whether the first bytes of a request decide its response, so that no further read is needed.
 ///
-/// A whole head within the first `HEAD_LIMIT` bytes, of at most `FIELD_LIMIT` fields, decides it where
-/// its fields are refused, or where the declared body is there. Without one it is decided by
-/// `HEAD_LIMIT` bytes, by `LINE_LIMIT` line feeds after the empty lines at the start, or where no bytes
-/// can follow that make a head. The text of a target is tested at its end: before that, a target that
-/// is no UTF-8 decides nothing.
+/// A complete head within the first `HEAD_LIMIT` bytes, of at most `FIELD_LIMIT` fields, decides it if its
+/// fields are in error, or if the whole declared body is there. Without a complete head, it is decided by
+/// `HEAD_LIMIT` bytes, by `LINE_LIMIT` line feeds after the empty lines at the start, or by bytes that no
+/// further bytes can make a head.
+///
+/// The UTF-8 of a target is tested at the end of the target only: an incomplete target that is not UTF-8
+/// decides nothing.
 pub fn is_decided(bytes: &[u8]) -> bool
     ensures { MatchBool result (IsDecided bytes.now) (IsIncomplete bytes.now) }
 {

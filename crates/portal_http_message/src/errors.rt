@@ -1,12 +1,12 @@
-//! What can be wrong with the shape of a request.
+//! The errors in the syntax of a request.
 
-/// Why a request is refused by its shape alone.
+/// The error in the syntax of a request.
 #[derive(Clone, Copy, Debug, PartialEq, Eq)]
 pub enum HeadError {
-    /// No whole head, a wrong Host, a Content-Length that is no number, or a body that is cut off.
+    /// There is no complete head, Host is wrong, Content-Length is not a number, or the body is cut off.
     BadRequest,
     /// The declared body is longer than `BODY_LIMIT` bytes.
     TooLarge,
-    /// The body comes in a transfer coding.
+    /// The body has a transfer coding.
     NotSupported,
 }

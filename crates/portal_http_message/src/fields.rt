@@ -30,12 +30,15 @@ impl<'b, 's> Model for Fields<'b, 's> {
 /// How often a head has a field of some name.
 #[derive(Clone, Copy)]
 pub enum Occurrence<'b> {
+    /// There is no such field.
     Absent,
+    /// There is one such field, with this value.
     Once(&'b [u8]),
+    /// There is more than one such field.
     Repeated,
 }
 
-/// Whether two field names are the same: they compare without case (RFC 9110, section 5.1).
+/// Whether two field names are equal without regard to case (RFC 9110, section 5.1).
 fn is_same_name(name: &[u8], other: &[u8]) -> bool
     ensures { result ≡ is_same_name name.now other.now }
 {
@@ -43,7 +46,7 @@ fn is_same_name(name: &[u8], other: &[u8]) -> bool
 }
 
 impl<'b, 's> Fields<'b, 's> {
-    /// The fields whose names and values stand at these places of the bytes.
+    /// Makes the fields from the bytes of a head and the places of the names and values in them.
     pub fn new(bytes: &'b [u8], spans: &'s [HeaderSpan]) -> Self
         requires { All (IsHeaderWithin (length bytes.now)) spans.now }
         ensures { result ≡ map (header_bytes bytes.now) spans.now }
@@ -51,7 +54,7 @@ impl<'b, 's> Fields<'b, 's> {
         Fields { bytes, spans }
     }
 
-    /// How often a field of that name stands in the head, with its value where it is once.
+    /// Counts the fields of that name: none, one, with its value, or more than one.
     pub fn occurrence(&self, name: &[u8]) -> Occurrence<'b>
         ensures { IsOccurrence (values_of name.now self.now) result }
     {
@@ -67,7 +70,7 @@ impl<'b, 's> Fields<'b, 's> {
         found
     }
 
-    /// The value of the field of that name, where there is just one such field.
+    /// Returns the value of the field of that name if there is exactly one such field, else none.
     pub fn only_value(&self, name: &[u8]) -> Option<&'b [u8]>
         ensures { option_map (λ value. value.now) result ≡ only_of (values_of name.now self.now) }
     {
@@ -77,7 +80,9 @@ impl<'b, 's> Fields<'b, 's> {
         }
     }
 
-    /// The value of the field of that name, where there is one. More than one such field are a `BadRequest`.
+    /// Returns the value of the field of that name, or none if there is no such field.
+    ///
+    /// Error: `BadRequest` if there is more than one.
     pub fn at_most_one_value(&self, name: &[u8]) -> Result<Option<&'b [u8]>, HeadError>
         ensures { value_in result ≡ at_most_one_of (values_of name.now self.now) }
     {

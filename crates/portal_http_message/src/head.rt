@@ -1,4 +1,4 @@
-//! A whole request: its head, its fields of interest, and its body.
+//! Parses a request: its head, the fields that a route needs, and its body.
 ghost use Rattle.std.specs.Prelude.{◌≡◌, ◌++◌, ℕ, List, take};
 ghost use Rattle.httparse.specs.Grammar.{RequestHead};
 ghost use Rattle.portal_http_message.specs.Limits.{head_limit};
@@ -12,25 +12,25 @@ use crate::limits::{FIELD_LIMIT, HEAD_LIMIT};
 use httparse::Status;
 use httparse::spans::{self, EMPTY_HEADER_SPAN, HeaderSpan, RequestSpans};
 
-/// What a request of right shape says. The values of fields stand without the spaces and tabs
-/// around them.
+/// A request whose syntax is correct. The values of fields come without the spaces and tabs around them.
 #[derive(Clone, Copy)]
 pub struct ParsedRequest<'b> {
+    /// The method (RFC 9112, section 3.1).
     pub method: &'b [u8],
-    /// The request target as it stands, with its query.
+    /// The request target as it was sent, with its query (RFC 9112, section 3.2).
     pub target: &'b [u8],
-    /// The value of Portal-Token, where there is just one such field.
+    /// The value of Portal-Token, if there is exactly one such field.
     pub token: Option<&'b [u8]>,
-    /// The value of Portal-Device, where there is just one such field.
+    /// The value of Portal-Device, if there is exactly one such field.
     pub device: Option<&'b [u8]>,
-    /// The value of Portal-Request, where there is one. More than one such field are a `BadRequest`, which is
-    /// told only where the field is looked at.
+    /// The value of Portal-Request, the idempotency key, or none. More than one such field is a
+    /// `BadRequest`, which is returned only on routes that read the key.
     pub number: Result<Option<&'b [u8]>, HeadError>,
-    /// As many bytes as Content-Length declares.
+    /// The body, of as many bytes as Content-Length declares.
     pub body: &'b [u8],
 }
 
-/// The front of the bytes, in which a head has to stand.
+/// Returns the first `HEAD_LIMIT` bytes, or all if there are fewer: a head has to end within them.
 pub fn front(bytes: &[u8]) -> &[u8]
     ensures { result.now ≡ take head_limit bytes.now }
 {
@@ -41,27 +41,30 @@ pub fn front(bytes: &[u8]) -> &[u8]
     }
 }
 
-/// Where a head is: the places of its parts, and the length that it declares for its body.
+/// A complete head: the places of its parts in the bytes, and the declared length of the body.
 #[derive(Clone, Copy)]
 pub struct Head {
+    /// The places of the method and of the target, the minor version, the number of fields, and the length
+    /// of the head in bytes.
     pub spans: RequestSpans,
-    /// Where its fields are: as many as `spans` counts.
+    /// The places of its fields. The first ones are in use, as many as `spans` counts.
     pub headers: [HeaderSpan; FIELD_LIMIT],
-    /// The length, or what is wrong with the fields.
+    /// The declared length of the body in bytes, or the error in the fields.
     pub declared: Result<usize, HeadError>,
 }
 
-/// What some bytes hold of a head of at most `FIELD_LIMIT` fields.
+/// What parsing found in the first bytes of a request, for heads of at most `FIELD_LIMIT` fields.
 #[derive(Clone, Copy)]
 pub enum Finding {
+    /// A complete head.
     Whole(Head),
-    /// More bytes may make it whole.
+    /// No complete head yet, but further bytes may complete it.
     Unfinished,
-    /// No bytes can.
+    /// No head, and no further bytes can make one.
     Invalid,
 }
 
-/// Looks for a head at the front of the bytes.
+/// Parses the head at the start of the bytes, within the first `HEAD_LIMIT` bytes.
 pub fn parse_head(bytes: &[u8]) -> Finding
     ensures { IsFinding bytes.now result }
 {
@@ -82,8 +85,7 @@ pub fn parse_head(bytes: &[u8]) -> Finding
     }
 }
 
-/// What was found in the first of these bytes, and what is found in all of them: a whole head stays, and else
-/// it is looked for again.
+/// Parses the head again, unless a complete head was found in the first of these bytes.
 pub fn update_finding(found: Finding, bytes: &[u8]) -> Finding
     requires { (front more : List ℕ) × (bytes.now ≡ front ++ more) × IsFinding front found }
     ensures { IsFinding bytes.now result }
@@ -94,7 +96,9 @@ pub fn update_finding(found: Finding, bytes: &[u8]) -> Finding
     }
 }
 
-/// The body of the declared length, where all of it came.
+/// Takes the body: as many bytes after the head as are declared.
+///
+/// Errors: the error in `declared`; `BadRequest` if there are fewer bytes.
 fn take_body(after: &[u8], declared: Result<usize, HeadError>) -> Result<&[u8], HeadError>
     ensures { bytes_of result ≡ body_after declared after.now }
 {
@@ -105,7 +109,9 @@ fn take_body(after: &[u8], declared: Result<usize, HeadError>) -> Result<&[u8], 
     Ok(&after[..length])
 }
 
-/// What a request of that head says, or what is wrong with its shape.
+/// Reads the request from the bytes, which have that complete head.
+///
+/// Errors: those of `parse_request`, but for a head that is not complete.
 fn request_with_head<'b>(head: &Head, bytes: &'b [u8]) -> Result<ParsedRequest<'b>, HeadError>
     requires { (is : RequestHead) × IsHeadAt bytes.now head.now is }
     ensures { ParsesTo bytes.now result }
@@ -127,7 +133,9 @@ fn request_with_head<'b>(head: &Head, bytes: &'b [u8]) -> Result<ParsedRequest<'
     })
 }
 
-/// What a request says, or what is wrong with its shape, by the head that was found in its bytes.
+/// Reads the request from the bytes, by the head that was found in them.
+///
+/// Errors: those of `parse_request`.
 pub fn request_of_finding<'b>(
     found: &Finding,
     bytes: &'b [u8],
@@ -141,14 +149,15 @@ pub fn request_of_finding<'b>(
     }
 }
 
-/// What a request says, or what is wrong with its shape.
+/// Parses a request from its bytes (RFC 9112, sections 2 to 6).
 ///
-/// Its head stands whole in the first `HEAD_LIMIT` bytes and has at most `FIELD_LIMIT` fields
-/// (RFC 9112, sections 2 to 5): else `BadRequest`. Then the first of these is the answer: a wrong
-/// number of Host fields is `BadRequest`, a Transfer-Encoding `NotSupported`, two Content-Length
-/// fields or one that is not one or more digits `BadRequest`, a length above `BODY_LIMIT`
-/// `TooLarge`, and fewer bytes after the head than declared `BadRequest`. Bytes after the body are
-/// not looked at.
+/// Bytes after the body are ignored. Errors, the first that applies:
+/// - `BadRequest`: no complete head in the first `HEAD_LIMIT` bytes, or more than `FIELD_LIMIT` fields;
+/// - `BadRequest`: no Host in HTTP/1.1, or more than one Host;
+/// - `NotSupported`: a Transfer-Encoding;
+/// - `BadRequest`: two Content-Length fields, or one that is not one or more digits;
+/// - `TooLarge`: a Content-Length above `BODY_LIMIT`;
+/// - `BadRequest`: fewer bytes after the head than Content-Length declares.
 pub fn parse_request(bytes: &[u8]) -> Result<ParsedRequest<'_>, HeadError>
     ensures { ParsesTo bytes.now result }
 {

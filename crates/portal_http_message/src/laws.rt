@@ -1,12 +1,13 @@
-//! Laws of heads and of decided bytes.
+//! Laws of heads and of decided responses. The functions do nothing: each contract is a law, which `specs/`
+//! states.
 ghost use Rattle.portal_http_message.specs.Laws.{DecisionIsFinal, HasOneHead};
 
-/// Bytes begin with one head at most, so `parse_request` is pinned by its contract.
+/// Law: bytes begin with at most one head, so the contract of `parse_request` determines its result.
 pub fn one_head_at_most()
     ensures { HasOneHead }
 {}
 
-/// Once the reply to a request is decided, bytes that follow do not change it.
+/// Law: once bytes decide the response to a request, further bytes do not change it.
 pub fn decision_is_final()
     ensures { DecisionIsFinal }
 {}

@@ -12,8 +12,7 @@ use crate::fields::{Fields, Occurrence};
 use crate::hosts::is_host_count_valid;
 use crate::limits::BODY_LIMIT;
 
-/// The number that some digits write, or one past the greatest length where it is greater. None
-/// where one of them is no digit.
+/// Returns the number that digits write, but at most `BODY_LIMIT + 1`. None if a byte is not a digit.
 fn capped_number(digits: &[u8]) -> Option<usize>
     ensures { MatchOption result (list_all is_ascii_digit digits.now ≡ false)
         (λ n. (list_all is_ascii_digit digits.now ≡ true)
@@ -29,8 +28,9 @@ fn capped_number(digits: &[u8]) -> Option<usize>
     Some(number)
 }
 
-/// The length that a Content-Length value writes: one or more digits (RFC 9110, section 8.6), and
-/// at most `BODY_LIMIT`.
+/// Parses the value of Content-Length: one or more digits (RFC 9110, section 8.6).
+///
+/// Errors: `BadRequest` if the value is empty or has another byte; `TooLarge` if it is above `BODY_LIMIT`.
 fn read_length(value: &[u8]) -> Result<usize, HeadError>
     ensures value { result ≡ length_in value.now }
     ensures limit { IfOk result (λ length. length ≤ body_limit) }
@@ -45,8 +45,10 @@ fn read_length(value: &[u8]) -> Result<usize, HeadError>
     }
 }
 
-/// The length that the Content-Length fields declare: 0 where there is none. Two of them are
-/// refused, also with equal values (RFC 9112, section 6.3).
+/// Returns the length that the Content-Length fields declare, 0 if there is none.
+///
+/// Errors: those of `read_length`; `BadRequest` if there is more than one field, even with equal values
+/// (RFC 9112, section 6.3).
 fn content_length(fields: &Fields) -> Result<usize, HeadError>
     ensures value { result ≡ content_length (values_of (codes "content-length") fields.now) }
     ensures limit { IfOk result (λ length. length ≤ body_limit) }
@@ -58,7 +60,7 @@ fn content_length(fields: &Fields) -> Result<usize, HeadError>
     }
 }
 
-/// Whether the body comes in a transfer coding (RFC 9112, section 6.1).
+/// Whether the head has a Transfer-Encoding field (RFC 9112, section 6.1).
 fn has_transfer_coding(fields: &Fields) -> bool
     ensures { result ≡ has_any (values_of (codes "transfer-encoding") fields.now) }
 {
@@ -68,8 +70,11 @@ fn has_transfer_coding(fields: &Fields) -> bool
     }
 }
 
-/// The length of the body of a request with these fields, or the first fault in them: Host, then
-/// Transfer-Encoding, then Content-Length.
+/// Returns the length of the body that the fields declare, in bytes (RFC 9112, section 6).
+///
+/// `minor` is the minor version. Errors, the first that applies: `BadRequest` for the number of Host
+/// fields; `NotSupported` for a Transfer-Encoding; `BadRequest` for Content-Length; `TooLarge` for a length
+/// above `BODY_LIMIT`.
 pub fn declared_length(fields: &Fields, minor: u8) -> Result<usize, HeadError>
     ensures value { result ≡ declared_length minor fields.now }
     ensures limit { IfOk result (λ length. length ≤ body_limit) }

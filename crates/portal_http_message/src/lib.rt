@@ -1,9 +1,8 @@
-//! HTTP messages: the shape of a request, what the bytes that came in say or what is wrong with them, and the
-//! bytes of a response.
+//! HTTP/1.1 messages (RFC 9112): parses requests and writes responses.
 //!
-//! `parse_request` reads a whole request, as far as any route needs it. `read_request` reads one from
-//! a connection in pieces, and makes no read once its reply is decided, which `is_decided` tells of
-//! the first bytes. `write_response` writes in pieces, and says how far it came.
+//! `parse_request` parses a whole request, as far as a route needs it. `read_request` reads one from a
+//! connection in pieces and stops once its response is decided, which `is_decided` tests. `write_response`
+//! writes a response in pieces, and returns how many bytes it wrote if a write fails.
 #![tactic(auto)]
 
 mod decided;

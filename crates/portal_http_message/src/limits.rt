@@ -1,17 +1,17 @@
-//! How much of a request is looked at.
+//! The limits of a request.
 
-/// A head stands whole within the first so many bytes.
+/// The greatest length of a head in bytes, with the empty line at its end.
 pub const HEAD_LIMIT: usize = 8192;
 
-/// A head has at most so many fields.
+/// The greatest number of fields in a head.
 pub const FIELD_LIMIT: usize = 32;
 
-/// A body has at most so many bytes.
+/// The greatest length of a body in bytes.
 pub const BODY_LIMIT: usize = 65_536;
 
-/// So many lines end only after the last field that a head may have: the request line, and one
-/// field more than `FIELD_LIMIT`.
+/// A number of lines that only a head with more than `FIELD_LIMIT` fields reaches: the request line, and
+/// one field more than the limit.
 pub const LINE_LIMIT: usize = FIELD_LIMIT + 2;
 
-/// A request is read in pieces of at most so many bytes.
+/// The greatest number of bytes that one read asks for.
 pub const PIECE_LIMIT: usize = 4096;

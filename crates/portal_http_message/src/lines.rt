@@ -1,4 +1,4 @@
-//! The lines of a head that has not ended yet.
+//! Counts the lines of a head that is not complete yet.
 ghost use Rattle.std.specs.Prelude.{◌≡◌, ◌||◌, ◌==◌, ◌↔◌, IsTrue, count_by};
 ghost use Rattle.portal_http_message.specs.Lines.{HasTooManyLines, from_start};
 
@@ -11,7 +11,7 @@ fn is_line_end(byte: u8) -> bool
     byte == b'\r' || byte == b'\n'
 }
 
-/// The bytes without the empty lines before the request line (RFC 9112, section 2.2).
+/// Skips the carriage returns and line feeds before the request line (RFC 9112, section 2.2).
 fn skip_line_ends(bytes: &[u8]) -> &[u8]
     ensures { result.now ≡ from_start bytes.now }
 {
@@ -25,13 +25,14 @@ fn skip_line_ends(bytes: &[u8]) -> &[u8]
     rest
 }
 
+/// Counts the line feeds.
 fn count_line_feeds(bytes: &[u8]) -> usize
     ensures { result ≡ count_by (λ b. b == 10) bytes.now }
 {
     bytes.iter().filter(|byte| **byte == b'\n').count()
 }
 
-/// Whether so many lines have ended that the head has too many fields.
+/// Whether so many lines have ended that the head has more than `FIELD_LIMIT` fields.
 pub fn has_too_many_lines(bytes: &[u8]) -> bool
     ensures { IsTrue result ↔ HasTooManyLines bytes.now }
 {

@@ -1,4 +1,4 @@
-//! What came in of a request, one read after another.
+//! The bytes that were received of a request, one read after another.
 ghost use Rattle.std.specs.Prelude.{◌≡◌};
 ghost use Rattle.std.specs.Bool.{MatchBool};
 ghost use Rattle.portal_http_message.specs.Decided.{IsDecided, IsIncomplete};
@@ -17,12 +17,12 @@ use std::marker::Model;
 pub enum ReadError {
     /// A read failed.
     Read,
-    /// There was no room for what was read.
+    /// Out of memory for the bytes that were read.
     NoMemory,
 }
 
-/// The bytes that came in, how many of them the last read gave, and the head that was found in them. Only
-/// `receive` adds to the bytes.
+/// The bytes that were received, how many of them the last read gave, and the head that was found in them.
+/// Only `receive` adds to the bytes.
 #[derive(Drop)]
 pub struct Received {
     bytes: Vec<u8>,
@@ -42,7 +42,7 @@ impl Model for Received {
 }
 
 impl Received {
-    /// Bytes that did not come from a read.
+    /// Takes bytes that did not come from a read, and parses their head.
     pub fn new(bytes: Vec<u8>) -> Received
         ensures { result ≡ record { bytes = bytes.items; last = 0 } }
     {
@@ -54,8 +54,10 @@ impl Received {
         }
     }
 
-    /// Calls `read` once, for at most `PIECE_LIMIT` bytes, and says how many came: none at the end
-    /// of the input. This is the one place where a request is read.
+    /// Calls `read` once, adds the bytes, and returns how many they are: 0 at the end of the input.
+    ///
+    /// The read asks for at most `PIECE_LIMIT` bytes. No other function reads from the connection. Errors:
+    /// `Read` if the read fails; `NoMemory` if there is no memory for the bytes.
     pub(crate) fn receive<R: Read>(&mut self, reader: &mut R) -> Result<usize, ReadError>
         ensures { Receives (R.remaining reader.old) (R.remaining reader.new) self.old self.new result }
     {
@@ -76,29 +78,30 @@ impl Received {
         Ok(count)
     }
 
-    /// Whether the bytes decide the reply, as `is_decided` says.
+    /// Whether the bytes decide the response, as `is_decided` of this crate says.
     pub fn is_decided(&self) -> bool
         ensures { MatchBool result (IsDecided self.now.bytes) (IsIncomplete self.now.bytes) }
     {
         is_decided_by_finding(&self.found, self.bytes.as_slice())
     }
 
-    /// What the request says, or what is wrong with its shape, as `parse_request` gives it. The head is not
-    /// looked for again.
+    /// Parses the request, as `parse_request` does, with the head that was found already.
+    ///
+    /// Errors: those of `parse_request`.
     pub fn request(&self) -> Result<ParsedRequest<'_>, HeadError>
         ensures { ParsesTo self.now.bytes result }
     {
         request_of_finding(&self.found, self.bytes.as_slice())
     }
 
-    /// The bytes that came in.
+    /// Returns the bytes that were received.
     pub fn bytes(&self) -> &[u8]
         ensures { result.now ≡ self.now.bytes }
     {
         self.bytes.as_slice()
     }
 
-    /// How many of the bytes the last read gave.
+    /// Returns how many bytes the last read gave.
     pub fn last(&self) -> usize
         ensures { result ≡ self.now.last }
     {

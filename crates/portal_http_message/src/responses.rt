@@ -1,17 +1,23 @@
-//! The bytes of a response.
+//! Encodes a response.
 //!
-//! Every response is HTTP/1.1, says when it was made, is never to be stored, and closes its
-//! connection (RFC 9110, sections 6.6.1 and 15; RFC 9111, section 5.2.2.5; RFC 9112, sections 4
-//! and 9.6).
+//! Every response is HTTP/1.1, has a date, forbids storing, and closes its connection (RFC 9110, sections
+//! 6.6.1 and 15; RFC 9111, section 5.2.2.5; RFC 9112, sections 4 and 9.6).
 ghost use Rattle.std.specs.Prelude.{◌≡◌, ◌<◌, IfOk, option_map, string_bytes};
 ghost use Rattle.httpdate.specs.Date.{date_text};
-ghost use Rattle.portal_http_message.specs.Bytes.{phrase_of, media_type_of, last_lines, head_bytes, IsResponse, ResponseIsFixed};
+ghost use Rattle.portal_http_message.specs.Bytes.{
+  phrase_of,
+  media_type_of,
+  last_lines,
+  head_bytes,
+  IsResponse,
+  ResponseIsFixed,
+};
 
 use http::{Method, StatusCode};
 use httpdate::HttpDate;
 use std::alloc::{AllocError, Global};
 
-/// What a body is written in.
+/// The format of a body.
 #[derive(Clone, Copy, Debug, PartialEq, Eq)]
 pub enum ContentType {
     /// A captive state, `application/captive+json` (RFC 8908, section 5).
@@ -25,7 +31,7 @@ pub enum ContentType {
 }
 
 impl ContentType {
-    /// The media type, as `Content-Type` names it (RFC 9110, section 8.3).
+    /// Returns the media type for `Content-Type` (RFC 9110, section 8.3).
     pub fn media_type(&self) -> &'static str
         ensures { result.now ≡ media_type_of self.now }
     {
@@ -38,8 +44,9 @@ impl ContentType {
     }
 }
 
-/// The reason phrase beside a status that the desk answers; no phrase beside any other, which a
-/// status line may leave out (RFC 9112, section 4).
+/// Returns the reason phrase for a status that the server sends, else an empty one.
+///
+/// RFC 9112, section 4 allows an empty phrase.
 fn phrase(status: u16) -> &'static str
     ensures { result.now ≡ phrase_of status }
 {
@@ -58,7 +65,9 @@ fn phrase(status: u16) -> &'static str
     }
 }
 
-/// The lines after `Cache-Control`, with the empty line that ends the head.
+/// Returns the last lines of a head: `Allow` if a method is given, `Connection: close`, and the empty line.
+///
+/// The only error is out of memory.
 fn last_head_lines(alloc: Global, allow: Option<Method>) -> Result<String, AllocError>
     ensures { IfOk result (λ s. string_bytes s ≡ last_lines allow) }
 {
@@ -71,7 +80,7 @@ fn last_head_lines(alloc: Global, allow: Option<Method>) -> Result<String, Alloc
     }
 }
 
-/// The head, with the empty line that ends it.
+/// Returns the head of a response, with the empty line at its end. The only error is out of memory.
 fn head(
     alloc: Global,
     status: u16,
@@ -90,12 +99,11 @@ fn head(
     )
 }
 
-/// The bytes of a response, from its status line to the last byte of its body.
+/// Encodes a response: status line, fields and body.
 ///
-/// `moment` counts whole UTC seconds since 1970 and is what `Date` shows (RFC 9110, section
-/// 6.6.1); it lies before the year 10000, since that date has a year of four digits. `allow` is
-/// the method that `Allow` names, which a response of status 405 has to carry (RFC 9110, section
-/// 15.5.6). The only error is want of memory.
+/// `moment` is the time of `Date`, in whole UTC seconds since 1970 (RFC 9110, section 6.6.1). It is before
+/// the year 10000, as a date has four digits for the year. `allow` is the method that `Allow` names, which
+/// a response of status 405 must have (RFC 9110, section 15.5.6). The only error is out of memory.
 pub fn response(
     alloc: Global,
     status: StatusCode,
@@ -128,8 +136,7 @@ pub fn response(
     Ok(bytes)
 }
 
-/// A law: status, moment, content type, allowed method and body fix every byte of the response,
-/// since one moment has one date.
+/// Law: status, time, content type, allowed method and body determine every byte of a response.
 pub fn response_is_fixed()
     ensures { ResponseIsFixed }
 {}

@@ -150,7 +150,7 @@ message_no_stop settings seed (Ok m) result (route, finds, is) = go route is
     go None is = denied_by (Refused NoRoute) (other_than NoRoute refl) result is
     go (Some route) is = by_method route (bytes_eq m.method (method_of route)) is
 
--- what the path of a request comes to, or want of memory in its place
+-- the result of the checks of a request's path, or out of memory in its place
 pub no_stop : (settings : SettingsValue) (seed : List ℕ) (m : Result Message HeadError) (result : Result Operation Rejection)
     → (result ≡ Err (Refused NoMemory)) ⊎ AtMessage settings seed m result → IsNoStop result
 no_stop settings seed m result (inl memory) = denied_by (Refused NoMemory) (other_than NoMemory refl) result memory

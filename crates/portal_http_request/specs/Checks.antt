@@ -1,4 +1,5 @@
--- What the checks before the desk make of a request, in their order: shape, route, method, caller, number, body or parameter.
+-- The result of the checks before the desk is called, in their order: syntax, path, method, caller,
+-- idempotency key, body or parameter.
 use Rattle.std.specs.Prelude.{◌≡◌, ◌≢◌, ◌⊎◌, ℕ, List, Option, Some, None, MatchOption, Result, Ok, Err, MatchResult, bytes_eq, ⊤}
 use Rattle.std.specs.Bool.{MatchBool}
 use Rattle.httparse.specs.Grammar.{RequestHead}
@@ -31,30 +32,33 @@ use Rattle.portal_http_request.specs.Callers.{IsGuest, holds_token, ReadsKey, fi
 use Rattle.portal_http_request.specs.Bodies.{Gives, GivesCommand}
 use Rattle.portal_http_request.specs.Queries.{NamesBatch, NamesCode, AreDays}
 
--- there was no memory, or it is so
+-- the result is so, or out of memory
 abbrev pub OrMemory : (Result Operation Rejection → Type 0) → Result Operation Rejection → Type 0
 OrMemory Is result = (result ≡ Err (Refused NoMemory)) ⊎ Is result
 
 -- ---- the caller
 
--- a guest's device, and then what the route asks
-abbrev pub AtGuest : Message → (List ℕ → Result Operation Rejection → Type 0) → Result Operation Rejection → Type 0
+-- a guest's device, and then what the route requires
+abbrev pub AtGuest : Message → (List ℕ → Result Operation Rejection → Type 0)
+    → Result Operation Rejection → Type 0
 AtGuest m Then result =
     (device : Option (List ℕ)) × IsGuest m.device device × MatchOption device (result ≡ Err (Refused BadDevice)) (λ d. Then d result)
 
--- the caller's token, and then what the route asks
-abbrev pub AtToken : List ℕ → Message → (Result Operation Rejection → Type 0) → Result Operation Rejection → Type 0
+-- the caller's token, and then what the route requires
+abbrev pub AtToken : List ℕ → Message → (Result Operation Rejection → Type 0)
+    → Result Operation Rejection → Type 0
 AtToken token m Then result = MatchBool (holds_token token m.token) (Then result) (result ≡ Err (Refused Forbidden))
 
 -- ---- commands
 
--- what the body orders is wanted, with the mark
+-- the operation that executes the command of the body, with the fingerprint
 abbrev pub operation_of : Option Fingerprint → Result Command Refusal → Result Operation Rejection
 operation_of mark (Ok command) = Ok (operations.Act command mark)
 operation_of mark (Err r) = Err (Refused r)
 
--- the number of the request, and then what its body orders
-abbrev pub AsksForCommand : Message → Caller → (Result Command Refusal → Type 0) → Result Operation Rejection → Type 0
+-- the idempotency key of the request, and then the command of its body
+abbrev pub AsksForCommand : Message → Caller → (Result Command Refusal → Type 0)
+    → Result Operation Rejection → Type 0
 AsksForCommand m caller Ordered result =
     (number : Result (Option (List ℕ)) Refusal) × ReadsKey m.number number × MatchResult number
     (λ n. (ordered : Result Command Refusal) × Ordered ordered × (result ≡ operation_of (fingerprint_of m caller n) ordered))
@@ -62,14 +66,18 @@ AsksForCommand m caller Ordered result =
 
 -- ---- the twelve routes
 
+-- what each route requires of a request, and the operation that it asks of the desk
 abbrev pub AtRoute : SettingsValue → List ℕ → Message → Route → Result Operation Rejection → Type 0
 AtRoute settings seed m Captive = AtGuest m (λ device result. result ≡ Ok (operations.State device))
 AtRoute settings seed m Redeem = AtGuest m (λ device. AsksForCommand m (Guest device) (GivesCommand CodeOrder (Redeems device) m.body))
 AtRoute settings seed m Plans = AtToken settings.desk_token m (AsksForCommand m Desk (Gives (IsPlansFile m.body) Load BadPlans))
-AtRoute settings seed m Batches = AtToken settings.desk_token m (AsksForCommand m Desk (ReadsIssue seed m.body))
+AtRoute settings seed m Batches =
+    AtToken settings.desk_token m (AsksForCommand m Desk (ReadsIssue seed m.body))
 AtRoute settings seed m Print = AtToken settings.desk_token m (Gives (NamesBatch (parameter_of (path_of m.target))) operations.Sheet (Refused UnknownBatch))
-AtRoute settings seed m Sales = AtToken settings.desk_token m (AsksForCommand m Desk (GivesCommand CodeOrder Sell m.body))
-AtRoute settings seed m Refunds = AtToken settings.desk_token m (AsksForCommand m Desk (GivesCommand CodeOrder Refund m.body))
+AtRoute settings seed m Sales =
+    AtToken settings.desk_token m (AsksForCommand m Desk (GivesCommand CodeOrder Sell m.body))
+AtRoute settings seed m Refunds =
+    AtToken settings.desk_token m (AsksForCommand m Desk (GivesCommand CodeOrder Refund m.body))
 AtRoute settings seed m Closes = AtToken settings.desk_token m (AsksForCommand m Desk (GivesCommand (λ value. Exactly (IsCloseOrder value)) Close m.body))
 AtRoute settings seed m Voucher = AtToken settings.desk_token m (Gives (NamesCode (parameter_of (path_of m.target))) operations.Voucher (Refused BadCode))
 AtRoute settings seed m Takings = AtToken settings.desk_token m (Gives (AreDays (query_of m.target)) operations.Takings (Refused BadRequest))
@@ -79,31 +87,33 @@ AtRoute settings seed m Sessions = AtToken settings.gateway_token m (λ result. 
 
 -- ---- the whole request
 
--- a path with no route; or the method of the route, and then what the route asks
+-- no route for the path; or the method of the route, and then what the route requires
 abbrev pub AtPath : SettingsValue → List ℕ → Message → Option Route → Result Operation Rejection → Type 0
 AtPath settings seed m None result = result ≡ Err (Refused NoRoute)
 AtPath settings seed m (Some route) result = MatchBool (bytes_eq m.method (method_of route)) (AtRoute settings seed m route result) (result ≡ Err (Method route))
 
--- the refusal of a request by its shape (RFC 9112 sections 2, 3.2 and 6; a body over 65,536 bytes; a transfer coding)
+-- the refusal for an error in the syntax of a request (RFC 9112, sections 2, 3.2 and 6; a body over 65,536
+-- bytes; a transfer coding)
 abbrev pub syntax_error : HeadError → Refusal
 syntax_error BadShape = BadRequest
 syntax_error TooLong = TooLarge
 syntax_error Coded = NotSupported
 
--- the shape of the request, then its path
+-- the syntax of the request, then its path
 abbrev pub AtMessage : SettingsValue → List ℕ → Result Message HeadError → Result Operation Rejection → Type 0
 AtMessage settings seed (Err error) result = result ≡ Err (Refused (syntax_error error))
 AtMessage settings seed (Ok m) result = (route : Option Route) × FindsRoute (path_of m.target) route × AtPath settings seed m route result
 
--- what the checks make of the bytes of a request, with the seed of its codes: what it wants of the desk, or the first refusal
+-- the result of the checks of a request's bytes, with the seed of its codes: the operation that it asks of
+-- the desk, or the first rejection
 abbrev pub IsChecked : SettingsValue → List ℕ → List ℕ → Result Operation Rejection → Type 0
 IsChecked settings seed bytes result = (head : Option RequestHead) × HeadOf bytes head × AtMessage settings seed (message_in head bytes) result
 
--- a command that the desk may be handed
+-- if the operation is a command, it is well formed, as the desk requires
 abbrev pub IsInOrder : Operation → Type 0
 IsInOrder (operations.Act command mark) = IsWellFormed command
 IsInOrder _ = ⊤
 
--- no check says that the desk has stopped
+-- the rejection is not the refusal of a desk that has stopped
 abbrev pub IsOfRequest : Rejection → Type 0
 IsOfRequest rejection = error_of rejection ≢ Stopped

@@ -1,4 +1,4 @@
--- The command that an order of a batch comes to.
+-- The command of an order of a batch.
 use Rattle.std.specs.Prelude.{ℕ, List, Result}
 use Rattle.serde_json.specs.Data.{Data}
 use Rattle.portal_model.specs.declared.command.Command.{Command}
@@ -10,7 +10,7 @@ use Rattle.portal_json.specs.Orders.{ReadsJson, IsBatchOrder}
 use Rattle.portal_http_request.specs.Bodies.{Gives}
 use Rattle.portal_http_request.specs.Seeds.{codes_of}
 
--- the command that issues the batch that is ordered, with the codes of the seed
+-- the command that issues the batch of an order, with the codes of the seed
 abbrev pub issue_of : List ℕ → BatchOrder → Command
 issue_of seed order = Issue order.batch order.plan (codes_of seed order.count)
 
@@ -18,6 +18,6 @@ issue_of seed order = Issue order.batch order.plan (codes_of seed order.count)
 abbrev pub OrdersIssue : List ℕ → BatchOrder → Type 0
 OrdersIssue body order = (value : Data) × ReadsJson body value × IsBatchOrder value order
 
--- the command that a body orders, or bad_request exactly where it orders none
+-- the command of a body, or bad_request exactly if the body orders no batch
 abbrev pub ReadsIssue : List ℕ → List ℕ → Result Command Refusal → Type 0
 ReadsIssue seed body = Gives (OrdersIssue body) (issue_of seed) BadRequest

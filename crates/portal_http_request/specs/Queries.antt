@@ -1,4 +1,4 @@
--- What a path and a query name.
+-- The values in a path and in a query.
 use Rattle.std.specs.Prelude.{◌≡◌, ℕ, ℤ, List, Option, Some, codes, option_and_then, IsUtf8}
 use Rattle.portal_codes.specs.Code.{Spells}
 use Rattle.portal_days.specs.Span.{Span, IsSpan}
@@ -14,12 +14,13 @@ NamesBatch text id = IsUtf8 text × IsIdText text × (id ≡ text)
 abbrev pub NamesCode : List ℕ → List ℕ → Type 0
 NamesCode text code = IsUtf8 text × Spells text code
 
--- the day under a key of a query, where the key stands there just once
+-- the day under a key of a query, if the key is in the query exactly once
 abbrev pub IsDayAt : List ℕ → Option (List ℕ) → ℤ → Type 0
 IsDayAt key query day =
     (text : List ℕ) × (option_and_then (λ q. only_of (values_of key q)) query ≡ Some text) × IsUtf8 text × IsDayText text day
 
--- the days from `from` to `to`, both of them in the range, which is in order and at most 366 days long; other keys are not looked at
+-- The days from `from` to `to`, both in the range, which is in order and at most 366 days long. Other keys
+-- are ignored.
 pub record AreDays (query : Option (List ℕ)) (range : Span) : Type 0 where
   pub from : IsDayAt (codes "from") query range.first
   pub to : IsDayAt (codes "to") query range.last

@@ -1,10 +1,11 @@
--- The codes that a seed gives: ChaCha20 (RFC 8439's block function, with a 64-bit counter and nonce), stream 0, place 0 on.
+-- The codes of a seed: ChaCha20 (the block function of RFC 8439, with a 64-bit counter and nonce), stream
+-- 0, from place 0 on.
 use Rattle.std.specs.Prelude.{ℕ, ◌+◌, ◌*◌, List, map}
 use Rattle.std.specs.List.{range_with_len}
 use Rattle.rand_chacha.specs.ChaCha.{word_at, key_of}
 use Rattle.portal_codes.specs.Code.{code_of_words}
 
--- the fifteen words of the code at a place, both from 0
+-- the fifteen words of the code at a place; both are counted from 0
 abbrev pub words_at : List ℕ → ℕ → List ℕ
 words_at seed place = map (λ i. word_at 10 (key_of seed) 0 (15 * place + i)) (range_with_len 0 15)
 

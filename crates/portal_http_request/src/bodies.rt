@@ -1,7 +1,14 @@
-//! The commands that bodies order.
+//! Reads the commands in the bodies of requests.
 ghost use Rattle.std.specs.Prelude.{◌≡◌, ◌⊎◌, Err, IfOk};
 ghost use Rattle.portal_model.specs.Verdict.{IsWellFormed};
-ghost use Rattle.portal_model.specs.declared.command.Command.TheVariants.{Load, Sell, Redeem, Report, Refund, Close};
+ghost use Rattle.portal_model.specs.declared.command.Command.TheVariants.{
+  Load,
+  Sell,
+  Redeem,
+  Report,
+  Refund,
+  Close,
+};
 ghost use Rattle.portal_files.specs.PlansFile.{IsPlansFile};
 ghost use Rattle.portal_json.specs.Orders.{CodeOrder, Exactly, IsCloseOrder, IsReportOrder};
 ghost use Rattle.portal_http_request.specs.Bodies.{Gives, GivesCommand};
@@ -13,9 +20,9 @@ use portal_model::name::Device;
 use portal_model::refusal::Refusal;
 use std::alloc::Global;
 
-/// The plans in a body, to be loaded.
+/// Reads the plans in a body, and makes the command that loads them.
 ///
-/// Refusals: `BadPlans` where the body is no plans file; `NoMemory`.
+/// Refusals: `BadPlans` if the body is not a plans file; `NoMemory`.
 pub fn load_command(alloc: Global, body: &[u8]) -> Result<Command, Refusal>
     ensures orders { (result ≡ Err Refusal.NoMemory)
         ⊎ Gives (IsPlansFile body.now) Load Refusal.BadPlans result }
@@ -28,19 +35,21 @@ pub fn load_command(alloc: Global, body: &[u8]) -> Result<Command, Refusal>
     }
 }
 
-/// The code in a body, to be redeemed for a device.
+/// Reads the code in a body, and makes the command that redeems it for a device.
 ///
-/// Refusals: `BadRequest` where the body has no text under `code`, `BadCode` where that is no code;
+/// Refusals: `BadRequest` if the body has no text under `code`; `BadCode` if the text is not a code;
 /// `NoMemory`.
 pub fn redeem_command(alloc: Global, device: Device, body: &[u8]) -> Result<Command, Refusal>
-    ensures orders { (result ≡ Err Refusal.NoMemory) ⊎ GivesCommand CodeOrder (Redeem device) body.now result }
+    ensures orders { (result ≡ Err Refusal.NoMemory)
+        ⊎ GivesCommand CodeOrder (Redeem device) body.now result }
     ensures well_formed { IfOk result IsWellFormed }
 {
     let code = read_redeem(alloc, body)?;
     Ok(Command::Redeem { device, code })
 }
 
-/// The code in a body, to be sold. Refused as `redeem_command` refuses.
+/// Reads the code in a body, and makes the command that sells its voucher. Refusals: as for
+/// `redeem_command`.
 pub fn sell_command(alloc: Global, body: &[u8]) -> Result<Command, Refusal>
     ensures orders { (result ≡ Err Refusal.NoMemory) ⊎ GivesCommand CodeOrder Sell body.now result }
     ensures well_formed { IfOk result IsWellFormed }
@@ -49,7 +58,8 @@ pub fn sell_command(alloc: Global, body: &[u8]) -> Result<Command, Refusal>
     Ok(Command::Sell { code })
 }
 
-/// The code in a body, to be refunded. Refused as `redeem_command` refuses.
+/// Reads the code in a body, and makes the command that refunds its voucher. Refusals: as for
+/// `redeem_command`.
 pub fn refund_command(alloc: Global, body: &[u8]) -> Result<Command, Refusal>
     ensures orders { (result ≡ Err Refusal.NoMemory) ⊎ GivesCommand CodeOrder Refund body.now result }
     ensures well_formed { IfOk result IsWellFormed }
@@ -58,7 +68,9 @@ pub fn refund_command(alloc: Global, body: &[u8]) -> Result<Command, Refusal>
     Ok(Command::Refund { code })
 }
 
-/// The number of a session in a body, to be closed. Refusals: `BadRequest`; `NoMemory`.
+/// Reads the number of a session in a body, and makes the command that closes the session.
+///
+/// Refusals: `BadRequest`; `NoMemory`.
 pub fn close_command(alloc: Global, body: &[u8]) -> Result<Command, Refusal>
     ensures orders { (result ≡ Err Refusal.NoMemory)
         ⊎ GivesCommand (λ value. Exactly (IsCloseOrder value)) Close body.now result }
@@ -68,7 +80,9 @@ pub fn close_command(alloc: Global, body: &[u8]) -> Result<Command, Refusal>
     Ok(Command::Close { session })
 }
 
-/// The gateway's report in a body. Refusals: `BadRequest`; `NoMemory`.
+/// Reads the gateway's report in a body, and makes the command that records it.
+///
+/// Refusals: `BadRequest`; `NoMemory`.
 pub fn report_command(alloc: Global, body: &[u8]) -> Result<Command, Refusal>
     ensures orders { (result ≡ Err Refusal.NoMemory)
         ⊎ GivesCommand (λ value. Exactly (IsReportOrder value)) (λ order. Report order.session order.bytes)

@@ -1,4 +1,4 @@
-//! Who sends a request, and the number that the caller gave it.
+//! Identifies the caller of a request, and reads the idempotency key.
 ghost use Rattle.std.specs.Prelude.{◌≡◌, IfOk, IfErr, option_map};
 ghost use Rattle.portal_http_message.specs.Message.{value_in};
 ghost use Rattle.portal_http_request.specs.Callers.{IsGuest, holds_token, ReadsKey, fingerprint_of};
@@ -12,15 +12,16 @@ use portal_model::refusal::Refusal;
 use std::alloc::Global;
 use std::str;
 
-/// A guest, by the one field that names the device. None where there is no such field, or more than one, or
-/// it does not read.
+/// Reads the device of a guest, from the one field that names it.
+///
+/// None if there is no such field or more than one, or if its value is not a device.
 pub fn guest_device(field: Option<&[u8]>) -> Option<Device>
     ensures { IsGuest (option_map (λ v. v.now) field.entry) result }
 {
     Device::read(str::from_utf8(field?).ok()?).ok()
 }
 
-/// Whether the one field of a token holds it.
+/// Whether the one field for a token has that token as its value.
 pub fn holds_token(token: &str, field: Option<&[u8]>) -> bool
     ensures { result ≡ holds_token token.now (option_map (λ v. v.now) field.entry) }
 {
@@ -30,10 +31,10 @@ pub fn holds_token(token: &str, field: Option<&[u8]>) -> bool
     }
 }
 
-/// The number in the one field that may hold it.
+/// Reads the idempotency key, from the one field for it. None if there is no such field.
 ///
-/// Refusal: `BadRequest` where there are more such fields, or its value is not 1 to 36 letters, digits and
-/// hyphens.
+/// Refusal: `BadRequest` if there is more than one such field, or its value is not 1 to 36 letters, digits
+/// and hyphens.
 pub fn read_key(field: Result<Option<&[u8]>, HeadError>) -> Result<Option<RequestNumber>, Refusal>
     ensures { ReadsKey (value_in field.entry) result }
 {
@@ -45,7 +46,9 @@ pub fn read_key(field: Result<Option<&[u8]>, HeadError>) -> Result<Option<Reques
     Ok(Some(number))
 }
 
-/// The mark of a request of that caller, where it has a number. Refusal: `NoMemory`.
+/// Makes the fingerprint of a request of that caller, if the request has an idempotency key.
+///
+/// Refusal: `NoMemory`.
 pub fn fingerprint_of(
     alloc: Global,
     asked: &RoutedRequest<'_>,

@@ -1,7 +1,15 @@
-//! The checks before the desk, in their order: shape, route, method, and what the route asks.
+//! Checks a request before the desk is called, in this order: syntax, path, method, and what the route
+//! requires.
 ghost use Rattle.std.specs.Prelude.{◌≡◌, IfOk, IfErr, Ok};
 ghost use Rattle.portal_http_message.specs.Message.{message_of_request};
-ghost use Rattle.portal_http_request.specs.Checks.{AtMessage, syntax_error, IsChecked, IsInOrder, IsOfRequest, OrMemory};
+ghost use Rattle.portal_http_request.specs.Checks.{
+  AtMessage,
+  syntax_error,
+  IsChecked,
+  IsInOrder,
+  IsOfRequest,
+  OrMemory,
+};
 
 use crate::operation::Operation;
 use crate::rejection::Rejection;
@@ -14,7 +22,9 @@ use portal_model::refusal::Refusal;
 use std::alloc::Global;
 use std::str;
 
-/// The path of a request, its method, and then what its route asks.
+/// Checks the path and the method of a request, and then what its route requires.
+///
+/// Rejections: `NoRoute`; `Method`; those of `check_route`.
 #[tactic(auto, using(crate::proofs::RouteLemmas::at_path))]
 fn check_path(
     alloc: Global,
@@ -40,7 +50,7 @@ fn check_path(
     check_route(alloc, settings, seed, route, &asked)
 }
 
-/// The refusal of a request by its shape.
+/// Returns the refusal for an error in the syntax of a request.
 fn syntax_error(error: HeadError) -> Refusal
     ensures { result ≡ syntax_error error }
 {
@@ -51,20 +61,20 @@ fn syntax_error(error: HeadError) -> Refusal
     }
 }
 
-/// What the checks make of the bytes of a request; `seed` is where the codes of a new batch come from.
+/// Checks the bytes of a request, and returns the operation that it asks of the desk.
 ///
-/// Denied by the first check that fails:
-/// - `BadRequest` for its shape (RFC 9112 sections 2, 3.2 and 6), `TooLarge` for a body of over 65,536 bytes,
-///   `NotSupported` for a body in a transfer coding;
-/// - `NoRoute` for its path, `Method` for its method;
-/// - `BadDevice` for a guest without one field `Portal-Device` that reads, `Forbidden` for the desk or the
-///   gateway without one field `Portal-Token` that holds their token;
-/// - `BadRequest` for a second field `Portal-ParsedRequest`, or one that is not 1 to 36 letters, digits and
-///   hyphens, on the routes with a command;
+/// `seed` gives the codes of a new batch. Rejections, the first that applies:
+/// - `BadRequest` for its syntax (RFC 9112, sections 2, 3.2 and 6), `TooLarge` for a body of more than
+///   65,536 bytes, `NotSupported` for a body with a transfer coding;
+/// - `NoRoute` for its path; `Method` for its method;
+/// - `BadDevice` for a guest without one valid field Portal-Device; `Forbidden` for the desk or the gateway
+///   without one field Portal-Token with their token;
+/// - `BadRequest`, on routes with a command, for more than one field Portal-Request, or a value that is not
+///   1 to 36 letters, digits and hyphens;
 /// - `BadPlans`, `BadCode` or `BadRequest` for its body; `UnknownBatch` or `BadCode` for its parameter;
-///   `BadRequest` for a query that does not name days.
+///   `BadRequest` for a query without valid days.
 ///
-/// `NoMemory` before any. No check says `Stopped`.
+/// `NoMemory` can come in place of any of these. No check returns `Stopped`.
 pub fn check_request(
     alloc: Global,
     settings: &Settings,

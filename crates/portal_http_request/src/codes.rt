@@ -1,4 +1,4 @@
-//! The codes of a seed.
+//! Makes codes from a seed.
 ghost use Rattle.std.specs.Prelude.{◌≡◌, ◌+◌, ◌<◌, ◌≤◌, ◌^◌, IfOk, map};
 ghost use Rattle.std.specs.List.{range_with_len};
 ghost use Rattle.rand_chacha.specs.ChaCha.{word_at};
@@ -11,7 +11,7 @@ use rand_core::SeedableRng;
 use rand_core::utils::NextWord;
 use std::alloc::{AllocError, Global};
 
-/// The next words, as many as make a long code.
+/// Draws the next words of the generator, as many as a long code needs.
 fn next_words(rng: &mut ChaCha20Rng) -> [u32; LONG_WORDS]
     requires { rng.old.word_pos + 15 < 2 ^ 68 }
     ensures words { result ≡ map (λ i. word_at 10 rng.old.key rng.old.stream (rng.old.word_pos + i))
@@ -25,10 +25,11 @@ fn next_words(rng: &mut ChaCha20Rng) -> [u32; LONG_WORDS]
     words
 }
 
-/// The first `count` codes of a seed: the words of ChaCha20 with the seed as its key (RFC 8439's block
-/// function, with a 64-bit counter and nonce), stream 0, from place 0 on, fifteen to a code of sixteen signs.
+/// Makes the first `count` codes of a seed, at most 500.
 ///
-/// An `Err` is want of memory. Two of the codes may be the same.
+/// A code of sixteen characters is made of fifteen words of ChaCha20 with the seed as its key (the block
+/// function of RFC 8439, with a 64-bit counter and nonce), stream 0, from place 0 on. Two of the codes may
+/// be equal. The only error is out of memory.
 pub fn codes_of(alloc: Global, seed: [u8; 32], count: usize) -> Result<Codes, AllocError>
     requires { count ≤ 500 }
     ensures { IfOk result (λ codes. codes ≡ codes_of seed count) }

@@ -1,4 +1,4 @@
-//! The command that issues a batch.
+//! Reads the command that issues a batch.
 ghost use Rattle.std.specs.Prelude.{◌≡◌, ◌≤◌, ◌⊎◌, Err, IfOk, IfErr};
 ghost use Rattle.portal_model.specs.Verdict.{IsWellFormed};
 ghost use Rattle.portal_http_request.specs.Issues.{ReadsIssue, issue_of};
@@ -9,7 +9,7 @@ use portal_model::command::Command;
 use portal_model::refusal::Refusal;
 use std::alloc::Global;
 
-/// The command that an order of a batch asks for, with the codes of the seed. Refusal: `NoMemory`.
+/// Makes the command that issues the batch of an order, with the codes of the seed. Refusal: `NoMemory`.
 fn issue_of_order(alloc: Global, order: BatchOrder, seed: [u8; 32]) -> Result<Command, Refusal>
     requires least { 1 ≤ order.count }
     requires most { order.count ≤ 500 }
@@ -25,9 +25,9 @@ fn issue_of_order(alloc: Global, order: BatchOrder, seed: [u8; 32]) -> Result<Co
     })
 }
 
-/// The command that a body orders, with the codes of the seed.
+/// Reads the order of a batch in a body, and makes the command that issues it, with the codes of the seed.
 ///
-/// Refusals: `BadRequest` where the body orders no batch; `NoMemory`.
+/// Refusals: `BadRequest` if the body has no such order; `NoMemory`.
 pub fn issue_command(alloc: Global, body: &[u8], seed: [u8; 32]) -> Result<Command, Refusal>
     ensures reads { (result ≡ Err Refusal.NoMemory) ⊎ ReadsIssue seed body.now result }
     ensures well_formed { IfOk result IsWellFormed }

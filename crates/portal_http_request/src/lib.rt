@@ -1,5 +1,5 @@
-//! The checks of a request before the desk is asked (RFC 9110, RFC 9112): what it wants of the desk, or why
-//! it does not reach it.
+//! Checks requests before the desk is called (RFC 9110, RFC 9112): the operation that a request asks of the
+//! desk, or the rejection.
 #![tactic(auto)]
 
 mod bodies;

@@ -1,4 +1,4 @@
-//! What a request wants.
+//! The operations that a request can ask of the desk.
 
 use portal_codes::Code;
 use portal_days::DayRange;
@@ -6,19 +6,19 @@ use portal_ledger::request::RequestMark;
 use portal_model::command::Command;
 use portal_model::name::{Device, Id};
 
-/// What a request that passes the checks wants of the desk.
+/// What a request that passes the checks asks of the desk.
 #[derive(Drop)]
 pub enum Operation {
-    /// The captive state of a device (RFC 8908 section 5).
+    /// Read the captive state of a device (RFC 8908, section 5).
     State(Device),
-    /// The print file of a batch.
+    /// Read the data for the print file of a batch.
     Sheet(Id),
-    /// The voucher of a code.
+    /// Read the voucher of a code.
     Voucher(Code),
-    /// The takings of a range of days.
+    /// Add up the takings of a range of days.
     Takings(DayRange),
-    /// The open sessions.
+    /// List the open sessions.
     OpenSessions,
-    /// A command, to be carried out; once for its mark, where the request has one.
+    /// Execute a command, idempotently if the request has a fingerprint.
     Act(Command, Option<RequestMark>),
 }

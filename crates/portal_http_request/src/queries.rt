@@ -1,4 +1,4 @@
-//! What a path and a query name.
+//! Reads the values in a path and in a query.
 ghost use Rattle.std.specs.Prelude.{◌≡◌, ℕ, ℤ, List, None, IfSome, option_map};
 ghost use Rattle.portal_days.specs.Span.{Span};
 ghost use Rattle.portal_http_request.specs.Queries.{NamesBatch, NamesCode, IsDayAt, AreDays};
@@ -10,7 +10,7 @@ use portal_http_routes::only_value;
 use portal_model::name::Id;
 use std::str;
 
-/// The batch that a text names.
+/// Reads the id of a batch, if the text is one.
 pub fn batch_id_of_text(text: &[u8]) -> Option<Id>
     ensures some { IfSome result (NamesBatch text.now) }
     ensures none { result ≡ None → (id : List ℕ) → ¬ (NamesBatch text.now id) }
@@ -18,7 +18,7 @@ pub fn batch_id_of_text(text: &[u8]) -> Option<Id>
     Id::read(str::from_utf8(text).ok()?)
 }
 
-/// The code that a text spells.
+/// Reads a code, if the text spells one.
 pub fn code_of_text(text: &[u8]) -> Option<Code>
     ensures some { IfSome result (NamesCode text.now) }
     ensures none { result ≡ None → (code : List ℕ) → ¬ (NamesCode text.now code) }
@@ -26,7 +26,7 @@ pub fn code_of_text(text: &[u8]) -> Option<Code>
     Code::read(str::from_utf8(text).ok()?).ok()
 }
 
-/// The day under a key of a query, where the key stands there just once.
+/// Reads the day under a key of a query as `YYYY-MM-DD`, if the key is in the query exactly once.
 fn day_at(query: Option<&[u8]>, key: &[u8]) -> Option<Day>
     ensures some { IfSome result (IsDayAt key.now (option_map (λ q. q.now) query.entry)) }
     ensures none { result ≡ None → (day : ℤ) → ¬ (IsDayAt key.now (option_map (λ q. q.now) query.entry) day) }
@@ -37,8 +37,10 @@ fn day_at(query: Option<&[u8]>, key: &[u8]) -> Option<Day>
     }
 }
 
-/// The days of a query: `from` and `to`, each there just once, as `YYYY-MM-DD`, in order and at most 366
-/// days.
+/// Reads the range of days from `from` to `to` in a query.
+///
+/// None unless each key is in the query exactly once, as `YYYY-MM-DD`, and the days are in order and at
+/// most 366.
 pub fn days_of_query(query: Option<&[u8]>) -> Option<DayRange>
     ensures some { IfSome result (AreDays (option_map (λ q. q.now) query.entry)) }
     ensures none { result ≡ None → (range : Span) → ¬ (AreDays (option_map (λ q. q.now) query.entry) range) }

@@ -1,4 +1,4 @@
-//! What the checks deny.
+//! The rejections of requests.
 ghost use Rattle.std.specs.Prelude.{◌≡◌};
 ghost use Rattle.portal_http_request.specs.declared.rejection.Rejection.TheVariants.{Refused};
 ghost use Rattle.portal_http_request.specs.Rejection.{error_of, allow_of};
@@ -7,12 +7,12 @@ use http::Method;
 use portal_http_routes::Route;
 use portal_model::refusal::Refusal;
 
-/// Why a request does not reach the desk.
+/// Why a request is rejected before the desk is called.
 #[derive(Clone, Copy, Debug, PartialEq, Eq)]
 pub enum Rejection {
-    /// Its path has a route, which is asked by another method (RFC 9110 section 15.5.6).
+    /// The path has a route, but with another method (RFC 9110, section 15.5.6).
     Method(Route),
-    /// Any other refusal.
+    /// Any other reason.
     Refused(Refusal),
 }
 
@@ -25,7 +25,7 @@ impl From<Refusal> for Rejection {
 }
 
 impl Rejection {
-    /// The refusal that the response names.
+    /// Returns the refusal that the response names.
     pub fn refusal(self) -> Refusal
         ensures { result ≡ error_of self }
     {
@@ -35,8 +35,8 @@ impl Rejection {
         }
     }
 
-    /// The method that the response allows: that of the route, where another was asked. No other response
-    /// names one.
+    /// Returns the method for the field `Allow`: that of the route, if the request has another method.
+    /// Other responses have no such field.
     pub fn allow(self) -> Option<Method>
         ensures { result ≡ allow_of self }
     {

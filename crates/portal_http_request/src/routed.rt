@@ -11,7 +11,7 @@ use portal_ledger::request::RequestNumber;
 use portal_model::refusal::Refusal;
 use std::marker::Model;
 
-/// A request with its method and its path as texts. A contract sees what the request says.
+/// A request with its method and its path as texts. A contract sees the message of the request.
 #[derive(Drop)]
 pub struct RoutedRequest<'b> {
     request: ParsedRequest<'b>,
@@ -33,7 +33,7 @@ impl<'b> Model for RoutedRequest<'b> {
 }
 
 impl<'b> RoutedRequest<'b> {
-    /// A request with its own method and its own path.
+    /// Takes a request with its own method and its own path.
     pub fn new(request: ParsedRequest<'b>, method: &'b str, path: &'b str) -> RoutedRequest<'b>
         requires method { method.now ≡ (message_of_request request).method }
         requires path { path.now ≡ path_of (message_of_request request).target }
@@ -46,49 +46,49 @@ impl<'b> RoutedRequest<'b> {
         }
     }
 
-    /// Its method (RFC 9110 section 9).
+    /// Returns its method (RFC 9110, section 9).
     pub fn method(&self) -> &str
         ensures { result.now ≡ self.now.method }
     {
         self.method
     }
 
-    /// Its path.
+    /// Returns its path, without the query.
     pub fn path(&self) -> &str
         ensures { result.now ≡ path_of self.now.target }
     {
         self.path
     }
 
-    /// Its query, where it has one.
+    /// Returns its query, if it has one.
     pub fn query(&self) -> Option<&[u8]>
         ensures { option_map (λ query. query.now) result ≡ query_of self.now.target }
     {
         split_target(self.request.target).1
     }
 
-    /// The value of Portal-Token, where there is just one such field.
+    /// Returns the value of Portal-Token, if there is exactly one such field.
     pub fn token(&self) -> Option<&[u8]>
         ensures { option_map (λ value. value.now) result ≡ self.now.token }
     {
         self.request.token
     }
 
-    /// The value of Portal-Device, where there is just one such field.
+    /// Returns the value of Portal-Device, if there is exactly one such field.
     pub fn device(&self) -> Option<&[u8]>
         ensures { option_map (λ value. value.now) result ≡ self.now.device }
     {
         self.request.device
     }
 
-    /// The number of the request, where it has one. Refusal: `BadRequest`.
+    /// Reads its idempotency key, if it has one. Refusal: `BadRequest`, as for `read_key`.
     pub fn idempotency_key(&self) -> Result<Option<RequestNumber>, Refusal>
         ensures { ReadsKey self.now.number result }
     {
         read_key(self.request.number)
     }
 
-    /// The bytes of its body.
+    /// Returns the bytes of its body.
     pub fn body(&self) -> &[u8]
         ensures { result.now ≡ self.now.body }
     {

@@ -1,4 +1,5 @@
-//! What each route asks of its request: the caller, the number, the body or the parameter.
+//! Checks what each route requires of a request: the caller, the idempotency key, and the body or the
+//! parameter.
 ghost use Rattle.std.specs.Prelude.{◌≡◌, ℕ, List, IfOk, MatchResult, true, false};
 ghost use Rattle.portal_files.specs.SettingsFile.{SettingsValue};
 ghost use Rattle.portal_model.specs.Verdict.{IsWellFormed};
@@ -23,10 +24,10 @@ use portal_model::command::Command;
 use portal_model::refusal::Refusal;
 use std::alloc::Global;
 
-/// A command that was ordered, with the mark of its request. The number is looked at before what the body
-/// came to.
+/// Makes the operation that executes a command, with the fingerprint of the request.
 ///
-/// Denied: `BadRequest` for the number; then as the body was refused; `NoMemory`.
+/// The idempotency key is checked before the command that was read from the body. Rejections: `BadRequest`
+/// for the key; then the refusal in `ordered`; `NoMemory`.
 fn command_operation(
     alloc: Global,
     asked: &RoutedRequest<'_>,
@@ -43,10 +44,11 @@ fn command_operation(
     Ok(Operation::Act(command, mark))
 }
 
-/// Nothing, where the one field of a token holds it. Denied: `Forbidden`.
+/// Requires the token in the one field for it. Rejection: `Forbidden`.
 fn require_token(token: &str, asked: &RoutedRequest<'_>) -> Result<(), Rejection>
     ensures { MatchResult result (λ _. holds_token token.now asked.now.token ≡ true)
-        (λ rejection. (holds_token token.now asked.now.token ≡ false) × (rejection ≡ Refused Refusal.Forbidden)) }
+        (λ rejection. (holds_token token.now asked.now.token ≡ false)
+        × (rejection ≡ Refused Refusal.Forbidden)) }
 {
     if holds_token(token, asked.token()) {
         Ok(())
@@ -55,7 +57,7 @@ fn require_token(token: &str, asked: &RoutedRequest<'_>) -> Result<(), Rejection
     }
 }
 
-/// `GET /captive`. Denied: `BadDevice`.
+/// Checks `GET /captive`. Rejection: `BadDevice`.
 fn check_captive(asked: &RoutedRequest<'_>) -> Result<Operation, Rejection>
     ensures checks { (settings : SettingsValue) (seed : List ℕ)
         → AtRoute settings seed asked.now route.Captive result }
@@ -65,7 +67,9 @@ fn check_captive(asked: &RoutedRequest<'_>) -> Result<Operation, Rejection>
     Ok(Operation::State(device))
 }
 
-/// `POST /portal/redeem`. Denied: `BadDevice`; then as `command_operation` and `redeem_command` say.
+/// Checks `POST /portal/redeem`.
+///
+/// Rejections: `BadDevice`; then as for `command_operation` and `redeem_command`.
 fn check_redeem(alloc: Global, asked: &RoutedRequest<'_>) -> Result<Operation, Rejection>
     ensures checks { (settings : SettingsValue) (seed : List ℕ)
         → OrMemory (AtRoute settings seed asked.now route.Redeem) result }
@@ -76,7 +80,9 @@ fn check_redeem(alloc: Global, asked: &RoutedRequest<'_>) -> Result<Operation, R
     command_operation(alloc, asked, Caller::Guest(device), ordered)
 }
 
-/// `POST /desk/plans`. Denied: `Forbidden`; then as `command_operation` and `load_command` say.
+/// Checks `POST /desk/plans`.
+///
+/// Rejections: `Forbidden`; then as for `command_operation` and `load_command`.
 fn check_plans(
     alloc: Global,
     settings: &Settings,
@@ -94,7 +100,9 @@ fn check_plans(
     )
 }
 
-/// `POST /desk/batches`, with codes of the seed. Denied: `Forbidden`; then as `command_operation` and `issue_command` say.
+/// Checks `POST /desk/batches`; the seed gives the codes.
+///
+/// Rejections: `Forbidden`; then as for `command_operation` and `issue_command`.
 fn check_batches(
     alloc: Global,
     settings: &Settings,
@@ -113,7 +121,7 @@ fn check_batches(
     )
 }
 
-/// `GET /desk/batches/{id}/print`. Denied: `Forbidden`, `UnknownBatch`.
+/// Checks `GET /desk/batches/{id}/print`. Rejections: `Forbidden`; `UnknownBatch`.
 fn check_print(settings: &Settings, asked: &RoutedRequest<'_>) -> Result<Operation, Rejection>
     ensures checks { (seed : List ℕ) → AtRoute settings.now seed asked.now route.Print result }
     ensures in_order { IfOk result IsInOrder }
@@ -125,7 +133,9 @@ fn check_print(settings: &Settings, asked: &RoutedRequest<'_>) -> Result<Operati
     Ok(Operation::Sheet(batch))
 }
 
-/// `POST /desk/sales`. Denied: `Forbidden`; then as `command_operation` and `sell_command` say.
+/// Checks `POST /desk/sales`.
+///
+/// Rejections: `Forbidden`; then as for `command_operation` and `sell_command`.
 fn check_sales(
     alloc: Global,
     settings: &Settings,
@@ -143,7 +153,9 @@ fn check_sales(
     )
 }
 
-/// `POST /desk/refunds`. Denied: `Forbidden`; then as `command_operation` and `refund_command` say.
+/// Checks `POST /desk/refunds`.
+///
+/// Rejections: `Forbidden`; then as for `command_operation` and `refund_command`.
 fn check_refunds(
     alloc: Global,
     settings: &Settings,
@@ -161,7 +173,9 @@ fn check_refunds(
     )
 }
 
-/// `POST /desk/closes`. Denied: `Forbidden`; then as `command_operation` and `close_command` say.
+/// Checks `POST /desk/closes`.
+///
+/// Rejections: `Forbidden`; then as for `command_operation` and `close_command`.
 fn check_closes(
     alloc: Global,
     settings: &Settings,
@@ -179,7 +193,7 @@ fn check_closes(
     )
 }
 
-/// `GET /desk/vouchers/{code}`. Denied: `Forbidden`, `BadCode`.
+/// Checks `GET /desk/vouchers/{code}`. Rejections: `Forbidden`; `BadCode`.
 fn check_voucher(settings: &Settings, asked: &RoutedRequest<'_>) -> Result<Operation, Rejection>
     ensures checks { (seed : List ℕ) → AtRoute settings.now seed asked.now route.Voucher result }
     ensures in_order { IfOk result IsInOrder }
@@ -189,7 +203,7 @@ fn check_voucher(settings: &Settings, asked: &RoutedRequest<'_>) -> Result<Opera
     Ok(Operation::Voucher(code))
 }
 
-/// `GET /desk/takings`. Denied: `Forbidden`, `BadRequest`.
+/// Checks `GET /desk/takings`. Rejections: `Forbidden`; `BadRequest`.
 fn check_takings(settings: &Settings, asked: &RoutedRequest<'_>) -> Result<Operation, Rejection>
     ensures checks { (seed : List ℕ) → AtRoute settings.now seed asked.now route.Takings result }
     ensures in_order { IfOk result IsInOrder }
@@ -199,7 +213,9 @@ fn check_takings(settings: &Settings, asked: &RoutedRequest<'_>) -> Result<Opera
     Ok(Operation::Takings(days))
 }
 
-/// `POST /gateway/reports`. Denied: `Forbidden`; then as `command_operation` and `report_command` say.
+/// Checks `POST /gateway/reports`.
+///
+/// Rejections: `Forbidden`; then as for `command_operation` and `report_command`.
 fn check_reports(
     alloc: Global,
     settings: &Settings,
@@ -217,7 +233,7 @@ fn check_reports(
     )
 }
 
-/// `GET /gateway/sessions`. Denied: `Forbidden`.
+/// Checks `GET /gateway/sessions`. Rejection: `Forbidden`.
 fn check_sessions(settings: &Settings, asked: &RoutedRequest<'_>) -> Result<Operation, Rejection>
     ensures checks { (seed : List ℕ) → AtRoute settings.now seed asked.now route.Sessions result }
     ensures in_order { IfOk result IsInOrder }
@@ -226,8 +242,10 @@ fn check_sessions(settings: &Settings, asked: &RoutedRequest<'_>) -> Result<Oper
     Ok(Operation::OpenSessions)
 }
 
-/// What a route asks of its request: the caller, the number where it has a command, then the body or the
-/// parameter.
+/// Checks what a route requires of its request, and returns the operation.
+///
+/// The caller is checked first, then the idempotency key if the route has a command, then the body or the
+/// parameter. Rejections: those of the checks of the routes, above.
 pub fn check_route(
     alloc: Global,
     settings: &Settings,

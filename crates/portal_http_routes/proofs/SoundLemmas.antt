@@ -92,7 +92,7 @@ longest_short : {K : Type 0} (seg best : List ℕ) (rows : RowsOf K) → IsShort
 longest_short seg best [] h = h
 longest_short seg best ((t, k) ∷ rest) h = longest_short seg (better seg best (segment t)) rest (better_short seg best (segment t) h)
 
--- what stands before the end of a segment has no slash
+-- the bytes before the end of a segment have no slash
 segment_front : (path : List ℕ) (n : ℕ) → Bytes path → n < length (segment path) → IsPlain (take n path)
 segment_front path zero bytes h = tt
 segment_front [] (suc n) bytes h = absurd (omega arith)
@@ -240,7 +240,7 @@ literal-front (b ∷ front) pattern path h (inr (inr m)) =
     let lower : b < 256 = ltb-true b 256 (both (nat_lt b 256) (list_all (λ x. nat_lt x 256) front) h).0 in
     absurd (omega arith)
 
--- the segment that stands for a parameter, and the bytes behind it
+-- the segment in the place of a parameter, and the bytes after it
 pub path_parameter-then : (tail path : List ℕ) → list_all (λ b. nat_lt b 256) tail ≡ true → Matches (256 ∷ tail) path
     → (word : List ℕ) × IsSegment word × (path ≡ word ++ tail)
 path_parameter-then tail path h (inl m) = absurd (omega (arith, m.1))

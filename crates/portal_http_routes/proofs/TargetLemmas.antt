@@ -1,4 +1,4 @@
--- Signs of a path, one after another.
+-- The bytes of a path, one after another.
 use Rattle.portal_http_routes.proofs.Common.{◌≡◌, ℕ, ◌+◌, ◌<◌, ◌≤◌, Bool, true, false, cond, not, ◌&&◌, ◌==◌, List, [], ◌∷◌, ◌++◌, length, get_or, take, drop, Some, None, refl, sym, ap, ◌∙◌, append_assoc, append-nil, at_drop_more, at_drop_all, take_more, take_all, ne_eqb, IsPlain}
 use Rattle.portal_http_routes.specs.Targets.{before, after, has_no_empty_segment}
 
@@ -31,7 +31,7 @@ pub full_end : (slash : Bool) (xs : List ℕ) (i : ℕ) → length xs ≤ i → 
 unfolding has_no_empty_segment
 full_end slash xs i h = at_drop_all (has_no_empty_segment slash) xs i h
 
--- what stands before the sign, by the bytes that were passed
+-- the bytes before the separator, by the bytes that were passed
 abbrev pub so_far : ℕ → List ℕ → ℕ → List ℕ
 so_far separator xs i = take i xs ++ before separator (drop i xs)
 
@@ -104,7 +104,7 @@ full_after b rest tail plain =
     ∙ ap (λ (t : Bool). cond t false (has_no_empty_segment false (rest ++ tail))) (ne_eqb b 47 plain.1)
     ∙ full_segment rest tail plain.2
 
--- what stands before the slash behind a segment is the segment
+-- the bytes before the slash after a segment are the segment
 pub before_segment : (word tail : List ℕ) → IsPlain word → before 47 (word ++ 47 ∷ tail) ≡ word
 unfolding before
 before_segment [] tail plain = refl

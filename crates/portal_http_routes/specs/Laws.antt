@@ -1,4 +1,4 @@
--- What the table says of each route's paths.
+-- The paths of each route.
 use Rattle.std.specs.Prelude.{◌≡◌, ◌≢◌, ◌↔◌, ℕ, ◌<◌, List, [], ◌∷◌, ◌++◌, Some, All, codes, ⊤}
 use Rattle.portal_http_routes.specs.declared.Route.{Route}
 use Rattle.portal_http_routes.specs.declared.Route.TheVariants.{Captive, Redeem, Plans, Batches, Print, Sales, Refunds, Closes, Voucher, Takings, Reports, Sessions}
@@ -38,7 +38,7 @@ IsPathOf Takings path = path ≡ codes "/desk/takings"
 IsPathOf Reports path = path ≡ codes "/gateway/reports"
 IsPathOf Sessions path = path ≡ codes "/gateway/sessions"
 
--- a path has a route exactly where it is one of the route's paths
+-- a path has a route exactly if it is one of the route's paths
 abbrev pub RoutesAreExact : Type 0
 RoutesAreExact =
     (route : Route) (path : List ℕ) → All (λ b. b < 256) path → (route_in path ≡ Some route) ↔ IsPathOf route path

@@ -2,37 +2,37 @@
 use Rattle.std.specs.Prelude.{ℕ, List, [], ◌∷◌, ◌==◌, if◌then◌else◌, filter, map, Option, Some, None, unwrap_or, bytes_eq}
 use Rattle.portal_http_routes.specs.Targets.{before, after}
 
--- an ampersand, which stands between the fields of a query
+-- the byte between the fields of a query
 abbrev pub ampersand : ℕ
 ampersand = 38
 
--- the sign that ends a key
+-- the byte that ends a key
 abbrev pub equals_sign : ℕ
 equals_sign = 61
 
--- the fields with a sign more at the front of the first
+-- the fields with one byte more at the start of the first
 abbrev pub put_first : ℕ → List (List ℕ) → List (List ℕ)
 put_first b [] = (b ∷ []) ∷ []
 put_first b (field ∷ rest) = (b ∷ field) ∷ rest
 
--- the fields of a query, which is cut at each ampersand
+-- the fields of a query, which is split at each ampersand
 unfoldable pub fields_of : List ℕ → List (List ℕ)
 fields_of [] = [] ∷ []
 fields_of (b ∷ rest) = if b == ampersand then [] ∷ fields_of rest else put_first b (fields_of rest)
 
--- the key of a field, which ends at its first sign of equality
+-- the key of a field: the bytes before its first equals sign
 abbrev pub key_of : List ℕ → List ℕ
 key_of field = before equals_sign field
 
--- the value of a field, which follows that sign; empty where there is none
+-- the value of a field: the bytes after that sign; empty if there is no such sign
 abbrev pub value_of : List ℕ → List ℕ
 value_of field = unwrap_or (after equals_sign field) []
 
--- the values that a key has in a query
+-- the values of a key in a query
 unfoldable pub values_of : List ℕ → List ℕ → List (List ℕ)
 values_of key query = map value_of (filter (λ field. bytes_eq (key_of field) key) (fields_of query))
 
--- the value, where there is just one
+-- the value, if there is exactly one
 abbrev pub only_of : List (List ℕ) → Option (List ℕ)
 only_of [] = None
 only_of (value ∷ []) = Some value

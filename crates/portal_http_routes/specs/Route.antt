@@ -1,11 +1,11 @@
--- What each route asks of its request: the method, and who may ask.
+-- The method of each route, and the role of its callers.
 use Rattle.std.specs.Prelude.{ℕ, List, codes}
 use Rattle.portal_http_routes.specs.declared.Route.{Route}
 use Rattle.portal_http_routes.specs.declared.Route.TheVariants.{Captive, Redeem, Plans, Batches, Print, Sales, Refunds, Closes, Voucher, Takings, Reports, Sessions}
 use Rattle.portal_http_routes.specs.declared.Role.{Role}
 use Rattle.portal_http_routes.specs.declared.Role.TheVariants.{Guest, Desk, Gateway}
 
--- the one method of a route: GET where it only reads
+-- the method of a route: GET if the route only reads
 abbrev pub method_of : Route → List ℕ
 method_of Captive = codes "GET"
 method_of Redeem = codes "POST"
@@ -20,7 +20,7 @@ method_of Takings = codes "GET"
 method_of Reports = codes "POST"
 method_of Sessions = codes "GET"
 
--- the role of those who may ask
+-- the role of the callers that may use the route
 abbrev pub role_of : Route → Role
 role_of Captive = Guest
 role_of Redeem = Guest

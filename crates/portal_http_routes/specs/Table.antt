@@ -1,4 +1,4 @@
--- The table of routes, and which of them a path has.
+-- The table of routes, and the route of a path.
 use Rattle.std.specs.Prelude.{◌≡◌, ℕ, List, [], ◌∷◌, ◌⊎◌, if◌then◌else◌, Option, None, option_map, Result, Ok, Err, codes, IsUtf8}
 use Rattle.matchit.specs.Rows.{RowsOf}
 use Rattle.matchit.specs.Router.{RouteOf, route_from}
@@ -10,16 +10,16 @@ use Rattle.portal_http_routes.specs.declared.Route.{Route}
 use Rattle.portal_http_routes.specs.declared.Route.TheVariants.{Captive, Redeem, Plans, Batches, Print, Sales, Refunds, Closes, Voucher, Takings, Reports, Sessions}
 use Rattle.portal_http_routes.specs.Targets.{is_path}
 
--- a router's rows with one route more
+-- a router's rows with one route added, by the result of parsing its pattern
 abbrev pub place_read : Result Scan InsertError → Route → RowsOf (RouteOf Route) → RowsOf (RouteOf Route)
 place_read (Ok scan) route rows = placed (scan.pattern, route_from scan route) rows
 place_read (Err error) route rows = rows
 
--- the same, by the text of the route
+-- the same, by the pattern
 unfoldable pub place_route : List ℕ → Route → RowsOf (RouteOf Route) → RowsOf (RouteOf Route)
 place_route text route rows = place_read (parse_route text) route rows
 
--- a router's rows with more routes, put in one after another
+-- a router's rows with more routes added, one after another
 abbrev pub place_all : List (List ℕ × Route) → RowsOf (RouteOf Route) → RowsOf (RouteOf Route)
 place_all [] rows = rows
 place_all ((text, route) ∷ rest) rows = place_all rest (place_route text route rows)
@@ -37,15 +37,15 @@ all_routes =
 abbrev pub table : RowsOf (RouteOf Route)
 table = place_all all_routes []
 
--- the route that the table has for a path
+-- the route in the table for a path
 unfoldable pub route_of : List ℕ → Option Route
 route_of path = option_map (λ r. r.value) (first table path)
 
--- the route of a path: none where it does not begin with a slash or has an empty segment
+-- the route of a path: none if it does not begin with a slash or has an empty segment
 abbrev pub route_in : List ℕ → Option Route
 route_in path = if is_path path then route_of path else None
 
--- the route of a path, and none where its bytes are no text
+-- the route of a path, and none if its bytes are not UTF-8
 abbrev pub FindsRoute : List ℕ → Option Route → Type 0
 FindsRoute path result =
     (IsUtf8 path × (result ≡ route_in path)) ⊎ ((¬ (IsUtf8 path)) × (result ≡ None))

@@ -5,16 +5,16 @@ use Rattle.std.specs.Prelude.{ℕ, List, [], ◌∷◌, Bool, true, false, not, 
 abbrev pub question_mark : ℕ
 question_mark = 63
 
--- a slash, which stands before each segment of a path
+-- a slash, which begins each segment of a path
 abbrev pub slash : ℕ
 slash = 47
 
--- the bytes before the first that is that sign; all of them where none is
+-- the bytes before the first one that is the separator; all of them if none is
 unfoldable pub before : ℕ → List ℕ → List ℕ
 before separator [] = []
 before separator (b ∷ rest) = if b == separator then [] else b ∷ before separator rest
 
--- the bytes after the first that is that sign, where one is
+-- the bytes after the first one that is the separator, if there is one
 unfoldable pub after : ℕ → List ℕ → Option (List ℕ)
 after separator [] = None
 after separator (b ∷ rest) = if b == separator then Some rest else after separator rest
@@ -23,11 +23,11 @@ after separator (b ∷ rest) = if b == separator then Some rest else after separ
 abbrev pub path_of : List ℕ → List ℕ
 path_of target = before question_mark target
 
--- the query of a target, where it has one
+-- the query of a target, if it has one
 abbrev pub query_of : List ℕ → Option (List ℕ)
 query_of target = after question_mark target
 
--- no segment from here on is empty, by whether a slash stands just before
+-- no segment from here on is empty; the first argument says whether a slash is just before
 unfoldable pub has_no_empty_segment : Bool → List ℕ → Bool
 has_no_empty_segment behind_slash [] = not behind_slash
 has_no_empty_segment behind_slash (b ∷ rest) = if b == slash then (not behind_slash && has_no_empty_segment true rest) else has_no_empty_segment false rest
@@ -37,7 +37,7 @@ abbrev pub is_path : List ℕ → Bool
 is_path [] = false
 is_path (b ∷ rest) = b == slash && has_no_empty_segment true rest
 
--- the third segment of a path, as it stands; nothing where there is none
+-- the third segment of a path, with nothing decoded; empty if there is none
 abbrev pub parameter_of : List ℕ → List ℕ
 parameter_of path =
     unwrap_or (option_map (before slash)

@@ -1,13 +1,14 @@
-//! What the table says of each route's paths.
+//! Laws of the paths of routes. The functions do nothing: each contract is a law, which `specs/` states.
 ghost use Rattle.portal_http_routes.specs.Laws.{RoutesAreExact, ParametersAreExact};
 
-/// A path has a route exactly where it is one of the route's paths: ten routes have one path each,
-/// and the other two take any segment in the place of their parameter.
+/// Law: a path has a route exactly if it is one of the route's paths.
+///
+/// Ten routes have one path each. The other two accept any segment in the place of their parameter.
 pub fn routes_are_exact()
     ensures { RoutesAreExact }
 {}
 
-/// The parameter of a print path is its batch, and that of a voucher's path its code.
+/// Law: the parameter of a print path is its batch id, and that of a voucher's path its code.
 pub fn parameters_are_exact()
     ensures { ParametersAreExact }
 {}

@@ -1,5 +1,5 @@
-//! The routes of the desk: which of them a request's target names, by which method it is asked,
-//! and by whom; and what the query of a target says.
+//! The endpoints of the server: the path, the method and the caller's role of each, and the parsing of a
+//! request's target.
 #![tactic(auto)]
 
 ghost use Rattle.std.specs.Prelude.{◌≡◌};
@@ -16,10 +16,10 @@ pub use queries::only_value;
 pub use router::Routes;
 pub use targets::{path_parameter, split_at_byte, split_target};
 
-/// What a request asks for.
+/// An endpoint of the server.
 #[derive(Clone, Copy, Debug, PartialEq, Eq)]
 pub enum Route {
-    /// `/captive`: the captive state of the guest's device (RFC 8908, section 5).
+    /// `/captive`: gives the captive state of the guest's device (RFC 8908, section 5).
     Captive,
     /// `/portal/redeem`: redeems a code for the guest's device.
     Redeem,
@@ -27,7 +27,7 @@ pub enum Route {
     Plans,
     /// `/desk/batches`: issues a batch of vouchers.
     Batches,
-    /// `/desk/batches/{id}/print`: the print file of a batch.
+    /// `/desk/batches/{id}/print`: gives the print file of a batch.
     Print,
     /// `/desk/sales`: sells a voucher.
     Sales,
@@ -35,30 +35,31 @@ pub enum Route {
     Refunds,
     /// `/desk/closes`: closes a session.
     Closes,
-    /// `/desk/vouchers/{code}`: the state of a voucher.
+    /// `/desk/vouchers/{code}`: gives the state of a voucher.
     Voucher,
-    /// `/desk/takings`: the takings of a range of days.
+    /// `/desk/takings`: gives the takings of a range of days.
     Takings,
     /// `/gateway/reports`: reports the bytes that a session used.
     Reports,
-    /// `/gateway/sessions`: the open sessions.
+    /// `/gateway/sessions`: lists the open sessions.
     Sessions,
 }
 
-/// The role of a caller.
+/// The role of a caller, which decides how the caller is identified.
 #[derive(Clone, Copy, Debug, PartialEq, Eq)]
 pub enum Role {
-    /// A guest, known by the device that the front end names.
+    /// A guest, identified by the device that the front end names.
     Guest,
-    /// The desk, known by its token.
+    /// The desk, identified by its token.
     Desk,
-    /// The gateway, known by its token.
+    /// The gateway, identified by its token.
     Gateway,
 }
 
 impl Route {
-    /// The one method of the route, which `Allow` names where another is asked (RFC 9110, section
-    /// 15.5.6): `GET` where the route only reads, else `POST`.
+    /// Returns the method of the route: `GET` if the route only reads, else `POST`.
+    ///
+    /// A response to another method names it in `Allow` (RFC 9110, section 15.5.6).
     pub fn method(self) -> Method
         ensures { result ≡ method_of self }
     {
@@ -76,7 +77,7 @@ impl Route {
         }
     }
 
-    /// The text of its method.
+    /// Returns the method of the route as text.
     pub fn method_text(self) -> &'static str
         ensures { result.now ≡ method_of self }
     {
@@ -94,7 +95,7 @@ impl Route {
         }
     }
 
-    /// The role of those who may ask for it.
+    /// Returns the role of the callers that may use the route.
     pub fn role(self) -> Role
         ensures { result ≡ role_of self }
     {

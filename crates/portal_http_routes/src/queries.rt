@@ -1,14 +1,13 @@
-//! The query of a target, field by field.
+//! Parses the query of a target, field by field.
 ghost use Rattle.std.specs.Prelude.{◌≡◌, option_map};
 ghost use Rattle.portal_http_routes.specs.Queries.{only_of, values_of};
 
 use crate::targets::split_at_byte;
 
-/// The value under a key of a query, where the key stands there just once; it is empty where no `=`
-/// follows the key.
+/// Returns the value of a key in a query, if the key is in it exactly once.
 ///
-/// A query is cut at each `&`, and a key ends at its first `=`. Keys are compared byte by byte, and
-/// nothing is decoded.
+/// A query is split at each `&`, and a key ends at its first `=`. The value is empty if no `=` follows the
+/// key. Keys are compared byte by byte, and nothing is percent-decoded.
 pub fn only_value<'q>(query: &'q [u8], key: &[u8]) -> Option<&'q [u8]>
     ensures { option_map (λ value. value.now) result ≡ only_of (values_of key.now query.now) }
 {

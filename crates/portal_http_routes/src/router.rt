@@ -1,4 +1,4 @@
-//! The router that holds the routes.
+//! The router: finds the route of a path.
 ghost use Rattle.std.specs.Prelude.{◌≡◌, IfOk, OnOk, option_map};
 ghost use Rattle.portal_http_routes.specs.Table.{place_route, table, route_of, FindsRoute};
 
@@ -8,8 +8,8 @@ use matchit::{InsertError, Router};
 use std::alloc::{AllocError, Global};
 use std::marker::Model;
 
-/// The table of the routes, ready to be searched. A contract sees it as the router's rows, which
-/// are always the whole table.
+/// The table of the routes, ready to be searched. A contract sees it as the router's rows, which are always
+/// the whole table.
 #[derive(Drop)]
 pub struct Routes {
     router: Router<Route>,
@@ -29,13 +29,16 @@ impl Model for Routes {
     ghost invariant = { λ routes. routes.router ≡ table };
 }
 
+/// Adds a route to the router, with the pattern of its paths.
+///
+/// Error: that of the router. For the patterns of this crate it is out of memory.
 fn add_route(router: &mut Router<Route>, text: &str, route: Route) -> Result<(), InsertError>
     ensures { OnOk result (router.new ≡ place_route text.now route router.old) }
 {
     router.insert(text, route)
 }
 
-/// The router with all the routes in it.
+/// Makes a router with the twelve routes. Error: as for `add_route`.
 fn whole_router(alloc: Global) -> Result<Router<Route>, InsertError>
     ensures { IfOk result (λ router. router ≡ table) }
 {
@@ -56,7 +59,7 @@ fn whole_router(alloc: Global) -> Result<Router<Route>, InsertError>
 }
 
 impl Routes {
-    /// The twelve routes of the desk. The only error is want of memory.
+    /// Makes the table of the twelve routes. The only error is out of memory.
     pub fn new(alloc: Global) -> Result<Routes, AllocError>
         ensures { IfOk result (λ routes. routes ≡ table) }
     {
@@ -64,6 +67,7 @@ impl Routes {
         Ok(Routes { router })
     }
 
+    /// Returns the route that the router has for a path.
     fn at(&self, path: &str) -> Option<Route>
         ensures { result ≡ route_of path.now }
     {
@@ -73,9 +77,10 @@ impl Routes {
         }
     }
 
-    /// The route of a target's path: none where the path does not begin with a slash, has an
-    /// empty segment, or names no route. A segment in the place of `{id}` or `{code}` is taken as
-    /// it stands, with nothing decoded. A path that is no text has no route.
+    /// Finds the route of a target's path.
+    ///
+    /// None if the path does not begin with a slash, has an empty segment, names no route, or is not UTF-8.
+    /// A segment in the place of `{id}` or `{code}` is taken as it is: nothing is percent-decoded.
     pub fn find(&self, path: &str) -> Option<Route>
         ensures { FindsRoute path.now result }
     {

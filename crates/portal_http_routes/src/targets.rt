@@ -1,8 +1,18 @@
-//! The parts of a request's target (RFC 9112, section 3.2.1; RFC 3986, sections 3.3 and 3.4).
+//! Splits a request's target into its parts (RFC 9112, section 3.2.1; RFC 3986, sections 3.3 and 3.4).
 ghost use Rattle.std.specs.Prelude.{◌≡◌, option_map};
-ghost use Rattle.portal_http_routes.specs.Targets.{before, after, path_of, query_of, has_no_empty_segment, is_path, parameter_of};
+ghost use Rattle.portal_http_routes.specs.Targets.{
+  before,
+  after,
+  path_of,
+  query_of,
+  has_no_empty_segment,
+  is_path,
+  parameter_of,
+};
 
-/// The bytes before the first that is `separator`, and those after it where there is one.
+/// Splits bytes at the first byte that is `separator`, which is in neither part.
+///
+/// Without such a byte, the parts are all the bytes and none.
 pub fn split_at_byte(bytes: &[u8], separator: u8) -> (&[u8], Option<&[u8]>)
     ensures front { result.0.now ≡ before separator bytes.now }
     ensures back { option_map (λ rest. rest.now) result.1 ≡ after separator bytes.now }
@@ -17,7 +27,7 @@ pub fn split_at_byte(bytes: &[u8], separator: u8) -> (&[u8], Option<&[u8]>)
     (bytes, None)
 }
 
-/// The path of a target, which ends at the first `?`, and the query after it where there is one.
+/// Splits a target at its first `?` into the path, and the query if it has one.
 pub fn split_target(target: &[u8]) -> (&[u8], Option<&[u8]>)
     ensures path { result.0.now ≡ path_of target.now }
     ensures query { option_map (λ query. query.now) result.1 ≡ query_of target.now }
@@ -25,8 +35,9 @@ pub fn split_target(target: &[u8]) -> (&[u8], Option<&[u8]>)
     split_at_byte(target, b'?')
 }
 
-/// What stands for `{id}` or `{code}` in a path: its third segment, with nothing decoded. It is
-/// empty where the path has no third segment.
+/// Returns the parameter of a path: its third segment, in the place of `{id}` or `{code}`.
+///
+/// Nothing is percent-decoded. The parameter is empty if the path has no third segment.
 pub fn path_parameter(path: &[u8]) -> &[u8]
     ensures { result.now ≡ parameter_of path.now }
 {
@@ -42,7 +53,7 @@ pub fn path_parameter(path: &[u8]) -> &[u8]
     split_at_byte(third, b'/').0
 }
 
-/// Whether no segment is empty, `behind_slash` if a slash stands just before these bytes.
+/// Whether no segment in these bytes is empty. `behind_slash` says that a slash is just before them.
 fn has_no_empty_segment(bytes: &[u8], mut behind_slash: bool) -> bool
     ensures { result ≡ has_no_empty_segment behind_slash bytes.now }
 {
@@ -59,7 +70,7 @@ fn has_no_empty_segment(bytes: &[u8], mut behind_slash: bool) -> bool
     !behind_slash
 }
 
-/// Whether it begins with a slash and no segment is empty.
+/// Whether the bytes begin with a slash and have no empty segment.
 pub fn is_path(bytes: &[u8]) -> bool
     ensures { result ≡ is_path bytes.now }
 {

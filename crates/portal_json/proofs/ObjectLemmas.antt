@@ -16,7 +16,7 @@ abbrev are_after : List KeyedValue → List KeyedValue → Bool
 are_after before [] = true
 are_after before ((key, value) ∷ rest) = is_after before key && are_after (before ++ (key, value) ∷ []) rest
 
--- the keys stand in byte order
+-- the keys are in byte order
 abbrev pub are_rising : List KeyedValue → Bool
 are_rising keys = are_after [] keys
 

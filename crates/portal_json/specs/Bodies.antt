@@ -1,4 +1,4 @@
--- The bodies that go out: JSON with no space between its signs, keys in byte order.
+-- The bodies of responses: JSON without spaces between its tokens, keys in byte order.
 use Rattle.std.specs.Prelude.{ℕ, List, [], ◌∷◌, Option, Some, option_map, map, codes}
 use Rattle.serde_json.specs.Data.{Data, boolean, string, array}
 use Rattle.serde_json.specs.View.{items_of}
@@ -14,7 +14,8 @@ use Rattle.portal_model.specs.Device.{text_of_device}
 use Rattle.portal_model.specs.Refusal.{word_of}
 use Rattle.portal_json.specs.Objects.{integer, integer_or_null, KeyedValue, object_of}
 
--- the keys of a captive state, with the URLs of the portal and, where there is one, of the venue (RFC 8908, section 5)
+-- the keys of a captive state, with the URL of the portal and, if there is one, of the venue (RFC 8908,
+-- section 5)
 abbrev pub captive_keys : Captive → List ℕ → Option (List ℕ) → List KeyedValue
 captive_keys state portal_url venue_url =
     (codes "bytes-remaining", option_map integer state.bytes)
@@ -49,7 +50,7 @@ answer_data (CloseAnswer session) = object_of ((codes "session", Some (integer s
 abbrev pub error_data : Refusal → Data
 error_data refusal = object_of ((codes "error", Some (string (word_of refusal))) ∷ [])
 
--- the state of a voucher; null where it was not sold or not refunded
+-- the state of a voucher; null for a time or an amount that it does not have
 abbrev pub voucher_data : Voucher → Data
 voucher_data v = object_of (
     (codes "batch", Some (string v.batch)) ∷ (codes "code", Some (string (text_of v.code))) ∷ (codes "expires", Some (integer v.expires))
@@ -60,7 +61,8 @@ voucher_data v = object_of (
 abbrev pub session_keys : OpenSession → List KeyedValue
 session_keys s =
     (codes "bytes-remaining", option_map integer s.bytes) ∷ (codes "device", Some (string (text_of_device s.device)))
-    ∷ (codes "seconds-remaining", option_map integer s.seconds) ∷ (codes "session", Some (integer s.number)) ∷ []
+    ∷ (codes "seconds-remaining", option_map integer s.seconds)
+    ∷ (codes "session", Some (integer s.number)) ∷ []
 
 -- an open session
 abbrev pub session_data : OpenSession → Data

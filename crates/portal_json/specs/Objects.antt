@@ -2,20 +2,20 @@
 use Rattle.std.specs.Prelude.{ℕ, List, [], ◌∷◌, Option, Some, None}
 use Rattle.serde_json.specs.Data.{Data, null, number, unsigned, object, Members, no_members, member, put}
 
--- a whole number
+-- an integer
 abbrev pub integer : ℕ → Data
 integer n = number (unsigned n)
 
--- a whole number, or null where there is none
+-- an integer, or null if there is none
 abbrev pub integer_or_null : Option ℕ → Data
 integer_or_null None = null
 integer_or_null (Some n) = integer n
 
--- a key, with its value where it has one
+-- a key, with its value if it has one
 abbrev pub KeyedValue : Type 0
 KeyedValue = List ℕ × Option Data
 
--- the members of an object with these keys, in this order; a key with no value is left out
+-- the members of an object with these keys, in this order; a key without a value is left out
 abbrev pub members_in_order : List KeyedValue → Members
 members_in_order [] = no_members
 members_in_order ((key, None) ∷ rest) = members_in_order rest
@@ -25,7 +25,7 @@ members_in_order ((key, Some value) ∷ rest) = member key value (members_in_ord
 abbrev pub object_of : List KeyedValue → Data
 object_of keys = object (members_in_order keys)
 
--- the members with one key more, where it has a value
+-- the members with one key more, if it has a value
 abbrev pub put_some : List ℕ → Option Data → Members → Members
 put_some key None members = members
 put_some key (Some value) members = put key value members

@@ -1,5 +1,5 @@
--- What the bodies that come in say. A body is UTF-8 and one JSON text (RFC 8259); of two members with one key the last counts, and members
--- under other keys are not looked at.
+-- The meaning of the bodies of requests. A body is one JSON text in UTF-8 (RFC 8259). Of two members with
+-- one key the last one counts, and members under other keys are ignored.
 use Rattle.std.specs.Prelude.{◌≡◌, ℕ, ◌≤◌, ◌^◌, ◌⊎◌, nat_lt, if◌then◌else◌, List, codes, Option, Some, None, MatchOption, option_and_then, Result, Err, MatchResult, IsUtf8}
 use Rattle.serde_json.specs.Data.{Data}
 use Rattle.serde_json.specs.Read.{read}
@@ -15,31 +15,31 @@ use Rattle.portal_json.specs.declared.orders.ReportOrder.{ReportOrder}
 abbrev pub ReadsJson : List ℕ → Data → Type 0
 ReadsJson body value = IsUtf8 body × (read body ≡ Some value)
 
--- the text under a key, where the value is an object that has a text there
+-- the text under a key, if the value is an object with a text there
 abbrev pub text_at : List ℕ → Data → Option (List ℕ)
 text_at key value = option_and_then as_str (get key value)
 
--- a number of at most 9,223,372,036,854,775,807
+-- an integer of at most 9,223,372,036,854,775,807
 abbrev pub signed_range : ℕ → Option ℕ
 signed_range n = if nat_lt n (2 ^ 63) then Some n else None
 
--- the whole number under a key, where there is one in that range; a number with a fraction or an exponent is none
+-- the integer under a key, if there is one in that range; a number with a fraction or an exponent is none
 abbrev pub number_at : List ℕ → Data → Option ℕ
 number_at key value = option_and_then signed_range (option_and_then as_u64 (option_and_then as_number (get key value)))
 
--- the order that a value holds, or bad_request exactly where it holds none
+-- the order in a value, or bad_request exactly if it has none
 abbrev pub Exactly : {A : Type 0} → (A → Type 0) → Result A Refusal → Type 0
 Exactly {A} IsOrder result = MatchResult result IsOrder (λ r. (r ≡ BadRequest) × ((order : A) → ¬ (IsOrder order)))
 
--- the code that a text spells, or bad_code exactly where it spells none
+-- the code that a text spells, or bad_code exactly if it spells none
 abbrev pub CodeText : List ℕ → Result (List ℕ) Refusal → Type 0
 CodeText text result = MatchResult result (Spells text) (λ r. (r ≡ BadCode) × ((code : List ℕ) → ¬ (Spells text code)))
 
--- the code under `code`, or bad_request where no text stands there
+-- the code under `code`, or bad_request if there is no text there
 abbrev pub CodeOrder : Data → Result (List ℕ) Refusal → Type 0
 CodeOrder value result = MatchOption (text_at (codes "code") value) (result ≡ Err BadRequest) (λ text. CodeText text result)
 
--- the value orders that batch: two ids, and a count of 1 to 500
+-- The value orders that batch: two ids, and a count of 1 to 500.
 pub record IsBatchOrder (value : Data) (order : BatchOrder) : Type 0 where
   pub batch : text_at (codes "batch") value ≡ Some order.batch
   pub batch_id : IsIdText order.batch
@@ -49,7 +49,7 @@ pub record IsBatchOrder (value : Data) (order : BatchOrder) : Type 0 where
   pub least : 1 ≤ order.count
   pub most : order.count ≤ 500
 
--- the value reports those bytes for that session
+-- The value reports those bytes for that session.
 pub record IsReportOrder (value : Data) (order : ReportOrder) : Type 0 where
   pub session : number_at (codes "session") value ≡ Some order.session
   pub bytes : number_at (codes "bytes") value ≡ Some order.bytes
@@ -58,7 +58,7 @@ pub record IsReportOrder (value : Data) (order : ReportOrder) : Type 0 where
 abbrev pub IsCloseOrder : Data → ℕ → Type 0
 IsCloseOrder value session = number_at (codes "session") value ≡ Some session
 
--- what the body's value gives; bad_request where the body has none; or want of memory
+-- the result for the body's value; or bad_request if the body has none; or out of memory
 abbrev pub FromBody : {A : Type 0} → (Data → Result A Refusal → Type 0) → List ℕ → Result A Refusal → Type 0
 FromBody Of body result =
     ((value : Data) × ReadsJson body value × Of value result)

@@ -1,4 +1,4 @@
-//! What the callers of commands are told.
+//! Writes the answers to commands, and errors, as JSON.
 ghost use Rattle.std.specs.Prelude.{◌≡◌, IfOk, IfErr, string_bytes};
 ghost use Rattle.serde_json.specs.View.{view};
 ghost use Rattle.portal_json.specs.Bodies.{answer_data, error_data, answer_body, error_body};
@@ -9,6 +9,7 @@ use portal_model::refusal::Refusal;
 use serde_json::{Value, json};
 use std::alloc::{AllocError, Global};
 
+/// Returns the JSON object of the answer to a command. The only error is out of memory.
 fn answer_value(alloc: Global, answer: Answer) -> Result<Value, AllocError>
     ensures { IfOk result (λ v. view v ≡ answer_data answer) }
 {
@@ -41,7 +42,9 @@ fn answer_value(alloc: Global, answer: Answer) -> Result<Value, AllocError>
     }
 }
 
-/// The body that answers an accepted command. Refused (`NoMemory`) only for want of memory.
+/// Writes the body of the response to an accepted command.
+///
+/// Refusal: `NoMemory`, if there is no memory for the text.
 #[tactic(auto, unfolding(crate::specs::Bodies::answer_body))]
 pub fn answer_text(alloc: Global, answer: Answer) -> Result<String, Refusal>
     ensures ok { IfOk result (λ text. string_bytes text ≡ answer_body answer) }
@@ -51,13 +54,17 @@ pub fn answer_text(alloc: Global, answer: Answer) -> Result<String, Refusal>
     text_of_value(alloc, &value)
 }
 
+/// Returns the JSON object of an error: `error`, with the word of the refusal. The only error is out of
+/// memory.
 fn error_value(alloc: Global, refusal: Refusal) -> Result<Value, AllocError>
     ensures { IfOk result (λ v. view v ≡ error_data refusal) }
 {
     json!(in alloc; {"error": refusal.word()})
 }
 
-/// The body that tells a refusal, by its word. Refused (`NoMemory`) only for want of memory.
+/// Writes the body of an error response: `{"error": ..}` with the word of the refusal.
+///
+/// Refusal: `NoMemory`, if there is no memory for the text.
 #[tactic(auto, unfolding(crate::specs::Bodies::error_body))]
 pub fn error_text(alloc: Global, refusal: Refusal) -> Result<String, Refusal>
     ensures ok { IfOk result (λ text. string_bytes text ≡ error_body refusal) }

@@ -1,4 +1,4 @@
-//! The captive state, as a guest's device reads it.
+//! Writes a captive state as JSON (RFC 8908, section 5).
 ghost use Rattle.std.specs.Prelude.{◌≡◌, IfOk, IfErr, option_map, string_bytes};
 ghost use Rattle.serde_json.specs.View.{view};
 ghost use Rattle.serde_json.specs.Data.{object, no_members};
@@ -11,6 +11,7 @@ use portal_model::refusal::Refusal;
 use serde_json::{Map, Value};
 use std::alloc::{AllocError, Global};
 
+/// Returns the JSON object of a captive state. The only error is out of memory.
 fn captive_value(
     alloc: Global,
     state: &Captive,
@@ -52,11 +53,11 @@ fn captive_value(
     Ok(Value::Object(members))
 }
 
-/// The body that tells a captive state (RFC 8908, section 5): whether the device is captive, what
-/// is left to it in seconds and bytes and whether its session may be extended, each where the
-/// state has it, the URL of the portal, and the URL of the venue where there is one.
+/// Writes the body with the captive state of a device (RFC 8908, section 5).
 ///
-/// Refused (`NoMemory`) only for want of memory.
+/// It has: whether the device is captive; the seconds and the bytes that remain and whether the session can
+/// be extended, each if the state has it; the URL of the portal; and the URL of the venue, if there is one.
+/// Refusal: `NoMemory`, if there is no memory for the text.
 pub fn captive_text(
     alloc: Global,
     state: &Captive,

@@ -1,4 +1,4 @@
-//! The bodies of requests and responses, as JSON (RFC 8259).
+//! The JSON bodies of requests and responses (RFC 8259).
 #![tactic(auto)]
 
 mod answers;

@@ -1,4 +1,4 @@
-//! JSON objects, key by key, and their texts.
+//! Makes JSON objects key by key, and writes values as text.
 ghost use Rattle.std.specs.Prelude.{◌≡◌, false, IfOk, IfErr, OnOk, IsAscii, option_map, string_bytes};
 ghost use Rattle.serde_json.specs.Data.{boolean, string};
 ghost use Rattle.serde_json.specs.View.{view, members_view};
@@ -10,7 +10,7 @@ use serde_json::{Map, Value};
 use std::alloc::{AllocError, Global};
 use std::str;
 
-/// Puts a value under a key, where there is one.
+/// Puts a value under a key of an object, if there is a value. The only error is out of memory.
 pub fn put_some(
     alloc: Global,
     members: &mut Map<String, Value>,
@@ -26,21 +26,21 @@ pub fn put_some(
     }
 }
 
-/// A whole number, where there is one.
+/// Makes a JSON number of an integer, if there is one.
 pub fn integer_if_some(value: Option<u64>) -> Option<Value>
     ensures { option_map view result ≡ option_map integer value }
 {
     value.map(|number| Value::from(number))
 }
 
-/// A truth value, where there is one.
+/// Makes a JSON boolean, if there is one.
 pub fn boolean_if_some(value: Option<bool>) -> Option<Value>
     ensures { option_map view result ≡ option_map boolean value }
 {
     value.map(|flag| Value::Bool(flag))
 }
 
-/// A text, where there is one.
+/// Makes a JSON string of a text, if there is one. The only error is out of memory.
 pub fn text(alloc: Global, value: Option<&str>) -> Result<Option<Value>, AllocError>
     ensures { IfOk result (λ v. option_map view v ≡ option_map string (option_map (λ s. s.now) value.entry)) }
 {
@@ -50,14 +50,14 @@ pub fn text(alloc: Global, value: Option<&str>) -> Result<Option<Value>, AllocEr
     }
 }
 
-/// A whole number, or null where there is none.
+/// Makes a JSON number of an integer, or null if there is none.
 pub fn integer_or_null(value: Option<u64>) -> Value
     ensures { view result ≡ integer_or_null value }
 {
     value.map_or(Value::Null, |number| Value::from(number))
 }
 
-/// ASCII bytes, as text.
+/// Returns ASCII bytes as text.
 pub fn as_text(bytes: &[u8]) -> &str
     requires { IsAscii bytes.now }
     ensures { result.now ≡ bytes.now }
@@ -65,7 +65,9 @@ pub fn as_text(bytes: &[u8]) -> &str
     str::from_utf8(bytes).unwrap()
 }
 
-/// The text of a value, with no space between its signs.
+/// Writes a JSON value as text, with no spaces between its tokens.
+///
+/// Refusal: `NoMemory`, if there is no memory for the text.
 pub fn text_of_value(alloc: Global, value: &Value) -> Result<String, Refusal>
     requires { has_float (view value.now) ≡ false }
     ensures ok { IfOk result (λ text. string_bytes text ≡ compact_text (view value.now)) }

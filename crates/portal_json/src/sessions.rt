@@ -1,4 +1,4 @@
-//! The open sessions, as the gateway reads them.
+//! Writes the open sessions as JSON, for the gateway.
 ghost use Rattle.std.specs.Prelude.{◌≡◌, Some, IfOk, IfErr, map, string_bytes};
 ghost use Rattle.serde_json.specs.Data.{object, no_members};
 ghost use Rattle.serde_json.specs.View.{view};
@@ -11,6 +11,7 @@ use portal_model::refusal::Refusal;
 use serde_json::{Map, Value};
 use std::alloc::{AllocError, Global};
 
+/// Makes the JSON object of an open session, member by member. The only error is out of memory.
 fn session_object(alloc: Global, session: &OpenSession) -> Result<Value, AllocError>
     ensures { IfOk result (λ v. view v ≡ object (put_all (session_keys session.now) no_members)) }
 {
@@ -39,6 +40,8 @@ fn session_object(alloc: Global, session: &OpenSession) -> Result<Value, AllocEr
     Ok(Value::Object(members))
 }
 
+/// Returns the JSON object of an open session, as `session_data` states it. The only error is out of
+/// memory.
 fn session_value(alloc: Global, session: &OpenSession) -> Result<Value, AllocError>
     ensures { IfOk result (λ v. view v ≡ session_data session.now) }
 {
@@ -46,6 +49,7 @@ fn session_value(alloc: Global, session: &OpenSession) -> Result<Value, AllocErr
     Ok(value)
 }
 
+/// Returns the JSON objects of open sessions, in order. The only error is out of memory.
 fn session_values(alloc: Global, sessions: &[OpenSession]) -> Result<Vec<Value>, AllocError>
     ensures { IfOk result (λ values. map view values.items ≡ map session_data sessions.now) }
 {
@@ -57,6 +61,7 @@ fn session_values(alloc: Global, sessions: &[OpenSession]) -> Result<Vec<Value>,
     Ok(values)
 }
 
+/// Returns the JSON object with the member `sessions`. The only error is out of memory.
 fn sessions_value(alloc: Global, sessions: &[OpenSession]) -> Result<Value, AllocError>
     ensures { IfOk result (λ v. view v ≡ sessions_data sessions.now) }
 {
@@ -66,9 +71,10 @@ fn sessions_value(alloc: Global, sessions: &[OpenSession]) -> Result<Value, Allo
     Ok(Value::Object(members))
 }
 
-/// The body that tells the open sessions, in the order given: of each its number, its device, and
-/// what is left to it in seconds and bytes, where the session is so limited. Refused (`NoMemory`)
-/// only for want of memory.
+/// Writes the body with the open sessions, in the order given.
+///
+/// Each has its number, its device, and the seconds and the bytes that remain, if the session is so
+/// limited. Refusal: `NoMemory`, if there is no memory for the text.
 pub fn sessions_text(alloc: Global, sessions: &[OpenSession]) -> Result<String, Refusal>
     ensures ok { IfOk result (λ text. string_bytes text ≡ sessions_body sessions.now) }
     ensures err { IfErr result (λ refusal. refusal ≡ Refusal.NoMemory) }

@@ -1,4 +1,4 @@
-//! The state of a voucher.
+//! Writes the state of a voucher as JSON.
 ghost use Rattle.std.specs.Prelude.{◌≡◌, IfOk, IfErr, string_bytes};
 ghost use Rattle.serde_json.specs.View.{view};
 ghost use Rattle.portal_json.specs.Bodies.{voucher_data, voucher_body};
@@ -10,13 +10,14 @@ use portal_model::refusal::Refusal;
 use serde_json::{Value, json};
 use std::alloc::{AllocError, Global};
 
-/// The seconds of a moment, where there is one.
+/// Returns the seconds of a moment since 1970, if there is a moment.
 fn seconds_of_moment(moment: Option<Moment>) -> Option<u64>
     ensures { result ≡ moment }
 {
     moment.map(|moment| moment.get())
 }
 
+/// Returns the JSON object of a voucher's state. The only error is out of memory.
 fn voucher_value(alloc: Global, voucher: &Voucher) -> Result<Value, AllocError>
     ensures { IfOk result (λ v. view v ≡ voucher_data voucher.now) }
 {
@@ -33,9 +34,11 @@ fn voucher_value(alloc: Global, voucher: &Voucher) -> Result<Value, AllocError>
     })
 }
 
-/// The body that tells a voucher's state: its batch, its code, the moment at which it expires, its
-/// plan, how often it was redeemed, the amount refunded in hundredths or null, the moment of its
-/// sale or null, and the uses that its plan gives. Refused (`NoMemory`) only for want of memory.
+/// Writes the body with the state of a voucher.
+///
+/// It has: its batch, its code, the time at which it expires, its plan, how often it was redeemed, the
+/// amount refunded in hundredths or null, the time of its sale or null, and the uses of its plan. Times are
+/// UTC seconds since 1970. Refusal: `NoMemory`, if there is no memory for the text.
 #[tactic(auto, unfolding(crate::specs::Bodies::voucher_body))]
 pub fn voucher_text(alloc: Global, voucher: &Voucher) -> Result<String, Refusal>
     ensures ok { IfOk result (λ text. string_bytes text ≡ voucher_body voucher.now) }

@@ -1,4 +1,4 @@
--- What was acknowledged is kept, and at most one command more.
+-- The ledger has the acknowledged commands, and at most one command more.
 use Rattle.portal_ledger.proofs.Common.{◌≡◌, ◌⊎◌, inl, inr, ℕ, ◌≤◌, List, [], ◌∷◌, ◌++◌, length, Option, Some, None, Result, Ok, Err, refl, ap, sym, subst, ◌∙◌, lit≤, Command, Answer, answer_of, Fingerprint, Refusal, verdict, Accepted, Ledger, history_of, repeat_in, accepted_at, newly_accepted, State, running, stopped, MayBeFound, CallRequest, asks, acts, CallResponse, command_answer, refuses, no_memory, stops, Call, RepliesByVerdict, RepliesByKey, IsCallReply, CallStops, CallStep, CallRun, Execution, acknowledged_of, ledger_after, IsKeptByExecution}
 use Rattle.portal_ledger.specs.Laws.{ExecutionIsKept}
 
@@ -16,7 +16,7 @@ by_stops L (acts command mark) moment = refl
 
 -- the ledger after a reply has what was acknowledged
 
--- a command that was refused, or one that was answered
+-- a command with an error, or with an answer
 abbrev Adds : Ledger → ℕ → Command → Option Fingerprint → CallResponse → Ledger → Type 0
 Adds L moment command mark response after = after ≡ acknowledged_of L (acts command mark) moment response ++ L
 
@@ -48,7 +48,7 @@ replied : (L : Ledger) (q : CallRequest) (moment : ℕ) (response : CallResponse
 replied L asks moment response after h = h.1
 replied L (acts command mark) moment response after h = commanded L moment command mark response after h
 
--- a desk that stopped acknowledges nothing
+-- a stopped desk acknowledges nothing
 
 off_told : (response : CallResponse) → (response ≡ no_memory) ⊎ (response ≡ stops) → IsNoAnswer response
 off_told response (inl e) = subst IsNoAnswer (sym e) by_memory
@@ -90,7 +90,7 @@ ends L (c ∷ calls) new h = go (λ K run. ends K calls new run) h.1
         let none : acknowledged_of L c.asked c.moment c.response ++ L ≡ L = ap (λ (xs : List Accepted). xs ++ L) (off_told c.response (inr s.0) L c.asked c.moment) in
         halts at.0 (rest.0 ∙ ap (λ (K : Ledger). stopped K at.0) (sym (ap (λ (K : Ledger). ledger_after K calls) none ∙ rest.1 L)))
 
--- a life
+-- an execution
 found_by : (L : Ledger) (calls : List Call) (new : State) (mid : Ledger) → Ends L calls new → MayBeFound new mid → (extra : List Accepted) × (length extra ≤ 1) × (mid ≡ extra ++ ledger_after L calls)
 found_by L calls new mid (works e) may = ([], lit≤ tt, subst (λ (s : State). MayBeFound s mid) e may)
 found_by L calls new mid (halts None e) may = ([], lit≤ tt, subst (λ (s : State). MayBeFound s mid) e may)

@@ -1,4 +1,4 @@
--- A whole life: what is answered under a key stays answered so.
+-- A whole execution: requests with the same key get the same answer.
 use Rattle.portal_ledger.proofs.Common.{◌≡◌, inl, inr, ℕ, ◌≤◌, Bool, true, false, cond, List, [], ◌∷◌, ◌++◌, Option, Some, None, Result, Ok, Err, refl, ap, sym, subst, ◌∙◌, arith, All, All-nil, All-cons, All-append, Command, Answer, Changes, Refusal, last_moment, effective_moment, greatest_moment, verdict, changes_of, answer_of, some-same, KeptRequest, Fingerprint, same_key, same_request, Accepted, Ledger, history_of, kept_with, held_in, repeat_of, repeat_in, accepted_at, MayFollow, IsSound, IsKeyFree, State, running, stopped, MayBeFound, CallRequest, asks, acts, CallResponse, command_answer, Call, RepliesByVerdict, RepliesByKey, IsCallReply, CallStops, CallStep, CallRun, Execution, IsFingerprintIfSome, IsCallRequest, IsCall, AreCalls, AllAreCalls, answers_of, is_request_under, answers_of_call, answers_of_session, answers_of_execution, AreAllEqual}
 use Rattle.portal_model.specs.declared.refusal.Refusal.TheVariants.{IdReused}
 use Rattle.portal_ledger.specs.Laws.{RequestsAreIdempotent}
@@ -13,7 +13,7 @@ not_none answer e = cc
 not_ok : (r : Refusal) → ◌≡◌ {A = Result (Option Answer) Refusal} (Err r) (Ok None) → ⊥
 not_ok r e = cc
 
--- where nothing is answered the key is not held
+-- without an answer no request with the key is kept
 pub fresh : (L : Ledger) (own : Fingerprint) → repeat_in L (Some own) ≡ Ok None → held_in L own ≡ None
 fresh L own e = go (held_in L own) refl e
   where
@@ -25,7 +25,7 @@ fresh L own e = go (held_in L own) refl e
         by true h = absurd (not_none k.answer h)
         by false h = absurd (not_ok IdReused h)
 
--- where something is answered it is what is held
+-- an answer is that of the kept request
 pub answered_held : (L : Ledger) (own : Fingerprint) (answer : Answer) → repeat_in L (Some own) ≡ Ok (Some answer) → (k : KeptRequest) × (held_in L own ≡ Some k) × (k.answer ≡ answer)
 answered_held L own answer e = go (held_in L own) refl e
   where
@@ -123,7 +123,7 @@ life_sound L (calls ∷ server_sessions) found is sound h =
 -- ---- one key
 
 module _ (mark : Fingerprint) where
-  -- the answer is held under the key
+  -- the answer is kept with the key
   abbrev Fixed : Answer → Ledger → Type 0
   Fixed answer L = (k : KeptRequest) × (held_in L mark ≡ Some k) × (k.answer ≡ answer)
 
@@ -153,20 +153,20 @@ module _ (mark : Fingerprint) where
   nothing_here true answers e = e
   nothing_here false answers e = refl
 
-  -- a repetition under the key is answered with what is held
+  -- a repetition with the key gets the kept answer
   held_under : (L : Ledger) (own : Fingerprint) → same_key own mark ≡ true → (answer : Answer) → repeat_in L (Some own) ≡ Ok (Some answer) → Fixed answer L
   held_under L own on answer e =
       let held = answered_held L own answer e in
       (held.0, sym (held-alike own mark on L) ∙ held.1, held.2)
 
-  -- a command that was taken under the key is held there
+  -- a command that was accepted with the key is kept with it
   taken_under : (L : Ledger) (moment : ℕ) (command : Command) (own : Fingerprint) (changes : Changes) → same_key own mark ≡ true → repeat_in L (Some own) ≡ Ok None
       → changes_of (history_of L) command (effective_moment (history_of L) moment) ≡ Some changes → Fixed (answer_of changes) (accepted_at L moment command (Some own) ∷ L)
   taken_under L moment command own changes on none ch =
       let a : Accepted = accepted_at L moment command (Some own) in
       (kept_with own (answer_of changes), sym (held-alike own mark on (a ∷ L)) ∙ held_now L a own changes (fresh L own none) refl ch, refl)
 
-  -- what one request leaves: nothing was answered under the key, or the answer is held from then on
+  -- after one request: there was no answer with the key, or the answer is kept from then on
   data Once (new : State) (answers : List Answer) : Type 0 where
     silent : answers ≡ [] → Once new answers
     fixed : (answer : Answer) → Same answer answers → FixedAt answer new → Once new answers
@@ -192,7 +192,7 @@ module _ (mark : Fingerprint) where
   step_once (stopped L doubt) c new (e, inl h) = silent (nothing_here (is_request_under mark c.asked) (answers_of c.response) (ap answers_of h))
   step_once (stopped L doubt) c new (e, inr h) = silent (nothing_here (is_request_under mark c.asked) (answers_of c.response) (ap answers_of h))
 
-  -- where it is held already, nothing else is answered, and it stays held
+  -- if it is kept already, there is no other answer, and it stays kept
 
   reply_grows : (L : Ledger) (q : CallRequest) (moment : ℕ) (response : CallResponse) (after : Ledger) (answer : Answer) → IsCallReply L q moment response after → Fixed answer L → Fixed answer after
   reply_grows L asks moment response after answer h is = subst (Fixed answer) (sym h.1) is
@@ -203,7 +203,7 @@ module _ (mark : Fingerprint) where
       by (again same other e r) = subst (Fixed answer) (sym same) is
       by (taken more changes e none accepts ch) = subst (Fixed answer) (sym more) (fixed_more answer L _ is)
 
-  -- two answers that are held under one key are the same
+  -- two answers that are kept with one key are the same
   one_fixed : (L : Ledger) (x y : Answer) → Fixed x L → Fixed y L → x ≡ y
   one_fixed L x y p q =
       let same : p.0 ≡ q.0 = some-same p.0 q.0 (sym p.1 ∙ q.1) in

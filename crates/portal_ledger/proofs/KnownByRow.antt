@@ -1,4 +1,4 @@
--- Kept requests are told by their rows.
+-- Kept requests are determined by their rows.
 use Rattle.portal_ledger.proofs.Common.{◌≡◌, ℕ, Bool, true, false, List, [], ◌∷◌, length, codes, refl, ap, sym, subst, ◌∙◌, arith, some-same, Answer, Caller, Desk, Gateway, Guest, KeptRequest, kept_with, AnswerCells, boolean, cells_of, IsAnswerTyped, RequestRow}
 use Rattle.portal_codes.specs.Code.{IsCode, Spells, text_of}
 use Rattle.portal_codes.proofs.Spelling.{unique, printed_spells}
@@ -28,7 +28,7 @@ answer_told (RefundAnswer a c) (RefundAnswer a2 c2) is other same = let code : c
 answer_told (CloseAnswer n) (CloseAnswer n2) is other same = ap CloseAnswer (ap (λ (c : AnswerCells). c.n1) same)
 answer_told _ _ is other same = cc (ap (λ (c : AnswerCells). c.kind) same)
 
--- the text of a device has 17 signs, and those of the others have fewer
+-- the text of a device has 17 characters, and those of the others have fewer
 seventeen : (d : List ℕ) → IsDevice d → length (text_of_device d) ≡ 17
 seventeen (a ∷ b ∷ c ∷ d ∷ e ∷ f ∷ []) is = refl
 seventeen _ is = absurd (omega (arith, is.six))

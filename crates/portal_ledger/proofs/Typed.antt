@@ -3,7 +3,7 @@ use Rattle.portal_ledger.proofs.Common.{◌≡◌, ℕ, [], ◌∷◌, Option, S
 use Rattle.portal_model_laws.proofs.Commands.{OfEach, by_command}
 use Rattle.portal_ledger.specs.Laws.{KeptRequestsAreTyped}
 
--- the answer that comes of the changes is typed
+-- the answer of the changes is typed
 abbrev TellsTyped : Command → Changes → Type 0
 TellsTyped command changes = IsTyped command → IsAnswerTyped (answer_of changes)
 

@@ -1,4 +1,4 @@
--- What holds of ledgers.
+-- Laws of ledgers.
 use Rattle.std.specs.Prelude.{◌≡◌, ℕ, ◌+◌, ◌≤◌, true, cond, List, [], ◌∷◌, ◌++◌, Some, All}
 use Rattle.portal_model.specs.declared.change.Changes.{Changes}
 use Rattle.portal_model.specs.Change.{changes_of}
@@ -14,25 +14,26 @@ use Rattle.portal_ledger.specs.Runs.{Call, Execution, AllAreCalls, answers_of_ex
 abbrev pub SoundIsLegal : Type 0
 SoundIsLegal = (L : Ledger) → IsSound L → IsLegal (history_of L)
 
--- an accepted command makes of the rows of all nine tables what its changes say
+-- the rows of all nine tables after an accepted command are those before it with its changes
 abbrev pub ChangesGiveAllRows : Type 0
 ChangesGiveAllRows = (L : Ledger) → IsSound L → (a : Accepted) → MayFollow L a → (changes : Changes) → changes_of (history_of L) a.command a.at ≡ Some changes
     → all_rows_of (a ∷ L) ≡ all_rows_after_changes (record { changes = changes; mark = a.mark }) (all_rows_of L)
 
--- what is held under a key is its row
+-- the kept request with a key is its row
 abbrev pub HeldRequestIsRow : Type 0
 HeldRequestIsRow = (L : Ledger) (mark : Fingerprint) → held_in L mark ≡ request_among (requests_of L) mark
 
--- how many commands were accepted under the key
+-- the number of commands accepted with the key
 abbrev pub times_under : Ledger → Fingerprint → ℕ
 times_under [] mark = 0
 times_under (a ∷ L) mark = cond (is_under mark a.mark) (times_under L mark + 1) (times_under L mark)
 
--- at most one command was accepted under each key
+-- at most one command was accepted with each key
 abbrev pub KeyIsHeldOnce : Type 0
 KeyIsHeldOnce = (L : Ledger) → IsSound L → (mark : Fingerprint) → times_under L mark ≤ 1
 
--- the request that is held under a key is that of one command of the ledger, and its answer is what that command's caller was told
+-- the kept request with a key is that of one command of the ledger, and its answer is the answer to that
+-- command
 pub record IsKeptFor (L : Ledger) (mark : Fingerprint) (k : KeptRequest) : Type 0 where
   pub later : Ledger
   pub by : Accepted
@@ -45,30 +46,34 @@ pub record IsKeptFor (L : Ledger) (mark : Fingerprint) (k : KeptRequest) : Type 
 abbrev pub KeptAnswerIsGiven : Type 0
 KeptAnswerIsGiven = (L : Ledger) (mark : Fingerprint) (k : KeptRequest) → held_in L mark ≡ Some k → IsKeptFor L mark k
 
--- what is held stays held
+-- a kept request stays kept
 abbrev pub HeldRequestStays : Type 0
 HeldRequestStays = (L : Ledger) (a : Accepted) (mark : Fingerprint) (k : KeptRequest) → held_in L mark ≡ Some k → held_in (a ∷ L) mark ≡ Some k
 
--- Over a whole life a numbered request is accepted at most once, and all 200 answers to it are the same
+-- over an execution, an idempotent request is accepted at most once, and all 200 responses to it have the
+-- same answer
 pub record IsIdempotent (found : Ledger) (server_sessions : List (List Call)) (mark : Fingerprint) : Type 0 where
   pub accepted : times_under found mark ≤ 1
   pub answered : AreAllEqual (answers_of_execution mark server_sessions)
 
 abbrev pub RequestsAreIdempotent : Type 0
-RequestsAreIdempotent = (L found : Ledger) (server_sessions : List (List Call)) → IsSound L → AllAreCalls server_sessions → Execution L server_sessions found → (mark : Fingerprint) → IsIdempotent found server_sessions mark
+RequestsAreIdempotent = (L found : Ledger) (server_sessions : List (List Call)) → IsSound L → AllAreCalls server_sessions
+    → Execution L server_sessions found → (mark : Fingerprint) → IsIdempotent found server_sessions mark
 
--- whatever the rounds were, what is found last has every acknowledged command, and at most one more for each round
+-- after an execution, the ledger has every acknowledged command, and at most one more for each server
+-- session
 abbrev pub ExecutionIsKept : Type 0
-ExecutionIsKept = (L found : Ledger) (server_sessions : List (List Call)) → Execution L server_sessions found → IsKeptByExecution L server_sessions found
+ExecutionIsKept = (L found : Ledger) (server_sessions : List (List Call)) → Execution L server_sessions found
+    → IsKeptByExecution L server_sessions found
 
--- two callers with one text are the same
+-- callers with the same text are equal
 abbrev pub CallerIsKnownByText : Type 0
 CallerIsKnownByText = (a b : Caller) → IsCaller a → IsCaller b → text_of_caller a ≡ text_of_caller b → a ≡ b
 
--- the kept requests of a sound ledger are ones that a program can make
+-- the kept requests of a sound ledger are typed
 abbrev pub KeptRequestsAreTyped : Type 0
 KeptRequestsAreTyped = (L : Ledger) → IsSound L → All IsKeptTyped (requests_of L)
 
--- two kept requests with one row are the same
+-- kept requests with the same row are equal
 abbrev pub RequestIsKnownByRow : Type 0
 RequestIsKnownByRow = (k j : KeptRequest) → IsKeptTyped k → IsKeptTyped j → row_of_request k ≡ row_of_request j → k ≡ j

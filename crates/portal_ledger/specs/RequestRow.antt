@@ -9,7 +9,7 @@ use Rattle.portal_ledger.specs.declared.caller.Caller.TheVariants.{Desk, Gateway
 use Rattle.portal_ledger.specs.declared.request.KeptRequest.{KeptRequest}
 use Rattle.portal_ledger.specs.Fingerprint.{IsFingerprint}
 
--- an answer, in the columns of its kind
+-- an answer, in the columns for its kind
 pub record AnswerCells : Type 0 where
   pub kind : ℕ
   pub word : Option (List ℕ)
@@ -33,18 +33,18 @@ cells_of (ReportAnswer still_open session used) = cells 5 None session (Some use
 cells_of (RefundAnswer amount code) = cells 6 (Some (text_of code)) amount None None
 cells_of (CloseAnswer session) = cells 7 None session None None
 
--- the code of an answer is one
+-- the code of an answer is a code
 abbrev pub IsAnswerTyped : Answer → Type 0
 IsAnswerTyped (SellAnswer code price) = IsCode code
 IsAnswerTyped (RefundAnswer amount code) = IsCode code
 IsAnswerTyped _ = Unit {0}
 
--- the mark is one that a program can make, and the code of the answer is one
+-- the fingerprint and the code of the answer are typed
 pub record IsKeptTyped (k : KeptRequest) : Type 0 where
   pub mark : IsFingerprint k.mark
   pub answer : IsAnswerTyped k.answer
 
--- who asked, in a text
+-- the text of a caller
 abbrev pub text_of_caller : Caller → List ℕ
 text_of_caller Desk = codes "desk"
 text_of_caller Gateway = codes "gateway"

@@ -1,13 +1,13 @@
--- What a desk stands for, and the tables under it, from the opening of their files to their stop.
+-- The state of a desk and of the tables below it, from opening the database to an error of it.
 use Rattle.std.specs.Prelude.{◌≡◌, ◌⊎◌, ◌∷◌, Option, Some, None}
 use Rattle.portal_ledger.specs.Ledger.{Accepted, Ledger}
 
--- One that works stands at a ledger. One that stopped is in doubt between a ledger and the same with one command more.
+-- running: with a ledger; stopped: with a ledger and at most one command in doubt
 pub data State : Type 0 where
   running : Ledger → State
   stopped : Ledger → Option Accepted → State
 
--- what a reopening may find
+-- what opening the database again may find
 abbrev pub MayBeFound : State → Ledger → Type 0
 MayBeFound (running L) found = found ≡ L
 MayBeFound (stopped L None) found = found ≡ L

@@ -1,4 +1,4 @@
--- Worked ledgers: what requests under a number are answered. Each line holds by computing the definitions.
+-- Test vectors: the answers to idempotent requests. Each line holds by computing the definitions.
 use Rattle.std.specs.Prelude.{◌≡◌, ℕ, false, List, [], ◌∷◌, codes, Some, None}
 use Rattle.portal_model.specs.declared.command.Command.{Command}
 use Rattle.portal_model.specs.declared.command.Command.TheVariants.{Issue, Sell, Redeem}
@@ -11,12 +11,12 @@ use Rattle.portal_ledger.specs.Fingerprint.{Fingerprint}
 use Rattle.portal_ledger.specs.Ledger.{accepted_command, Ledger, history_of, kept_with, requests_of}
 use Rattle.portal_ledger.specs.Runs.{acts, command_answer, refuses, IsCallReply}
 
--- a ledger in which no request had a mark
+-- a ledger of requests without idempotency keys
 abbrev pub without_fingerprint : History → Ledger
 without_fingerprint [] = []
 without_fingerprint (entry t command ∷ H) = accepted_command t command None ∷ without_fingerprint H
 
--- the redemption of that guest under that number, with that body
+-- the redemption by that guest with that key and that body
 abbrev pub redeems : List ℕ → List ℕ → List ℕ → Fingerprint
 redeems device number body = record { caller = Guest device; number = number; method = codes "POST"; path = codes "/portal/redeem"; body = body }
 
@@ -27,11 +27,11 @@ hour_body = codes "{\"code\":\"3N55-WA4S-KH53\"}"
 abbrev pub other_body : List ℕ
 other_body = codes "{\"code\":\"2222-2222-2222\"}"
 
--- an hour, redeemed at 1000 under the number a1
+-- an hour, redeemed at 1000 with the key a1
 abbrev pub with_fingerprint : Ledger
 with_fingerprint = accepted_command 1000 (Redeem device1 code3) (Some (redeems device1 (codes "a1") hour_body)) ∷ without_fingerprint hour_sold
 
--- asked again later it is answered as before, and nothing is added; the same number with another code is refused
+-- a repetition gets the same answer and adds nothing; the same key with another code is an error
 abbrev pub RedemptionWithKey : Type 0
 RedemptionWithKey =
     let mark = redeems device1 (codes "a1") hour_body in
@@ -41,7 +41,7 @@ RedemptionWithKey =
     × IsCallReply with_fingerprint (acts (Redeem device1 code3) (Some mark)) 5000 (command_answer (RedeemAnswer false 1 0)) with_fingerprint
     × IsCallReply with_fingerprint (acts (Redeem device1 code1) (Some (redeems device1 (codes "a1") other_body))) 5000 (refuses IdReused) with_fingerprint
 
--- another guest's a1 is another key: the command is judged
+-- the key a1 of another guest is another key: the command is decided anew
 abbrev pub KeyPerCaller : Type 0
 KeyPerCaller = IsCallReply with_fingerprint (acts (Redeem device2 code3) (Some (redeems device2 (codes "a1") hour_body))) 5000 (refuses UsedUp) with_fingerprint
 
@@ -49,7 +49,7 @@ KeyPerCaller = IsCallReply with_fingerprint (acts (Redeem device2 code3) (Some (
 abbrev pub hour_issued : Ledger
 hour_issued = accepted_command 1000 (Issue (codes "b1") hour.id (code3 ∷ [])) None ∷ without_fingerprint history_with_plans
 
--- a refused command keeps no number: the same request is judged again once the voucher is sold
+-- a refused command does not use its key: the same request is decided anew once the voucher is sold
 abbrev pub RefusedKeyIsFree : Type 0
 RefusedKeyIsFree =
     let mark = redeems device1 (codes "b1") hour_body in
@@ -57,11 +57,11 @@ RefusedKeyIsFree =
     IsCallReply hour_issued (acts (Redeem device1 code3) (Some mark)) 1000 (refuses NotSold) hour_issued
     × IsCallReply sold (acts (Redeem device1 code3) (Some mark)) 1000 (command_answer (RedeemAnswer false 1 0)) (accepted_command 1000 (Redeem device1 code3) (Some mark) ∷ sold)
 
--- the order of a batch of one code, under the number n1
+-- the issue of a batch of one code, with the key n1
 abbrev pub orders : Fingerprint
 orders = record { caller = Desk; number = codes "n1"; method = codes "POST"; path = codes "/desk/batches/b1"; body = codes "{\"plan\":\"hour\",\"count\":1}" }
 
--- ordered again, with other codes made for it: the same answer, and one batch
+-- repeated, with other codes made for it: the same answer, and one batch
 abbrev pub BatchWithKey : Type 0
 BatchWithKey =
     let batch : List ℕ → Command = λ code. Issue (codes "b1") hour.id (code ∷ []) in

@@ -1,4 +1,4 @@
-//! Changes, with the mark that they are kept under.
+//! The changes of a command with the fingerprint of its request.
 ghost use Rattle.std.specs.Prelude.{◌≡◌, IfOk, IfErr, Some, None};
 ghost use Rattle.portal_model.specs.Change.{answer_of};
 
@@ -7,17 +7,18 @@ use portal_model::change::{Answer, Changes};
 use portal_model::refusal::Refusal;
 use std::alloc::Global;
 
-/// What an accepted command changes, and the mark that it is kept under, where its request had one.
+/// What is committed for an accepted command: its changes, and the fingerprint if its request was
+/// idempotent.
 #[derive(Drop)]
 pub struct MarkedChanges {
-    /// What the command changes.
+    /// The changes of the command.
     pub changes: Changes,
-    /// The mark of its request.
+    /// The fingerprint of its request, if it had an idempotency key.
     pub mark: Option<RequestMark>,
 }
 
 impl MarkedChanges {
-    /// The changes of a request that had no mark.
+    /// Wraps the changes of a request without an idempotency key.
     pub fn unmarked(changes: Changes) -> MarkedChanges
         ensures { result ≡ record { changes = changes; mark = None } }
     {
@@ -27,9 +28,9 @@ impl MarkedChanges {
         }
     }
 
-    /// The changes of a request that acts once, with a copy of its mark.
+    /// Combines the changes of an idempotent request with a copy of its fingerprint.
     ///
-    /// Refusal: `NoMemory` where the mark could not be copied; the changes are dropped.
+    /// Error: `NoMemory` when out of memory; the changes are dropped.
     pub fn with_mark(
         alloc: Global,
         changes: Changes,
@@ -45,7 +46,8 @@ impl MarkedChanges {
         })
     }
 
-    /// What the caller is told once they are kept. A mark changes no answer.
+    /// Returns the answer to the command. It is valid once the changes are committed, and does not depend
+    /// on the fingerprint.
     pub fn answer(&self) -> Answer
         ensures { result ≡ answer_of self.now.changes }
     {

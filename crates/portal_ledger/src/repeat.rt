@@ -1,4 +1,4 @@
-//! What a request is answered whose number was used before.
+//! Repeated requests: the answer if the idempotency key was used before.
 ghost use Rattle.std.specs.Prelude.{◌≡◌, option_map};
 ghost use Rattle.portal_ledger.specs.Ledger.{repeat_of};
 
@@ -6,8 +6,11 @@ use crate::request::{KeptRequest, RequestMark};
 use portal_model::change::Answer;
 use portal_model::refusal::Refusal;
 
-/// What is answered under a key: the kept answer, where the key is held with the same method, path and body,
-/// and None where it is not held. Refused: `IdReused` where it is held with others.
+/// Decides whether a request is a repetition, from the kept request with its idempotency key.
+///
+/// Returns the kept answer if method, path and body are the same, and `None` if no request is kept.
+///
+/// Error: `IdReused` if method, path or body differ.
 pub fn decide_repeat(
     kept: Option<&KeptRequest>,
     mark: &RequestMark,

@@ -1,10 +1,18 @@
-//! Requests that act once. A caller who wants a command carried out once, however often the request has to be
-//! sent, gives the request a **number**. The caller and the number are its **key**; the key with what is
-//! asked (method, path and body) is its **mark**. A command that is accepted keeps its mark and what its
-//! caller was told, so that the same request is answered so again.
+//! Idempotent requests. A caller that wants a command carried out once, however often the request is sent,
+//! gives it an **idempotency key**, here a `RequestNumber`. Keys are scoped to the caller. A `RequestMark`
+//! is the **fingerprint** of the request: its caller, key, method, path and body. The fingerprint of an
+//! accepted command is kept with the answer, and a repetition of the request gets that answer.
 ghost use Rattle.std.specs.Prelude.{◌≡◌, IfOk, IfErr, IfSome, None, bytes_eq, codes};
 ghost use Rattle.std.specs.List.{list_all};
-ghost use Rattle.portal_ledger.specs.Fingerprint.{IsCaller, IsFingerprint, IsKeyText, is_key_character, same_caller, same_key, same_request};
+ghost use Rattle.portal_ledger.specs.Fingerprint.{
+  IsCaller,
+  IsFingerprint,
+  IsKeyText,
+  is_key_character,
+  same_caller,
+  same_key,
+  same_request,
+};
 
 use crate::caller::Caller;
 use portal_model::change::Answer;
@@ -12,7 +20,7 @@ use portal_model::name::Device;
 use std::alloc::{AllocError, Global};
 use std::marker::Model;
 
-/// The number that a caller gives a request: 1 to 36 letters, digits and hyphens.
+/// An idempotency key: 1 to 36 letters, digits and hyphens.
 #[derive(Clone, Copy, Debug, PartialEq, Eq)]
 pub struct RequestNumber {
     bytes: [u8; 36],
@@ -35,7 +43,7 @@ impl Model for RequestNumber {
 }
 
 impl RequestNumber {
-    /// The number that a text is, where it is one.
+    /// Parses an idempotency key, or returns `None` for a text that is not one.
     pub fn read(text: &str) -> Option<RequestNumber>
         ensures value { IfSome result (λ number. number ≡ text.now) }
         ensures some { IfSome result (λ _. IsKeyText text.now) }
@@ -51,7 +59,7 @@ impl RequestNumber {
         Some(RequestNumber { bytes, len })
     }
 
-    /// The text of the number, from which it reads back.
+    /// Returns the text of the key. Parsing it gives the key again.
     pub fn text(&self) -> &str
         ensures value { result.now ≡ self.now }
         ensures number { IsKeyText self.now }
@@ -59,7 +67,7 @@ impl RequestNumber {
         str::from_utf8(&self.bytes[..self.len]).unwrap()
     }
 
-    /// The two are the same number.
+    /// Returns whether two keys are equal.
     pub fn is(&self, other: &RequestNumber) -> bool
         ensures { result ≡ bytes_eq self.now other.now }
     {
@@ -67,29 +75,30 @@ impl RequestNumber {
     }
 }
 
+/// Returns whether each byte is a letter, a digit or a hyphen.
 fn are_key_bytes(bytes: &[u8]) -> bool
     ensures { result ≡ list_all is_key_character bytes.now }
 {
     bytes.iter().all(|b| is_key_byte(*b))
 }
 
+/// Returns whether a byte is a letter, a digit or a hyphen.
 fn is_key_byte(b: u8) -> bool
     ensures { result ≡ is_key_character b }
 {
     b.is_ascii_uppercase() || b.is_ascii_lowercase() || b.is_ascii_digit() || b == b'-'
 }
 
-/// The mark of a request: its key (who sends it, under which number), and what it asks (method, path and
-/// body).
+/// The fingerprint of a request: its caller, idempotency key, method, path and body.
 #[derive(Drop)]
 pub struct RequestMark {
-    /// Who sends it.
+    /// The caller of the request.
     pub caller: Caller,
-    /// The number that the caller gave it.
+    /// Its idempotency key.
     pub number: RequestNumber,
     /// Its method (RFC 9110 section 9).
     pub method: String,
-    /// Its path: the target up to the query.
+    /// Its path: the target without the query.
     pub path: String,
     /// The bytes of its body.
     pub body: Vec<u8>,
@@ -111,7 +120,9 @@ impl Model for RequestMark {
 }
 
 impl RequestMark {
-    /// The mark of a request. Only want of memory is an error.
+    /// Makes a fingerprint, and copies the method, path and body.
+    ///
+    /// Error: `AllocError` when out of memory.
     pub fn new(
         alloc: Global,
         caller: Caller,
@@ -137,7 +148,9 @@ impl RequestMark {
         })
     }
 
-    /// A second one. Only want of memory is an error.
+    /// Copies the fingerprint.
+    ///
+    /// Error: `AllocError` when out of memory.
     pub fn copied(&self, alloc: Global) -> Result<RequestMark, AllocError>
         ensures { IfOk result (λ m. m ≡ self.now) }
     {
@@ -151,14 +164,14 @@ impl RequestMark {
         )
     }
 
-    /// The marks have one key: the same caller and the same number.
+    /// Returns whether two fingerprints have the same caller and the same idempotency key.
     pub fn has_key_of(&self, other: &RequestMark) -> bool
         ensures { result ≡ same_key self.now other.now }
     {
         is_same_caller(&self.caller, &other.caller) && self.number.is(&other.number)
     }
 
-    /// The requests are one: the same method, path and body.
+    /// Returns whether two fingerprints have the same method, path and body.
     pub fn is_same_request(&self, other: &RequestMark) -> bool
         ensures { result ≡ same_request self.now other.now }
     {
@@ -168,8 +181,10 @@ impl RequestMark {
     }
 }
 
-/// Every mark is typed: its number is the text of one, its method and path are UTF-8, and the device of a
-/// guest is one. It does nothing but look at the values that tell so.
+/// Law: every fingerprint is typed. Its key is a key text, its method and path are UTF-8, and the device of
+/// a guest is a device.
+///
+/// The function only reads the values whose invariants show it.
 pub fn fingerprint_is_typed(mark: &RequestMark)
     ensures { IsFingerprint mark.now }
 {
@@ -184,13 +199,14 @@ pub fn fingerprint_is_typed(mark: &RequestMark)
     let _ = mark.path.as_str();
 }
 
-/// Two devices are one.
+/// Returns whether two devices are equal.
 fn is_same_device(a: &Device, b: &Device) -> bool
     ensures { result ≡ bytes_eq a.now b.now }
 {
     a == b
 }
 
+/// Returns whether two callers are equal.
 fn is_same_caller(a: &Caller, b: &Caller) -> bool
     ensures { result ≡ same_caller a.now b.now }
 {
@@ -202,11 +218,11 @@ fn is_same_caller(a: &Caller, b: &Caller) -> bool
     }
 }
 
-/// A kept request: the mark of an accepted command, with what its caller was told.
+/// A kept request: the fingerprint of an accepted command, with the answer to it.
 #[derive(Drop)]
 pub struct KeptRequest {
-    /// The mark of the request.
+    /// The fingerprint of the request.
     pub mark: RequestMark,
-    /// What its caller was told.
+    /// The answer that its caller got.
     pub answer: Answer,
 }

@@ -12,11 +12,11 @@ use Rattle.portal_model.specs.declared.refusal.Refusal.TheVariants.{BadDevice}
 use Rattle.std.proofs.lemmas.Slice.Eq.{text_from_reads}
 use Rattle.portal_model.specs.Device.{IsDevice, SpellsDevice, DeviceTextReadsBack, hex_digit, octet_text, text_with, text_of_device}
 
--- the signs between the octets
+-- the characters between the octets
 abbrev pub between : List ℕ → List ℕ
 between text = get_or text 2 0 ∷ get_or text 5 0 ∷ get_or text 8 0 ∷ get_or text 11 0 ∷ get_or text 14 0 ∷ []
 
--- the k-th octet stands in the text
+-- the text has the k-th octet
 abbrev pub HasOctetText : List ℕ → ℕ → ℕ → Type 0
 HasOctetText text k octet = octet_text octet ≡ to_ascii_lowercase (get_or text (3 * k) 0) ∷ to_ascii_lowercase (get_or text (3 * k + 1) 0) ∷ []
 
@@ -40,7 +40,7 @@ pub record Layout (text : List ℕ) (a b c d e f : ℕ) : Type 0 where
 read-at : (text L : List ℕ) → str_to_ascii_lowercase text ≡ L → (k : ℕ) → to_ascii_lowercase (get_or text k 0) ≡ get_or L k 0
 read-at text L e k = sym (get_or-map to_ascii_lowercase text k 0) ∙ ap (λ (l : List ℕ). get_or l k 0) e
 
--- the text, where a sign that no letter is written as stands between the octets
+-- the text, if the character between the octets is not a letter
 layout-with : (sep : ℕ) → ((c : ℕ) → to_ascii_lowercase c ≡ sep → c ≡ sep)
     → ((text : List ℕ) → between text ≡ replicate 5 sep → (between text ≡ replicate 5 58) ⊎ (between text ≡ replicate 5 45))
     → (text : List ℕ) (a b c d e f : ℕ) → str_to_ascii_lowercase text ≡ text_with sep (six a b c d e f) → Layout text a b c d e f
@@ -87,7 +87,7 @@ pub as-six : (P : List ℕ → Type 0) → ((a b c d e f : ℕ) → IsDevice (si
 as-six P go (a ∷ b ∷ c ∷ d ∷ e ∷ f ∷ []) is = go a b c d e f is
 as-six P go _ is = let h = is.six in absurd (omega arith)
 
--- what is told of a text with that layout is told of the device that it spells
+-- what holds of a text of that form holds of the device that it spells
 pub spells : (text : List ℕ) (a b c d e f : ℕ) → IsDevice (six a b c d e f) → Layout text a b c d e f → SpellsDevice text (six a b c d e f)
 spells text a b c d e f is h =
     let at : (k : ℕ) → get_or (str_to_ascii_lowercase text) k 0 ≡ to_ascii_lowercase (get_or text k 0) = λ k. get_or-map to_ascii_lowercase text k 0 in
@@ -143,7 +143,7 @@ reads-back = as-six (λ device. SpellsDevice (text_of_device device) device × (
           as-six (λ o. SpellsDevice (text_of_device (six a b c d e f)) o → o ≡ six a b c d e f) (λ a' b' c' d' e' f' is' h'. spelled-once _ a b c d e f a' b' c' d' e' f' own h') other h.is_device h,
     ))
 
--- Where the reader stops, no device is spelled
+-- If the parser fails, the text spells no device
 
 pub short-spells-none : (text : List ℕ) → length text ≢ 17 → (device : List ℕ) → ¬ SpellsDevice text device
 short-spells-none text h device s =
@@ -153,7 +153,7 @@ pub unseparated-spells-none : (text : List ℕ) → ¬ ((between text ≡ replic
 unseparated-spells-none text h device s =
     as-six (λ d. SpellsDevice text d → ⊥) (λ a b c d e f is w. h (layout text a b c d e f w).characters) device s.is_device s
 
--- no octet stands at that place of the text
+-- the text has no octet at that place
 abbrev pub NoOctet : List ℕ → ℕ → Type 0
 NoOctet text k = (n : ℕ) → n < 256 → octet_text n ≢ to_ascii_lowercase (get_or text (3 * k) 0) ∷ to_ascii_lowercase (get_or text (3 * k + 1) 0) ∷ []
 
@@ -169,7 +169,7 @@ unread-spells-none text k small h device s = as-six (λ d. SpellsDevice text d �
     go (suc (suc (suc (suc (suc zero))))) _ none a b c d e f is l = none f (is.below 5 0 (omega arith)) l.sixth
     go (suc (suc (suc (suc (suc (suc n)))))) small none a b c d e f is l = absurd (omega arith)
 
--- what the reader answers where an octet was not read
+-- the result of the parser if an octet was not read
 pub unread : {A : Type 0} (text characters : List ℕ) → characters ≡ text → (k : ℕ) → k < 6 → (e : Refusal) → (e ≡ BadDevice) × NoOctet characters k → (result : Result A Refusal) → IsErrAnd result (λ x. x ≡ e)
     → IfErr result (λ r. (r ≡ BadDevice) × ((device : List ℕ) → ¬ SpellsDevice text device))
 unread text characters same k small e refused result is =

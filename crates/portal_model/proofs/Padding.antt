@@ -1,4 +1,4 @@
--- A buffer that begins with a text's bytes, and texts of ASCII signs.
+-- A buffer that begins with a text's bytes, and texts of ASCII characters.
 use Rattle.std.proofs.Common.{◌≡◌, ℕ, ◌-◌, ◌<◌, ◌≤◌, Bool, true, List, ◌++◌, length, get_or, take, drop, ap, sym, ◌∙◌, subst, refl, arith}
 use Rattle.std.specs.Prelude.{replicate, Result, Ok, Err, IsOk, MatchResult}
 use Rattle.std.specs.List.{list_all}
@@ -24,7 +24,7 @@ padded-front xs n e h is =
     let front : take n (xs ++ drop n (replicate 32 0)) ≡ xs = take-front xs (drop n (replicate 32 0)) n e in
     record { fits = h; shown = ap length front ∙ sym e; zeros = ap with_zeros front ∙ zeros-after 32 xs n e; text = subst IsIdText (sym front) is }
 
--- a text of signs below 128 is UTF-8
+-- a text of characters below 128 is UTF-8
 pub characters-utf8 : (is_id_byte : ℕ → Bool) → ((b : ℕ) → is_id_byte b ≡ true → b < 128) → (text : List ℕ) → list_all is_id_byte text ≡ true → IsUtf8 text
 characters-utf8 is_id_byte low text h = IsUtf8-from_ascii text (IsAscii-from_all text (λ i d k. low (get_or text i d) (AllPass-from_list_all is_id_byte text h i d k)))
 

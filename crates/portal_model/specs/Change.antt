@@ -1,4 +1,4 @@
--- What an accepted command leaves in the records, and what its caller is told.
+-- What an accepted command changes in the records, and the answer to it.
 use Rattle.std.specs.Prelude.{ℕ, ◌+◌, ◌-◌, max, List, length, filter, find, Option, Some, None, option_map, is_some, is_none, bytes_eq}
 use Rattle.portal_model.specs.declared.command.Command.{Command}
 use Rattle.portal_model.specs.declared.command.Command.TheVariants.{Load, Issue, Sell, Redeem, Report, Refund, Close}
@@ -17,7 +17,7 @@ abbrev pub raised_by : Option ℕ → ℕ → Option ℕ
 raised_by None more = None
 raised_by (Some limit) more = Some (limit + more)
 
--- the session that a redemption of that plan leaves: the open one extended, or a new one
+-- the session after a redemption of that plan: the open one extended, or a new one
 abbrev pub session_after : Head → Plan → Option Session → List ℕ → ℕ → Session
 session_after head plan (Some s) device t = record s { ends = raised_by s.ends plan.seconds; allowance = raised_by s.allowance plan.bytes }
 session_after head plan None device t = record {
@@ -31,16 +31,16 @@ session_after head plan None device t = record {
   closed = None;
 }
 
--- the number of sessions: one more where the redemption opens one
+-- the number of sessions after a redemption: one more if it opens one
 abbrev pub sessions_after : ℕ → Option Session → ℕ
 sessions_after sessions (Some s) = sessions
 sessions_after sessions None = sessions + 1
 
--- the head after a redemption at t
+-- the head row after a redemption at t
 abbrev pub head_after : Head → Option Session → ℕ → Head
 head_after head running t = record { last = t; grants = head.grants + 1; sessions = sessions_after head.sessions running }
 
--- the session, with a report of that many bytes
+-- the session after a report of that many bytes
 abbrev pub with_report : ℕ → Session → Session
 with_report bytes s = record s { used = max bytes s.used }
 
@@ -48,25 +48,25 @@ with_report bytes s = record s { used = max bytes s.used }
 abbrev pub plan_among : List Plan → List ℕ → Option Plan
 plan_among plans id = find (λ p. bytes_eq p.id id) plans
 
--- the listed plans that are not held
+-- the listed plans that are not loaded yet
 abbrev pub plans_to_add : (List ℕ → Option Plan) → List Plan → List Plan
 plans_to_add held plans = filter (λ p. is_none (held p.id)) plans
 
--- What a decision changes, by the records that it read
+-- The changes of each command, by the records that its decision read
 
--- the plans that are new, of those listed
+-- loading plans: those of the list that are new
 abbrev pub load_change : (List ℕ → Option Plan) → List Plan → ℕ → Changes
 load_change held plans t = LoadChange (record { at = t; listed = length plans; added = plans_to_add held plans })
 
--- the batch and its codes
+-- issuing: the batch and its codes
 abbrev pub issue_change : Option Plan → List ℕ → List (List ℕ) → ℕ → Option Changes
 issue_change plan id codes t = option_map (λ p. IssueChange (record { at = t; batch = batch_row t id (length codes) p; codes = codes })) plan
 
--- the voucher, sold at t
+-- selling: the voucher, sold at t
 abbrev pub sell_change : Option Voucher → ℕ → Option Changes
 sell_change voucher t = option_map (λ v. SellChange (record { at = t; voucher = v })) voucher
 
--- the redemption of a voucher, beside the open session of the device
+-- redeeming a voucher, in the open session of the device or in a new one
 abbrev pub redemption : Head → Option Session → List ℕ → ℕ → Voucher → Changes
 redemption head running device t v = RedeemChange (record { at = t; head = head; voucher = v; running = running; session = session_after head v.plan running device t })
 
@@ -74,19 +74,19 @@ redemption head running device t v = RedeemChange (record { at = t; head = head;
 abbrev pub redeem_change : Head → Option Voucher → Option Session → List ℕ → ℕ → Option Changes
 redeem_change head voucher last device t = option_map (redemption head (kept_if (is_open_at t) last) device t) voucher
 
--- the session, with the report
+-- reporting: the session, and the bytes
 abbrev pub report_change : Option Session → ℕ → ℕ → Option Changes
 report_change session bytes t = option_map (λ s. ReportChange (record { at = t; session = s; bytes = bytes })) session
 
--- the voucher, and the price of the uses that are left
+-- refunding: the voucher, and the price of the uses that are left
 abbrev pub refund_change : Option Voucher → ℕ → Option Changes
 refund_change voucher t = option_map (λ v. RefundChange (record { at = t; voucher = v; amount = amount_left v.plan v.redeemed })) voucher
 
--- the session, closed at t
+-- closing: the session, closed at t
 abbrev pub close_change : Option Session → ℕ → Option Changes
 close_change session t = option_map (λ s. CloseChange (record { at = t; session = s })) session
 
--- what the command changes after the history
+-- the changes of a command after a history
 abbrev pub changes_of : History → Command → ℕ → Option Changes
 changes_of H (Load plans) t = Some (load_change (plan_of H) plans t)
 changes_of H (Issue b p codes) t = issue_change (plan_of H p) b codes t
@@ -96,7 +96,7 @@ changes_of H (Report n bytes) t = report_change (session_of H n) bytes t
 changes_of H (Refund c) t = refund_change (voucher_of H c) t
 changes_of H (Close n) t = close_change (session_of H n) t
 
--- what the caller is told
+-- the answer to an accepted command
 abbrev pub answer_of : Changes → Answer
 answer_of (LoadChange c) = LoadAnswer c.listed
 answer_of (IssueChange c) = IssueAnswer c.batch.id c.batch.size c.batch.expires

@@ -8,19 +8,19 @@ pub record IsDevice (octets : List ℕ) : Type 0 where
   pub six : length octets ≡ 6
   pub below : All (λ x. x < 256) octets
 
--- the sign of a hexadecimal digit, in lower case
+-- the hexadecimal digit of a value, in lower case
 abbrev pub hex_digit : ℕ → ℕ
 hex_digit digit = if nat_lt digit 10 then 48 + digit else (87 + digit)
 
--- an octet, in two digits
+-- an octet as two digits
 abbrev pub octet_text : ℕ → List ℕ
 octet_text octet = hex_digit (octet / 16) ∷ hex_digit (octet % 16) ∷ []
 
--- the octets, with that sign between them
+-- the octets, with that character between them
 abbrev pub text_with : ℕ → List ℕ → List ℕ
 text_with character octets = join_with_byte character (map octet_text octets)
 
--- the text of a device: colons between its octets
+-- the text of a device: lower case, with colons between its octets
 abbrev pub text_of_device : List ℕ → List ℕ
 text_of_device octets = text_with 58 octets
 

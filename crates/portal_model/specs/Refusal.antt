@@ -1,9 +1,9 @@
--- The number, the word and the HTTP status of each refusal.
+-- The number, the word and the HTTP status of each error of the desk.
 use Rattle.std.specs.Prelude.{ℕ, List, codes}
 use Rattle.portal_model.specs.declared.refusal.Refusal.{Refusal}
 use Rattle.portal_model.specs.declared.refusal.Refusal.TheVariants.{BadRequest, BadCode, BadDevice, BadPlans, Forbidden, NoRoute, BadMethod, UnknownPlan, UnknownBatch, UnknownCode, UnknownSession, PlanDiffers, BatchExists, CodeTaken, NotSold, SoldAlready, Refunded, Expired, UsedUp, NoExtend, ShapeDiffers, AllowanceFull, ClosedAlready, NothingLeft, MomentRange, NumbersFull, TooLarge, NotSupported, NoMemory, Stopped, IdReused}
 
--- the refusals in order, from 1
+-- the errors in order, from 1
 abbrev pub number_of : Refusal → ℕ
 number_of BadRequest = 1
 number_of BadCode = 2
@@ -37,7 +37,7 @@ number_of NoMemory = 29
 number_of Stopped = 30
 number_of IdReused = 31
 
--- what answers and messages call it
+-- the word for the error in responses and messages
 abbrev pub word_of : Refusal → List ℕ
 word_of BadRequest = codes "bad_request"
 word_of BadCode = codes "bad_code"

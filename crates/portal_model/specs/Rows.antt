@@ -1,4 +1,4 @@
--- The rows of the tables, and what an accepted command makes of them.
+-- The rows of the tables that a history determines, and how an accepted command changes them.
 use Rattle.std.specs.Prelude.{ℕ, ◌+◌, ℤ, pos, ◌+ℤ◌, ◌-ℤ◌, nat_abs, max, cond, nat_eq, nat_lt, List, [], ◌∷◌, ◌++◌, map, filter, find, length, sum_by, count_by, Option, Some, None, option_map, option_and_then, bytes_eq}
 use Rattle.std.specs.Option.{option_or, option_to_list}
 use Rattle.portal_model.specs.declared.command.Command.TheVariants.{Load, Issue}
@@ -50,7 +50,8 @@ pub record TotalRow : Type 0 where
   pub ends : Option ℕ
   pub remaining : Option ℤ
 
--- The rows of each table in the order in which they were made. The one row of portal_head has the layout beside `head`.
+-- The rows of each table, in the order in which they were made. The one row of portal_head also has the
+-- schema version, which is not here.
 pub record Rows : Type 0 where
   pub head : Head
   pub plans : List Plan
@@ -63,7 +64,7 @@ pub record Rows : Type 0 where
 
 -- The rows of a history
 
--- each plan, of the first file that lists it
+-- each plan, from the first load that lists it
 abbrev pub plans_of : History → List Plan
 plans_of [] = []
 plans_of (entry t (Load plans) ∷ H) = plans_of H ++ plans_to_add (plan_of H) plans
@@ -75,13 +76,13 @@ batches_of [] = []
 batches_of (entry t (Issue b p codes) ∷ H) = batches_of H ++ option_to_list (option_map (batch_row t b (length codes)) (plan_of H p))
 batches_of (_ ∷ H) = batches_of H
 
--- each issued code
+-- each issued code, with its place in its batch
 abbrev pub places_of : History → List Place
 places_of [] = []
 places_of (entry t (Issue b p codes) ∷ H) = places_of H ++ places_from b 0 codes
 places_of (_ ∷ H) = places_of H
 
--- a voucher with its sale and its refund
+-- the row of a voucher, with its sale and its refund
 abbrev pub row_of_place : History → Place → VoucherRow
 row_of_place H k = record {
   code = k.code;
@@ -96,11 +97,11 @@ row_of_place H k = record {
 abbrev pub vouchers_of : History → List VoucherRow
 vouchers_of H = map (row_of_place H) (places_of H)
 
--- the session that a grant opened
+-- the row of the session that a redemption opened
 abbrev pub row_of_opening : History → Grant → SessionRow
 row_of_opening H g = record { number = g.session; device = g.device; plan = g.plan.id; opened = g.at; used = used_of H g.session; closed = closed_of H g.session }
 
--- the grants that opened a session: those whose number was not there before
+-- the redemptions that opened a session: those with a new session number
 abbrev pub openings : List Grant → List Grant
 openings [] = []
 openings (g ∷ gs) = openings gs ++ cond (nat_lt (greatest_session gs) g.session) (g ∷ []) []
@@ -109,7 +110,7 @@ openings (g ∷ gs) = openings gs ++ cond (nat_lt (greatest_session gs) g.sessio
 abbrev pub sessions_of : History → List SessionRow
 sessions_of H = map (row_of_opening H) (openings (grants_of H))
 
--- a redemption, under that number
+-- the row of a redemption, with that number
 abbrev pub row_of_grant : ℕ → Grant → GrantRow
 row_of_grant number g = record { number = number; code = g.code; session = g.session; moment = g.at; seconds = g.plan.seconds; bytes = g.plan.bytes }
 
@@ -118,35 +119,35 @@ abbrev pub grant_rows : List Grant → List GrantRow
 grant_rows [] = []
 grant_rows (g ∷ gs) = grant_rows gs ++ row_of_grant (length gs + 1) g ∷ []
 
--- a voucher with the number of its redemptions
+-- the row of portal_counts of a voucher: the number of its redemptions
 abbrev pub count_of_place : History → Place → CountRow
 count_of_place H k = record { code = k.code; redeemed = uses_of H k.code }
 
--- each voucher's, in order of issue
+-- the counts of all vouchers, in order of issue
 abbrev pub counts_of : History → List CountRow
 counts_of H = map (count_of_place H) (places_of H)
 
--- what is left of a limit, below 0 where more was used
+-- what is left of a limit; below 0 if more was used
 abbrev pub remaining_of : ℕ → Option ℕ → Option ℤ
 remaining_of used allowance = option_map (λ all. pos all -ℤ pos used) allowance
 
--- the row of portal_totals of a session
+-- the row of portal_totals of a session: its end and what remains
 abbrev pub total_row : Session → TotalRow
 total_row s = record { number = s.number; ends = s.ends; remaining = remaining_of s.used s.allowance }
 
--- the session that a grant opened
+-- the session that a redemption opened
 abbrev pub session_opened : History → Grant → Session
 session_opened H g = session_row H g.session (members (grants_of H) g.session) g
 
--- a session with its end and what remains of its allowance
+-- the totals of the session that a redemption opened
 abbrev pub total_of_opening : History → Grant → TotalRow
 total_of_opening H g = total_row (session_opened H g)
 
--- each session's, by its number
+-- the totals of all sessions, by their numbers
 abbrev pub totals_of : History → List TotalRow
 totals_of H = map (total_of_opening H) (openings (grants_of H))
 
--- the rows of a history
+-- all rows of a history
 abbrev pub rows_of : History → Rows
 rows_of H = record {
   head = head_of H;
@@ -159,17 +160,18 @@ rows_of H = record {
   totals = totals_of H;
 }
 
--- The two tables of counters, as sums over the rows of the others: what a store that lacks them is given, and what an audit compares them with
+-- The two tables of counters, as sums over the rows of the other tables: a database that lacks them gets
+-- these, and an audit compares with these
 
--- the redemptions with the voucher's code
+-- the count of a voucher: the redemptions with its code
 abbrev pub count_from : List GrantRow → VoucherRow → CountRow
 count_from grants v = record { code = v.code; redeemed = count_by (λ g. bytes_eq g.code v.code) grants }
 
--- those of each voucher
+-- the counts of all vouchers
 abbrev pub counts_from : Rows → List CountRow
 counts_from r = map (count_from r.grants) r.vouchers
 
--- the session's end and what remains, by the sums over its redemptions and by its first plan
+-- the totals of a session: its end and what remains, by the sums over its redemptions and by its first plan
 abbrev pub total_from : Rows → SessionRow → TotalRow
 total_from r s =
     let grants = filter (λ g. nat_eq g.session s.number) r.grants in
@@ -180,64 +182,65 @@ total_from r s =
       remaining = remaining_of s.used (option_and_then (λ p. limit_or_none p.bytes (sum_by (λ g. g.bytes) grants)) plan);
     }
 
--- those of each session
+-- the totals of all sessions
 abbrev pub totals_from : Rows → List TotalRow
 totals_from r = map (total_from r) r.sessions
 
--- What an accepted command makes of the rows
+-- The rows after an accepted command
 
--- the head, with t as the last moment
+-- the head row, with t as the time of the last command
 abbrev pub with_last_moment : ℕ → Head → Head
 with_last_moment t head = record head { last = t }
 
--- the rows of a new batch, from place n on
+-- the rows of the vouchers of a new batch, from place n on
 abbrev pub new_vouchers : List ℕ → ℕ → List (List ℕ) → List VoucherRow
 new_vouchers b n [] = []
 new_vouchers b n (code ∷ codes) = record { code = code; batch = b; place = n; sold = None; refunded = None; amount = None } ∷ new_vouchers b (n + 1) codes
 
--- the voucher of that code is sold at t
+-- the row, sold at t if it has that code
 abbrev pub sold_if : List ℕ → ℕ → VoucherRow → VoucherRow
 sold_if code t v = cond (bytes_eq code v.code) (record v { sold = Some t }) v
 
--- the voucher of that code is refunded at t
+-- the row, refunded at t if it has that code
 abbrev pub refunded_if : List ℕ → ℕ → ℕ → VoucherRow → VoucherRow
 refunded_if code t amount v = cond (bytes_eq code v.code) (record v { refunded = Some t; amount = Some amount }) v
 
--- the session of that number has used so much
+-- the row, with so many used bytes if it has that number
 abbrev pub used_if : ℕ → ℕ → SessionRow → SessionRow
 used_if number used s = cond (nat_eq number s.number) (record s { used = used }) s
 
--- the session of that number is closed at t
+-- the row, closed at t if it has that number
 abbrev pub closed_if : ℕ → ℕ → SessionRow → SessionRow
 closed_if number t s = cond (nat_eq number s.number) (record s { closed = Some t }) s
 
--- a redemption adds a row of portal_sessions where it opens one
+-- the new row of portal_sessions of a redemption that opens a session
 abbrev pub new_session : Option Session → Voucher → Session → List SessionRow
 new_session (Some running) v s = []
 new_session None v s = record { number = s.number; device = s.device; plan = v.plan.id; opened = s.opened; used = 0; closed = None } ∷ []
 
--- a redemption adds a row of portal_grants, with the next number
+-- the new row of portal_grants of a redemption, with the next number
 abbrev pub new_grant : Head → Voucher → Session → ℕ → GrantRow
 new_grant head v s t = record { number = head.grants + 1; code = v.code; session = s.number; moment = t; seconds = v.plan.seconds; bytes = v.plan.bytes }
 
--- the counts of a new batch
+-- the rows of portal_counts of a new batch
 abbrev pub new_counts : List (List ℕ) → List CountRow
 new_counts codes = map (λ code. record { code = code; redeemed = 0 }) codes
 
--- the voucher of that code was redeemed so often
+-- the row, redeemed that often if it has that code
 abbrev pub counted_if : List ℕ → ℕ → CountRow → CountRow
 counted_if code redeemed k = cond (bytes_eq code k.code) (record k { redeemed = redeemed }) k
 
--- the row of that session, as the session is now
+-- the row, with the totals of that session if it is the session's
 abbrev pub totalled_if : Session → TotalRow → TotalRow
 totalled_if s total = cond (nat_eq s.number total.number) (total_row s) total
 
--- a redemption changes the row of the session that it extends, or adds one for the session that it opens
+-- portal_totals after a redemption: the row of the extended session changed, or a row added for the opened
+-- one
 abbrev pub totals_after : Option Session → Session → List TotalRow → List TotalRow
 totals_after (Some running) s totals = map (totalled_if s) totals
 totals_after None s totals = totals ++ total_row s ∷ []
 
--- what the changes make of the rows: some are added at the end, some are changed in their place
+-- the rows after the changes: some are added at the end, some are changed in place
 abbrev pub rows_after_changes : Changes → Rows → Rows
 rows_after_changes (LoadChange c) r = record r { head = with_last_moment c.at r.head; plans = r.plans ++ c.added }
 rows_after_changes (IssueChange c) r = record r {
@@ -268,15 +271,15 @@ rows_after_changes (CloseChange c) r = record r { head = with_last_moment c.at r
 abbrev pub batch_among : List Batch → List ℕ → Option Batch
 batch_among batches id = find (λ b. bytes_eq b.id id) batches
 
--- the voucher's row
+-- the row of the voucher of that code
 abbrev pub row_among : List VoucherRow → List ℕ → Option VoucherRow
 row_among rows code = find (λ v. bytes_eq v.code code) rows
 
--- the voucher's count
+-- the count of the voucher of that code
 abbrev pub count_among : List CountRow → List ℕ → Option CountRow
 count_among rows code = find (λ k. bytes_eq k.code code) rows
 
--- a row of portal_vouchers with its count, its batch and its plan
+-- a voucher, joined from its row, its count, its batch and its plan
 abbrev pub voucher_of_rows : VoucherRow → CountRow → Batch → Plan → Voucher
 voucher_of_rows row count batch plan = record {
   code = row.code;
@@ -293,19 +296,19 @@ abbrev pub voucher_from : Rows → List ℕ → Option Voucher
 voucher_from r code =
     option_and_then (λ row. option_and_then (λ count. option_and_then (λ batch. option_map (voucher_of_rows row count batch) (plan_among r.plans batch.plan)) (batch_among r.batches row.batch)) (count_among r.counts code)) (row_among r.vouchers code)
 
--- the session's row
+-- the row of the session of that number
 abbrev pub session_among : List SessionRow → ℕ → Option SessionRow
 session_among rows number = find (λ s. nat_eq s.number number) rows
 
--- the session's totals
+-- the totals of the session of that number
 abbrev pub total_among : List TotalRow → ℕ → Option TotalRow
 total_among rows number = find (λ s. nat_eq s.number number) rows
 
--- what was granted in all, by what remains and what was used
+-- the allowance, by what remains and what was used
 abbrev pub allowance_from : Option ℤ → ℕ → Option ℕ
 allowance_from remaining used = option_map (λ left. nat_abs (left +ℤ pos used)) remaining
 
--- a row of portal_sessions with its totals and its plan
+-- a session, joined from its row, its totals and its plan
 abbrev pub session_of_rows : SessionRow → TotalRow → Plan → Session
 session_of_rows row total plan = record {
   number = row.number;
@@ -323,7 +326,7 @@ abbrev pub session_from : Rows → ℕ → Option Session
 session_from r number =
     option_and_then (λ row. option_and_then (λ total. option_map (session_of_rows row total) (plan_among r.plans row.plan)) (total_among r.totals number)) (session_among r.sessions number)
 
--- the last made of the rows of a device
+-- the last row of the sessions of a device
 abbrev pub last_among : List SessionRow → List ℕ → Option SessionRow
 last_among [] device = None
 last_among (s ∷ rows) device = option_or (last_among rows device) (cond (bytes_eq s.device device) (Some s) None)

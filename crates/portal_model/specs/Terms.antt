@@ -1,8 +1,8 @@
--- The terms of a plan.
+-- The terms of a plan and their limits.
 use Rattle.std.specs.Prelude.{◌≡◌, ℕ, ◌≤◌, ◌<◌, ◌+◌, Bool, List}
 use Rattle.portal_model.specs.declared.plan.Plan.{Plan}
 
--- these numbers are within the limits
+-- each term is within its limits, and seconds and bytes are not both 0
 pub record AreTerms (price uses seconds bytes shelf_days : ℕ) : Type 0 where
   pub price_limit : price ≤ 100000000
   pub uses_least : 1 ≤ uses

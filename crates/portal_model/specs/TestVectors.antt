@@ -1,4 +1,5 @@
--- Worked histories: what some commands are answered, and what a device is told then. Each equation holds by computing the definitions.
+-- Test vectors: histories with the answers to commands and the captive state of devices. Each equation
+-- holds by computing the definitions.
 use Rattle.std.specs.Prelude.{◌≡◌, ℕ, true, false, List, [], ◌∷◌, ◌++◌, replicate, codes, Option, Some, None, option_map}
 use Rattle.std.proofs.Common.{refl, lit≤}
 use Rattle.portal_model.specs.declared.command.Command.{Command}
@@ -14,29 +15,29 @@ use Rattle.portal_model.specs.Verdict.{verdict}
 use Rattle.portal_model.specs.Change.{changes_of, answer_of}
 use Rattle.portal_model.specs.Captive.{captive_of}
 
--- the command, handed in at t, is accepted with that answer
+-- the command at t is accepted with that answer
 abbrev pub AnswersWith : History → ℕ → Command → Answer → Type 0
 AnswersWith H t command answer =
     let t' = effective_moment H t in
     (verdict H command t' ≡ None) × (option_map answer_of (changes_of H command t') ≡ Some answer)
 
--- the command, handed in at t, is refused for that reason
+-- the command at t is refused with that error
 abbrev pub RefusesWith : History → ℕ → Command → Refusal → Type 0
 RefusesWith H t command refusal = verdict H command (effective_moment H t) ≡ Some refusal
 
--- the device is told that at t
+-- the device has that captive state at t
 abbrev pub ShowsCaptiveState : History → ℕ → List ℕ → Captive → Type 0
 ShowsCaptiveState H t device state = captive_of H device t ≡ state
 
--- an hour, once
+-- a plan of an hour, one use
 abbrev pub hour : Plan
 hour = record { id = codes "hour"; price = 300; uses = 1; seconds = 3600; bytes = 0; shelf_days = 30; extend = true; id_text = record { least = lit≤ tt; most = lit≤ tt; characters = refl }; price_limit = lit≤ tt; uses_least = lit≤ tt; uses_limit = lit≤ tt; seconds_limit = lit≤ tt; bytes_limit = lit≤ tt; shelf_least = lit≤ tt; shelf_limit = lit≤ tt; limits_something = lit≤ tt }
 
--- a gibibyte, three times, which does not extend a session
+-- a plan of a gibibyte, three uses, which does not extend a session
 abbrev pub gig : Plan
 gig = record { id = codes "gig"; price = 500; uses = 3; seconds = 0; bytes = 1073741824; shelf_days = 30; extend = false; id_text = record { least = lit≤ tt; most = lit≤ tt; characters = refl }; price_limit = lit≤ tt; uses_least = lit≤ tt; uses_limit = lit≤ tt; seconds_limit = lit≤ tt; bytes_limit = lit≤ tt; shelf_least = lit≤ tt; shelf_limit = lit≤ tt; limits_something = lit≤ tt }
 
--- a petabyte, ten times
+-- a plan of a petabyte, ten uses
 abbrev pub peta : Plan
 peta = record { id = codes "peta"; price = 100; uses = 10; seconds = 0; bytes = 1000000000000000; shelf_days = 30; extend = true; id_text = record { least = lit≤ tt; most = lit≤ tt; characters = refl }; price_limit = lit≤ tt; uses_least = lit≤ tt; uses_limit = lit≤ tt; seconds_limit = lit≤ tt; bytes_limit = lit≤ tt; shelf_least = lit≤ tt; shelf_limit = lit≤ tt; limits_something = lit≤ tt }
 
@@ -60,7 +61,7 @@ code2 = replicate 10 0 ++ 1 ∷ 19 ∷ []
 abbrev pub code3 : List ℕ
 code3 = 1 ∷ 19 ∷ 3 ∷ 3 ∷ 27 ∷ 8 ∷ 2 ∷ 23 ∷ 17 ∷ 15 ∷ 3 ∷ 1 ∷ []
 
--- captive, and told nothing more
+-- captive, with no other value
 abbrev pub is_captive : Captive
 is_captive = record { captive = true; seconds = None; bytes = None; extend = None }
 
@@ -76,7 +77,7 @@ has_bytes bytes = record { captive = false; seconds = None; bytes = Some bytes; 
 abbrev pub issue_of : List ℕ → Plan → List ℕ → Command
 issue_of batch plan code = Issue batch plan.id (code ∷ [])
 
--- the history with a voucher more: issued as a batch of its own and sold at t
+-- the history with one more voucher: issued as a batch of its own and sold at t
 abbrev pub sold_at : ℕ → List ℕ → Plan → List ℕ → History → History
 sold_at t batch plan code H = entry t (Sell code) ∷ entry t (issue_of batch plan code) ∷ H
 
@@ -106,11 +107,11 @@ IssueSellRedeem =
     × ShowsCaptiveState hour_redeemed 4599 device1 (has_seconds 1)
     × ShowsCaptiveState hour_redeemed 4600 device1 is_captive
 
--- a moment before the last command counts as that of the last command
+-- a time before that of the last command counts as that of the last command
 abbrev pub ClockSetBack : Type 0
 ClockSetBack = ShowsCaptiveState hour_redeemed 900 device1 (has_seconds 3600)
 
--- its one use cannot be had twice
+-- a voucher with one use cannot be redeemed twice
 abbrev pub UsedUpOnce : Type 0
 UsedUpOnce = RefusesWith hour_redeemed 2000 (Redeem device1 code3) UsedUp
 
@@ -122,7 +123,7 @@ second_sold = sold_on (codes "b2") hour code1 hour_redeemed
 abbrev pub ends_of : History → ℕ → Option (Option ℕ)
 ends_of H number = option_map (λ s. s.ends) (session_of H number)
 
--- redeemed in the last second of the first hour, the second hour follows on it
+-- the second hour, redeemed in the last second of the first, extends the session
 abbrev pub ExtendedBeforeEnd : Type 0
 ExtendedBeforeEnd =
     let H = entry 4599 (Redeem device1 code1) ∷ second_sold in
@@ -130,7 +131,7 @@ ExtendedBeforeEnd =
     × (ends_of H 1 ≡ Some (Some 8200))
     × ShowsCaptiveState H 4600 device1 (has_seconds 3600)
 
--- redeemed at the end of the first hour, the second hour is a new session
+-- the second hour, redeemed at the end of the first, opens a new session
 abbrev pub NewSessionAtEnd : Type 0
 NewSessionAtEnd =
     let H = entry 4600 (Redeem device1 code1) ∷ second_sold in
@@ -142,7 +143,7 @@ NewSessionAtEnd =
 abbrev pub gig_redeemed : History
 gig_redeemed = entry 1000 (Redeem device2 code2) ∷ sold_on (codes "b1") gig code2 history_with_plans
 
--- the greatest report counts, and the last byte closes
+-- the greatest report counts, and the last byte ends the session
 abbrev pub BytesCounted : Type 0
 BytesCounted =
     let H = entry 1000 (Report 1 1073741823) ∷ gig_redeemed in
@@ -157,7 +158,7 @@ BytesCounted =
 abbrev pub redeemed_of : History → List ℕ → Option ℕ
 redeemed_of H code = option_map (λ v. v.redeemed) (voucher_of H code)
 
--- hours and bytes do not mix, a plan may not extend, and a use that is gone comes first
+-- hours and bytes do not mix, a plan may exclude extending, and the error for a used-up voucher comes first
 abbrev pub ShapeAndExtendRefused : Type 0
 ShapeAndExtendRefused =
     let H = sold_on (codes "b2") gig code2 hour_redeemed in
@@ -167,7 +168,7 @@ ShapeAndExtendRefused =
     × RefusesWith K 2000 (Redeem device2 code2) NoExtend
     × RefusesWith K 2000 (Redeem device2 code3) UsedUp
 
--- two of three uses are paid back: 333 of 500
+-- a refund of two of three uses: 333 of 500
 abbrev pub RefundOfUnusedUses : Type 0
 RefundOfUnusedUses =
     let H = entry 1000 (Refund code2) ∷ gig_redeemed in
@@ -175,7 +176,7 @@ RefundOfUnusedUses =
     × RefusesWith H 2000 (Refund code2) Refunded
     × RefusesWith H 2000 (Redeem device2 code2) Refunded
 
--- not before the sale, and not from the expiry on
+-- no redemption before the sale, and none from the expiry on
 abbrev pub NotSoldThenExpired : Type 0
 NotSoldThenExpired =
     let H = entry 1000 (issue_of (codes "b1") hour code1) ∷ history_with_plans in
@@ -185,7 +186,7 @@ NotSoldThenExpired =
     × AnswersWith K 2592999 (Redeem device1 code1) (RedeemAnswer false 1 0)
     × (ends_of (entry 2592999 (Redeem device1 code1) ∷ K) 1 ≡ Some (Some 2596599))
 
--- a closed session is over, and its reports are still kept
+-- a closed session is not open, and its reports are still accepted
 abbrev pub CloseSession : Type 0
 CloseSession =
     let H = entry 2000 (Close 1) ∷ hour_redeemed in
@@ -195,11 +196,11 @@ CloseSession =
     × RefusesWith H 2000 (Close 9) UnknownSession
     × AnswersWith H 2000 (Report 1 7) (ReportAnswer false 1 7)
 
--- the petabytes, redeemed that often by one device
+-- the history in which one device redeems the petabyte that often
 abbrev pub peta_redeemed : ℕ → History
 peta_redeemed n = replicate n (entry 1000 (Redeem device1 code1)) ++ sold_on (codes "b1") peta code1 (entry 0 (Load (peta ∷ [])) ∷ [])
 
--- nine petabytes fit, and a tenth does not
+-- nine petabytes fit in the allowance, and a tenth does not
 abbrev pub AllowanceIsFull : Type 0
 AllowanceIsFull =
     AnswersWith (peta_redeemed 8) 1000 (Redeem device1 code1) (RedeemAnswer true 1 1)

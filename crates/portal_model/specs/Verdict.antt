@@ -1,4 +1,4 @@
--- Which commands are refused.
+-- Which commands the desk refuses, and with which error.
 use Rattle.std.specs.Prelude.{◌≡◌, ℕ, ◌+◌, ◌≤◌, Bool, true, false, cond, not, ◌&&◌, ◌||◌, nat_eq, nat_lt, nat_le, List, [], ◌∷◌, length, map, All, Option, Some, None, is_some, is_none, bytes_eq}
 use Rattle.std.specs.List.{list_any}
 use Rattle.portal_codes.specs.Code.{IsCode}
@@ -15,59 +15,60 @@ use Rattle.portal_model.specs.declared.refusal.Refusal.{Refusal}
 use Rattle.portal_model.specs.declared.refusal.Refusal.TheVariants.{UnknownPlan, UnknownCode, UnknownSession, PlanDiffers, BatchExists, CodeTaken, NotSold, SoldAlready, Refunded, Expired, UsedUp, NoExtend, ShapeDiffers, AllowanceFull, ClosedAlready, NothingLeft, MomentRange, NumbersFull}
 use Rattle.portal_model.specs.History.{entry, History, last_moment, plan_of, expiry, batch_of, issued_of, voucher_of, is_open_at, session_of, last_session_of, head_of, kept_if}
 
--- the end of the year 9998
+-- the last second of the year 9998
 abbrev pub greatest_moment : ℕ
 greatest_moment = 253370764799
 
--- the bytes that one session may be granted in all
+-- the most bytes that one session may be granted in all
 abbrev pub greatest_allowance : ℕ
 greatest_allowance = 9000000000000000
 
--- the redemptions that there may be in all
+-- the most redemptions that there may be in all
 abbrev pub greatest_count : ℕ
 greatest_count = 9007199254740991
 
--- a condition, and the refusal that answers it
+-- a condition, and the error for it
 abbrev pub Check : Type 0
 Check = Bool × Refusal
 
--- the first refusal whose condition holds
+-- the first error whose condition holds
 abbrev pub first_refusal : List Check → Option Refusal
 first_refusal [] = None
 first_refusal (check ∷ checks) = cond check.0 (Some check.1) (first_refusal checks)
 
 -- Plans
 
--- the two truth values are the same
+-- the two booleans are equal
 abbrev pub bool_eq : Bool → Bool → Bool
 bool_eq true b = b
 bool_eq false b = not b
 
--- the plans are the same but for their ids
+-- the plans are equal but for their ids
 abbrev pub same_terms : Plan → Plan → Bool
 same_terms p q = nat_eq p.price q.price && (nat_eq p.uses q.uses && (nat_eq p.seconds q.seconds && (nat_eq p.bytes q.bytes && (nat_eq p.shelf_days q.shelf_days && bool_eq p.extend q.extend))))
 
--- a plan of that id is kept, with other terms
+-- a plan of that id is loaded, with other terms
 abbrev pub differs : Option Plan → Plan → Bool
 differs None p = false
 differs (Some kept) p = not (same_terms kept p)
 
--- a listed plan differs from the kept one
+-- loading: a listed plan differs from the loaded one
 abbrev pub load_verdict : (List ℕ → Option Plan) → List Plan → Option Refusal
 load_verdict kept plans = first_refusal ((list_any (λ p. differs (kept p.id) p) plans, PlanDiffers) ∷ [])
 
 -- Issue
 
--- some code, or some id, stands twice in the list
+-- a code, or an id, is twice in the list
 abbrev pub has_duplicate : List (List ℕ) → Bool
 has_duplicate [] = false
 has_duplicate (code ∷ codes) = list_any (bytes_eq code) codes || has_duplicate codes
 
--- whether a listed code is held
+-- whether one of the codes was issued
 abbrev pub any_held : History → List (List ℕ) → Bool
 any_held H codes = list_any (λ code. is_some (issued_of H code)) codes
 
--- no such plan; the batch is there; it would expire too late; a code is held or listed twice
+-- issuing: no such plan; the batch exists; it would expire too late; a code was issued before or is listed
+-- twice
 abbrev pub issue_verdict : Option Plan → Option Batch → Bool → List (List ℕ) → ℕ → Option Refusal
 issue_verdict None batch taken codes t = Some UnknownPlan
 issue_verdict (Some plan) batch taken codes t = first_refusal (
@@ -77,7 +78,7 @@ issue_verdict (Some plan) batch taken codes t = first_refusal (
 
 -- Sell
 
--- no such code; sold; expired
+-- selling: no such code; sold; expired
 abbrev pub sell_verdict : Option Voucher → ℕ → Option Refusal
 sell_verdict None t = Some UnknownCode
 sell_verdict (Some v) t = first_refusal (
@@ -90,12 +91,12 @@ sell_verdict (Some v) t = first_refusal (
 abbrev pub same_limits : Session → Plan → Bool
 same_limits s plan = bool_eq (is_some s.ends) (nat_lt 0 plan.seconds) && bool_eq (is_some s.allowance) (nat_lt 0 plan.bytes)
 
--- the limit, raised by that much, is past the greatest
+-- the limit, raised by that much, exceeds the greatest
 abbrev pub is_past : ℕ → Option ℕ → ℕ → Bool
 is_past greatest None more = false
 is_past greatest (Some limit) more = nat_lt greatest (limit + more)
 
--- placed in the open session, or in a new one
+-- the errors of a redemption in the open session, or in a new one
 abbrev pub place_verdict : Head → Plan → ℕ → Option Session → Option Refusal
 place_verdict head plan t (Some s) = first_refusal (
     (not s.extend, NoExtend) ∷
@@ -107,12 +108,12 @@ place_verdict head plan t None = first_refusal (
     (nat_lt greatest_moment (t + plan.seconds), MomentRange) ∷
     (nat_le greatest_count head.grants, NumbersFull) ∷ [])
 
--- the first of two answers
+-- the first error, or else the second
 abbrev pub else_verdict : Option Refusal → Option Refusal → Option Refusal
 else_verdict None next = next
 else_verdict (Some r) next = Some r
 
--- what of the voucher itself stands against it
+-- the errors of a redemption that the voucher alone decides
 abbrev pub voucher_refusal : Voucher → ℕ → Option Refusal
 voucher_refusal v t = first_refusal (
     (is_none v.sold, NotSold) ∷
@@ -125,19 +126,19 @@ abbrev pub voucher_verdict : Option Voucher → ℕ → Option Refusal
 voucher_verdict None t = Some UnknownCode
 voucher_verdict (Some v) t = voucher_refusal v t
 
--- the voucher first, and then the place of the redemption
+-- redeeming: the errors of the voucher, then those of the session
 abbrev pub redeem_verdict : Head → Option Voucher → Option Session → ℕ → Option Refusal
 redeem_verdict head None last t = Some UnknownCode
 redeem_verdict head (Some v) last t = else_verdict (voucher_refusal v t) (place_verdict head v.plan t (kept_if (is_open_at t) last))
 
 -- Report, refund, close
 
--- no such session
+-- reporting: no such session
 abbrev pub report_verdict : Option Session → Option Refusal
 report_verdict None = Some UnknownSession
 report_verdict (Some s) = None
 
--- no such code; not sold; refunded; no use left
+-- refunding: no such code; not sold; refunded; no use left
 abbrev pub refund_verdict : Option Voucher → Option Refusal
 refund_verdict None = Some UnknownCode
 refund_verdict (Some v) = first_refusal (
@@ -145,12 +146,13 @@ refund_verdict (Some v) = first_refusal (
     (is_some v.refund, Refunded) ∷
     (nat_le v.plan.uses v.redeemed, NothingLeft) ∷ [])
 
--- no such session; closed
+-- closing: no such session; closed
 abbrev pub close_verdict : Option Session → Option Refusal
 close_verdict None = Some UnknownSession
 close_verdict (Some s) = first_refusal ((is_some s.closed, ClosedAlready) ∷ [])
 
--- The verdict on a history: what each command is judged by is read from the history.
+-- The error with which a command at t is refused after a history, or none. The records that decide are read
+-- from the history.
 abbrev pub verdict : History → Command → ℕ → Option Refusal
 verdict H (Load plans) t = load_verdict (plan_of H) plans
 verdict H (Issue b p codes) t = issue_verdict (plan_of H p) (batch_of H b) (any_held H codes) codes t
@@ -162,18 +164,18 @@ verdict H (Close n) t = close_verdict (session_of H n)
 
 -- Legal histories
 
--- some id is listed twice
+-- an id is twice in the list of plans
 abbrev pub has_duplicate_id : List Plan → Bool
 has_duplicate_id plans = has_duplicate (map (λ p. p.id) plans)
 
--- a command that a caller can hand in
+-- a command within the limits of a request
 abbrev pub IsWellFormed : Command → Type 0
 IsWellFormed (Load plans) = (1 ≤ length plans) × (length plans ≤ 500) × (has_duplicate_id plans ≡ false)
 IsWellFormed (Issue b p codes) = (1 ≤ length codes) × (length codes ≤ 500)
 IsWellFormed (Report n bytes) = bytes ≤ 9223372036854775807
 IsWellFormed _ = Unit {0}
 
--- its ids are id texts, its codes are codes, and its device is one
+-- its ids are id texts, its codes are codes, and its device is a device
 abbrev pub IsTyped : Command → Type 0
 IsTyped (Load plans) = All (λ p. IsIdText p.id) plans
 IsTyped (Issue b p codes) = IsIdText b × IsIdText p × All IsCode codes
@@ -183,7 +185,7 @@ IsTyped (Report n bytes) = Unit {0}
 IsTyped (Refund c) = IsCode c
 IsTyped (Close n) = Unit {0}
 
--- the entry may follow the history
+-- the command may be accepted at t after the history
 pub record Follows (H : History) (t : ℕ) (action : Command) : Type 0 where
   pub in_order : last_moment H ≤ t
   pub in_range : t ≤ greatest_moment
@@ -191,7 +193,7 @@ pub record Follows (H : History) (t : ℕ) (action : Command) : Type 0 where
   pub well_formed : IsWellFormed action
   pub accepted : verdict H action t ≡ None
 
--- each entry may follow those before it
+-- each entry may be accepted after those before it
 abbrev pub IsLegal : History → Type 0
 IsLegal [] = Unit {0}
 IsLegal (entry t action ∷ H) = Follows H t action × IsLegal H

@@ -1,5 +1,5 @@
--- Worked verdicts: for each command, tables of what is judged of it where two refusals that stand beside one another
--- both hold, and at each limit. Each line holds by computing the definitions.
+-- Test vectors of verdicts: for each command, tables of verdicts at each limit and where two neighbouring
+-- errors both apply. Each line holds by computing the definitions.
 use Rattle.std.specs.Prelude.{◌≡◌, ℕ, ◌-◌, true, false, List, [], ◌∷◌, ◌++◌, replicate, map, codes, Option, Some, None}
 use Rattle.std.proofs.Common.{refl, lit≤}
 use Rattle.portal_model.specs.declared.command.Command.{Command}
@@ -13,17 +13,17 @@ use Rattle.portal_model.specs.History.{entry, History, last_moment, effective_mo
 use Rattle.portal_model.specs.Verdict.{verdict, redeem_verdict}
 use Rattle.portal_model.specs.TestVectors.{ShowsCaptiveState, hour, gig, peta, device1, device2, code1, code2, code3, issue_of, sold_at, sold_on, history_with_plans, hour_sold, hour_redeemed, gig_redeemed, is_captive, has_seconds}
 
--- after a history, the command that is handed in at a moment is accepted, or refused for that reason
+-- after a history, a command at a time is accepted, or refused with that error
 pub data Case : Type 0 where
   accepted : History → ℕ → Command → Case
   refused : History → ℕ → Command → Refusal → Case
 
--- what the case states
+-- the verdict that the case states
 abbrev pub stated_verdict : Case → Option Refusal
 stated_verdict (accepted H t command) = None
 stated_verdict (refused H t command refusal) = Some refusal
 
--- what the definitions say
+-- the verdict by the definitions
 abbrev pub defined_verdict : Case → Option Refusal
 defined_verdict (accepted H t command) = verdict H command (effective_moment H t)
 defined_verdict (refused H t command refusal) = verdict H command (effective_moment H t)
@@ -52,7 +52,7 @@ both = record hour {
   limits_something = lit≤ tt;
 }
 
--- as much as a plan may give: 366 days and a petabyte, a hundred thousand times, 3,660 days on the shelf
+-- the greatest plan: 366 days and a petabyte, a hundred thousand uses, 3,660 days of shelf life
 abbrev pub greatest : Plan
 greatest = record {
   id = codes "greatest";
@@ -73,7 +73,7 @@ greatest = record {
   limits_something = lit≤ tt;
 }
 
--- a byte, ten times
+-- a byte, ten uses
 abbrev pub byte : Plan
 byte = record peta {
   id = codes "byte";
@@ -91,7 +91,7 @@ code4 = replicate 10 0 ++ 2 ∷ 7 ∷ []
 abbrev pub history_of_plans : History
 history_of_plans = entry 0 (Load (hour ∷ gig ∷ peta ∷ single ∷ both ∷ greatest ∷ byte ∷ [])) ∷ []
 
--- the greatest moment
+-- the maximum time
 abbrev pub last_second : ℕ
 last_second = 253370764799
 
@@ -103,11 +103,11 @@ longer = record hour { seconds = 3601; seconds_limit = lit≤ tt; limits_somethi
 abbrev pub limited_in_bytes : Plan
 limited_in_bytes = record hour { bytes = 1; bytes_limit = lit≤ tt; limits_something = lit≤ tt }
 
--- an hour, a day longer on the shelf
+-- an hour, with a day more of shelf life
 abbrev pub kept_longer : Plan
 kept_longer = record hour { shelf_days = 31; shelf_least = lit≤ tt; shelf_limit = lit≤ tt }
 
--- Loading plans: each of the terms may differ, in any plan of the list
+-- Loading plans: each term may differ, in any plan of the list
 abbrev pub LoadVerdicts : Type 0
 LoadVerdicts = AreVerdicts (
     accepted history_with_plans 1000 (Load (hour ∷ gig ∷ []))
@@ -121,7 +121,7 @@ LoadVerdicts = AreVerdicts (
     ∷ refused history_with_plans 1000 (Load (peta ∷ hour ∷ record gig { extend = true } ∷ [])) PlanDiffers
     ∷ [])
 
--- Issuing: the batch b1 and the code 3N55-WA4S-KH53 are held; an hour keeps 2,592,000 seconds on the shelf
+-- Issuing: the batch b1 and the code 3N55-WA4S-KH53 exist; an hour has a shelf life of 2,592,000 seconds
 abbrev pub IssueVerdicts : Type 0
 IssueVerdicts = AreVerdicts (
     refused hour_redeemed 1000 (Issue (codes "b1") (codes "nil") (code1 ∷ [])) UnknownPlan
@@ -134,7 +134,7 @@ IssueVerdicts = AreVerdicts (
     ∷ refused history_with_plans (last_second - 2591999) (issue_of (codes "b1") hour code3) MomentRange
     ∷ [])
 
--- Selling: a voucher that was issued at 1000 expires at 2593000, and one that was refunded stays sold
+-- Selling: a voucher that was issued at 1000 expires at 2593000, and a refunded one stays sold
 abbrev pub SellVerdicts : Type 0
 SellVerdicts =
     let issued = entry 1000 (issue_of (codes "b1") hour code1) ∷ history_with_plans in
@@ -163,7 +163,7 @@ VoucherVerdicts =
     ∷ refused (entry 1000 (Redeem device2 code2) ∷ gig_too) 1000 (Redeem device2 code3) UsedUp
     ∷ [])
 
--- an hour that expires at the greatest moment
+-- an hour that expires at the maximum time
 abbrev pub late_sold : History
 late_sold = sold_at (last_second - 2592000) (codes "b1") hour code3 history_of_plans
 
@@ -175,11 +175,11 @@ late_hour t = entry t (Redeem device1 code3) ∷ late_sold
 abbrev pub late_second : ℕ → History
 late_second t = entry t (Redeem device1 code3) ∷ sold_at (last_second - 2592000) (codes "b2") hour code1 late_sold
 
--- 9 times 366 days before the greatest moment
+-- 9 times 366 days before the maximum time
 abbrev pub nine_years_before : ℕ
 nine_years_before = last_second - 284601600
 
--- a voucher of the greatest plan that expires at the greatest moment, redeemed so often by one device
+-- a voucher of the greatest plan that expires at the maximum time, redeemed so often by one device
 abbrev pub years : ℕ → History
 years n =
     replicate n (entry nine_years_before (Redeem device1 code3))
@@ -189,7 +189,7 @@ years n =
 abbrev pub petabytes : ℕ → History
 petabytes n = replicate n (entry 1000 (Redeem device1 code1)) ++ sold_on (codes "b1") peta code1 history_of_plans
 
--- Redeeming, a new session: it may end at the greatest moment, and a use that is gone comes first
+-- Redeeming, a new session: it may end at the maximum time, and the error for a used-up voucher comes first
 abbrev pub OpeningVerdicts : Type 0
 OpeningVerdicts = AreVerdicts (
     accepted late_sold (last_second - 3600) (Redeem device1 code3)
@@ -210,8 +210,8 @@ petabytes_and n plan = sold_on (codes "b2") plan code4 (petabytes n)
 abbrev pub years_and_petabyte : History
 years_and_petabyte = sold_at nine_years_before (codes "b2") peta code1 (years 9)
 
--- Redeeming, an open session: extending comes before the limited quantities, these before the allowance, and this before
--- the end. Nine uses of the greatest plan reach both limits at once.
+-- Redeeming, an open session: the error for extending comes before the one for the limited quantities, then
+-- the allowance, then the end. Nine uses of the greatest plan reach both limits at once.
 abbrev pub ExtensionVerdicts : Type 0
 ExtensionVerdicts = AreVerdicts (
     refused (sold_on (codes "b2") hour code1 gig_redeemed) 1000 (Redeem device2 code1) NoExtend
@@ -232,7 +232,8 @@ after_redemptions n H code t =
     let head : Head = record { last = last_moment H; grants = n; sessions = 1 } in
     redeem_verdict head (voucher_of H code) (last_session_of H device1) t
 
--- the last redemption of all and one more, in a new session and in an open one; a moment out of range comes first
+-- the last possible redemption and one more, in a new session and in an open one; a time out of range comes
+-- first
 abbrev pub NumbersAreFull : Type 0
 NumbersAreFull =
     let second = sold_on (codes "b2") hour code1 hour_redeemed in
@@ -259,7 +260,7 @@ RefundVerdicts =
     ∷ accepted hour_sold 2593000 (Refund code3)
     ∷ [])
 
--- Reporting and closing: a session that has ended takes reports, and may be closed once
+-- Reporting and closing: a session that has ended accepts reports, and may be closed once
 abbrev pub SessionVerdicts : Type 0
 SessionVerdicts =
     let closed = entry 9000 (Close 1) ∷ hour_redeemed in
@@ -272,7 +273,7 @@ SessionVerdicts =
     ∷ refused closed 9000 (Close 1) ClosedAlready
     ∷ [])
 
--- after an hour was issued, sold and redeemed: what the counter may not do
+-- after an hour was issued, sold and redeemed: what the counter is refused
 abbrev pub DeskRefusals : Type 0
 DeskRefusals = AreVerdicts (
     refused hour_redeemed 1000 (issue_of (codes "b1") hour code1) BatchExists
@@ -298,7 +299,7 @@ LimitedInBoth =
     × ShowsCaptiveState K 4600 device1 is_captive
     × ShowsCaptiveState (entry 1000 (Report 1 1073741824) ∷ H) 1000 device1 is_captive
 
--- Whether a session may be extended is told by the plan that opened it, and not by one that extended it
+-- Whether a session may be extended depends on the plan that opened it, and not on one that extended it
 abbrev pub FirstPlanExtends : Type 0
 FirstPlanExtends =
     let hours = entry 1000 (Redeem device1 code4) ∷ hour_and single in

@@ -1,4 +1,4 @@
-//! What an accepted command changes, and its answer.
+//! What an accepted command changes, and the answer to it.
 
 ghost use Rattle.std.specs.Prelude.{◌≡◌};
 ghost use Rattle.portal_model.specs.Change.{answer_of};
@@ -9,7 +9,7 @@ use crate::name::Id;
 use crate::record::{Batch, Head, Session, Voucher, is_open};
 use portal_codes::Code;
 
-/// What an accepted command changes, with its moment and the records that it was decided by.
+/// The changes of an accepted command: its time, and the records that it was decided by.
 #[derive(Drop)]
 pub enum Changes {
     LoadChange(LoadChange),
@@ -21,11 +21,13 @@ pub enum Changes {
     CloseChange(CloseChange),
 }
 
-/// The plans that were not held before, of those listed.
+/// The listed plans that were not loaded before.
 #[derive(Drop)]
 pub struct LoadChange {
     pub at: Moment,
+    /// The number of plans in the list.
     pub listed: u64,
+    /// The listed plans that are new.
     pub added: Plans,
 }
 
@@ -44,18 +46,19 @@ pub struct SellChange {
     pub voucher: Voucher,
 }
 
-/// A redemption: the head and the voucher before it, the open session that it extends, and the session
-/// after it.
+/// A redemption: the head row and the voucher before it, the open session that it extends if there is one,
+/// and the session after it.
 #[derive(Clone, Copy, Debug, PartialEq, Eq)]
 pub struct RedeemChange {
     pub at: Moment,
     pub head: Head,
     pub voucher: Voucher,
+    /// The open session that it extends, if there is one.
     pub running: Option<Session>,
     pub session: Session,
 }
 
-/// A report for a session, as the session was before.
+/// A report of bytes for a session, with the session as it was before.
 #[derive(Clone, Copy, Debug, PartialEq, Eq)]
 pub struct ReportChange {
     pub at: Moment,
@@ -78,42 +81,49 @@ pub struct CloseChange {
     pub session: Session,
 }
 
-/// What the caller of an accepted command is told. Prices and amounts are in hundredths.
+/// The answer to an accepted command. Prices and amounts are in hundredths of the currency.
 #[derive(Clone, Copy, Debug, PartialEq, Eq)]
 pub enum Answer {
+    /// The number of plans in the list.
     LoadAnswer {
         plans: u64,
     },
+    /// The batch, the number of its codes, and its expiry.
     IssueAnswer {
         batch: Id,
         count: u64,
         expires: Moment,
     },
+    /// The code, and the price of the voucher.
     SellAnswer {
         code: Code,
         price: u64,
     },
+    /// Whether an open session was extended, the number of the session, and the uses that are left.
     RedeemAnswer {
         extended: bool,
         session: u64,
         uses_left: u64,
     },
+    /// Whether the session is still open, its number, and its used bytes.
     ReportAnswer {
         still_open: bool,
         session: u64,
         used: u64,
     },
+    /// The amount of the refund, and the code.
     RefundAnswer {
         amount: u64,
         code: Code,
     },
+    /// The number of the session.
     CloseAnswer {
         session: u64,
     },
 }
 
 impl Changes {
-    /// What the caller is told once this is kept.
+    /// Returns the answer to the command whose changes these are. It is valid once they are committed.
     pub fn answer(&self) -> Answer
         ensures { result ≡ answer_of self.now }
     {
@@ -157,7 +167,7 @@ impl Changes {
 impl ReportChange {
     ghost use Rattle.portal_model.specs.Change.{with_report};
 
-    /// The session with the report.
+    /// Returns the session after the report: its used bytes are the greater of both numbers.
     pub fn after(&self) -> Session
         ensures { result ≡ with_report self.now.bytes self.now.session }
     {

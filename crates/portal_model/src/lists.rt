@@ -8,7 +8,7 @@ use portal_codes::Code;
 use std::alloc::{AllocError, Global};
 use std::marker::Model;
 
-/// Plans, in order.
+/// A list of plans, in order.
 #[derive(Drop)]
 pub struct Plans {
     items: Vec<Plan>,
@@ -24,7 +24,7 @@ impl Model for Plans {
 }
 
 impl Plans {
-    /// No plans.
+    /// Returns an empty list of plans.
     pub fn new(alloc: Global) -> Plans
         ensures { result ≡ [] }
     {
@@ -33,14 +33,16 @@ impl Plans {
         }
     }
 
-    /// The plans, in order.
+    /// Returns the plans, in order.
     pub fn as_slice(&self) -> &[Plan]
         ensures { result.now ≡ self.now }
     {
         &self.items
     }
 
-    /// Adds a plan at the end. Only want of memory is an error.
+    /// Appends a plan.
+    ///
+    /// Error: `AllocError` when out of memory.
     pub fn push(&mut self, plan: Plan) -> Result<(), AllocError>
         ensures ok { IfOk result (λ _. self.new ≡ self.old ++ plan ∷ []) }
         ensures err { IfErr result (λ _. self.new ≡ self.old) }
@@ -50,7 +52,7 @@ impl Plans {
     }
 }
 
-/// Codes, in order. Each is a code, which callers learn from `as_slice`.
+/// A list of codes, in order. `as_slice` also gives that each value is a code.
 #[derive(Drop)]
 pub struct Codes {
     items: Vec<Code>,
@@ -68,7 +70,7 @@ impl Model for Codes {
 }
 
 impl Codes {
-    /// No codes.
+    /// Returns an empty list of codes.
     pub fn new(alloc: Global) -> Codes
         ensures { result ≡ [] }
     {
@@ -77,7 +79,9 @@ impl Codes {
         }
     }
 
-    /// The codes of a slice. Only out of memory is an error.
+    /// Copies a slice of codes into a list.
+    ///
+    /// Error: `AllocError` when out of memory.
     pub fn from_slice(alloc: Global, codes: &[Code]) -> Result<Codes, AllocError>
         ensures { IfOk result (λ list. list ≡ codes.now) }
     {
@@ -88,7 +92,7 @@ impl Codes {
         Ok(list)
     }
 
-    /// The codes, in order.
+    /// Returns the codes, in order.
     pub fn as_slice(&self) -> &[Code]
         ensures value { result.now ≡ self.now }
         ensures codes { All IsCode self.now }
@@ -96,12 +100,14 @@ impl Codes {
         self.items.as_slice()
     }
 
-    /// Adds a code at the end. Only want of memory is an error.
+    /// Appends a code.
+    ///
+    /// Error: `AllocError` when out of memory.
     pub fn push(&mut self, code: Code) -> Result<(), AllocError>
         ensures ok { IfOk result (λ _. self.new ≡ self.old ++ code ∷ []) }
         ensures err { IfErr result (λ _. self.new ≡ self.old) }
     {
-        // A code's text tells that it is one, which the list keeps of each.
+        // The contract of `text` gives that the value is a code, which the list's invariant needs.
         let _ = code.text();
         self.items.push(code)?;
         Ok(())

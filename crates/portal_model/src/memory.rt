@@ -1,4 +1,4 @@
-//! Out of memory, as a refusal.
+//! Out of memory as an error of the desk: `AllocError` becomes `Refusal::NoMemory`.
 ghost use Rattle.std.specs.Prelude.{◌≡◌};
 ghost use Rattle.portal_model.specs.declared.refusal.Refusal.TheVariants.{NoMemory};
 

@@ -1,10 +1,10 @@
-//! Moments, in whole seconds.
+//! Times in whole seconds.
 
 ghost use Rattle.std.specs.Prelude.{◌≡◌, ◌≤◌, ◌↔◌, IsSome, IfSome};
 
 use std::marker::Model;
 
-/// A moment: whole UTC seconds since 1970, to the end of the year 9998.
+/// A time: whole seconds UTC since 1970, up to the end of the year 9998.
 #[derive(Clone, Copy, Debug, PartialEq, Eq, PartialOrd, Ord)]
 pub struct Moment {
     seconds: u64,
@@ -26,7 +26,8 @@ impl Moment {
     /// The last second of the year 9998.
     pub const GREATEST: u64 = 253_370_764_799;
 
-    /// The moment so many seconds after 1970-01-01 00:00 UTC, where it is not past the greatest.
+    /// Returns the time that many seconds after 1970-01-01 00:00 UTC, or `None` past the end of the year
+    /// 9998.
     pub fn new(seconds: u64) -> Option<Moment>
         ensures reads { IsSome result ↔ (seconds ≤ 253370764799) }
         ensures value { IfSome result (λ m. m ≡ seconds) }
@@ -38,7 +39,7 @@ impl Moment {
         }
     }
 
-    /// The seconds since 1970-01-01 00:00 UTC.
+    /// Returns the seconds since 1970-01-01 00:00 UTC.
     pub fn get(&self) -> u64
         ensures value { result ≡ self.now }
         ensures limit { result ≤ 253370764799 }

@@ -1,15 +1,41 @@
-//! Ids of plans and batches, and hardware addresses of devices.
+//! Ids of plans and batches, and MAC addresses of devices.
 
-ghost use Rattle.std.specs.Prelude.{◌≡◌, ◌≢◌, ◌<◌, ◌≤◌, ℕ, List, [], ◌∷◌, IfOk, IfErr, IfSome, IfNone, None, IsTrue, ◌↔◌, ◌⊎◌, replicate, bytes_eq};
+ghost use Rattle.std.specs.Prelude.{
+  ◌≡◌,
+  ◌≢◌,
+  ◌<◌,
+  ◌≤◌,
+  ℕ,
+  List,
+  [],
+  ◌∷◌,
+  IfOk,
+  IfErr,
+  IfSome,
+  IfNone,
+  None,
+  IsTrue,
+  ◌↔◌,
+  ◌⊎◌,
+  replicate,
+  bytes_eq,
+};
 ghost use Rattle.std.specs.List.{list_all};
 ghost use Rattle.std.specs.Char.{to_ascii_lowercase};
 ghost use Rattle.portal_model.specs.IdText.{IsIdText, is_id_character};
-ghost use Rattle.portal_model.specs.Device.{IsDevice, SpellsDevice, DeviceTextReadsBack, hex_digit, octet_text, text_of_device};
+ghost use Rattle.portal_model.specs.Device.{
+  IsDevice,
+  SpellsDevice,
+  DeviceTextReadsBack,
+  hex_digit,
+  octet_text,
+  text_of_device,
+};
 
 use crate::refusal::Refusal;
 use std::marker::Model;
 
-/// The id of a plan or a batch: 1 to 32 small letters, digits and hyphens.
+/// The id of a plan or a batch: 1 to 32 lower-case letters, digits and hyphens.
 #[derive(Clone, Copy, Debug, PartialEq, Eq)]
 pub struct Id {
     bytes: [u8; 32],
@@ -32,7 +58,7 @@ impl Model for Id {
 }
 
 impl Id {
-    /// The id that a text is, where it is one.
+    /// Parses an id, or returns `None` for a text that is not one.
     pub fn read(text: &str) -> Option<Id>
         ensures value { IfSome result (λ id. id ≡ text.now) }
         ensures some { IfSome result (λ _. IsIdText text.now) }
@@ -48,7 +74,7 @@ impl Id {
         Some(Id { bytes, len })
     }
 
-    /// The text of the id, from which it reads back.
+    /// Returns the text of the id. Parsing it gives the id again.
     pub fn text(&self) -> &str
         ensures value { result.now ≡ self.now }
         ensures id_text { IsIdText self.now }
@@ -56,7 +82,7 @@ impl Id {
         str::from_utf8(&self.bytes[..self.len]).unwrap()
     }
 
-    /// The two ids are the same text.
+    /// Returns whether two ids have the same text.
     pub fn is(&self, other: &Id) -> bool
         ensures { result ≡ bytes_eq self.now other.now }
     {
@@ -64,12 +90,14 @@ impl Id {
     }
 }
 
+/// Returns whether each byte is a lower-case letter, a digit or a hyphen.
 fn are_id_bytes(bytes: &[u8]) -> bool
     ensures { result ≡ list_all is_id_character bytes.now }
 {
     bytes.iter().all(|b| is_id_byte(*b))
 }
 
+/// Returns whether a byte is a lower-case letter, a digit or a hyphen.
 fn is_id_byte(b: u8) -> bool
     ensures { result ≡ is_id_character b }
 {
@@ -92,11 +120,14 @@ impl Model for Device {
     ghost inverse = { λ v. record { octets = v } };
 }
 
+/// The hexadecimal digits in the order of their values.
 const HEX_DIGITS: [u8; 16] = *b"0123456789abcdef";
 
 impl Device {
-    /// The device that a text spells: six groups of two hexadecimal digits of either case, with a colon
-    /// between each two groups, or with a hyphen between each two. Any other text is refused (`BadDevice`).
+    /// Parses a MAC address: six groups of two hexadecimal digits of either case, with colons between all
+    /// groups, or with hyphens between all groups.
+    ///
+    /// Error: `BadDevice` for any other text.
     pub fn read(text: &str) -> Result<Device, Refusal>
         ensures ok { IfOk result (SpellsDevice text.now) }
         ensures err { IfErr result (λ r. (r ≡ Refusal.BadDevice)
@@ -126,7 +157,7 @@ impl Device {
         Ok(Device { octets })
     }
 
-    /// The device in lower case, with colons between its octets.
+    /// Returns the MAC address in lower case, with colons between its octets.
     pub fn text(&self) -> [u8; 17]
         ensures value { result ≡ text_of_device self.now }
         ensures device { IsDevice self.now }
@@ -154,14 +185,14 @@ impl Device {
     }
 }
 
-/// All are colons, or all are hyphens.
+/// Returns whether the five separators are all colons, or all hyphens.
 fn is_separated(between: [u8; 5]) -> bool
     ensures { IsTrue result ↔ ((between ≡ replicate 5 58) ⊎ (between ≡ replicate 5 45)) }
 {
     between == [b':'; 5] || between == [b'-'; 5]
 }
 
-/// The sign of a hexadecimal digit.
+/// Returns the hexadecimal digit of a value below 16, in lower case.
 fn hex_digit(digit: u8) -> u8
     requires { digit < 16 }
     ensures { result ≡ hex_digit digit }
@@ -169,7 +200,7 @@ fn hex_digit(digit: u8) -> u8
     HEX_DIGITS[usize::from(digit)]
 }
 
-/// The value of a hexadecimal digit of either case.
+/// Returns the value of a hexadecimal digit of either case, or `None` for another byte.
 fn value_of_digit(character: u8) -> Option<u8>
     ensures some { IfSome result (λ v. (v < 16) × (hex_digit v ≡ to_ascii_lowercase character)) }
     ensures none { IfNone result ((v : ℕ) → v < 16 → hex_digit v ≢ to_ascii_lowercase character) }
@@ -182,7 +213,9 @@ fn value_of_digit(character: u8) -> Option<u8>
     }
 }
 
-/// The octet that two hexadecimal digits write.
+/// Reads an octet from its two hexadecimal digits.
+///
+/// Error: `BadDevice` if one is not a hexadecimal digit.
 fn read_octet(high: u8, low: u8) -> Result<u8, Refusal>
     ensures ok { IfOk result (λ n. octet_text n ≡ to_ascii_lowercase high ∷ to_ascii_lowercase low ∷ []) }
     ensures err { IfErr result (λ r. (r ≡ Refusal.BadDevice)
@@ -194,7 +227,7 @@ fn read_octet(high: u8, low: u8) -> Result<u8, Refusal>
     }
 }
 
-/// The text of a device spells that device and no other.
+/// Law: the text of a device spells that device and no other.
 pub fn device_text_reads_back()
     ensures { DeviceTextReadsBack }
 {}

@@ -1,4 +1,4 @@
-//! The plans of vouchers.
+//! Plans: the terms of vouchers.
 
 ghost use Rattle.std.specs.Prelude.{◌≡◌, ◌+◌, ◌<◌, ◌≤◌, IfOk, IfErr};
 ghost use Rattle.portal_model.specs.IdText.{IsIdText};
@@ -6,7 +6,7 @@ ghost use Rattle.portal_model.specs.IdText.{IsIdText};
 use crate::name::Id;
 use crate::refusal::Refusal;
 
-/// What a voucher of this plan gives. Every value is within the limits.
+/// The terms of a voucher. Every value is within its limits.
 #[derive(Clone, Copy, Debug, PartialEq, Eq)]
 pub struct Plan {
     pub id: Id,
@@ -14,14 +14,14 @@ pub struct Plan {
     pub price: u32,
     /// How often a voucher may be redeemed, 1 to 100,000.
     pub uses: u32,
-    /// The seconds that a redemption gives, at most 31,622,400; 0 where time is not limited.
+    /// The seconds that a redemption gives, at most 31,622,400; 0 if time is not limited.
     pub seconds: u32,
-    /// The bytes that a redemption gives, at most 1,000,000,000,000,000; 0 where bytes are not limited.
+    /// The bytes that a redemption gives, at most 1,000,000,000,000,000; 0 if bytes are not limited.
     /// Seconds and bytes are not both 0.
     pub bytes: u64,
-    /// The days from its issue until a voucher expires, 1 to 3,660.
+    /// The days from the issue of a voucher until it expires, 1 to 3,660.
     pub shelf_days: u32,
-    /// Whether an open session that such a voucher opened may be extended.
+    /// Whether a session that such a voucher opened may be extended while it is open.
     pub extend: bool,
     pub ghost id_text: { IsIdText id },
     pub ghost price_limit: { price ≤ 100000000 },
@@ -37,8 +37,9 @@ pub struct Plan {
 impl Plan {
     ghost use Rattle.portal_model.specs.Terms.{AreTerms, IsPlanOf};
 
-    /// The plan of these terms. Refused (`BadPlans`) exactly where a term is out of its limits, or where
-    /// seconds and bytes are both 0.
+    /// Makes a plan of these terms.
+    ///
+    /// Error: `BadPlans` exactly if a term is out of its limits, or if seconds and bytes are both 0.
     pub fn new(
         id: Id,
         price: u64,
@@ -53,7 +54,7 @@ impl Plan {
         ensures err { IfErr result (λ r. (r ≡ Refusal.BadPlans)
             × ¬ AreTerms price uses seconds bytes shelf_days) }
     {
-        // An id's text tells that it is one, which the plan keeps.
+        // The contract of `text` gives that the id is an id text, which the plan's invariant needs.
         let _ = id.text();
         if price > 100_000_000 || uses < 1 || uses > 100_000 || seconds > 31_622_400 {
             return Err(Refusal::BadPlans);

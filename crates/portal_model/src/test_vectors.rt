@@ -1,10 +1,35 @@
-//! Worked histories, as statements on the definitions: what some commands are answered, and what a device
-//! is told then. The function does nothing: its contract is what is worked out.
-ghost use Rattle.portal_model.specs.TestVectors.{IssueSellRedeem, ClockSetBack, UsedUpOnce, ExtendedBeforeEnd, NewSessionAtEnd, BytesCounted, ShapeAndExtendRefused, RefundOfUnusedUses, NotSoldThenExpired, CloseSession, AllowanceIsFull};
-ghost use Rattle.portal_model.specs.VerdictVectors.{LoadVerdicts, IssueVerdicts, SellVerdicts, VoucherVerdicts, OpeningVerdicts, ExtensionVerdicts, NumbersAreFull, RefundVerdicts, SessionVerdicts, DeskRefusals, LimitedInBoth, FirstPlanExtends};
+//! Test vectors of the model: histories with the answers to commands and the captive state of devices. The
+//! function does nothing; its contract states the vectors.
+ghost use Rattle.portal_model.specs.TestVectors.{
+  IssueSellRedeem,
+  ClockSetBack,
+  UsedUpOnce,
+  ExtendedBeforeEnd,
+  NewSessionAtEnd,
+  BytesCounted,
+  ShapeAndExtendRefused,
+  RefundOfUnusedUses,
+  NotSoldThenExpired,
+  CloseSession,
+  AllowanceIsFull,
+};
+ghost use Rattle.portal_model.specs.VerdictVectors.{
+  LoadVerdicts,
+  IssueVerdicts,
+  SellVerdicts,
+  VoucherVerdicts,
+  OpeningVerdicts,
+  ExtensionVerdicts,
+  NumbersAreFull,
+  RefundVerdicts,
+  SessionVerdicts,
+  DeskRefusals,
+  LimitedInBoth,
+  FirstPlanExtends,
+};
 
-/// Worked histories: eleven from the desk's day, and for each command what is judged of it where two
-/// refusals hold at once and at its limits.
+/// Test vectors: eleven histories, and for each command its verdict at each limit and where two errors
+/// apply at once.
 pub fn history_vectors_hold()
     ensures issue_sell_redeem { IssueSellRedeem }
     ensures clock_set_back { ClockSetBack }

@@ -3,12 +3,12 @@ use Rattle.portal_model_laws.proofs.Common.{cond, ◌≡◌, ℕ, ◌<◌, Bool,
 use Rattle.portal_model.specs.declared.refusal.Refusal.{Refusal}
 use Rattle.portal_model_laws.proofs.Basics.{is_some-none, or-false}
 
--- where no check refuses, the first does not hold and none of the others refuses
+-- if no check gives an error, the first does not hold and none of the others gives one
 pub passed : (b : Bool) (r : Refusal) (others : Option Refusal) → cond b (Some r) others ≡ None → (b ≡ false) × (others ≡ None)
 passed true r others e = cc
 passed false r others e = (refl, e)
 
--- where two verdicts refuse nothing, neither does
+-- if two verdicts together give no error, neither does
 pub neither-refuses : (a b : Option Refusal) → else_verdict a b ≡ None → (a ≡ None) × (b ≡ None)
 neither-refuses None b e = (refl, e)
 neither-refuses (Some r) b e = cc

@@ -106,7 +106,7 @@ pub found-passes : {X : Type 0} (test : X → Bool) (xs : List X) (x : X) → fi
 found-passes test [] x e = cc
 found-passes test (y ∷ ys) x e = elim (picked (test y) y x (find test ys) e) [ inl is ↦ ap test (sym is.1) ∙ is.0 | inr is ↦ found-passes test ys x is.1 ]
 
--- a key is found where it stands among the keys
+-- a key is found if it is among the keys
 pub found-listed : {A : Type 0} (key : A → List ℕ) (id : List ℕ) (xs : List A) → is_some (find (λ x. bytes_eq (key x) id) xs) ≡ list_any (bytes_eq id) (map key xs)
 found-listed key id [] = refl
 found-listed key id (x ∷ xs) =

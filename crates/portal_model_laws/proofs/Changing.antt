@@ -13,7 +13,7 @@ use Rattle.portal_model_laws.proofs.Openings.{session_changed, report_session}
 
 -- Issue
 
--- a code stands in the list exactly where it has a place in the batch
+-- a code is in the list exactly if it has a place in the batch
 placed-listed : (code b : List ℕ) (n : ℕ) (codes : List (List ℕ)) → is_some (place_among (places_from b n codes) code) ≡ list_any (bytes_eq code) codes
 placed-listed code b n codes = found-listed (λ (k : Place). k.code) code (places_from b n codes) ∙ ap (list_any (bytes_eq code)) (codes-placed b n codes)
 

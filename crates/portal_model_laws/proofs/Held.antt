@@ -1,4 +1,4 @@
--- The plans that are held of the listed ids.
+-- The loaded plans with the listed ids.
 use Rattle.portal_model_laws.proofs.Common.{◌≡◌, ℕ, Bool, true, false, cond, List, [], ◌∷◌, Option, Some, None, refl, ap, sym, ◌∙◌, bytes_eq, ◌||◌, All, list_any, option_or, option_to_list, All-nil, All-cons, All-head, All-tail, All-weaker, find-append, Plan, plan_of, plan_among, plans_to_add, plans_of, differs}
 use Rattle.portal_model_laws.specs.Laws.{HeldPlansSuffice, HeldPlansDecideLoad}
 use Rattle.portal_model_laws.specs.FromRows.{held_among}
@@ -50,7 +50,7 @@ held_plans_suffice rows listed =
     All-weaker (λ (p : Plan). is_listed p.id listed ≡ true) (λ (p : Plan). plan_among (held_among rows listed) p.id ≡ plan_among rows p.id)
     (λ p is. held-among rows listed p.id ∙ ap (λ (b : Bool). cond b (plan_among rows p.id) None) is) listed (all_listed listed)
 
--- Over plans that answer for the listed ids
+-- With plans that agree with the rows on the listed ids
 
 differ_alike : (f g : List ℕ → Option Plan) (listed : List Plan) → All (λ p. f p.id ≡ g p.id) listed → list_any (λ p. differs (f p.id) p) listed ≡ list_any (λ p. differs (g p.id) p) listed
 differ_alike f g [] same = refl

@@ -86,7 +86,7 @@ module _ (H : History) (t : ℕ) (b p : List ℕ) (codes : List (List ℕ)) (pla
   agrees-issued code (Some i) None h = absurd h
   agrees-issued code (Some i) (Some k) h = agrees-later (batch_of H) (batch_of (entry t (Issue b p codes) ∷ H)) (plan_of H) (plan_of H) (new_batch-keeps H t b p codes none) (keeps_all (plan_of H)) (Some i) (Some k) h
 
--- a code is issued where it has a place, and its batch and its plan are held
+-- a code is issued if it has a place, and its batch and its plan exist
 pub issued_is_placed : (H : History) → IsLegal H → (code : List ℕ) → Agrees (batch_of H) (plan_of H) (issued_of H code) (place_among (places_of H) code)
 issued_is_placed [] legal code = tt
 issued_is_placed (entry t (Load plans) ∷ H) legal code =

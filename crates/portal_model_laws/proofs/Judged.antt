@@ -1,4 +1,4 @@
--- Commands are judged over the rows as over the history.
+-- The verdicts on commands are the same from the rows as from the history.
 use Rattle.portal_model_laws.proofs.Common.{refl, ap, sym, Load, Issue, Sell, Redeem, Report, Refund, Close, head_of, issue_change, sell_change, redeem_change, report_change, refund_change, close_change, plans_of, issue_verdict, sell_verdict, redeem_verdict, report_verdict, refund_verdict, close_verdict}
 use Rattle.portal_model_laws.specs.Laws.{RowsJudgeAlike}
 use Rattle.portal_model_laws.proofs.Plans.{plan_is_row}

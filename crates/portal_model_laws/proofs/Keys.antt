@@ -1,4 +1,4 @@
--- Each key stands once in the rows of its table, and the reader of a key finds its row.
+-- Each key is in one row of its table, and looking up a key finds its row.
 use Rattle.portal_model_laws.proofs.Common.{◌≡◌, ℕ, ◌+◌, Bool, true, false, cond, List, [], ◌∷◌, ◌++◌, map, filter, Option, Some, None, refl, subst, ap, sym, ◌∙◌, bytes_eq, option_map, is_some, is_none, ◌||◌, find, length, list_any, option_or, option_to_list, map-append, find-append, list_any-append, Load, Issue, Plan, Batch, entry, History, Place, places_from, issued_of, plan_of, batch_of, batch_row, IsLegal, any_held, has_duplicate, plans_to_add, places_of, plans_of, batches_of, batch_among}
 use Rattle.portal_model_laws.specs.Laws.{BatchIsRow}
 use Rattle.portal_model_laws.proofs.Accepted.{issuable}
@@ -6,9 +6,9 @@ use Rattle.portal_model_laws.proofs.Plans.{plan_is_row}
 use Rattle.portal_model_laws.proofs.Issuing.{place_among, unplaced}
 use Rattle.portal_model_laws.proofs.Basics.{cond-ap, cond-both, bytes_eq-swap, found-listed, bytes_same, is_none-true, is_some-none, or-false, or-right}
 
--- Keys that stand once
+-- Unique keys
 
--- no key of the second list stands in the first
+-- no key of the second list is in the first
 abbrev AreNew : List (List ℕ) → List (List ℕ) → Type 0
 AreNew xs ys = list_any (λ y. list_any (bytes_eq y) xs) ys ≡ false
 
@@ -34,7 +34,7 @@ apart-append (x ∷ xs) ys hx hy new =
 abbrev pub codes_in : List Place → List (List ℕ)
 codes_in places = map (λ k. k.code) places
 
--- a key that is not found does not stand among the keys
+-- a key that is not found is not among the keys
 unfound : {A : Type 0} (key : A → List ℕ) (id : List ℕ) (xs : List A) → find (λ x. bytes_eq (key x) id) xs ≡ None → list_any (bytes_eq id) (map key xs) ≡ false
 unfound key id xs e = sym (found-listed key id xs) ∙ ap is_some e
 
@@ -45,7 +45,7 @@ pub codes-placed : (b : List ℕ) (n : ℕ) (codes : List (List ℕ)) → codes_
 codes-placed b n [] = refl
 codes-placed b n (code ∷ codes) = ap (λ cs. code ∷ cs) (codes-placed b (n + 1) codes)
 
--- a code that stands in the rows was issued
+-- a code in the rows was issued
 abbrev HeldIfPlaced : History → Type 0
 HeldIfPlaced H = (code : List ℕ) → issued_of H code ≡ None → list_any (bytes_eq code) (codes_in (places_of H)) ≡ false
 
@@ -66,7 +66,7 @@ codes_apart (entry t (Issue b p codes) ∷ H) legal =
     (apart-append (codes_in (places_of H)) codes (codes_apart H legal.1) facts.once (new_codes H legal.1 codes facts.free))
 codes_apart (_ ∷ H) legal = codes_apart H legal.1
 
--- Plans stand once
+-- Plans are unique
 
 abbrev ids_in : List Plan → List (List ℕ)
 ids_in plans = map (λ p. p.id) plans

@@ -30,7 +30,7 @@ adds H t d c legal =
       session = leaves.session;
     }
 
--- The last number of a device, with one more grant
+-- The last session number of a device, with one more redemption
 last-more : (g : Grant) (gs : List Grant) (d : List ℕ) → last_number (g ∷ gs) d ≡ cond (bytes_eq g.device d) (max g.session (last_number gs d)) (last_number gs d)
 last-more g gs d = let own : List Grant = filter (λ x. bytes_eq x.device d) gs in cond-ap greatest_session (bytes_eq g.device d) (g ∷ own) own
 
@@ -66,7 +66,7 @@ LastIsOwn H = (d : List ℕ) (s : Session) → session_of H (last_number (grants
 abbrev OnlyLast : History → ℕ → Type 0
 OnlyLast H t = (n u : ℕ) (s : Session) → session_of H n ≡ Some s → t ≤ u → is_open_at u s ≡ true → n ≡ last_number (grants_of H) s.device
 
--- a grant in the last session of its device changes no last number
+-- a redemption in the last session of its device changes no last number
 pub last-kept : (g : Grant) (gs : List Grant) (d : List ℕ) → g.session ≡ last_number gs g.device → last_number (g ∷ gs) d ≡ last_number gs d
 last-kept g gs d is = last-more g gs d ∙ go (bytes_eq g.device d) refl
   where

@@ -83,7 +83,7 @@ module _ (code : List ℕ) (p : Payment) (before after : List ℕ → Option Pay
       go rest false other h =
           subst (λ o. IsPermutation (p ∷ paid_at before (k ∷ places)) (cons_option o (paid_at after places))) (sym (other-kept k other)) (beside (before k.code) (rest twice.1 h))
 
--- a code that was issued stands among the places
+-- an issued code is among the places
 issued-listed : (H : History) → IsLegal H → (code : List ℕ) (i : IssuedVoucher) → issued_of H code ≡ Some i → list_any (bytes_eq code) (codes_in (places_of H)) ≡ true
 issued-listed H legal code i e =
     sym (found-listed (λ (k : Place). k.code) code (places_of H))

@@ -1,4 +1,4 @@
--- Each grant opens a session with the next number, or is in the last session of its device.
+-- Each redemption opens a session with the next number, or is in the last session of its device.
 use Rattle.portal_model_laws.proofs.Common.{◌≡◌, ℕ, ◌+◌, ◌<◌, ◌≤◌, ◌⊎◌, inl, inr, max, Bool, true, false, cond, List, [], ◌∷◌, ◌++◌, map, length, Option, Some, None, refl, arith, subst, ap, sym, ◌∙◌, bytes_eq, nat_eq, nat_lt, find, All, option_or, range_with_len, nat_tests, map-append, append-nil, All-nil, All-cons, All-append, All-head, All-tail, find-append, Redeem, Session, entry, History, Grant, grants_of, greatest_session, members, oldest, last_number, session_of, session_row, last_session_of, kept_if, is_open_at, openings, GrantRow, grant_rows, IsLegal}
 use Rattle.portal_model_laws.proofs.Basics.{cond-false, or-right, some-of-map, nat_eq-same, nat_eq-other}
 use Rattle.portal_model_laws.proofs.Placing.{kept-some, members-above, number-of}

@@ -3,7 +3,7 @@ use Rattle.portal_model_laws.proofs.Common.{◌≡◌, ℕ, Bool, true, false, c
 use Rattle.portal_model_laws.specs.Laws.{PlanIsRow}
 use Rattle.portal_model_laws.proofs.Basics.{bytes_same, not_both, found-passes}
 
--- what a file lists of an id that is not held is what is added of it
+-- the plan that a load lists for an id that is not loaded is the one that it adds
 found-added : (H : History) (id : List ℕ) (plans : List Plan) → plan_of H id ≡ None → find (λ p. bytes_eq p.id id) plans ≡ plan_among (plans_to_add (plan_of H) plans) id
 found-added H id [] none = refl
 found-added H id (p ∷ plans) none = go (found-added H id plans none) (bytes_eq p.id id) (is_none (plan_of H p.id)) refl refl

@@ -1,4 +1,4 @@
--- What is told remains is at least 1.
+-- The remaining seconds and bytes are at least 1.
 use Rattle.portal_model_laws.proofs.Common.{All-weaker, ◌≡◌, ℕ, ◌-◌, ◌<◌, ◌≤◌, Bool, true, false, cond, Option, Some, None, refl, arith, is_none, ◌&&◌, filter, nat_tests, All-map, Session, kept_if, is_open_at, is_below, last_session_of, effective_moment}
 use Rattle.portal_model.specs.Captive.{left_below, remaining_of_session, open_session, all_sessions}
 use Rattle.std.proofs.lemmas.List.Elements.{filter_passes}

@@ -9,7 +9,7 @@ use Rattle.portal_model_laws.proofs.Opens.{adds}
 use Rattle.portal_model_laws.proofs.Placing.{All-oldest}
 use Rattle.portal_model_laws.proofs.Placed.{are_placed, All-openings, find-openings, no-zero, last_opening, number_in, last_opening-number}
 
--- The plan of a grant is held
+-- The plan of a redemption is loaded
 
 abbrev pub Knows : (List ℕ → Option Plan) → Grant → Type 0
 Knows plans g = plans g.plan.id ≡ Some g.plan

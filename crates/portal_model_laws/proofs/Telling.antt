@@ -1,4 +1,4 @@
--- The answer to a command is what the history says that has it.
+-- The answer to a command agrees with the history that contains it.
 use Rattle.portal_model_laws.proofs.Common.{◌≡◌, ℕ, ◌+◌, ◌-◌, List, ◌∷◌, length, Option, Some, None, refl, arith, ap, sym, ◌∙◌, bytes_eq, nat_eq, is_some, option_map, option_and_then, unwrap_or, Sell, Redeem, Refund, Changes, Batch, Voucher, Session, Head, entry, History, IssuedVoucher, RefundEntry, refund_entry_at, issued_of, uses_of, refund_of, plan_of, batch_of, batch_row, voucher_of, voucher_row, Grant, grants_of, grant_at, last_number, session_of, last_session_of, kept_if, is_open_at, head_of, answer_of, redemption, session_after, sessions_after, with_report, IsLegal}
 use Rattle.portal_model.specs.declared.change.Answer.TheVariants.{IssueAnswer as Issued_answer, SellAnswer, RedeemAnswer, ReportAnswer, RefundAnswer, CloseAnswer}
 use Rattle.portal_model_laws.specs.Laws.{AnswersFollow}

@@ -1,4 +1,4 @@
--- Moments and numbers are within their limits, in every row.
+-- Times and numbers are within their limits, in every row.
 use Rattle.portal_model_laws.proofs.Common.{◌≡◌, ℕ, ◌+◌, ◌<◌, ◌≤◌, ◌⊎◌, inl, inr, max, Bool, true, false, cond, not, List, [], ◌∷◌, length, Option, Some, None, get_or, pos, neg_ℤ, ◌≤ℤ◌, refl, arith, leb-false, subst, ap, sym, ◌∙◌, bytes_eq, nat_eq, nat_lt, nat_le, option_map, IfSome, All, option_to_list, ints, nat_tests, All-nil, All-cons, All-append, All-head, All-tail, All-weaker, All-map, Issue, Sell, Redeem, Report, Refund, Close, Plan, Voucher, Session, Head, entry, History, Place, places_from, IssuedVoucher, Grant, RefundEntry, refund_entry_at, issued_of, sold_of, uses_of, refund_of, used_of, closed_of, plan_of, batch_of, batch_row, expiry, voucher_of, voucher_row, grants_of, greatest_session, members, oldest, session_of, last_session_of, kept_if, is_open_at, head_of, last_moment, limit_or_none, session_after, raised_by, batches_of, places_of, row_of_place, count_of_place, openings, row_of_opening, session_opened, total_of_opening, remaining_of, row_of_grant, grant_rows, IsLegal, any_held, greatest_moment, greatest_allowance, greatest_count, place_verdict, same_limits, is_past}
 use Rattle.portal_model_laws.specs.Laws.{RowsAreWithinLimits}
 use Rattle.portal_model_laws.specs.Limits.{greatest_report, IsMoment, IsRowNumber, HeadIsWithin, BatchIsWithin, VoucherIsWithin, SessionIsWithin, GrantIsWithin, CountIsWithin, TotalIsWithin}

@@ -1,11 +1,11 @@
--- What the caller of an accepted command is told, read from the history that has the command.
+-- The answer to an accepted command, read from the history that contains the command.
 use Rattle.std.specs.Prelude.{◌-◌, ◌∷◌, [], length, nat_eq, Option, Some, None, option_map, option_and_then}
 use Rattle.portal_model.specs.declared.command.Command.TheVariants.{Load, Issue, Sell, Redeem, Report, Refund, Close}
 use Rattle.portal_model.specs.declared.change.Answer.{Answer}
 use Rattle.portal_model.specs.declared.change.Answer.TheVariants.{LoadAnswer, IssueAnswer, SellAnswer, RedeemAnswer, ReportAnswer, RefundAnswer, CloseAnswer}
 use Rattle.portal_model.specs.History.{History, entry, batch_of, voucher_of, session_of, last_session_of, head_of, is_open_at}
 
--- the answer to the newest entry; a redemption extends a session where it makes no more of them
+-- the answer to the newest entry; a redemption extended a session if the number of sessions is unchanged
 abbrev pub last_answer : History → Option Answer
 last_answer [] = None
 last_answer (entry t (Load plans) ∷ H) = Some (LoadAnswer (length plans))

@@ -1,4 +1,4 @@
--- What is read from the rows alone: lists, verdicts and changes.
+-- Lists, verdicts and changes, computed from the rows alone.
 use Rattle.std.specs.Prelude.{ℕ, Bool, List, [], ◌∷◌, ◌++◌, map, filter, is_some, Option, Some, bytes_eq}
 use Rattle.std.specs.List.{list_any, filter_map}
 use Rattle.std.specs.Option.{option_to_list}
@@ -20,11 +20,11 @@ sessions_from r = filter_map (λ row. session_from r row.number) r.sessions
 abbrev pub codes_from : Rows → List ℕ → List (List ℕ)
 codes_from r id = map (λ v. v.code) (filter (λ v. bytes_eq v.batch id) r.vouchers)
 
--- whether one of the codes stands in the rows
+-- whether one of the codes is in the rows
 abbrev pub any_taken : List VoucherRow → List (List ℕ) → Bool
 any_taken rows codes = list_any (λ code. is_some (row_among rows code)) codes
 
--- the rows that have the ids of the list, in its order
+-- the rows with the ids of the list, in the order of the list
 abbrev pub held_among : List Plan → List Plan → List Plan
 held_among rows [] = []
 held_among rows (p ∷ listed) = option_to_list (plan_among rows p.id) ++ held_among rows listed
@@ -39,7 +39,7 @@ verdict_from r (Report n bytes) t = report_verdict (session_from r n)
 verdict_from r (Refund c) t = refund_verdict (voucher_from r c)
 verdict_from r (Close n) t = close_verdict (session_from r n)
 
--- and what it changes
+-- the changes of each command, over the records that are read from the rows
 abbrev pub changes_from : Rows → Command → ℕ → Option Changes
 changes_from r (Load plans) t = Some (load_change (plan_among r.plans) plans t)
 changes_from r (Issue b p codes) t = issue_change (plan_among r.plans p) b codes t

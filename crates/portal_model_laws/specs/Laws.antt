@@ -1,4 +1,4 @@
--- What holds of every legal history.
+-- Laws of every legal history.
 use Rattle.std.specs.Prelude.{◌≡◌, ℕ, ◌+◌, ◌-◌, ◌≤◌, List, [], ◌∷◌, map, filter, length, All, count_by, true, false, Option, Some, None, cond, nat_eq, bytes_eq}
 use Rattle.std.specs.List.Sorted.{IsPermutation, IsStrictlyIncreasing}
 use Rattle.std.specs.List.{range_with_len}
@@ -25,37 +25,38 @@ use Rattle.portal_model.specs.Verdict.{IsLegal, Follows, verdict, load_verdict, 
 
 -- Accepted commands
 
--- an accepted command makes of the rows what its changes say
+-- the rows after an accepted command are those before it with its changes
 abbrev pub ChangesGiveRows : Type 0
 ChangesGiveRows = (H : History) → IsLegal H → (command : Command) (t : ℕ) → Follows H t command → (changes : Changes) → changes_of H command t ≡ Some changes
     → rows_of (entry t command ∷ H) ≡ rows_after_changes changes (rows_of H)
 
--- an accepted command makes of the records what its changes say
+-- the records after an accepted command are those before it with its changes
 abbrev pub ChangesGiveRecords : Type 0
 ChangesGiveRecords = (H : History) → IsLegal H → (command : Command) (t : ℕ) → Follows H t command → (changes : Changes) → changes_of H command t ≡ Some changes
     → HasChanged H (entry t command ∷ H) changes
 
--- the answer to an accepted command is what the history says that has it
+-- the answer to an accepted command agrees with the history that contains the command
 abbrev pub AnswersFollow : Type 0
 AnswersFollow = (H : History) → IsLegal H → (command : Command) (t : ℕ) → Follows H t command → (changes : Changes) → changes_of H command t ≡ Some changes
     → last_answer (entry t command ∷ H) ≡ Some (answer_of changes)
 
--- a command is judged over the rows as over the history, and changes the same
+-- the verdict on a command, and its changes, are the same from the rows as from the history
 pub record JudgesAlike (H : History) (command : Command) (t : ℕ) : Type 0 where
   pub verdict : verdict H command t ≡ verdict_from (rows_of H) command t
   pub changes : changes_of H command t ≡ changes_from (rows_of H) command t
 
--- every command is judged so
+-- this holds of every command
 abbrev pub RowsJudgeAlike : Type 0
 RowsJudgeAlike = (H : History) → IsLegal H → (command : Command) (t : ℕ) → JudgesAlike H command t
 
--- what an accepted redemption leaves in the records: one more redemption of its voucher, and its session
+-- the records after an accepted redemption: one more redemption of its voucher, and its session
 pub record RedeemLeaves (H : History) (device code : List ℕ) (t : ℕ) (v : Voucher) (s : Session) (running : Option Session) : Type 0 where
   pub head : head_of (entry t (Redeem device code) ∷ H) ≡ head_after (head_of H) running t
   pub session : (n : ℕ) → session_of (entry t (Redeem device code) ∷ H) n ≡ cond (nat_eq s.number n) (Some s) (session_of H n)
   pub voucher : (c : List ℕ) → voucher_of (entry t (Redeem device code) ∷ H) c ≡ cond (bytes_eq code c) (Some (record v { redeemed = v.redeemed + 1 })) (voucher_of H c)
 
--- a redemption of an issued voucher leaves this, in the open session of the device or in a new one
+-- these are the records after a redemption of an issued voucher, in the open session of the device or in a
+-- new one
 abbrev pub RedeemGivesRecords : Type 0
 RedeemGivesRecords = (H : History) → IsLegal H → (device code : List ℕ) (t : ℕ) (v : Voucher) → voucher_of H code ≡ Some v
     → let running : Option Session = kept_if (is_open_at t) (last_session_of H device) in
@@ -79,30 +80,30 @@ VoucherIsRow = (H : History) → IsLegal H → (code : List ℕ) → voucher_of 
 abbrev pub SessionIsRow : Type 0
 SessionIsRow = (H : History) → IsLegal H → (n : ℕ) → session_of H n ≡ session_from (rows_of H) n
 
--- the last session of a device is the one of its rows that was made last
+-- the last session of a device is the last of its rows
 abbrev pub LastSessionIsRow : Type 0
 LastSessionIsRow = (H : History) → IsLegal H → (device : List ℕ) → last_session_of H device ≡ last_session_from (rows_of H) device
 
--- one of the codes was issued exactly where one of them stands in the rows
+-- one of the codes was issued exactly if one of them is in the rows
 abbrev pub IssuedCodesAreRows : Type 0
 IssuedCodesAreRows = (H : History) → IsLegal H → (codes : List (List ℕ)) → any_held H codes ≡ any_taken (vouchers_of H) codes
 
--- Plans that answer for a file
+-- The loaded plans that a load reads
 
--- the first list answers for the listed ids what the rows answer
+-- the first list gives the same plans for the listed ids as the rows
 abbrev pub AgreesOnIds : List Plan → List Plan → List Plan → Type 0
 AgreesOnIds held rows listed = All (λ p. plan_among held p.id ≡ plan_among rows p.id) listed
 
--- the rows that have the listed ids answer for them
+-- the rows with the listed ids agree with all rows on these ids
 abbrev pub HeldPlansSuffice : Type 0
 HeldPlansSuffice = (rows listed : List Plan) → AgreesOnIds (held_among rows listed) rows listed
 
--- over those plans a file has the verdict of the history, and changes the same
+-- with those plans, a load has the verdict and the changes of the history
 pub record LoadsAlike (H : History) (held listed : List Plan) (t : ℕ) : Type 0 where
   pub verdict : load_verdict (plan_among held) listed ≡ verdict H (Load listed) t
   pub changes : Some (load_change (plan_among held) listed t) ≡ changes_of H (Load listed) t
 
--- plans that answer for the listed ids are enough to load the file by
+-- plans that agree with the rows on the listed ids decide a load like the history
 abbrev pub HeldPlansDecideLoad : Type 0
 HeldPlansDecideLoad = (H : History) (held listed : List Plan) → AgreesOnIds held (plans_of H) listed → (t : ℕ) → LoadsAlike H held listed t
 
@@ -122,11 +123,11 @@ pub record AreCodesOf (H : History) (id : List ℕ) : Type 0 where
 abbrev pub CodesAreRows : Type 0
 CodesAreRows = (H : History) → IsLegal H → (id : List ℕ) → AreCodesOf H id
 
--- the sales are what the rows of the vouchers say, in another order
+-- the sales are those of the rows of the vouchers, in another order
 abbrev pub SalesAreRows : Type 0
 SalesAreRows = (H : History) → IsLegal H → IsPermutation (sales_of H) (sales_from (rows_of H))
 
--- the refunds are what the rows of the vouchers say, in another order
+-- the refunds are those of the rows of the vouchers, in another order
 abbrev pub RefundsAreRows : Type 0
 RefundsAreRows = (H : History) → IsLegal H → IsPermutation (refunds_of H) (refunds_from (rows_of H))
 
@@ -140,13 +141,13 @@ UsesAreRows = (H : History) → IsLegal H → (code : List ℕ) → uses_of H co
 abbrev pub CountsAreSums : Type 0
 CountsAreSums = (H : History) → IsLegal H → counts_of H ≡ counts_from (rows_of H)
 
--- the totals of the sessions are what the sums over their rows of portal_grants and the used bytes give
+-- the totals of the sessions follow from the sums over their rows of portal_grants and the used bytes
 abbrev pub TotalsAreSums : Type 0
 TotalsAreSums = (H : History) → IsLegal H → totals_of H ≡ totals_from (rows_of H)
 
 -- Keys
 
--- in no table a key stands twice: ids and codes differ, and numbers rise
+-- no table has two rows with the same key: ids and codes differ, and numbers increase
 pub record HasUniqueKeys (H : History) : Type 0 where
   pub plans : has_duplicate (map (λ p. p.id) (plans_of H)) ≡ false
   pub batches : has_duplicate (map (λ b. b.id) (batches_of H)) ≡ false
@@ -156,11 +157,12 @@ pub record HasUniqueKeys (H : History) : Type 0 where
   pub counts : has_duplicate (map (λ k. k.code) (counts_of H)) ≡ false
   pub totals : IsStrictlyIncreasing (map (λ s. s.number) (totals_of H))
 
--- the keys of every table are apart
+-- the keys of every table are unique
 abbrev pub KeysAreUnique : Type 0
 KeysAreUnique = (H : History) → IsLegal H → HasUniqueKeys H
 
--- sessions and grants are numbered from 1 without a gap, in the order of their rows, and the head has the numbers of rows
+-- sessions and redemptions are numbered from 1 without a gap, in the order of their rows, and the head row
+-- has the numbers of rows
 pub record AreNumbered (H : History) : Type 0 where
   pub sessions : map (λ s. s.number) (sessions_of H) ≡ range_with_len 1 (head_of H).sessions
   pub totals : map (λ s. s.number) (totals_of H) ≡ range_with_len 1 (head_of H).sessions
@@ -168,17 +170,17 @@ pub record AreNumbered (H : History) : Type 0 where
   pub of_sessions : length (sessions_of H) ≡ (head_of H).sessions
   pub of_grants : length (grant_rows (grants_of H)) ≡ (head_of H).grants
 
--- the rows are numbered so
+-- the rows of every legal history are numbered so
 abbrev pub RowsAreNumbered : Type 0
 RowsAreNumbered = (H : History) → IsLegal H → AreNumbered H
 
 -- Vouchers
 
--- no voucher is redeemed beyond its uses
+-- no voucher is redeemed more often than its plan allows
 abbrev pub UsesAreBounded : Type 0
 UsesAreBounded = (H : History) → IsLegal H → (code : List ℕ) (v : Voucher) → voucher_of H code ≡ Some v → v.redeemed ≤ v.plan.uses
 
--- how many rows of portal_grants have the code
+-- the number of rows of portal_grants with the code
 abbrev pub grants_with : Rows → List ℕ → ℕ
 grants_with r code = count_by (λ g. bytes_eq g.code code) r.grants
 
@@ -187,7 +189,7 @@ pub record HasGrantsWithin (r : Rows) (code : List ℕ) : Type 0 where
   pub voucher : (v : Voucher) → voucher_from r code ≡ Some v → grants_with r code ≤ v.plan.uses
   pub none : voucher_from r code ≡ None → grants_with r code ≡ 0
 
--- so is every code in the rows of a history
+-- this holds of every code in the rows of a history
 abbrev pub GrantsAreBounded : Type 0
 GrantsAreBounded = (H : History) → IsLegal H → (code : List ℕ) → HasGrantsWithin (rows_of H) code
 
@@ -195,13 +197,13 @@ GrantsAreBounded = (H : History) → IsLegal H → (code : List ℕ) → HasGran
 abbrev pub RefundsAreBounded : Type 0
 RefundsAreBounded = (H : History) → IsLegal H → (code : List ℕ) (v : Voucher) (amount : ℕ) → voucher_of H code ≡ Some v → v.refund ≡ Some amount → amount ≤ v.plan.price
 
--- how many entries sell the code
+-- the number of entries that sell the code
 abbrev pub times_sold : History → List ℕ → ℕ
 times_sold [] code = 0
 times_sold (entry t (Sell c) ∷ H) code = cond (bytes_eq c code) (times_sold H code + 1) (times_sold H code)
 times_sold (_ ∷ H) code = times_sold H code
 
--- how many entries refund the code
+-- the number of entries that refund the code
 abbrev pub times_refunded : History → List ℕ → ℕ
 times_refunded [] code = 0
 times_refunded (entry t (Refund c) ∷ H) code = cond (bytes_eq c code) (times_refunded H code + 1) (times_refunded H code)
@@ -226,33 +228,33 @@ pub record RemainsOf (t : ℕ) (s : Session) : Type 0 where
   pub seconds : (ends : ℕ) → s.ends ≡ Some ends → (1 ≤ ends - t) × (ends - t ≤ ends - s.opened)
   pub bytes : (allowance : ℕ) → s.allowance ≡ Some allowance → (1 ≤ allowance - s.used) × (allowance - s.used ≤ allowance)
 
--- so much remains of every session that is open at the effective moment
+-- this holds of every session that is open at the effective time
 abbrev pub RemainsIsBounded : Type 0
 RemainsIsBounded = (H : History) → IsLegal H → (n t : ℕ) (s : Session) → session_of H n ≡ Some s → is_open_at (effective_moment H t) s ≡ true → RemainsOf (effective_moment H t) s
 
--- each of the two that is told is at least 1
+-- each of the two values is at least 1
 pub record AtLeastOne (seconds bytes : Option ℕ) : Type 0 where
   pub seconds_left : (n : ℕ) → seconds ≡ Some n → 1 ≤ n
   pub bytes_left : (n : ℕ) → bytes ≡ Some n → 1 ≤ n
 
--- what a device is told remains is at least 1
+-- what remains of a device's session is at least 1
 abbrev pub GuestsSeeRemainder : Type 0
 GuestsSeeRemainder = (H : History) (device : List ℕ) (t : ℕ) → AtLeastOne (captive_of H device t).seconds (captive_of H device t).bytes
 
--- and what the gateway is told of each open session
+-- so is what remains of each open session that the gateway lists
 abbrev pub GatewaySeesRemainder : Type 0
 GatewaySeesRemainder = (H : History) (t : ℕ) → All (λ s. AtLeastOne s.seconds s.bytes) (open_sessions_of H t)
 
--- a session that is open at the effective moment is the last one of its device
+-- a session that is open at the effective time is the last one of its device
 abbrev pub OpenIsLast : Type 0
 OpenIsLast = (H : History) → IsLegal H → (n t : ℕ) (s : Session) → session_of H n ≡ Some s → is_open_at (effective_moment H t) s ≡ true → last_session_of H s.device ≡ Some s
 
--- at the effective moment at most one session of a device is open
+-- at the effective time at most one session of a device is open
 abbrev pub OneSessionIsOpen : Type 0
 OneSessionIsOpen = (H : History) → IsLegal H → (t n m : ℕ) (s r : Session) → session_of H n ≡ Some s → session_of H m ≡ Some r → s.device ≡ r.device
     → is_open_at (effective_moment H t) s ≡ true → is_open_at (effective_moment H t) r ≡ true → n ≡ m
 
--- how many entries close the session
+-- the number of entries that close the session
 abbrev pub times_closed : History → ℕ → ℕ
 times_closed [] n = 0
 times_closed (entry t (Close m) ∷ H) n = cond (nat_eq m n) (times_closed H n + 1) (times_closed H n)
@@ -262,7 +264,7 @@ times_closed (_ ∷ H) n = times_closed H n
 abbrev pub SessionIsClosedOnce : Type 0
 SessionIsClosedOnce = (H : History) → IsLegal H → (n : ℕ) → times_closed H n ≤ 1
 
--- What the rows hold
+-- Values in the rows
 
 -- ids are id texts, codes are codes and devices are devices, in every row
 pub record AreTyped (r : Rows) : Type 0 where
@@ -276,10 +278,10 @@ pub record AreTyped (r : Rows) : Type 0 where
   pub grants : All (λ g. IsCode g.code) r.grants
   pub counts : All (λ k. IsCode k.code) r.counts
 
--- the rows are typed so
+-- the rows of every legal history are typed so
 abbrev pub RowsAreTyped : Type 0
 RowsAreTyped = (H : History) → IsLegal H → AreTyped (rows_of H)
 
--- moments and numbers are within their limits, in every row
+-- times and numbers are within their limits, in every row
 abbrev pub RowsAreWithinLimits : Type 0
 RowsAreWithinLimits = (H : History) → IsLegal H → AreWithin (rows_of H)

@@ -1,19 +1,19 @@
--- The limits of what stands in the rows.
+-- The limits of the values in the rows.
 use Rattle.std.specs.Prelude.{ℕ, ◌≤◌, ◌<◌, pos, neg_ℤ, ◌≤ℤ◌, IfSome, All}
 use Rattle.portal_model.specs.declared.record.Batch.{Batch}
 use Rattle.portal_model.specs.declared.record.Head.{Head}
 use Rattle.portal_model.specs.Rows.{Rows, VoucherRow, SessionRow, GrantRow, CountRow, TotalRow}
 use Rattle.portal_model.specs.Verdict.{greatest_moment, greatest_allowance, greatest_count}
 
--- the greatest number of bytes of a report
+-- the most bytes that a report may have
 abbrev pub greatest_report : ℕ
 greatest_report = 9223372036854775807
 
--- a moment
+-- a time within its limit
 abbrev pub IsMoment : ℕ → Type 0
 IsMoment t = t ≤ greatest_moment
 
--- the number of a session or a grant
+-- the number of a session or a redemption
 abbrev pub IsRowNumber : ℕ → Type 0
 IsRowNumber n = (1 ≤ n) × (n ≤ greatest_count)
 
@@ -50,7 +50,7 @@ pub record GrantIsWithin (g : GrantRow) : Type 0 where
 pub record CountIsWithin (k : CountRow) : Type 0 where
   pub redeemed : k.redeemed ≤ 100000
 
--- what remains may be below 0, since a report may be greater than what was granted
+-- what remains may be below 0, since a report may exceed what was granted
 pub record TotalIsWithin (t : TotalRow) : Type 0 where
   pub number : IsRowNumber t.number
   pub ends : IfSome t.ends IsMoment

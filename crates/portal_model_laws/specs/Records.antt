@@ -1,4 +1,4 @@
--- The records, with what an accepted command changes.
+-- The records after an accepted command.
 use Rattle.std.specs.Prelude.{◌≡◌, ℕ, ◌+◌, List, cond, nat_eq, bytes_eq, Option, Some, None, option_map}
 use Rattle.std.specs.Option.{option_or}
 use Rattle.std.specs.List.{list_any}
@@ -11,12 +11,12 @@ use Rattle.portal_model.specs.declared.change.Changes.TheVariants.{LoadChange, I
 use Rattle.portal_model.specs.Change.{plan_among, with_report}
 use Rattle.portal_model.specs.History.{History, plan_of, batch_of, voucher_of, session_of}
 
--- the plans, with those that a file adds
+-- the plans, with those that a load adds
 abbrev pub plans_with : Changes → (List ℕ → Option Plan) → List ℕ → Option Plan
 plans_with (LoadChange c) plans id = option_or (plans id) (plan_among c.added id)
 plans_with _ plans id = plans id
 
--- the batches, with a new one
+-- the batches, with the new one of an issue
 abbrev pub batches_with : Changes → (List ℕ → Option Batch) → List ℕ → Option Batch
 batches_with (IssueChange c) batches id = cond (bytes_eq c.batch.id id) (Some c.batch) (batches id)
 batches_with _ batches id = batches id

@@ -1,11 +1,48 @@
-//! The laws of histories: what holds of every history that the desk can have accepted.
-//! The functions do nothing. Each contract is a law, which `specs/Laws.antt` states.
+//! Laws of histories: what holds of every history that the desk can have accepted. The functions do
+//! nothing; each contract is a law, stated in `specs/Laws.antt`.
 #![tactic(auto)]
 
 ghost use Rattle.portal_model_laws.specs.Everyday.{EveryCommandIsLegal};
-ghost use Rattle.portal_model_laws.specs.Laws.{AnswersFollow, BatchIsRow, SessionIsClosedOnce, CodesAreRows, CountsAreSums, GatewaySeesRemainder, GrantsAreBounded, GuestsSeeRemainder, HeldPlansDecideLoad, HeldPlansSuffice, KeysAreUnique, LastSessionIsRow, OneSessionIsOpen, OpenIsLast, PlanIsRow, ChangesGiveRecords, RedeemGivesRecords, VoucherIsRefundedOnce, RefundsAreBounded, RefundsAreRows, RemainsIsBounded, RowsAreNumbered, RowsAreTyped, RowsAreWithinLimits, RowsJudgeAlike, ChangesGiveRows, SalesAreRows, SessionIsRow, SessionsAreFewer, SessionsAreRows, VoucherIsSoldOnce, IssuedCodesAreRows, TotalsAreSums, UsesAreBounded, UsesAreRows, VoucherIsRow};
+ghost use Rattle.portal_model_laws.specs.Laws.{
+  AnswersFollow,
+  BatchIsRow,
+  SessionIsClosedOnce,
+  CodesAreRows,
+  CountsAreSums,
+  GatewaySeesRemainder,
+  GrantsAreBounded,
+  GuestsSeeRemainder,
+  HeldPlansDecideLoad,
+  HeldPlansSuffice,
+  KeysAreUnique,
+  LastSessionIsRow,
+  OneSessionIsOpen,
+  OpenIsLast,
+  PlanIsRow,
+  ChangesGiveRecords,
+  RedeemGivesRecords,
+  VoucherIsRefundedOnce,
+  RefundsAreBounded,
+  RefundsAreRows,
+  RemainsIsBounded,
+  RowsAreNumbered,
+  RowsAreTyped,
+  RowsAreWithinLimits,
+  RowsJudgeAlike,
+  ChangesGiveRows,
+  SalesAreRows,
+  SessionIsRow,
+  SessionsAreFewer,
+  SessionsAreRows,
+  VoucherIsSoldOnce,
+  IssuedCodesAreRows,
+  TotalsAreSums,
+  UsesAreBounded,
+  UsesAreRows,
+  VoucherIsRow,
+};
 
-/// A history in which each of the seven commands occurs is legal; in it a redemption opens a session and
+/// A history in which each of the seven commands occurs is legal. In it one redemption opens a session and
 /// another extends it.
 #[tactic(auto, using(crate::proofs::Everyday::every_command_legal))]
 pub fn every_command_is_legal()
@@ -14,31 +51,31 @@ pub fn every_command_is_legal()
 
 // Accepted commands
 
-/// An accepted command makes of the rows what its changes say: rows appended at the end, and rows replaced
-/// by key, in all eight tables.
+/// The rows after an accepted command are those before it with its changes: rows appended at the end and
+/// rows replaced by key, in all eight tables.
 #[tactic(auto, using(crate::proofs::Leading::changes_give_rows))]
 pub fn changes_give_rows()
     ensures { ChangesGiveRows }
 {}
 
-/// An accepted command makes of the records what its changes say: the plans, batches, vouchers and
-/// sessions are those before with just the changes.
+/// The plans, batches, vouchers and sessions after an accepted command are those before it with its
+/// changes.
 #[tactic(auto, using(crate::proofs::Changing::changes_give_records))]
 pub fn changes_give_records()
     ensures { ChangesGiveRecords }
 {}
 
-/// The answer to an accepted command is what the history says that has it.
+/// The answer to an accepted command agrees with the history that contains the command.
 pub fn answers_follow()
     ensures { AnswersFollow }
 {}
 
-/// A command is judged over the rows as over the history, and changes the same.
+/// The verdict on a command, and its changes, are the same from the rows as from the history.
 pub fn rows_judge_alike()
     ensures { RowsJudgeAlike }
 {}
 
-/// A redemption leaves its voucher with one redemption more, and its session extended or opened.
+/// A redemption increases the redemptions of its voucher by one, and extends or opens its session.
 pub fn redeem_gives_records()
     ensures { RedeemGivesRecords }
 {}
@@ -69,27 +106,27 @@ pub fn session_is_row()
     ensures { SessionIsRow }
 {}
 
-/// The last session of a device is the one of its rows that was made last.
+/// The last session of a device is the last of its rows.
 #[tactic(auto, using(crate::proofs::Sessions::last_session_is_row))]
 pub fn last_session_is_row()
     ensures { LastSessionIsRow }
 {}
 
-/// One of the codes was issued exactly where one of them stands in the rows of the vouchers.
+/// One of the codes was issued exactly if one of them is in the rows of the vouchers.
 #[tactic(auto, using(crate::proofs::Vouchers::issued_codes_are_rows))]
 pub fn issued_codes_are_rows()
     ensures { IssuedCodesAreRows }
 {}
 
-// Plans that answer for a file
+// The loaded plans that a load reads
 
-/// The rows that have the listed ids answer for these ids what all rows answer.
+/// To look up the listed ids, the rows with these ids give the same plans as all rows.
 #[tactic(auto, using(crate::proofs::Held::held_plans_suffice))]
 pub fn held_plans_suffice()
     ensures { HeldPlansSuffice }
 {}
 
-/// Over plans that answer for the listed ids, a file has the verdict of the history, and changes the same.
+/// Plans that agree with the rows on the listed ids give a load the verdict and the changes of the history.
 pub fn held_plans_decide_load()
     ensures { HeldPlansDecideLoad }
 {}
@@ -102,7 +139,7 @@ pub fn sessions_are_rows()
     ensures { SessionsAreRows }
 {}
 
-/// The codes of a batch are those of its rows, in their places from 0, and the batch has their number.
+/// The codes of a batch are those of its rows, at places from 0, and the batch has their number.
 #[tactic(auto, using(crate::proofs::Listings::codes_are_rows))]
 pub fn codes_are_rows()
     ensures { CodesAreRows }
@@ -122,20 +159,20 @@ pub fn refunds_are_rows()
 
 // Counters
 
-/// The redemptions of a code are its rows among the grants.
+/// The redemptions of a code are its rows in `portal_grants`.
 #[tactic(auto, using(crate::proofs::Counts::uses_are_rows))]
 pub fn uses_are_rows()
     ensures { UsesAreRows }
 {}
 
-/// The count of each voucher is the number of its rows among the grants.
+/// The count of each voucher is the number of its rows in `portal_grants`.
 #[tactic(auto, using(crate::proofs::Sessions::counts_are_sums))]
 pub fn counts_are_sums()
     ensures { CountsAreSums }
 {}
 
-/// The end of each session and what remains of it are the sums over its rows among the grants, less what
-/// was used.
+/// The end of each session and what remains of it follow from the sums over its rows in `portal_grants`,
+/// less its used bytes.
 #[tactic(auto, using(crate::proofs::Sessions::totals_are_sums))]
 pub fn totals_are_sums()
     ensures { TotalsAreSums }
@@ -143,13 +180,14 @@ pub fn totals_are_sums()
 
 // Keys
 
-/// In no table a key stands twice.
+/// No table has two rows with the same key.
 #[tactic(auto, using(crate::proofs::Numbers::keys_apart))]
 pub fn keys_are_unique()
     ensures { KeysAreUnique }
 {}
 
-/// Sessions and grants are numbered from 1 without a gap, and the head has the numbers of their rows.
+/// Sessions and redemptions are numbered from 1 without a gap, and the head row has the numbers of their
+/// rows.
 #[tactic(auto, using(crate::proofs::Numbers::rows_are_numbered))]
 pub fn rows_are_numbered()
     ensures { RowsAreNumbered }
@@ -157,13 +195,14 @@ pub fn rows_are_numbered()
 
 // Vouchers
 
-/// No voucher is redeemed beyond its uses.
+/// No voucher is redeemed more often than its plan allows.
 #[tactic(auto, using(crate::proofs::Uses::uses_bounded))]
 pub fn uses_are_bounded()
     ensures { UsesAreBounded }
 {}
 
-/// In the rows no voucher has more grants than its plan has uses, and a code with no voucher has none.
+/// In the rows, no voucher has more redemptions than its plan allows, and a code without a voucher has
+/// none.
 #[tactic(auto, using(crate::proofs::Granted::grants_bounded))]
 pub fn grants_are_bounded()
     ensures { GrantsAreBounded }
@@ -201,19 +240,19 @@ pub fn remains_is_bounded()
     ensures { RemainsIsBounded }
 {}
 
-/// What a device and the gateway are told remains is at least 1.
+/// The remaining seconds and bytes that a device or the gateway gets are at least 1.
 pub fn remainder_is_positive()
     ensures guest { GuestsSeeRemainder }
     ensures gateway { GatewaySeesRemainder }
 {}
 
-/// A session that is open at the effective moment is the last one of its device.
+/// A session that is open at the effective time is the last one of its device.
 #[tactic(auto, using(crate::proofs::Opens::open_is_last))]
 pub fn open_is_last()
     ensures { OpenIsLast }
 {}
 
-/// At the effective moment at most one session of a device is open.
+/// At the effective time at most one session of a device is open.
 #[tactic(auto, using(crate::proofs::Opens::one_session_is_open))]
 pub fn one_session_is_open()
     ensures { OneSessionIsOpen }
@@ -225,15 +264,15 @@ pub fn session_is_closed_once()
     ensures { SessionIsClosedOnce }
 {}
 
-// What the rows hold
+// Values in the rows
 
-/// In every row ids are id texts, codes are codes and devices are devices.
+/// In every row, ids are id texts, codes are codes and devices are devices.
 #[tactic(auto, using(crate::proofs::Typed::rows_are_typed))]
 pub fn rows_are_typed()
     ensures { RowsAreTyped }
 {}
 
-/// In every row moments and numbers are within their limits.
+/// In every row, times and numbers are within their limits.
 #[tactic(auto, using(crate::proofs::Within::rows_are_within_limits))]
 pub fn rows_are_within_limits()
     ensures { RowsAreWithinLimits }

@@ -26,13 +26,13 @@ module _ {D : Type 0} {g : Ghosts D} (L : Ledger) (old : Held (FileStore D g)) (
   closed_whole files copied image may =
       let held = copied.left image may in (held_shows image held.both, held_shows (record image { log = [] }) held.alone)
 
--- a store that was not closed leaves no more than its connection did
+-- the crash states of a database that was not closed are crash states of its connection
 pub unclosed_leaves : {D : Type 0} {g : Ghosts D} (old : Held (FileStore D g)) (last : FileStore D g) → IsQuiet view faults recovers is_shielded old.store last
     → (tables : Tables) → IsCrashStateOfStore last tables → IsCrashStateOfConn over_files old tables
 unfolding Tables IsCrashStateOfStore IsCrashStateOfConn
 unclosed_leaves old last quiet tables may = quiet.outcomes tables may
 
--- what closing the files of a connection leads to, once it is known of either result
+-- what closing the files of a connection leads to, from what is known of either result
 module _ {T E : Type 0} where
   pub if_ok : (result : Result T E) (P Q : T → Type 0) → ((x : T) → P x → Q x) → IfOk result P → IfOk result Q
   if_ok (Ok x) P Q leads is = leads x is

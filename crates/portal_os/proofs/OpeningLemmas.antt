@@ -7,7 +7,7 @@ use Rattle.sqlite_trees.specs.Tree.{Trees}
 use Rattle.portal_tables.specs.TablesRepresent.{ConnIsFaultFree}
 
 module _ {D : Type 0} {g : Ghosts D} (conn : Held (FileStore D g)) where
-  -- where the connection is honest, its disk is clean
+  -- if the connection has been fault-free, its disk is clean
   pub clean_by : ConnIsFaultFree over_files conn → HasCleanDisk (file_state conn)
   unfolding ConnIsFaultFree
   clean_by honest = honest

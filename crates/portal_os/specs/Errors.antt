@@ -1,4 +1,4 @@
--- What a fault of a file is called.
+-- The program's error for each error of a file or of a database.
 use Rattle.std.specs.declared.io.ErrorKind.{ErrorKind}
 use Rattle.std.specs.declared.io.ErrorKind.TheVariants as kind
 use Rattle.sqlite.specs.declared.error.Error.{Error}
@@ -14,29 +14,29 @@ use Rattle.portal_exit.specs.declared.error.ProgramError.TheVariants as said
 use Rattle.portal_tables.specs.declared.errors.OpenFault.{OpenFault}
 use Rattle.portal_tables.specs.declared.errors.OpenFault.TheVariants.{NotOurs, Newer, Memory, Store}
 
--- want of memory, or the file
+-- Out of memory, or the file.
 abbrev pub error_of_file : ErrorKind → ProgramError
 error_of_file kind.OutOfMemory = said.NoMemory
 error_of_file _ = said.File
 
--- the same of a database file
+-- The same for a database file.
 abbrev pub error_of_store : Error → ProgramError
 error_of_store (SqliteFailure code.OutOfMemory) = said.NoMemory
 error_of_store _ = said.File
 
--- the same of a file and its log that could not be had
+-- The same for a file and its log that could not be opened or locked.
 abbrev pub error_of_path : OpenError → ProgramError
 error_of_path path.OutOfMemory = said.NoMemory
 error_of_path (path.Io error) = error_of_file (error_kind error)
 error_of_path _ = said.File
 
--- the same of a database file that was not opened
+-- The same for a database file that was not opened.
 abbrev pub error_of_unopened : Unopened → ProgramError
 error_of_unopened (unopened.Path error) = error_of_path error
 error_of_unopened (unopened.Store error) = error_of_store error
 error_of_unopened unopened.Lost = said.File
 
--- a store that was not taken over
+-- A database that could not be attached.
 abbrev pub error_of_open : OpenFault → ProgramError
 error_of_open NotOurs = said.NotOurs
 error_of_open Newer = said.Newer

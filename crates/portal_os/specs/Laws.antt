@@ -1,4 +1,4 @@
--- A store in memory returns what was written to it.
+-- A database in memory is fault-free.
 use Rattle.sqlite.specs.Held.{Held}
 use Rattle.sqlite.specs.Steps.{over_memory}
 use Rattle.sqlite.proofs.Callers.{memory_is_clean}

@@ -1,4 +1,4 @@
--- What is looked at before a database file is opened, what an open leads to, and what a close leaves.
+-- What is inspected before a database file is opened, what opening it leads to, and what a close leaves.
 use Rattle.std.specs.Prelude.{◌≡◌, ◌⊎◌, ◌↔◌, ℕ, ◌<◌, List, [], length, Bool, IsTrue, Result, IfOk}
 use Rattle.sqlite_disk.specs.declared.Disk.{Ghosts}
 use Rattle.sqlite_disk.specs.declared.Files.{Files as Pair}
@@ -27,25 +27,25 @@ use Rattle.portal_desk_store.specs.DeskRepresents.{DeskRepresents, DeskIsFaultFr
 use Rattle.portal_os.specs.declared.unopened.Unopened.{Unopened}
 use Rattle.portal_os.specs.Errors.{error_of_open, error_of_unopened}
 
--- frames of a log with pages of this size are committed: the first are valid, and the last of those commits
+-- Frames of a log with pages of this size are committed: the first are valid, and the last of those commits.
 abbrev pub AreCommitted : ℕ → List ℕ → Type 0
 AreCommitted size log = (frames : ℕ) × (0 < frames) × IsCommitted size log frames
 
--- the log has a commit
+-- The log holds a commit.
 abbrev pub HoldsCommits : List ℕ → Type 0
 HoldsCommits log = (size : ℕ) × IsPageSize size × AreCommitted size log
 
--- the database file is empty, and its log holds commits
+-- The database file is empty, but its log holds commits.
 abbrev pub IsLost : Image → Type 0
 IsLost image = (length image.db ≡ 0) × HoldsCommits image.log
 
--- The database is new exactly where its file is empty, and it was not lost.
+-- The database is new exactly if its file is empty, and it is not lost.
 abbrev pub IsFoundNew : Image → Bool → Type 0
 IsFoundNew image is_new = (IsTrue is_new ↔ (length image.db ≡ 0)) × ¬ IsLost image
 
 module _ {D : Type 0} (g : Ghosts D) where
-  -- Two files show the ledger, and so does the database file with no log beside it, whatever a stop at this
-  -- moment leaves.
+  -- In every crash state at this moment the two files hold the ledger, and so does the database file with an
+  -- empty log.
   abbrev pub AreWhole : Pair D → Ledger → Type 0
   AreWhole files L =
       (image : Image) → outcomes g files.log files.db image
@@ -53,17 +53,17 @@ module _ {D : Type 0} (g : Ghosts D) where
 
 -- ---- what an open leads to
 
--- The fault of a store that was not taken over has a cause: what stands there, or want of memory, or a fault
--- of the store. The last two alone are told of a store that shows a ledger. This holds as long as the disk
--- returned what was written, up to the connection that is left.
+-- A database was not attached: the error has a cause in the database, or is out of memory or a fault of the
+-- database. Only the last two are given for a database that holds a ledger. This holds as long as the
+-- connection that is left has been fault-free.
 abbrev pub RefusesStore : {S : Type 0} → (g : stores.Ghosts S) → Held S → ProgramError → Type 0
 RefusesStore g conn error =
     (cause : OpenFault) × (error ≡ error_of_open cause) × (left : Held _)
     × (ConnIsFaultFree g left → ConnIsFaultFree g conn × IsCause g conn cause × ((L : Ledger) → ConnRepresents g conn L → (cause ≡ Memory) ⊎ (cause ≡ Store)))
 
 module _ {D : Type 0} (g : Ghosts D) where
-  -- Two files that held this were not opened, or their store was not taken over; the fault is what that is
-  -- called. One that shows a ledger is never called foreign or newer.
+  -- Two files that held this image were not opened, or their database was not attached; the error is the one
+  -- that belongs to that. A database that holds a ledger is never called foreign or newer.
   abbrev pub RefusesFiles : Image → ProgramError → Type 0
   RefusesFiles image error =
       ((unopened : Unopened) × (error ≡ error_of_unopened unopened))
@@ -72,28 +72,28 @@ module _ {D : Type 0} (g : Ghosts D) where
       × ((L : Ledger) → ImageHoldsLedger image L → (cause ≡ Memory) ⊎ (cause ≡ Store))))
 
 module _ {D : Type 0} {g : Ghosts D} where
-  -- The files of a connection were closed, with which its log was copied into the database file, and opened
+  -- The files of a connection were closed, so that its log was copied into the database file, and opened
   -- again.
   abbrev pub IsReopened : Held (FileStore D g) → Held (FileStore D g) → Type 0
   IsReopened first again = (closed : Pair D) × IsCopied first closed × Finds closed again
 
-  -- A connection over two files that held this: it finds all tables that they held, ours and those of others.
-  -- Where the log was to be copied, they were opened, closed and opened again.
+  -- A connection to two files that held this image: it finds all tables that they held, ours and those of
+  -- others. If the log was to be copied, they were opened, closed and opened again.
   abbrev pub ComesFrom : Image → Bool → Held (FileStore D g) → Type 0
   ComesFrom image copies conn =
       FindsIn image (file_state conn)
       × (IsTrue copies → (first : Held (FileStore D g)) × FindsIn image (file_state first) × IsReopened first conn)
 
-  -- Two files that held this were opened, as long as the disk of the connection is clean: it stands at the
-  -- ledger that they show; the database is new where it is said so; and the connection finds all tables that
-  -- they held.
+  -- Two files that held this image were opened. As long as the disk of the connection is clean: it represents
+  -- the ledger that they hold; the flag says whether the database is new; and the connection finds all tables
+  -- that they held.
   pub record OpensFiles {E : Type 0} (image : Image) (copies : Bool) (result : Result (Held (FileStore D g) × Bool) E) : Type 0 where
     pub opened : (L : Ledger) → ImageHoldsLedger image L → IfOk result (λ opened. HasCleanDisk (file_state opened.0) → ConnRepresents over_files opened.0 L)
     pub found : IfOk result (λ opened. HasCleanDisk (file_state opened.0) → IsFoundNew image opened.1)
     pub from : IfOk result (λ opened. HasCleanDisk (file_state opened.0) → ComesFrom image copies opened.0)
 
-  -- The files of a connection were closed and opened again, where that was asked for, as long as the disk of
-  -- the new connection is clean: so was that of the old one; it stands at the same ledger and finds the same
+  -- The files of a connection were closed and opened again, if that was asked for. As long as the disk of the
+  -- new connection is clean: so was that of the old one; it represents the same ledger, and finds the same
   -- tables.
   pub record OpensAgain {E : Type 0} (conn : Held (FileStore D g)) (copies : Bool) (result : Result (Held (FileStore D g)) E) : Type 0 where
     pub fault_free : IfOk result (λ again. HasCleanDisk (file_state again) → HasCleanDisk (file_state conn))
@@ -101,13 +101,13 @@ module _ {D : Type 0} {g : Ghosts D} where
     pub same : IfOk result (λ again. HasCleanDisk (file_state again) → (file_state again).committed.trees ≡ (file_state conn).committed.trees)
     pub reopened : IfOk result (λ again. HasCleanDisk (file_state again) → IsTrue copies → IsReopened conn again)
 
-  -- the desk took over the store of a connection over two files that show a ledger, with that ledger and with
-  -- the tables of others
+  -- The desk attached the database of a connection to two files that hold a ledger: it represents that
+  -- ledger, and keeps the tables of others.
   abbrev pub AttachesAll : Image → Held (FileStore D g) → StoreDesk (FileStore D g) → Type 0
   AttachesAll image conn desk =
       (L : Ledger) → ImageHoldsLedger image L → ConnRepresents over_files conn L × DeskRepresents over_files desk (running L) × AttachesOthers over_files conn desk.tables
 
-  -- a desk over two files that held this, as long as the disk returned what was written to it
+  -- A desk over two files that held this image, as long as it has been fault-free.
   abbrev pub OpensTo : Image → Bool → StoreDesk (FileStore D g) → Type 0
   OpensTo image copies desk =
       DeskIsFaultFree over_files desk → (conn : Held (FileStore D g)) × ComesFrom image copies conn × AttachesAll image conn desk
@@ -115,16 +115,16 @@ module _ {D : Type 0} {g : Ghosts D} where
 -- ---- what a close leaves
 
 module _ {D : Type 0} {g : Ghosts D} where
-  -- two files hold all tables that the desk's store had committed, ours and those of others, and so does the
-  -- database file with no log beside it, whatever a stop at this moment leaves
+  -- In every crash state at this moment two files hold all tables that the desk's database had committed,
+  -- ours and those of others, and so does the database file with an empty log.
   abbrev pub AreCopied : StoreDesk (FileStore D g) → Pair D → Type 0
   AreCopied desk files = (image : Image) → outcomes g files.log files.db image → HoldsAlone image (file_state desk.tables.conn).committed.trees
 
-  -- the desk was closed: two files hold what it stood at, as long as the disk returned what was written to it
+  -- The desk was closed: two files hold what it represented, as long as the disk has been fault-free.
   abbrev pub IsClosed : StoreDesk (FileStore D g) → Type 0
   IsClosed desk =
       (files : Pair D) × (AreClean g files.log files.db → AreCopied desk files × ((L : Ledger) → DeskRepresents over_files desk (running L) → AreWhole g files L))
 
-  -- it was not closed: a stop leaves of its store what it might leave of the desk
+  -- The desk was not closed: the crash states of its files are crash states of the desk.
   abbrev pub IsUnclosed : StoreDesk (FileStore D g) → Type 0
   IsUnclosed desk = (store : FileStore D g) × ((tables : Tables) → IsCrashStateOfStore store tables → IsCrashStateOfDesk over_files desk tables)

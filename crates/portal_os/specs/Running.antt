@@ -1,4 +1,4 @@
--- What is supposed of the machine: its files, and its loopback address.
+-- What is assumed of the machine: its files, and its loopback address.
 use Rattle.std.specs.Prelude.{⊤}
 use Rattle.std.specs.declared.io.Read.{Ghosts as ReadOf}
 use Rattle.std.specs.declared.io.Write.{Ghosts as WriteOf}
@@ -14,8 +14,8 @@ use Rattle.portal_commands.specs.Places.{IsFileError, PlaceValue}
 use Rattle.portal_commands.specs.Serving.{NetworkValue}
 use Rattle.portal_os.specs.Opening.{IsClosed, IsFoundNew, IsUnclosed, OpensTo, RefusesFiles}
 
--- Files that hold this image, and their desks. No more is supposed of a file with settings, of which any
--- bytes may be read, and nothing of why it is not read.
+-- Files that hold this image, and the desks over them. Nothing more is assumed of a settings file: any bytes
+-- may be read, and a read may fail with any error.
 abbrev pub host_place : {D : Type 0} (g : Ghosts D) → Image → DeskOf (StoreDesk (FileStore D g)) → PlaceValue
 host_place g image desk = record {
   Desk = _;
@@ -36,6 +36,6 @@ host_place g image desk = record {
   fails_to_make = IsFileError;
 }
 
--- the hosts at the ports of the loopback address, any of which may be had
+-- The hosts at the ports of the loopback address, any of which may be bound.
 abbrev pub host_network : {H Reader Writer : Type 0} → HostOf H Reader Writer → ReadOf Reader → WriteOf Writer → NetworkValue
 host_network host reader writer = record { host = host_of host reader writer; listens = λ port bound. ⊤ }

@@ -1,4 +1,4 @@
-//! A desk over files is closed.
+//! Closes the desk over a database file.
 ghost use Rattle.std.specs.Prelude.{IfErr, IfOk};
 ghost use Rattle.sqlite_wal.specs.Reads.{AreClean};
 ghost use Rattle.sqlite.specs.Files.{over_files};
@@ -13,9 +13,9 @@ use portal_desk_store::StoreDesk;
 use sqlite::{Error, FileStore};
 use sqlite_disk::{Disk, Files};
 
-/// Closes the files of a desk: what the log holds is copied into the database file. All tables of the desk's
-/// store, ours and those of others, stand in the two files then as they were committed, and in the database
-/// file with no log beside it. Where that fails, a stop leaves what it might leave of the desk.
+/// Closes a desk and its files: the log is copied into the database file. Then all tables of the database,
+/// ours and those of others, are in the two files as they were committed, and in the database file alone.
+/// Err: the close failed, and the crash states of the files are crash states of the desk.
 pub fn close_desk<D: Disk + Drop>(
     desk: StoreDesk<FileStore<D>>,
 ) -> Result<Files<D>, (Error, FileStore<D>)>

@@ -1,4 +1,4 @@
-//! What a fault of a file is called.
+//! The program's error for each error of a file or of a database.
 ghost use Rattle.std.specs.Prelude.{◌≡◌};
 ghost use Rattle.portal_os.specs.Errors.{error_of_file, error_of_open, error_of_path, error_of_store};
 
@@ -8,7 +8,7 @@ use sqlite::{Error, ErrorCode};
 use sqlite_std_file::OpenError;
 use std::io::ErrorKind;
 
-/// The fault of a file that could not be read: `no_memory` where there was none, else `file`.
+/// Converts the error of a file that could not be read: `no_memory` if out of memory, else `file`.
 pub fn error_of_file(kind: ErrorKind) -> ProgramError
     ensures { result ≡ error_of_file kind }
 {
@@ -18,8 +18,8 @@ pub fn error_of_file(kind: ErrorKind) -> ProgramError
     }
 }
 
-/// The fault of a database file that could not be opened: `no_memory` where there was none, else `file`, also
-/// where another process holds it.
+/// Converts the error of a database file that could not be opened: `no_memory` if out of memory, else `file`,
+/// also if another process has locked it.
 pub fn error_of_store(error: &Error) -> ProgramError
     ensures { result ≡ error_of_store error.now }
 {
@@ -29,8 +29,8 @@ pub fn error_of_store(error: &Error) -> ProgramError
     }
 }
 
-/// The fault of a database file and its log that could not be had: `no_memory` where there was none, else
-/// `file`.
+/// Converts the error of a database file and its log that could not be opened or locked: `no_memory` if out
+/// of memory, else `file`.
 pub fn error_of_path(error: &OpenError) -> ProgramError
     ensures { result ≡ error_of_path error.now }
 {
@@ -41,7 +41,7 @@ pub fn error_of_path(error: &OpenError) -> ProgramError
     }
 }
 
-/// The fault of a store that could not be taken over.
+/// Converts the error of a database that could not be attached: `not_ours`, `newer`, `no_memory` or `file`.
 pub fn error_of_open(fault: OpenFault) -> ProgramError
     ensures { result ≡ error_of_open fault }
 {

@@ -27,15 +27,15 @@ use std::alloc::Global;
 use std::fmt::Display;
 use std::fs;
 
-/// The files of the machine. `start` is what is supposed of the disk: how a stop may leave what was written
-/// to it.
+/// The files of the machine. `start` is the assumption about the disk: what a crash may leave of the bytes
+/// that were written to it.
 #[derive(Drop)]
 pub struct HostFiles<'h, S: Start> {
     pub host: &'h HostRuntime,
     pub start: S,
 }
 
-/// What is told of the file at a path: the fault, and of `file` what the system says.
+/// Makes the trouble of the file at a path: the error, and for `file` the system's message.
 fn trouble_at<T: Display>(alloc: Global, path: &str, error: ProgramError, why: &T) -> Trouble
     ensures error { result.error ≡ error }
     ensures at { NamesPath path.now result }

@@ -1,5 +1,5 @@
-//! The machine's files, as the place that the program opens: settings files are read, and a desk is opened
-//! over a database file or over an empty store in memory.
+//! The program on the machine: its files as the place of the program, and its loopback address as the
+//! network. A desk is opened over a database file or over an empty database in memory.
 #![tactic(auto)]
 
 mod closing;

@@ -1,4 +1,4 @@
-//! What is looked at in a database file and its log before they are opened. Nothing is written.
+//! Inspects a database file and its log before they are opened. Nothing is written.
 ghost use Rattle.std.specs.Prelude.{◌≡◌, ◌↔◌, length, IsTrue, IfOk};
 ghost use Rattle.sqlite_wal.specs.Reads.{AreClean, IsClean, OnlyReads};
 ghost use Rattle.sqlite.specs.Files.{image_of};
@@ -11,7 +11,7 @@ use sqlite_wal::{Error, PageSize, probe_frames, probe_page_size};
 use std::alloc::Global;
 use std::io;
 
-/// Whether a file is empty.
+/// Checks whether a file is empty.
 fn is_empty<D: Disk>(file: &mut D) -> io::Result<bool>
     requires { IsTrue (D.Disk.is_usable file.old) }
     ensures value { IfOk result (λ empty.
@@ -22,7 +22,7 @@ fn is_empty<D: Disk>(file: &mut D) -> io::Result<bool>
     Ok(len == 0)
 }
 
-/// Whether recovery takes frames of a log of pages of this size.
+/// Checks whether a log has frames that recovery would take, for pages of this size.
 fn has_valid_frames<D: Disk>(alloc: Global, log: &mut D, size: PageSize) -> Result<bool, Error>
     requires { IsTrue (D.Disk.is_usable log.old) }
     ensures value { IfOk result (λ takes.
@@ -33,7 +33,7 @@ fn has_valid_frames<D: Disk>(alloc: Global, log: &mut D, size: PageSize) -> Resu
     Ok(!frames.is_empty())
 }
 
-/// Whether the log of a database file holds commits.
+/// Checks whether the log of a database file holds commits.
 fn holds_commits<D: Disk>(alloc: Global, files: &mut Files<D>) -> Result<bool, Error>
     requires log { IsTrue (D.Disk.is_usable files.old.log) }
     requires db { IsTrue (D.Disk.is_usable files.old.db) }
@@ -52,8 +52,8 @@ fn holds_commits<D: Disk>(alloc: Global, files: &mut Files<D>) -> Result<bool, E
     }
 }
 
-/// Whether the database has yet to be made: its file is empty. `Lost`, where its log holds commits all the
-/// same.
+/// Checks whether the database has yet to be made: its file is empty. Error: `Lost`, if the file is empty but
+/// its log holds commits.
 pub fn is_database_new<D: Disk>(alloc: Global, files: &mut Files<D>) -> Result<bool, Unopened>
     requires log { IsTrue (D.Disk.is_usable files.old.log) }
     requires db { IsTrue (D.Disk.is_usable files.old.db) }

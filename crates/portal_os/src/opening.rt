@@ -1,4 +1,4 @@
-//! Desks over stores that are opened.
+//! Opens database files, and attaches desks to them.
 ghost use Rattle.std.specs.Prelude.{◌≡◌, [], true, false, IsTrue, IfErr, IfOk};
 ghost use Rattle.sqlite_std_file.specs.File.{file_is_usable, IsFresh};
 ghost use Rattle.sqlite_wal.specs.Files.{image_at};
@@ -27,9 +27,8 @@ use sqlite_disk::{Disk, Files};
 use std::alloc::Global;
 use std::hash::{BuildHasher, RandomState};
 
-/// The desk over the store of a connection, which is to be outside a transaction. The tables of others keep
-/// their rows. Faults: `NotOurs`, `Newer`, `NoMemory`, and `File` where the store failed; of a store that
-/// shows a ledger the last two alone.
+/// Attaches the database of a connection and returns the desk over it, which represents the same ledger.
+/// Errors: `NotOurs`, `Newer`, `NoMemory`, `File`.
 pub fn attach_store<S: Alter + Drop>(
     conn: Connection<S>,
     settings: Settings,
@@ -49,8 +48,8 @@ pub fn attach_store<S: Alter + Drop>(
     }
 }
 
-/// The desk over a new store in memory, at which nothing was accepted. Faults: `NoMemory`, and `File` where
-/// the store failed.
+/// Attaches a new database in memory and returns the desk over it, with an empty ledger. Errors: `NoMemory`;
+/// `File`, if the database failed.
 pub fn attach_memory(
     conn: Connection<MemStore>,
     settings: Settings,
@@ -66,7 +65,7 @@ pub fn attach_memory(
     }
 }
 
-/// A desk over an empty store in memory. Faults: those of `attach_memory`.
+/// Opens a desk over an empty database in memory. Errors: those of `attach_memory`.
 pub fn open_memory_desk(
     alloc: Global,
     settings: Settings,
@@ -81,8 +80,8 @@ pub fn open_memory_desk(
     }
 }
 
-/// Where it `copies`, closes the files of a connection and opens them again: what their log held stands in
-/// the database file then.
+/// If `copies` is true, closes the files of a connection and opens them again, so that the log is copied into
+/// the database file. Else returns the connection as it is.
 fn copy_log<D: Disk + Drop>(
     alloc: Global,
     conn: Connection<FileStore<D>>,
@@ -103,9 +102,9 @@ fn copy_log<D: Disk + Drop>(
     }
 }
 
-/// Opens a database file and its log, and says whether the database is new. Where it `copies`, what the log
-/// holds stands in the file then. A log that holds commits beside an empty file is `Lost`: it is never taken
-/// for a new database.
+/// Opens a connection to a database file and its log, and returns whether the database is new. If `copies` is
+/// true, the log is then copied into the file. Error: `Lost`, if the file is empty but its log holds commits:
+/// it is never taken for a new database.
 pub fn open_database_files<D: Disk + Drop>(
     alloc: Global,
     mut files: Files<D>,
@@ -121,7 +120,7 @@ pub fn open_database_files<D: Disk + Drop>(
     Ok((conn, is_new))
 }
 
-/// Opens a database file and its log that were looked at.
+/// Opens a connection to a database file and its log, and copies the log into the file if `copies` is true.
 fn open_connection<D: Disk + Drop>(
     alloc: Global,
     files: Files<D>,
@@ -143,8 +142,8 @@ fn open_connection<D: Disk + Drop>(
     }
 }
 
-/// The database file at a path and its log, which are made where they are missing. They are locked until they
-/// are let go.
+/// Opens and locks the database file at a path and its log, and makes them if they are missing. They stay
+/// locked until they are released.
 fn open_file_pair<S: Start>(
     host: &HostRuntime,
     path: &str,
@@ -164,13 +163,13 @@ fn open_file_pair<S: Start>(
     }
 }
 
-/// A random number for the log.
+/// Makes the options of a connection, with a random number for the log.
 fn random_options(host: &HostRuntime) -> Result<Options, Unopened> {
     let state = RandomState::new(host).map_err(Unopened::of_io)?;
     Ok(Options::new(state.hash_one(&0u8)))
 }
 
-/// The connection to two files, with the machine's clock, and whether the database is new.
+/// Opens a connection to two files, with the machine's clock, and returns whether the database is new.
 fn open_with_clock<D: Disk + Drop>(
     host: &HostRuntime,
     files: Files<D>,
@@ -186,13 +185,13 @@ fn open_with_clock<D: Disk + Drop>(
     Ok((conn, is_new))
 }
 
-/// The connection to a database file, which is made where it is missing, and whether the database is new. It
-/// holds the file's lock until it is let go. It finds all tables that the file and its log held, ours and
-/// those of others. Where it `copies`, the two were opened, closed, so that what the log held was copied into
-/// the file, and opened again.
+/// Opens a connection to the database file at a path, which is made if it is missing, and returns whether the
+/// database is new. The connection finds all tables that the file and its log held, ours and those of others,
+/// and holds the file's lock until it is released. If `copies` is true, the files are opened, closed, so that
+/// the log is copied into the file, and opened again.
 ///
-/// No contract ties a path to what its file holds: `S` stands for that, and where it shows a ledger, the
-/// connection stands at it. A log that holds commits beside an empty file is `Lost`.
+/// No contract ties a path to what its file holds: `S` stands for that. If `S` holds a ledger, the connection
+/// represents it. Error among others: `Lost`, if the file is empty but its log holds commits.
 pub fn open_store<S: Start>(
     host: &HostRuntime,
     path: &str,

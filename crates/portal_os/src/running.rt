@@ -17,9 +17,8 @@ use std::convert::AsStr;
 use std::io::{Read, Write};
 use std::net::TcpStream;
 
-/// Does what the words of the command line ask for over the machine's files and its loopback address, as
-/// `run_program` says, and gives the status with which the program ends. `start` is what is supposed of the
-/// disk.
+/// Runs the program over the machine's files and its loopback address, as `run_program` does, and returns the
+/// exit code. `start` is the assumption about the disk.
 pub fn run_on_host<S: Start, T: AsStr, R: Read, W: Write, E: Write>(
     host: &HostRuntime,
     start: S,

@@ -11,21 +11,21 @@ use std::{fmt, io};
 /// Why a database file was not opened.
 #[derive(Clone, Copy, Debug)]
 pub enum Unopened {
-    /// The file and its log could not be had.
+    /// The file and its log could not be opened or locked.
     Path(OpenError),
-    /// The store over them failed.
+    /// The database in them could not be opened.
     Store(Error),
-    /// The file is empty, and its log holds commits.
+    /// The file is empty, but its log holds commits.
     Lost,
 }
 
 impl Unopened {
-    /// What a call of the system met.
+    /// Converts an error of the operating system.
     pub fn of_io(error: io::Error) -> Unopened {
         Unopened::Path(OpenError::Io(error))
     }
 
-    /// What reading the log met.
+    /// Converts an error of reading the log.
     pub fn of_log(error: sqlite_wal::Error) -> Unopened {
         match error {
             sqlite_wal::Error::Io(error) => Unopened::of_io(error),
@@ -35,7 +35,7 @@ impl Unopened {
         }
     }
 
-    /// The fault that it is called: `no_memory` where there was none, else `file`.
+    /// Converts it into the program's error: `no_memory` if out of memory, else `file`.
     pub fn program_error(&self) -> ProgramError
         ensures { result ≡ error_of_unopened self.now }
     {

@@ -1,4 +1,4 @@
--- What was told of requests that act once is what is held at the end.
+-- What was answered to idempotent requests is what the ledger holds at the end.
 use Rattle.portal_recovery.proofs.Common.{◌≡◌, ◌⊎◌, inl, inr, ℕ, List, [], ◌∷◌, ◌++◌, length, take, Bool, true, false, cond, Option, Some, None, refl, sym, ap, subst, ◌∙◌, Result, Ok, Err, Refusal, Accepted, Ledger, history_of, held_in, kept_with, repeat_of, repeat_in, accepted_at, newly_accepted, SettingsValue, Arrived, is_ok, with_command, Acknowledges, Replies, Leads, IsInDoubt, ServerSession, without_desk, with_desk, IsKeptByExecution}
 use Rattle.std.specs.Bool.{MatchBool}
 use Rattle.portal_model.specs.declared.command.Command.{Command}
@@ -43,7 +43,7 @@ command_stays L (Ok (Takings range)) moment = λ mark k held. held
 command_stays L (Ok OpenSessions) moment = λ mark k held. held
 command_stays L (Err denied) moment = λ mark k held. held
 
--- nothing is held where nothing is answered
+-- nothing is held if nothing is answered
 not_some : {A : Type 0} (x : A) → ◌≡◌ {A = Option A} (Some x) None → ⊥
 not_some x e = cc
 
@@ -103,7 +103,7 @@ module _ (settings : SettingsValue) where
     told_here command checked (inr (inl memory)) = no_refusal NoMemory memory
     told_here command checked (inr (inr over)) = no_refusal Stopped over
 
-  -- ---- a run, and a life
+  -- ---- a run, and an execution
 
   run_told : (L last F : Ledger) (xs : List Arrived) (rs : List (List ℕ)) → Leads settings L xs rs last → Stays last F → AreAsHeld settings F xs rs
   run_told L last F [] [] leads stays = tt

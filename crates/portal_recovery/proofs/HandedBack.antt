@@ -1,4 +1,4 @@
--- What a stop may leave of the files that a connection gave back.
+-- The crash states of the files that a connection released.
 use Rattle.portal_recovery.proofs.Common.{◌≡◌, ◌∙◌, IsTrue, subst, arith, ∥∥₁_map, Ghosts, Image, FileStore, Held, AreDatabases, HasCleanDisk, HoldsDatabase, file_state}
 use Rattle.sqlite_disk.specs.declared.Files.{Files}
 use Rattle.sqlite_wal.specs.Files.{outcomes}
@@ -18,7 +18,7 @@ module _ {D : Type 0} {g : Ghosts D} (conn : Held (FileStore D g)) (last : FileS
   pub clean_disk : AreClean g files.log files.db → HasCleanDisk (file_state conn)
   clean_disk honest = let now = clean_store honest in omega (arith, now, quiet.clean)
 
-  -- each image holds one of the table sets that a stop might leave of the connection
+  -- each image holds the tables of a crash state of the connection
   pub image_holds : (IsClean (view last) → IsTrue (view last).is_numbered) → (IsClean (view last) → AreDatabases (recovers last)) → AreClean g files.log files.db
       → (image : Image) → outcomes g files.log files.db image → ∥ ((db : Trees) × (file_state conn).may_leave db × HoldsDatabase image db) ∥₁
   image_holds numbered sound honest image may =

@@ -1,4 +1,4 @@
--- A whole life over two files keeps what was acknowledged.
+-- An execution over two files keeps the acknowledged commands.
 use Rattle.portal_recovery.proofs.Common.{◌≡◌, ◌⊎◌, inl, inr, ℕ, List, [], ◌∷◌, length, take, refl, sym, subst, ∥∥₁_elim, ∥∥₁_map, Image, Accepted, Ledger, history_of, IsSound, State, MayBeFound, SettingsValue, ImageHoldsLedger, Arrived, Leads, IsInDoubt, ServerSession, without_desk, with_desk, IsKeptByExecution}
 use Rattle.portal_model_laws.proofs.Granted.{grants_bounded}
 use Rattle.portal_ledger.proofs.Ledgers.{the_key_is_held_once, the_sound_is_legal}
@@ -7,13 +7,13 @@ use Rattle.portal_http.proofs.HeadlineLemmas.{Ends, works, halts, doubts, ends}
 use Rattle.portal_recovery.specs.ExecutionsOverFiles.{Execution, ExecutionIsKept, IsFoundAfter}
 use Rattle.portal_recovery.proofs.AnsweredLemmas.{life_told}
 
--- a ledger that two files show is sound
+-- a ledger that two files hold is sound
 pub image_sound : (image : Image) (L : Ledger) → ImageHoldsLedger image L → IsSound L
 image_sound image L (inl (trees, held, shown)) = files_sound trees L shown
 image_sound image L (inr (nothing, none)) = subst IsSound (sym none) tt
 
 module _ (settings : SettingsValue) where
-  -- what one round leaves
+  -- the ledger after one server session
   abbrev Leaves : Ledger → List Arrived → List (List ℕ) → Ledger → Type 0
   Leaves L arrivals responses next =
       (last : Ledger) × Leads settings L (take (length responses) arrivals) responses last

@@ -1,4 +1,4 @@
--- From what each step of a round leaves to what the round does.
+-- From the crash states after each step of a server session to those of the session.
 use Rattle.portal_recovery.proofs.Common.{◌≡◌, ◌∙◌, inl, inr, ℕ, List, ◌++◌, sym, subst, ap, ◌<◌, length, Result, Ok, Err, IsErrAnd, MatchResult, Vec, ∥∥₁_map, Ghosts, Image, FileStore, Held, HasCleanDisk, HoldsDatabase, file_state, over_files, Ledger, State, MayBeFound, running, SettingsValue, ImageHoldsLedger, DeskRepresents, IsCrashStateOfDesk, Arrived, with_desk, ServesInOrder, bytes_of_responses, Refusal}
 use Rattle.std.proofs.lemmas.List.{length-map}
 use Rattle.std.specs.declared.alloc.Global.{Global}
@@ -29,7 +29,7 @@ module _ {D : Type 0} {g : Ghosts D} where
   unfolding Tables IsCrashStateOfConn ImageHolds
   may_leave_by conn image may = may
 
-  -- a connection that was not taken over leaves what showed the ledger
+  -- the crash states of a connection that was not attached hold the ledger
   pub still_leaves : (L : Ledger) (refused : Refused (FileStore D g)) → FailsToAttach over_files L refused → CrashStatesOfConnHold over_files refused.connection L
   still_leaves L refused (inl memory) = conn_leaves over_files refused.connection L memory.1
   still_leaves L refused (inr store) = store.1
@@ -43,7 +43,7 @@ module _ {D : Type 0} {g : Ghosts D} where
   image_left L conn image leaves held =
       ∥∥₁_map held (λ it. let r : ImageHoldsLedger image L = inl (it.0, it.2, leaves_shown L conn it.0 leaves it.1) in r)
 
--- what a stop leaves of a desk shows what its state allows
+-- each crash state of a desk holds a ledger that its state allows
 pub desk_leaves : {S : Type 0} (g : stores.Ghosts S) (desk : StoreDesk S) (s : State) → DeskRepresents g desk s → (tables : Tables) → IsCrashStateOfDesk g desk tables
     → (found : Ledger) × MayBeFound s found × FilesHold tables found
 desk_leaves g desk s at tables may = crash_state_is_allowed g desk.tables s at.0 tables may
@@ -67,7 +67,7 @@ pub answered : {U A : Type 0} (arrivals : List A) (responses : List (Vec ℕ Glo
 answered arrivals responses served is =
     subst (λ (n : ℕ). MatchResult served (λ _. n ≡ length arrivals) (λ _. n < length arrivals)) (sym (length-map responses (λ (r : Vec ℕ Global). r.items))) is
 
--- what a run leaves, from each ledger that the files showed, is what a round allows: what was appended settles the responses
+-- the crash states of a run, from each ledger that the files held, are those that a session allows; the output settles the responses
 module _ (settings : SettingsValue) (before after : Image) (xs : List Arrived) (old new : List (Vec ℕ Global)) where
   abbrev pub RunsFrom : Ledger → Type 0
   RunsFrom L = (s : State) × (responses : List (Vec ℕ Global)) × (new ≡ old ++ responses) × ServesInOrder settings (running L) xs (bytes_of_responses responses) s

@@ -1,9 +1,9 @@
--- A whole life of a desk over two files: rounds, with a stop after each, and each under settings of its own.
--- ∥ A ∥₁ reads: there is one, without saying which.
+-- An execution of a desk over two files: server sessions, with a crash after each, and each under settings of
+-- its own. ∥ A ∥₁ reads: there is one, without saying which.
 --
--- What is found at its end is what was accepted at its beginning, then for each round the commands that were
--- answered 200, in their order, and at most one more; and nothing else. No number of a caller was accepted
--- twice, and each 200 to a request with a number has the one answer that is held under it.
+-- At its end the files hold what was accepted at its beginning, then for each session the commands that were
+-- answered 200, in order, and at most one more; and nothing else. No idempotency key of a caller was accepted
+-- twice, and each 200 to a request with a key has the one answer that is held under it.
 use Rattle.std.specs.Prelude.{◌≡◌, ◌≤◌, ℕ, List, [], ◌∷◌}
 use Rattle.sqlite_wal.specs.Recovery.{Image}
 use Rattle.portal_model.specs.Rows.{rows_of}
@@ -18,23 +18,25 @@ use Rattle.portal_http.specs.Runs.{ServesInOrder}
 use Rattle.portal_http.specs.Executions.{ServerSession, without_desk, with_desk, IsKeptByExecution}
 use Rattle.portal_recovery.specs.AnsweredAsHeld.{AllAsHeld}
 
--- What a round makes of two files, by what they hold before and after. Where no desk came up, they show what
--- they showed. Where one did, it stood at what they showed, it served as a run serves, and they then show
--- what a desk in its last state may stand at.
+-- What a session makes of two files, by what they hold before and after. If no desk was opened, they hold
+-- what they held. If one was, it represented what they held, it served as a run serves, and they then hold a
+-- ledger that its last state allows.
 abbrev pub ImageAllows : Image → ServerSession → Image → Type 0
-ImageAllows before without_desk after = (L : Ledger) → ImageHoldsLedger before L → ∥ ImageHoldsLedger after L ∥₁
+ImageAllows before without_desk after =
+    (L : Ledger) → ImageHoldsLedger before L → ∥ ImageHoldsLedger after L ∥₁
 ImageAllows before (with_desk settings arrivals responses) after = (L : Ledger) → ImageHoldsLedger before L
     → ∥ ((new : State) × ServesInOrder settings (running L) arrivals responses new × (found : Ledger) × MayBeFound new found × ImageHoldsLedger after found) ∥₁
 
--- the rounds one after another, each over the files that the one before left
+-- The sessions one after another, each over the files that the one before left.
 abbrev pub Execution : Image → List ServerSession → Image → Type 0
 Execution first [] last = last ≡ first
-Execution first (server_session ∷ server_sessions) last = (mid : Image) × ImageAllows first server_session mid × Execution mid server_sessions last
+Execution first (server_session ∷ server_sessions) last =
+    (mid : Image) × ImageAllows first server_session mid × Execution mid server_sessions last
 
 -- What is found at the end: it has what was acknowledged, in order, with at most one command more for each
--- round, and nothing else; it is sound, its history is legal, no code in it has more redemptions (grants)
--- than its plan has uses, no number of a caller was accepted twice, and each 200 to a request with a number
--- has the answer that is held under it.
+-- session, and nothing else; it is sound, its history is legal, no code in it has more redemptions (grants)
+-- than its plan has uses, no idempotency key of a caller was accepted twice, and each 200 to a request with a
+-- key has the answer that is held under it.
 pub record IsFoundAfter (L : Ledger) (server_sessions : List ServerSession) (found : Ledger) : Type 0 where
   pub kept : IsKeptByExecution L server_sessions found
   pub sound : IsSound found
@@ -43,7 +45,7 @@ pub record IsFoundAfter (L : Ledger) (server_sessions : List ServerSession) (fou
   pub once : (mark : Fingerprint) → times_under found mark ≤ 1
   pub as_held : AllAsHeld found server_sessions
 
--- whatever the rounds were, the last files show such a ledger
+-- Whatever the sessions were, the last files hold such a ledger.
 abbrev pub ExecutionIsKept : Type 0
 ExecutionIsKept = (first last : Image) (L : Ledger) (server_sessions : List ServerSession) → ImageHoldsLedger first L → Execution first server_sessions last
     → ∥ ((found : Ledger) × ImageHoldsLedger last found × IsFoundAfter L server_sessions found) ∥₁

@@ -1,4 +1,4 @@
-//! A desk comes up over two files, and lets them go.
+//! Opens a desk over two files, and releases the files again.
 ghost use Rattle.std.specs.Prelude.{◌≡◌, IfErr, IfOk, IsTrue, MatchResult};
 ghost use Rattle.sqlite_wal.specs.Reads.{AreClean};
 ghost use Rattle.sqlite.specs.Files.{image_of, over_files};
@@ -6,9 +6,19 @@ ghost use Rattle.portal_ledger.specs.Ledger.{Ledger};
 ghost use Rattle.portal_ledger.specs.States.{State, running};
 ghost use Rattle.portal_tables.specs.Images.{ImageHoldsLedger};
 ghost use Rattle.portal_tables.specs.TablesRepresent.{ConnIsFaultFree, IsCrashStateOfConn};
-ghost use Rattle.portal_desk_store.specs.DeskRepresents.{DeskRepresents, DeskIsFaultFree, IsCrashStateOfDesk, settings_of};
+ghost use Rattle.portal_desk_store.specs.DeskRepresents.{
+  DeskRepresents,
+  DeskIsFaultFree,
+  IsCrashStateOfDesk,
+  settings_of,
+};
 ghost use Rattle.portal_recovery.specs.Sessions.{EachImage, HoldsOneOf, HoldsAllowedLedger};
-ghost use Rattle.portal_recovery.specs.Sessions.{IsFaultFreeFailure, KeepsOthersOf, CrashStatesKeepOthersOf, StillHolds};
+ghost use Rattle.portal_recovery.specs.Sessions.{
+  IsFaultFreeFailure,
+  KeepsOthersOf,
+  CrashStatesKeepOthersOf,
+  StillHolds,
+};
 
 use portal_desk_store::StoreDesk;
 use portal_files::Settings;
@@ -19,16 +29,16 @@ use sqlite::{Connection, Error, FileStore, Leftover, Options};
 use sqlite_disk::{Disk, Files};
 use std::alloc::Global;
 
-/// Why no desk came up, with what is left of the files.
+/// Why no desk was opened, with what is left of the files.
 pub enum FailedOpening<D: Disk> {
     /// The files were not opened.
     Unopened(Error, Leftover<D>),
-    /// They were, and their store was not taken over.
+    /// The files were opened, but the database was not attached.
     Refused(OpenFault, Files<D>),
 }
 
-/// Opens two files, and takes their store over. The desk stands at the ledger that they show; where none came
-/// up, a stop leaves what shows it still. The tables of others keep their rows.
+/// Opens two files and attaches their database. The desk represents the ledger that the files hold. If no
+/// desk is opened, the files still hold the ledger after a crash. The tables of others keep their rows.
 pub fn open_files_as_desk<D: Disk + Drop>(
     alloc: Global,
     files: Files<D>,
@@ -56,8 +66,8 @@ pub fn open_files_as_desk<D: Disk + Drop>(
     }
 }
 
-/// Gives the two files of a connection back, with no further write. Each image that a stop may leave of them
-/// holds tables that it might leave of the connection.
+/// Releases the two files of a connection, with no further write. Each crash state of the files holds tables
+/// of a crash state of the connection.
 pub fn release_conn_files<D: Disk + Drop>(conn: Connection<FileStore<D>>) -> Files<D>
     ensures fault_free { AreClean D.Disk result.log result.db → ConnIsFaultFree over_files conn }
     ensures left { AreClean D.Disk result.log result.db
@@ -67,8 +77,8 @@ pub fn release_conn_files<D: Disk + Drop>(conn: Connection<FileStore<D>>) -> Fil
     store.close()
 }
 
-/// Gives the two files of a desk back, with no further write. Each image that a stop may leave of them holds
-/// tables, ours and those of others, that it might leave of the desk, and shows what the desk's state allows.
+/// Releases the two files of a desk, with no further write. Each crash state of the files holds tables, ours
+/// and those of others, of a crash state of the desk, and holds a ledger that the desk's state allows.
 pub fn release_desk_files<D: Disk + Drop>(desk: StoreDesk<FileStore<D>>) -> Files<D>
     ensures fault_free { AreClean D.Disk result.log result.db → DeskIsFaultFree over_files desk }
     ensures kept { AreClean D.Disk result.log result.db

@@ -1,12 +1,14 @@
-//! The law of a whole life. The function does nothing: its contract is the law, which `specs/Life.antt`
-//! states.
+//! The law of executions across crashes. The function does nothing: its contract is the law, which
+//! `specs/ExecutionsOverFiles.antt` states.
 ghost use Rattle.portal_recovery.specs.ExecutionsOverFiles.{ExecutionIsKept};
 
-/// Over a whole life of rounds over two files, each with settings of its own and ended by a stop, nothing
-/// that was acknowledged is lost. The last files show what was accepted before the first round, then for each
-/// round the commands that were answered 200, in their order, and at most one more. In it no code has more
-/// redemptions than its plan has uses, no number of a caller was accepted twice, and each 200 to a request
-/// with a number has the answer that is held under it.
+/// States the law of executions across crashes: over any number of server sessions over two files, each with
+/// settings of its own and followed by a crash, no acknowledged command is lost.
+///
+/// The last files hold the commands accepted before the first session, then for each session the commands
+/// that were answered 200, in order, and at most one command more. In that ledger no code has more
+/// redemptions than its plan has uses, no idempotency key of a caller was accepted twice, and each 200 to an
+/// idempotent request has the answer that is held under its key.
 pub fn file_execution_is_kept()
     ensures { ExecutionIsKept }
 {}

@@ -1,5 +1,5 @@
-//! Rounds of a desk over two files: they are opened, a desk takes them over, serves, and lets them go. And
-//! their life.
+//! Server sessions over two files: the files are opened, a desk is attached, requests are served, and the
+//! files are released. And executions across crashes: sessions one after another.
 #![tactic(auto)]
 
 mod desks;

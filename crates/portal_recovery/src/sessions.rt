@@ -1,4 +1,4 @@
-//! One round of a desk.
+//! One server session.
 ghost use Rattle.std.specs.Prelude.{◌≡◌, ◌++◌, ℕ, IfErr, IfOk, IsTrue, List};
 ghost use Rattle.std.specs.Prelude.{Vec as Items};
 ghost use Rattle.std.specs.declared.alloc.Global.{Global as Heap};
@@ -9,7 +9,13 @@ ghost use Rattle.portal_ledger.specs.States.{State, running};
 ghost use Rattle.portal_tables.specs.Images.{ImageHoldsLedger};
 ghost use Rattle.portal_desk_store.specs.DeskRepresents.{DeskRepresents, DeskIsFaultFree, settings_of};
 ghost use Rattle.portal_http.specs.Runs.{ServesInOrder, bytes_of_responses};
-ghost use Rattle.portal_recovery.specs.Sessions.{AreAnswered, EachImage, Ends, SessionIsFaultFree, HoldsAllowedLedger};
+ghost use Rattle.portal_recovery.specs.Sessions.{
+  AreAnswered,
+  EachImage,
+  Ends,
+  SessionIsFaultFree,
+  HoldsAllowedLedger,
+};
 
 use crate::desks::{FailedOpening, open_files_as_desk, release_desk_files};
 use portal_desk_store::StoreDesk;
@@ -21,14 +27,14 @@ use sqlite::{FileStore, Options};
 use sqlite_disk::{Disk, Files};
 use std::alloc::Global;
 
-/// Opens two files, takes their store over, serves the requests in order, appends one response for each to
-/// `out`, and lets the files go. Gives them back with the result of the run, which is `NoMemory` where no
-/// response could be made to a request.
+/// Runs one server session: opens two files, attaches their database, serves the requests in order, appends
+/// one response for each to `out`, and releases the files. Returns the files with the result of the run,
+/// which is `NoMemory` if no response could be made to a request.
 ///
-/// Each image that a stop may then leave of the files shows what a round of a life allows, with just the
-/// responses that were handed out; of files that were not opened a stop leaves what `open_files_as_desk` says, and
-/// nothing was handed out. A stop within the round is covered by that: a disk that has stopped fails each
-/// later call and changes no more, so that the round ends with what the stop left.
+/// Each crash state of the files holds a ledger that a session of an execution allows, with exactly the
+/// responses that were handed out. If the files were not opened, their crash states are those of
+/// `open_files_as_desk`, and no response was handed out. This covers a crash within the session: after it the
+/// disk fails each call and changes no more, so the session ends with what the crash left.
 pub fn run_session<D: Disk + Drop>(
     alloc: Global,
     files: Files<D>,
@@ -49,7 +55,7 @@ pub fn run_session<D: Disk + Drop>(
     Ok(serve_and_release(alloc, desk, routes, arrivals, out))
 }
 
-/// Serves the requests and lets the desk go.
+/// Serves the requests in order by a desk, and releases its files.
 fn serve_and_release<D: Disk + Drop>(
     alloc: Global,
     desk: StoreDesk<FileStore<D>>,

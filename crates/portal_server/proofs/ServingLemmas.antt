@@ -58,7 +58,7 @@ serves_more settings count old mid new (xs, rs, few, run) (ys, qs, one, more) =
 pub serves_fewer : (IsRun : List Arrived → List (List ℕ) → Type 0) (few count : ℕ) → few ≤ count → ServesAtMost few IsRun → ServesAtMost count IsRun
 serves_fewer IsRun few count less (xs, rs, bound, run) = (xs, rs, omega arith, run)
 
--- ---- what a stop leaves
+-- ---- what is found after a crash
 
 -- each request of a run is answered
 all_answered : (settings : SettingsValue) (old new : State) (xs : List Arrived) (rs : List (List ℕ)) → Run settings old xs rs new → take (length rs) xs ≡ xs
@@ -70,7 +70,7 @@ all_answered settings old new (x ∷ xs) (r ∷ rs) run = ap (λ (ys : List Arri
 pub run_served : (settings : SettingsValue) (old new : State) (xs : List Arrived) (rs : List (List ℕ)) → Run settings old xs rs new → ServesInOrder settings old xs rs new
 run_served settings old new xs rs run = rw (all_answered settings old new xs rs run) run
 
--- each set of files that a stop may leave shows what the requests and their responses lead to
+-- each crash state holds the ledger that the requests and their responses lead to
 module _ (Files : Type 0) (is_crash_state : Files → Type 0) (holds_ledger : Files → Ledger → Type 0) (settings : SettingsValue) (L : Ledger) (new : State) where
   pub serves_survives : (count : ℕ) → ServesAtMost count (λ xs rs. Run settings (running L) xs rs new)
       → ((files : Files) → is_crash_state files → (found : Ledger) × MayBeFound new found × holds_ledger files found)

@@ -11,41 +11,42 @@ use Rattle.portal_files.specs.SettingsFile.{SettingsValue}
 use Rattle.portal_server.specs.Serving.{PrintsOfConnections}
 use Rattle.portal_server.specs.Turns.{HostValue, TakesTurns}
 
--- the line that tells where the program listens
+-- the line that names the port on which the program listens
 unfoldable pub listening_line : ℕ → List ℕ
 listening_line port = codes "listening 127.0.0.1:" ++ (decimal port ++ codes "\n")
 
--- that line did not go out: there was no memory for it, or it broke off
+-- that line was not written whole: out of memory, or a write failed
 abbrev pub IsLineLost : ProgramError → Option (List ℕ) → Option (List ℕ) → List ℕ → Type 0
 IsLineLost error printed printed_after line =
     ((error ≡ NoMemory) × Keeps printed printed_after)
     ⊎ ((error ≡ Cut) × IsCutOff printed printed_after line)
 
--- What is printed before the end: the line, and then what is said of each connection. At a fault it may be
--- that the line did not go out, and then there was no connection.
+-- What is printed before the end: the line, and then the output for each connection. With an error it may
+-- be that the line was not written whole, and then there was no connection.
 abbrev pub PrintsBefore : ℕ → ℕ → Outlets → Result (Unit {0}) ProgramError → Type 0
 PrintsBefore port count o (Ok done) =
     (said : List (Option ProgramError)) × (length said ≡ count) × PrintsOfConnections said o.errors o.errors_after × Appends o.output o.output_after (listening_line port)
 PrintsBefore port count o (Err error) =
-    (said : List (Option ProgramError)) × (length said ≤ count) × PrintsOfConnections said o.errors o.errors_after
+    (said : List (Option ProgramError)) × (length said ≤ count)
+    × PrintsOfConnections said o.errors o.errors_after
     × (Appends o.output o.output_after (listening_line port) ⊎ ((said ≡ []) × IsLineLost error o.output o.output_after (listening_line port)))
 
--- What is printed in all: that, and the line of the fault at the end.
+-- All that is printed: that, and the line of the error at the end.
 abbrev pub PrintsAll : ℕ → ℕ → Outlets → Result (Unit {0}) ProgramError → Type 0
 PrintsAll port count o (Ok done) = PrintsBefore port count o (Ok done)
 PrintsAll port count o (Err error) =
     (between : Option (List ℕ)) × PrintsBefore port count (record o { errors_after = between }) (Err error) × Prints between o.errors_after (line_of error)
 
--- the status: 0, or that of the fault
+-- the exit code: 0, or that of the error
 abbrev pub exit_code_at : Result (Unit {0}) ProgramError → ℕ
 exit_code_at (Ok done) = 0
 exit_code_at (Err error) = exit_code_of error
 
--- after status 0 the desk works; else the status is 3
+-- after the exit code 0 the desk works; else the exit code is 3
 abbrev pub EndsAt : State → ℕ → Type 0
 EndsAt new status = ((status ≡ 0) × (is_stopped_state new ≡ false)) ⊎ (status ≡ 3)
 
--- turns are taken; or the line did not go out, and nothing comes of it
+-- turns are taken; or the line was not written whole, and nothing more happens
 abbrev pub PrintsTurns : (host : HostValue) → SettingsValue → ℕ → ℕ → Outlets → host.Host → State → Result (Unit {0}) ProgramError → host.Host → State → Type 0
 PrintsTurns host settings port count o before old ended after new =
     TakesTurns host settings count before old ended after new

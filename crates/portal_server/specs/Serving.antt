@@ -1,4 +1,4 @@
--- What serving leaves of a desk, and what is printed as it goes on.
+-- What serving leaves of a desk, and what is printed meanwhile.
 use Rattle.std.specs.Prelude.{◌≡◌, ◌⊎◌, ℕ, ◌≤◌, List, [], ◌∷◌, length, ⊤, Option, Some, None, true, false, Result, Ok, Err}
 use Rattle.std.specs.Io.KnownBytes.{Keeps}
 use Rattle.std.specs.declared.io.ErrorKind.{ErrorKind}
@@ -12,37 +12,39 @@ use Rattle.portal_exit.specs.Errors.{line_of}
 use Rattle.portal_exit.specs.Streams.{Prints}
 use Rattle.portal_http.specs.Arrived.{Arrived}
 
--- At so many connections: so many requests at most were served, where `IsRun` says what a run of such
--- requests with such responses is.
+-- For so many connections: at most so many requests were served. `IsRun` says which requests with which
+-- responses are a run.
 abbrev pub ServesAtMost : ℕ → (List Arrived → List (List ℕ) → Type 0) → Type 0
 ServesAtMost count IsRun = (arrivals : List Arrived) × (responses : List (List ℕ)) × (length arrivals ≤ count) × IsRun arrivals responses
 
--- each of these requests came at that moment, and with that seed
+-- each of these requests arrived at that time and with that seed
 abbrev pub ComeWith : ℕ → List ℕ → List Arrived → Type 0
 ComeWith moment seed [] = ⊤
 ComeWith moment seed (one ∷ more) = (one.moment ≡ moment) × (one.seed ≡ seed) × ComeWith moment seed more
 
--- what is printed of a connection: nothing, or the line of `cut` or of `network`, as far as it goes out
+-- what is printed for a connection: nothing, or the line of `cut` or of `network`, as far as it can be
+-- written
 abbrev pub PrintsOfConnection : Option ProgramError → Option (List ℕ) → Option (List ℕ) → Type 0
 PrintsOfConnection None printed printed_after = Keeps printed printed_after
 PrintsOfConnection (Some error) printed printed_after = ((error ≡ Cut) ⊎ (error ≡ Network)) × Prints printed printed_after (line_of error)
 
--- what is printed of connections, the newest first
+-- what is printed for connections, the newest first
 abbrev pub PrintsOfConnections : List (Option ProgramError) → Option (List ℕ) → Option (List ℕ) → Type 0
 PrintsOfConnections [] printed printed_after = Keeps printed printed_after
 PrintsOfConnections (one ∷ before) printed printed_after =
-    (between : Option (List ℕ)) × PrintsOfConnections before printed between × PrintsOfConnection one between printed_after
+    (between : Option (List ℕ)) × PrintsOfConnections before printed between
+    × PrintsOfConnection one between printed_after
 
--- a fault of the clock or of the source of seeds
+-- an error of the clock or of the source of seeds
 abbrev pub IsHostError : ProgramError → Type 0
 IsHostError error = (error ≡ File) ⊎ (error ≡ NoMemory)
 
--- what a failure of either is told as: want of memory, or the file
+-- `NoMemory` if out of memory, else `File`
 abbrev pub error_of_host : ErrorKind → ProgramError
 error_of_host kind.OutOfMemory = NoMemory
 error_of_host _ = File
 
--- By how it ended: all connections were served and the desk works; or the desk has stopped, or the host
+-- How the loop ended: all connections were served and the desk works; or the desk has stopped, or the host
 -- failed.
 abbrev pub EndsLoop : State → Result (Unit {0}) ProgramError → Type 0
 EndsLoop new (Ok done) = is_stopped_state new ≡ false

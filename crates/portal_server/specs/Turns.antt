@@ -1,4 +1,4 @@
--- What a host gives, and what is made of it: one turn after another.
+-- What a host returns, and what is made of it: one turn after another.
 use Rattle.std.specs.Prelude.{◌≡◌, ◌⊎◌, ℕ, ◌≤◌, ◌/◌, zero, suc, min, Bool, true, false, List, Option, Some, None, Result, Ok, Err}
 use Rattle.std.specs.IoError.{error_kind}
 use Rattle.std.specs.declared.io.Error.{Error}
@@ -19,15 +19,16 @@ use Rattle.portal_http.specs.Exchanges.{Wire, between, EndsExchange}
 use Rattle.portal_http.specs.Runs.{ServesInOrder}
 use Rattle.portal_server.specs.declared.host.Host.{Ghosts as HostOf}
 
--- the moment that a clock says: its whole seconds, or the greatest where they are past it; 0 where it is set
--- before 1970
+-- The time for a result of the clock: its whole seconds, or the greatest time if they are past it; 0 if the
+-- clock is set before 1970.
 abbrev pub IsMomentOf : Result Duration Error → ℕ → Type 0
 IsMomentOf (Ok since) moment = moment ≡ min (as_nanos since / 1000000000) 253370764799
 IsMomentOf (Err io_error) moment = (error_kind io_error ≡ InvalidData) × (moment ≡ 0)
 
--- What is supposed of a host: from what it was to what it is then, which peer it accepted, or that one broke
--- before; which moment its clock said and which seed was drawn; which connection it ended, and that it waited
--- a second. And what is known of the bytes that a peer has left to send, and was sent.
+-- The assumptions about a host. From the host before a call to the host after it: which connection it
+-- accepted, or that one failed before; which time its clock gave and which seed was drawn; which connection
+-- it closed; and that it waited a second. Also what is known of the bytes that a peer has still to send,
+-- and of those that were sent to it.
 pub record HostValue : Type 1 where
   pub Host : Type 0
   pub Reader : Type 0
@@ -39,7 +40,7 @@ pub record HostValue : Type 1 where
   pub unread : Reader → Option (List ℕ)
   pub sent : Writer → Option (List ℕ)
 
--- that of a host, and of what its peers send and are sent
+-- that of a host, of the bytes that its peers send, and of those that are sent to them
 abbrev pub host_of : {Host Reader Writer : Type 0} → HostOf Host Reader Writer → ReadOf Reader → WriteOf Writer → HostValue
 host_of host reader writer = record {
   Host = _;
@@ -53,13 +54,13 @@ host_of host reader writer = record {
   sent = writer.contents;
 }
 
--- what a reader has left to give and a writer was given, each before a call and after it
+-- what a reader has still to give and a writer was given, each before a call and after it
 abbrev pub wire_of : {R W : Type 0} → ReadOf R → WriteOf W → R → R → W → W → Wire
 wire_of r w reader reader_after writer writer_after =
     between (r.remaining reader) (r.remaining reader_after) (w.contents writer) (w.contents writer_after)
 
--- A peer that was accepted is met: the clock is read and a seed drawn; then there is one exchange with it, at
--- that moment and with that seed; and then its connection is ended.
+-- A peer that was accepted is served: the clock is read and a seed drawn; then there is one exchange with
+-- it, at that time and with that seed; and then its connection is closed.
 abbrev pub ServesPeer : (host : HostValue) → SettingsValue → host.Host → host.Reader → host.Writer → State → host.Host → State → Type 0
 ServesPeer host settings before reader writer old after new =
     (moment : ℕ) × (seed : List ℕ) × (stamped : host.Host) × (reader_after : host.Reader) × (writer_after : host.Writer) × (ended : Result Done Cut)
@@ -68,20 +69,20 @@ ServesPeer host settings before reader writer old after new =
     moment seed (λ arrivals responses. ServesInOrder settings old arrivals responses new) ended
     × host.closes stamped reader_after writer_after after
 
--- a second is waited where the connection before broke too
+-- a second is waited if the connection before failed too
 abbrev pub Pauses : (host : HostValue) → Bool → host.Host → host.Host → Type 0
 Pauses host true before after = host.pauses before after
 Pauses host false before after = after ≡ before
 
--- One turn, after one whose connection broke or did not: a connection broke before it was accepted, and
--- nothing comes of it but a pause; or a peer is accepted and met. And whether it broke.
+-- One turn, after one whose connection failed or did not: a connection failed before it was accepted, and
+-- only a pause follows; or a peer is accepted and served. And whether it failed.
 abbrev pub IsTurn : (host : HostValue) → SettingsValue → Bool → host.Host → State → host.Host → State → Bool → Type 0
 IsTurn host settings has_failed before old after new fails =
     ((fails ≡ true) × (new ≡ old) × (broken : host.Host) × host.accepts before None broken × Pauses host has_failed broken after)
     ⊎ ((fails ≡ false) × (peer : host.Reader × host.Writer) × (accepted : host.Host) × host.accepts before (Some peer) accepted
     × ServesPeer host settings accepted peer.0 peer.1 old after new)
 
--- so many turns, one after another, and whether the connection of the last one broke
+-- so many turns, one after another, and whether the connection of the last one failed
 abbrev pub Turns : (host : HostValue) → SettingsValue → ℕ → host.Host → State → host.Host → State → Bool → Type 0
 Turns host settings zero before old after new fails = (after ≡ before) × (new ≡ old) × (fails ≡ false)
 Turns host settings (suc more) before old after new fails =
@@ -93,9 +94,10 @@ abbrev pub FailsAt : (host : HostValue) → host.Host → ProgramError → host.
 FailsAt host before error after =
     (peer : host.Reader × host.Writer) × (accepted : host.Host) × host.accepts before (Some peer) accepted × host.stamps accepted (Err error) after
 
--- By how it ended: all turns were taken; or fewer, since the desk has stopped, or the host failed.
+-- How the turns ended: all were taken; or fewer, as the desk has stopped or the host failed.
 abbrev pub TakesTurns : (host : HostValue) → SettingsValue → ℕ → host.Host → State → Result (Unit {0}) ProgramError → host.Host → State → Type 0
 TakesTurns host settings count before old (Ok done) after new = (fails : Bool) × Turns host settings count before old after new fails
 TakesTurns host settings count before old (Err error) after new =
     (few : ℕ) × (last : host.Host) × (fails : Bool) × (few ≤ count) × Turns host settings few before old last new fails
-    × (((error ≡ Refused Stopped) × (is_stopped_state new ≡ true) × (after ≡ last)) ⊎ FailsAt host last error after)
+    × (((error ≡ Refused Stopped) × (is_stopped_state new ≡ true) × (after ≡ last))
+    ⊎ FailsAt host last error after)

@@ -1,4 +1,4 @@
-//! The clock's moment.
+//! Reads the time from a clock.
 ghost use Rattle.std.specs.Prelude.{◌≡◌, ℕ, min, Result, IfOk, IfErr, ⊤};
 ghost use Rattle.std.specs.declared.io.Error.{Error as Why};
 ghost use Rattle.std.specs.declared.time.Duration.{Duration as Since};
@@ -12,15 +12,16 @@ use std::rt::Clock;
 use std::thread;
 use std::time::Duration;
 
-/// A clock, by what it says, and how long it waited. No contract says more of one.
+/// A clock that can be read, and can wait. The ghosts name what it returned; no contract says more about a
+/// clock.
 pub trait WallClock {
-    /// What it says.
+    /// A result of reading the clock.
     ghost says: { Self → Result Since Why → Type 0 };
 
-    /// So many seconds were waited.
+    /// A wait of so many seconds.
     ghost waits: { Self → ℕ → Type 0 };
 
-    /// The time since 1970.
+    /// Reads the time since 1970.
     fn time_since_1970(&self) -> io::Result<Duration>
         ensures { says self.now result };
 
@@ -43,7 +44,7 @@ impl<C: Clock> WallClock for C {
     }
 }
 
-/// The fault of a clock or a source of seeds that failed: want of memory, or `File`.
+/// Returns the error for a clock or a source of seeds that failed: `NoMemory`, or `File`.
 pub fn error_of_host(kind: ErrorKind) -> ProgramError
     ensures kind { result ≡ error_of_host kind }
     ensures host { IsHostError result }
@@ -54,7 +55,7 @@ pub fn error_of_host(kind: ErrorKind) -> ProgramError
     }
 }
 
-/// The moment at so many seconds, or the greatest where they are past it.
+/// Returns the time at so many seconds since 1970, but at most the greatest time.
 fn moment_at(seconds: u64) -> Moment
     ensures { result ≡ min seconds 253370764799 }
 {
@@ -64,9 +65,10 @@ fn moment_at(seconds: u64) -> Moment
     }
 }
 
-/// The moment of the clock in whole UTC seconds: 0 before 1970, and the greatest moment past it.
+/// Reads the time in whole UTC seconds since 1970: 0 before 1970, and at most the greatest time.
 ///
-/// A clock that is set before 1970 answers `InvalidData`. Faults: `File`, and `NoMemory`.
+/// Errors: `File` if the clock fails, `NoMemory`. A clock that is set before 1970 returns `InvalidData`,
+/// which is no error here.
 pub fn moment_now<C: WallClock>(clock: &C) -> Result<Moment, ProgramError>
     ensures why { IfErr result IsHostError }
     ensures moment { IfOk result (λ moment.

@@ -1,11 +1,19 @@
-//! The command `serve`, over a host whose port is bound.
+//! The command `serve`, over a host with a bound port.
 ghost use Rattle.std.specs.Prelude.{◌≡◌, Result, MatchResult, IfOk, string_bytes};
 ghost use Rattle.std.specs.Io.KnownBytes.{Appends};
 ghost use Rattle.portal_exit.specs.declared.error.ProgramError.{ProgramError as Failure};
 ghost use Rattle.portal_exit.specs.Streams.{outlets};
 ghost use Rattle.portal_server.specs.Asks.{KeepsSettings, LeadsDesk, ServesRun, ServesSafely};
 ghost use Rattle.portal_server.specs.Turns.{host_of};
-ghost use Rattle.portal_server.specs.Command.{listening_line, exit_code_at, IsLineLost, PrintsBefore, PrintsAll, PrintsTurns, EndsAt};
+ghost use Rattle.portal_server.specs.Command.{
+  listening_line,
+  exit_code_at,
+  IsLineLost,
+  PrintsBefore,
+  PrintsAll,
+  PrintsTurns,
+  EndsAt,
+};
 
 use crate::host::Host;
 use crate::serving::serve_connections;
@@ -15,14 +23,16 @@ use portal_http_routes::Routes;
 use std::alloc::{AllocError, Global};
 use std::io::Write;
 
-/// The line that tells where the program listens.
+/// Returns the line that names the port on which the program listens. The only error is out of memory.
 fn listening_line(alloc: Global, port: u16) -> Result<String, AllocError>
     ensures { IfOk result (λ line. string_bytes line ≡ listening_line port) }
 {
     format!(in alloc; "listening 127.0.0.1:{port}\n")
 }
 
-/// Prints where the program listens. Faults: `NoMemory`, and `Cut` where the line goes out in part alone.
+/// Prints the address on which the program listens.
+///
+/// Errors: `NoMemory`; `Cut` if the line was not written whole.
 fn announce_port<W: Write>(alloc: Global, port: u16, output: &mut W) -> Result<(), ProgramError>
     ensures { MatchResult result
         (λ _. Appends (W.contents output.old) (W.contents output.new) (listening_line port))
@@ -32,7 +42,9 @@ fn announce_port<W: Write>(alloc: Global, port: u16, output: &mut W) -> Result<(
     print_text(line.as_bytes(), output)
 }
 
-/// Prints where the program listens, and then serves.
+/// Prints the address on which the program listens, and then serves.
+///
+/// Errors: those of `announce_port` and of `serve_connections`.
 fn announce_and_serve<D: Desk, H: Host, W: Write, E: Write>(
     alloc: Global,
     desk: &mut D,
@@ -57,18 +69,17 @@ fn announce_and_serve<D: Desk, H: Host, W: Write, E: Write>(
     serve_connections(alloc, desk, routes, host, count, errors)
 }
 
-/// Serves `count` connections of a host on which `port` was bound, and gives the status with which the
-/// program ends.
+/// Serves `count` connections of a host on which `port` is bound, and returns the exit code of the program.
 ///
-/// `listening 127.0.0.1:` and the port are printed on `output` first. Then one connection after another is
-/// served: its request is carried out at the clock's moment with a fresh seed, as `exchange` says. On
-/// `errors` `portal: cut` is printed of a connection that breaks off, and `portal: network` of one that is
-/// not accepted; from the second of those in a row on, a second is waited after each.
+/// First it prints `listening 127.0.0.1:` and the port on `output`. Then it serves one connection after
+/// another: each request is executed at the time of the clock and with a fresh seed, as `exchange` says. On
+/// `errors` it prints `portal: cut` for a connection that breaks off, and `portal: network` for one that is
+/// not accepted. From the second one in a row that is not accepted on, it waits a second after each.
 ///
-/// Status 0: so many connections were served, and the desk works. Status 3, with the fault's line on
-/// `errors`: the desk has stopped (`portal: stopped`), at once; the clock or the source of seeds failed
-/// (`portal: file`, `portal: no_memory`); or the first line did not go out (`portal: cut`, `portal:
-/// no_memory`).
+/// Exit code 0: `count` connections were served, and the desk has not stopped. Exit code 3, with the line
+/// of the error on `errors`: the desk has stopped (`portal: stopped`), at once; the clock or the source of
+/// seeds failed (`portal: file`, `portal: no_memory`); or the first line was not written (`portal: cut`,
+/// `portal: no_memory`).
 pub fn serve<D: Desk, H: Host, W: Write, E: Write>(
     alloc: Global,
     desk: &mut D,

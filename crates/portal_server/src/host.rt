@@ -1,4 +1,4 @@
-//! What serving needs of the machine that it runs on.
+//! What the server needs of the machine on which it runs.
 ghost use Rattle.std.specs.Prelude.{ℕ, List, Option, Result, IfErr};
 ghost use Rattle.portal_exit.specs.declared.error.ProgramError.{ProgramError as Failure};
 ghost use Rattle.portal_server.specs.Serving.{IsHostError};
@@ -7,38 +7,37 @@ use portal_exit::ProgramError;
 use portal_model::moment::Moment;
 use std::io::{Read, Write};
 
-/// What touches the machine: connections of peers, with each the clock's moment and a fresh seed, and a
-/// pause. The ghosts name what they gave, from what the host was to what it is then; no contract says more of
-/// it.
+/// The connections of peers, the clock, a source of seeds, and a pause. The ghosts name what they returned,
+/// with the host before and after the call; no contract says more about a host.
 pub trait Host {
-    /// What a peer sends.
+    /// The bytes that a peer sends.
     type Reader: Read + Drop;
 
-    /// What a peer is sent.
+    /// The bytes that are sent to a peer.
     type Writer: Write + Drop;
 
-    /// A peer was accepted, or one broke before it was.
+    /// A connection was accepted, or failed before that.
     ghost accepts: { Self → Option (Self.Reader × Self.Writer) → Self → Type 0 };
 
-    /// The clock said a moment and a seed was drawn, or one of them failed.
+    /// The clock gave a time and a seed was drawn, or one of them failed.
     ghost stamps: { Self → Result (ℕ × List ℕ) Failure → Self → Type 0 };
 
-    /// A connection was ended.
+    /// A connection was closed.
     ghost closes: { Self → Self.Reader → Self.Writer → Self → Type 0 };
 
     /// A second was waited.
     ghost pauses: { Self → Self → Type 0 };
 
-    /// Waits for the next connection. None where it broke before it was accepted.
+    /// Waits for the next connection. None if it failed before it was accepted.
     fn accept(&mut self) -> Option<(Self::Reader, Self::Writer)>
         ensures { accepts self.old result self.new };
 
-    /// The clock's moment, and a fresh seed. Faults: `File`, and `NoMemory`.
+    /// Reads the clock and draws a fresh seed. Errors: `File`; `NoMemory`.
     fn moment_and_seed(&mut self) -> Result<(Moment, [u8; 32]), ProgramError>
         ensures why { IfErr result IsHostError }
         ensures stamp { stamps self.old result self.new };
 
-    /// Ends a connection after its exchange.
+    /// Closes a client's connection, whose one exchange is over.
     fn close(&mut self, reader: Self::Reader, writer: Self::Writer)
         ensures { closes self.old reader writer self.new };
 

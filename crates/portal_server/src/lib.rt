@@ -1,4 +1,4 @@
-//! Serving: one connection after another, each with the clock's moment and a fresh seed.
+//! The server: one connection after another, each with the time of the clock and a fresh seed.
 #![tactic(auto)]
 
 mod clock;

@@ -1,4 +1,5 @@
-//! A host that serves the machine itself: a port of its loopback address, its clock and its source of seeds.
+//! The host that serves the machine itself: a port of its loopback address, its clock and its source of
+//! seeds.
 ghost use Rattle.std.specs.Prelude.{◌≡◌, ◌∷◌, [], Result, IfOk, IfErr, ⊤};
 ghost use Rattle.std.specs.declared.io.Error.{Error as Why};
 ghost use Rattle.std.specs.declared.time.Duration.{Duration as Since};
@@ -15,7 +16,7 @@ use portal_model::moment::Moment;
 use std::io::Read;
 use std::net::{Ipv4Addr, Net, Shutdown, SocketAddr, SocketAddrV4, TcpListener, TcpStream};
 
-/// The address that is served: a port of 127.0.0.1, which no other machine reaches.
+/// Returns the address of a port of 127.0.0.1, which no other machine can reach.
 pub fn loopback_address(port: u16) -> SocketAddrV4
     ensures ip { ipv4_octets (v4_ip result) ≡ 127 ∷ 0 ∷ 0 ∷ 1 ∷ [] }
     ensures port { v4_port result ≡ port }
@@ -23,8 +24,9 @@ pub fn loopback_address(port: u16) -> SocketAddrV4
     SocketAddrV4::new(Ipv4Addr::new(127, 0, 0, 1), port)
 }
 
-/// Takes a port of the loopback address; connections wait from then on. Fault: `Network`, where it cannot be
-/// had.
+/// Binds a port of the loopback address; connections wait from then on.
+///
+/// Error: `Network`, if the port cannot be bound.
 pub fn bind_loopback<N: Net<Listener = TcpListener, Stream = TcpStream>>(
     net: &N,
     port: u16,
@@ -43,7 +45,7 @@ pub struct Loopback<'h, H> {
 }
 
 impl<'h, H> Loopback<'h, H> {
-    /// Serves what comes to the listener, by the clock and the source of seeds of the machine.
+    /// Makes a host of a listener and the machine.
     pub fn new(host: &'h H, listener: TcpListener) -> Self
         ensures { result ≡ record { host = host.entry; listener = listener } }
     {
@@ -51,9 +53,10 @@ impl<'h, H> Loopback<'h, H> {
     }
 }
 
-/// Ends the response, and takes what the peer has sent by now and nobody has read: closing over unread bytes
-/// would reset the connection, and the reset can overtake the response (RFC 9112 section 9.6). It waits for
-/// nothing.
+/// Ends the response and reads what the peer has sent by now, without waiting.
+///
+/// Closing a socket with unread bytes would reset the connection, and the reset can reach the peer before
+/// the response (RFC 9112, section 9.6).
 fn drain(mut reader: TcpStream, writer: &TcpStream) {
     if writer.shutdown(Shutdown::Write).is_err() || reader.set_nonblocking(true).is_err() {
         return;

@@ -1,4 +1,4 @@
-//! One peer.
+//! Serves one connection.
 ghost use Rattle.std.specs.Prelude.{Option, Result};
 ghost use Rattle.portal_http.specs.declared.exchanges.Done.{Done as Ended};
 ghost use Rattle.portal_http.specs.declared.exchanges.Cut.{Cut as Broken};
@@ -17,9 +17,9 @@ use portal_model::moment::Moment;
 use std::alloc::Global;
 use std::io::{Read, Write};
 
-/// Has one peer served: at most one request is carried out, as `exchange` says, at this moment and with this
-/// seed. Where the connection broke off, `portal: cut` is printed. The status of the response is of no use
-/// here.
+/// Serves one connection: at most one request is executed, at this time and with this seed.
+///
+/// `exchange` says how. If the connection breaks off, it prints `portal: cut`.
 pub fn serve_peer<D: Desk, R: Read, W: Write, E: Write>(
     alloc: Global,
     desk: &mut D,
@@ -31,7 +31,8 @@ pub fn serve_peer<D: Desk, R: Read, W: Write, E: Write>(
     errors: &mut E,
 )
     ensures settings { KeepsSettings D.Desk desk.old desk.new }
-    ensures says { (said : Option Failure) × PrintsOfConnection said (E.contents errors.old) (E.contents errors.new) }
+    ensures says { (said : Option Failure)
+        × PrintsOfConnection said (E.contents errors.old) (E.contents errors.new) }
     ensures serves { LeadsDesk D.Desk desk.old desk.new (λ old new. ServesAtMost 1 (λ arrivals responses.
         ComeWith moment seed arrivals × Run (D.settings desk.old) old arrivals responses new)) }
     ensures exchanges { LeadsDesk D.Desk desk.old desk.new (λ old new. (ended : Result Ended Broken)

@@ -1,4 +1,4 @@
-//! Fresh seeds.
+//! Draws fresh seeds.
 ghost use Rattle.std.specs.Prelude.{ℕ, List, IfOk, IfErr, ⊤};
 ghost use Rattle.portal_server.specs.Serving.{IsHostError};
 
@@ -9,12 +9,12 @@ use rand::rngs::SysRng;
 use std::io;
 use std::random::RandomSource;
 
-/// A source of random bytes, by what is drawn of it. No contract says more of one.
+/// A source of random bytes. The ghost names what was drawn; no contract says more about a source.
 pub trait SeedSource {
-    /// These bytes were drawn.
+    /// Bytes that were drawn.
     ghost draws: { Self → List ℕ → Type 0 };
 
-    /// Draws a seed.
+    /// Draws a seed of 32 bytes.
     fn draw_seed(&self, seed: &mut [u8; 32]) -> io::Result<()>
         ensures { IfOk result (λ _. draws self.now seed.new) };
 }
@@ -27,7 +27,7 @@ impl<S: RandomSource> SeedSource for S {
     }
 }
 
-/// 32 bytes that are drawn of a source. Faults: `File`, and `NoMemory`.
+/// Draws 32 bytes from a source. Errors: `File` if the source fails; `NoMemory`.
 pub fn fresh_seed<S: SeedSource>(source: &S) -> Result<[u8; 32], ProgramError>
     ensures why { IfErr result IsHostError }
     ensures draws { IfOk result (S.draws source.now) }

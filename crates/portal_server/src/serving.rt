@@ -1,4 +1,4 @@
-//! The loop.
+//! The loop over connections.
 ghost use Rattle.std.specs.Prelude.{◌≡◌, ◌≤◌, ℕ, List, Option, length, IfErr, MatchResult};
 ghost use Rattle.portal_exit.specs.declared.error.ProgramError.{ProgramError as Failure};
 ghost use Rattle.portal_server.specs.Asks.{KeepsSettings, LeadsDesk, ServesRun, ServesSafely};
@@ -14,8 +14,9 @@ use portal_model::refusal::Refusal;
 use std::alloc::Global;
 use std::io::Write;
 
-/// Has one connection served, with the clock's moment and a fresh seed. Faults: those of the host, before
-/// anything is read.
+/// Serves one connection with the time of the clock and a fresh seed, and closes it.
+///
+/// Errors: `File` or `NoMemory` of the host, before anything is read.
 fn serve_connection<D: Desk, H: Host, E: Write>(
     alloc: Global,
     desk: &mut D,
@@ -27,7 +28,8 @@ fn serve_connection<D: Desk, H: Host, E: Write>(
 ) -> Result<(), ProgramError>
     ensures settings { KeepsSettings D.Desk desk.old desk.new }
     ensures err { IfErr result IsHostError }
-    ensures says { (said : Option Failure) × PrintsOfConnection said (E.contents errors.old) (E.contents errors.new) }
+    ensures says { (said : Option Failure)
+        × PrintsOfConnection said (E.contents errors.old) (E.contents errors.new) }
     ensures serves { LeadsDesk D.Desk desk.old desk.new (ServesRun (D.settings desk.old) 1) }
     ensures meets { LeadsDesk D.Desk desk.old desk.new (λ old new. MatchResult result
         (λ _. ServesPeer (host_of H.Host H.Reader.Read H.Writer.Write)
@@ -49,7 +51,7 @@ fn serve_connection<D: Desk, H: Host, E: Write>(
     Ok(())
 }
 
-/// Waits a second where the connection before broke too.
+/// Waits a second if the connection before this one failed too.
 fn pause_if_failed<H: Host>(host: &mut H, has_failed: bool)
     ensures { Pauses (host_of H.Host H.Reader.Read H.Writer.Write) has_failed host.old host.new }
 {
@@ -58,9 +60,10 @@ fn pause_if_failed<H: Host>(host: &mut H, has_failed: bool)
     }
 }
 
-/// Waits for one connection and has it served. True where it broke before it was accepted: `portal: network`
-/// is printed then, and where the one before broke too, as `has_failed` says, a second is waited. Faults:
-/// those of the host.
+/// Waits for one connection and serves it. Returns whether it failed before it was accepted.
+///
+/// In that case it prints `portal: network`, and waits a second if the connection before failed too, as
+/// `has_failed` says. Errors: `File` or `NoMemory` of the host.
 fn accept_and_serve<D: Desk, H: Host, E: Write>(
     alloc: Global,
     desk: &mut D,
@@ -71,7 +74,8 @@ fn accept_and_serve<D: Desk, H: Host, E: Write>(
 ) -> Result<bool, ProgramError>
     ensures settings { KeepsSettings D.Desk desk.old desk.new }
     ensures err { IfErr result IsHostError }
-    ensures says { (said : Option Failure) × PrintsOfConnection said (E.contents errors.old) (E.contents errors.new) }
+    ensures says { (said : Option Failure)
+        × PrintsOfConnection said (E.contents errors.old) (E.contents errors.new) }
     ensures serves { LeadsDesk D.Desk desk.old desk.new (ServesRun (D.settings desk.old) 1) }
     ensures turn { LeadsDesk D.Desk desk.old desk.new (λ old new. MatchResult result
         (λ fails. IsTurn (host_of H.Host H.Reader.Read H.Writer.Write)
@@ -93,15 +97,16 @@ fn accept_and_serve<D: Desk, H: Host, E: Write>(
     }
 }
 
-/// Serves `count` connections of the host, one after the other, each with the clock's moment and a fresh
-/// seed.
+/// Serves `count` connections of the host, one after another.
 ///
-/// Of a connection that breaks off `portal: cut` is printed, of one that is not accepted `portal: network`,
-/// and serving goes on; after the second in a row that is not accepted, and each further one, a second later.
+/// Each gets the time of the clock and a fresh seed. It prints `portal: cut` for a connection that breaks
+/// off and `portal: network` for one that is not accepted, and goes on; after the second one in a row that
+/// is not accepted, and each further one, it waits a second.
 ///
-/// What the desk then stands at is what a run of at most one request for each connection leaves. Faults: the
-/// refusal of a desk that has stopped, at once, before another connection is waited for; and `File` or
-/// `NoMemory`, where the clock or the source of seeds fails.
+/// The desk then represents the state after a run of at most one request for each connection.
+///
+/// Errors: `Refused(Stopped)` if the desk has stopped, at once, before it waits for another connection;
+/// `File` or `NoMemory` if the clock or the source of seeds fails.
 pub fn serve_connections<D: Desk, H: Host, E: Write>(
     alloc: Global,
     desk: &mut D,
@@ -124,7 +129,9 @@ pub fn serve_connections<D: Desk, H: Host, E: Write>(
     accept_loop(alloc, desk, routes, host, count, errors)
 }
 
-/// The connections one after another, as `serve_connections` says.
+/// Serves the connections one after another, as `serve_connections` says.
+///
+/// The contract of `serve_connections` adds the crash states.
 fn accept_loop<D: Desk, H: Host, E: Write>(
     alloc: Global,
     desk: &mut D,

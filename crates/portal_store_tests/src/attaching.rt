@@ -1,4 +1,4 @@
-//! A connection that no desk is made over, and one that is adopted where memory was wanting before.
+//! A connection that cannot be attached, and one that is attached after attempts that ran out of memory.
 use crate::sql::dump_database;
 use crate::versions::FIRST;
 use portal_tables::attaching::Refused;
@@ -8,7 +8,7 @@ use sqlite::{Alter, Connection, MemStore};
 use std::alloc::Global;
 use std::test::Fail;
 
-/// Why a connection is not adopted, and the connection.
+/// Returns why a connection cannot be attached, and the connection. Fails if it is attached.
 fn expect_refusal<S: Alter + Drop>(
     conn: Connection<S>,
 ) -> Result<(OpenFault, Connection<S>), Fail> {
@@ -32,10 +32,11 @@ fn connection_inside_transaction(rt: HostRuntime) -> Result<(), Fail> {
     Ok(())
 }
 
-/// How often a call is made that may want memory.
+/// How often a call is tried that may run out of memory.
 const TRIES: usize = 4;
 
-/// A connection that was adopted, and how often it was handed back before, since memory was wanting.
+/// Attaches a connection, again after each attempt that ran out of memory. Returns the connection, and how
+/// often it was handed back before.
 fn attach_with_retries<S: Alter + Drop>(
     conn: Connection<S>,
 ) -> Result<(Connection<S>, usize), OpenFault> {
@@ -56,14 +57,14 @@ fn attach_with_retries<S: Alter + Drop>(
     Err(OpenFault::Memory)
 }
 
-/// A new store of schema version 1 in memory, where there is memory.
+/// Makes a new database of schema version 1 in memory. None if out of memory.
 fn new_first_version(alloc: Global) -> Option<Connection<MemStore>> {
     let mut conn = Connection::open_in_memory(alloc).ok()?;
     conn.execute_batch(FIRST).ok()?;
     Some(conn)
 }
 
-/// How often such a store was handed back before it was adopted, and all that stands there then.
+/// Attaches such a database. Returns how often it was handed back before, and all that is in it then.
 fn attach_first_version(alloc: Global) -> Option<(usize, String)> {
     let (mut conn, count) = attach_with_retries(new_first_version(alloc)?).ok()?;
     let whole = dump_database(alloc, &mut conn)?;
@@ -71,7 +72,8 @@ fn attach_first_version(alloc: Global) -> Option<(usize, String)> {
     Some((count, whole))
 }
 
-/// The same of the first store with which that goes well, and how many were given up before.
+/// Attaches such databases until one succeeds. Returns how often that one was handed back, how many were
+/// given up before, and all that is in it.
 fn attach_until_done(alloc: Global) -> Option<(usize, usize, String)> {
     for given_up in 0..TRIES {
         if let Some((count, whole)) = attach_first_version(alloc) {
@@ -81,9 +83,9 @@ fn attach_until_done(alloc: Global) -> Option<(usize, usize, String)> {
     None
 }
 
-/// A connection that is handed back where memory was wanting is adopted at a later try, and then the store
-/// is what it is where memory was never wanting. tests/memory/adopting.py refuses memory at one try and at
-/// the next; it reads the line that is printed.
+/// A connection that is handed back after an attempt that ran out of memory is attached at a later one, and
+/// the database is then the same as without such an attempt. tests/memory/adopting.py makes allocations of
+/// one attempt and of the next fail; it reads the line that is printed.
 #[test]
 fn attached_after_out_of_memory(rt: HostRuntime) -> Result<(), Fail> {
     let (count, given_up, whole) = attach_until_done(rt.alloc()).ok_or("none is adopted")?;

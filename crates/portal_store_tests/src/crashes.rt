@@ -1,7 +1,7 @@
-//! A day at the desk, and openings of stores of each schema version, from the opening of the files to their
-//! closing, that are stopped at each call of the files. They are opened again, also with a further stop, and
-//! gone on with: what stands there is the requests that were accepted, or one more, whole. Where the files
-//! were closed, it stands in the database file alone.
+//! Crashes at each call of the files: during a day at the counter, and during the opening of databases of
+//! each schema version, from the opening of the files to their closing. The files are opened again, also with
+//! a further crash, and the day goes on: they hold the requests that were accepted, or one more, whole. If
+//! the files were closed, the database file alone holds that.
 use crate::day::{COMMANDS, SentRequest, build_questions, build_requests};
 use crate::disks::{CrashResult, InFiles};
 use crate::files::{AT_END, CrashPoint, Image, Part};
@@ -12,7 +12,7 @@ use std::alloc::Global;
 use std::process::Abort;
 use std::test::Fail;
 
-/// All that stands in the store of these files.
+/// Returns all that the database in these files holds.
 fn contents_of_image(alloc: Global, image: &Image) -> Result<String, Fail> {
     let mut files = InFiles::of(alloc, image)?;
     match files.run_job(Job::Whole)? {
@@ -21,7 +21,7 @@ fn contents_of_image(alloc: Global, image: &Image) -> Result<String, Fail> {
     }
 }
 
-/// The requests are all accepted, and the files kept.
+/// Sends the requests to the desk over the files, and checks that all are accepted. The files are kept.
 fn expect_all_accepted(
     rt: &impl Abort,
     files: &mut InFiles,
@@ -35,25 +35,27 @@ fn expect_all_accepted(
     Ok(())
 }
 
-/// What is stopped: an opening of the files, and requests to the desk over them.
+/// What is crashed: an opening of the files, and requests to the desk over them.
 #[derive(Drop)]
 struct Trial<'a> {
     alloc: Global,
-    /// Requests up to the last of those that are stopped.
+    /// Requests up to the last of those during which crashes happen.
     day: &'a [SentRequest],
-    /// How many of them stand in the files before.
+    /// How many of them the files hold before.
     from: usize,
+    /// Whether the requests have idempotency keys.
     has_keys: bool,
+    /// The files at the start.
     start: Image,
-    /// All that stands there before the files are opened, once they are, and after each request.
+    /// All that the database holds before the files are opened, once they are, and after each request.
     states: Vec<String>,
-    /// Files that stops left, and the last of the states that stands in them.
+    /// Files that crashes left, and the last of the states that is in them.
     known: Vec<(Image, usize)>,
-    /// How many stops came in the closing of the files, when all requests were accepted.
+    /// How many crashes happened in the closing of the files, after all requests were accepted.
     unclosed: usize,
 }
 
-/// The trial, with what comes of it where nothing is stopped.
+/// Makes a trial: runs it once without a crash, and keeps what the database holds after each step.
 fn prepare_trial<'a>(
     alloc: Global,
     rt: &impl Abort,
@@ -87,11 +89,11 @@ fn prepare_trial<'a>(
 /// More calls than a trial makes of a file.
 const MANY: u64 = 1024;
 
-/// Further stops are so many calls apart.
+/// Further crashes are so many calls apart.
 const STRIDE: usize = 8;
 
 impl Trial<'_> {
-    /// The last of the states that stands in files with these bytes.
+    /// Returns the index of the last state that these files hold. Fails if they hold none of the states.
     fn state_in(&self, image: &Image) -> Result<usize, Fail> {
         let left = contents_of_image(self.alloc, image)?;
         let mut found = None;
@@ -103,8 +105,8 @@ impl Trial<'_> {
         Ok(found.ok_or("what is left is no part of the day")?)
     }
 
-    /// Whether it changes what stands in the files. Else the log was copied as they were opened, and there is
-    /// nothing to copy as they are closed.
+    /// Checks whether the trial changes what the files hold. If not, the log was copied as they were opened,
+    /// and there is nothing to copy as they are closed.
     fn changes_contents(&self) -> bool {
         match self.states.as_slice() {
             [before, .., after] => before.as_str() != after.as_str(),
@@ -112,7 +114,7 @@ impl Trial<'_> {
         }
     }
 
-    /// The last state that is like the first.
+    /// Returns the index of the last state that is like the first.
     fn first(&self) -> usize {
         match self.states.as_slice() {
             [before, opened, ..] if before.as_str() == opened.as_str() => 1,
@@ -120,12 +122,13 @@ impl Trial<'_> {
         }
     }
 
-    /// The requests that are stopped.
+    /// Returns the requests during which crashes happen.
     fn requests(&self) -> Result<&[SentRequest], Fail> {
         Ok(self.day.get(self.from..).ok_or("past the day")?)
     }
 
-    /// Goes on from files of that state to the end. Numbered requests are all sent again.
+    /// Sends the rest of the day to files of that state, and checks the end. Requests with idempotency keys
+    /// are all sent again.
     fn send_rest(&self, rt: &impl Abort, image: &Image, state: usize) -> Result<(), Fail> {
         let done = if self.has_keys {
             0
@@ -140,8 +143,8 @@ impl Trial<'_> {
         Ok(())
     }
 
-    /// Stops an opening of files of that state so, and opens them again: the same stands there.
-    /// Answers whether the opening was stopped.
+    /// Crashes an opening of files of that state at this point, opens them again, and checks that they hold
+    /// the same. Returns whether the crash happened.
     fn crash_opening(
         &self,
         rt: &impl Abort,
@@ -165,8 +168,8 @@ impl Trial<'_> {
         Ok(!is_closed)
     }
 
-    /// Stops openings of the files at this call of the file, and at each that is a stride further, until one
-    /// is not stopped.
+    /// Crashes openings of the files at this call of the file, and at each call a stride further, until the
+    /// opening ends without a crash.
     fn crash_openings(
         &self,
         rt: &impl Abort,
@@ -182,8 +185,9 @@ impl Trial<'_> {
         Err("it was never opened".into())
     }
 
-    /// The state of the files. They are gone on with. On a day they are opened with a further stop in each
-    /// file, at every eighth call, of each files from another on; files with the same bytes once.
+    /// Returns the state of the files, and sends the rest of the day to them. On a day the files are also
+    /// opened with a further crash of each file, at every eighth call, beginning at another call for each
+    /// image. Images with the same bytes are checked once.
     fn check_image(&mut self, rt: &impl Abort, image: Image) -> Result<usize, Fail> {
         for (seen, state) in &self.known {
             if seen.is(&image) {
@@ -202,13 +206,14 @@ impl Trial<'_> {
         Ok(state)
     }
 
-    /// The state of the files as they were closed is that of the database file alone.
+    /// Checks that the database file alone holds that state.
     fn is_same_without_log(&self, image: &Image, state: usize) -> Result<bool, Fail> {
         let alone = image.without_log(self.alloc)?;
         Ok(self.state_in(&alone)? == state)
     }
 
-    /// Stops the trial so. Answers whether it was not stopped.
+    /// Runs the trial with a crash at this point, and checks what the files then hold. Returns whether the
+    /// trial ended without a crash.
     fn crash_at(&mut self, rt: &impl Abort, limit: CrashPoint) -> Result<bool, Fail> {
         let files = InFiles::of(self.alloc, &self.start)?;
         let CrashResult {
@@ -245,7 +250,8 @@ impl Trial<'_> {
         Ok(answers)
     }
 
-    /// Stops it at each call of the file, from none upward, until it is not stopped.
+    /// Runs the trial with a crash at each call of the file, from the first on, until it ends without a
+    /// crash.
     fn crash_at_each_call(&mut self, rt: &impl Abort, part: Part) -> Result<(), Fail> {
         for calls in 0..MANY {
             if self.crash_at(rt, CrashPoint { part, calls })? {
@@ -259,16 +265,16 @@ impl Trial<'_> {
     }
 }
 
-/// So many requests are stopped at each of their calls in one trial.
+/// The number of requests in one trial.
 const GROUP: usize = 5;
 
-/// The commands of the day.
+/// Builds the commands of the day.
 fn build_commands(alloc: Global, has_keys: bool) -> Result<Vec<SentRequest>, Fail> {
     Ok(build_requests(alloc, COMMANDS, has_keys).ok_or("no day")?)
 }
 
-/// Stops a group of the day, after so many commands, at each call of the file. After the whole day the
-/// questions are answered as after one without a stop.
+/// Crashes a group of the day's commands, after so many commands, at each call of the file. After the whole
+/// day the questions are answered as after a day without a crash.
 fn crash_group(
     alloc: Global,
     rt: &impl Abort,
@@ -291,47 +297,55 @@ fn crash_group(
     Ok(())
 }
 
+/// The first commands of the day, with a crash at each call of the log.
 #[test]
 fn morning_with_log_crashes(rt: HostRuntime) -> Result<(), Fail> {
     crash_group(rt.alloc(), &rt, 0, false, Part::Log)
 }
 
+/// The last commands of the day, with a crash at each call of the log.
 #[test]
 fn evening_with_log_crashes(rt: HostRuntime) -> Result<(), Fail> {
     crash_group(rt.alloc(), &rt, GROUP, false, Part::Log)
 }
 
+/// The first commands of the day, with a crash at each call of the database file.
 #[test]
 fn morning_with_database_crashes(rt: HostRuntime) -> Result<(), Fail> {
     crash_group(rt.alloc(), &rt, 0, false, Part::Database)
 }
 
+/// The last commands of the day, with a crash at each call of the database file.
 #[test]
 fn evening_with_database_crashes(rt: HostRuntime) -> Result<(), Fail> {
     crash_group(rt.alloc(), &rt, GROUP, false, Part::Database)
 }
 
+/// The first commands of the day, with idempotency keys and a crash at each call of the log.
 #[test]
 fn idempotent_morning_with_log_crashes(rt: HostRuntime) -> Result<(), Fail> {
     crash_group(rt.alloc(), &rt, 0, true, Part::Log)
 }
 
+/// The last commands of the day, with idempotency keys and a crash at each call of the log.
 #[test]
 fn idempotent_evening_with_log_crashes(rt: HostRuntime) -> Result<(), Fail> {
     crash_group(rt.alloc(), &rt, GROUP, true, Part::Log)
 }
 
+/// The first commands of the day, with idempotency keys and a crash at each call of the database file.
 #[test]
 fn idempotent_morning_with_database_crashes(rt: HostRuntime) -> Result<(), Fail> {
     crash_group(rt.alloc(), &rt, 0, true, Part::Database)
 }
 
+/// The last commands of the day, with idempotency keys and a crash at each call of the database file.
 #[test]
 fn idempotent_evening_with_database_crashes(rt: HostRuntime) -> Result<(), Fail> {
     crash_group(rt.alloc(), &rt, GROUP, true, Part::Database)
 }
 
-/// Stops an opening of the files at each call of one of them.
+/// Crashes an opening of the files at each call of one of them.
 fn crash_opening_of(
     alloc: Global,
     rt: &impl Abort,
@@ -342,7 +356,7 @@ fn crash_opening_of(
     trial.crash_at_each_call(rt, part)
 }
 
-/// The same of a store that these texts make.
+/// Crashes an opening of the database that these SQL texts make, at each call of one file.
 fn crash_store_opening(
     alloc: Global,
     rt: &impl Abort,
@@ -354,11 +368,13 @@ fn crash_store_opening(
     crash_opening_of(alloc, rt, &files, part)
 }
 
+/// The creation of the tables, with a crash at each call of the log.
 #[test]
 fn new_tables_with_log_crashes(rt: HostRuntime) -> Result<(), Fail> {
     crash_store_opening(rt.alloc(), &rt, &[], Part::Log)
 }
 
+/// The creation of the tables, with a crash at each call of the database file.
 #[test]
 fn new_tables_with_database_crashes(rt: HostRuntime) -> Result<(), Fail> {
     crash_store_opening(rt.alloc(), &rt, &[], Part::Database)
@@ -366,11 +382,13 @@ fn new_tables_with_database_crashes(rt: HostRuntime) -> Result<(), Fail> {
 
 const FIRST_STORE: &[&str] = &["BEGIN", FIRST, "COMMIT"];
 
+/// The migration of schema version 1, with a crash at each call of the log.
 #[test]
 fn first_version_with_log_crashes(rt: HostRuntime) -> Result<(), Fail> {
     crash_store_opening(rt.alloc(), &rt, FIRST_STORE, Part::Log)
 }
 
+/// The migration of schema version 1, with a crash at each call of the database file.
 #[test]
 fn first_version_with_database_crashes(rt: HostRuntime) -> Result<(), Fail> {
     crash_store_opening(rt.alloc(), &rt, FIRST_STORE, Part::Database)
@@ -378,11 +396,13 @@ fn first_version_with_database_crashes(rt: HostRuntime) -> Result<(), Fail> {
 
 const SECOND_STORE: &[&str] = &["BEGIN", FIRST, SECOND, "COMMIT"];
 
+/// The migration of schema version 2, with a crash at each call of the log.
 #[test]
 fn second_version_with_log_crashes(rt: HostRuntime) -> Result<(), Fail> {
     crash_store_opening(rt.alloc(), &rt, SECOND_STORE, Part::Log)
 }
 
+/// The migration of schema version 2, with a crash at each call of the database file.
 #[test]
 fn second_version_with_database_crashes(rt: HostRuntime) -> Result<(), Fail> {
     crash_store_opening(rt.alloc(), &rt, SECOND_STORE, Part::Database)
@@ -390,17 +410,20 @@ fn second_version_with_database_crashes(rt: HostRuntime) -> Result<(), Fail> {
 
 const THIRD_STORE: &[&str] = &["BEGIN", FIRST, SECOND, THIRD, "COMMIT"];
 
+/// The migration of schema version 3, with a crash at each call of the log.
 #[test]
 fn third_version_with_log_crashes(rt: HostRuntime) -> Result<(), Fail> {
     crash_store_opening(rt.alloc(), &rt, THIRD_STORE, Part::Log)
 }
 
+/// The migration of schema version 3, with a crash at each call of the database file.
 #[test]
 fn third_version_with_database_crashes(rt: HostRuntime) -> Result<(), Fail> {
     crash_store_opening(rt.alloc(), &rt, THIRD_STORE, Part::Database)
 }
 
-/// What was accepted stands in the log alone, since the process ended: the opening reads it there.
+/// Crashes an opening of files whose commands are in the log alone, since the process ended before the log
+/// was copied.
 fn crash_log_reading(alloc: Global, rt: &impl Abort, part: Part) -> Result<(), Fail> {
     let day = build_commands(alloc, false)?;
     let files = InFiles::new(alloc);
@@ -408,11 +431,13 @@ fn crash_log_reading(alloc: Global, rt: &impl Abort, part: Part) -> Result<(), F
     crash_opening_of(alloc, rt, &InFiles::of(alloc, &ended)?, part)
 }
 
+/// The opening of files whose commands are in the log alone, with a crash at each call of the log.
 #[test]
 fn log_reading_with_log_crashes(rt: HostRuntime) -> Result<(), Fail> {
     crash_log_reading(rt.alloc(), &rt, Part::Log)
 }
 
+/// The opening of files whose commands are in the log alone, with a crash at each call of the database file.
 #[test]
 fn log_reading_with_database_crashes(rt: HostRuntime) -> Result<(), Fail> {
     crash_log_reading(rt.alloc(), &rt, Part::Database)

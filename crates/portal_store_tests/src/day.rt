@@ -1,9 +1,9 @@
-//! A day at the desk: at least one request of each kind, and its answer.
+//! A day at the counter: at least one request of each kind, and its answer.
 use crate::requests::{DESK, GATE, GUEST, request};
 use std::alloc::Global;
 
-/// A request at its moment: its line, the caller's field, its body, the end of its response, and that of the
-/// response where it is sent once more.
+/// A request at its time: its request line, the field of its caller, its body, the end of its response, and
+/// the end of the response if it is sent again.
 #[derive(Clone, Copy)]
 pub struct Ask {
     at: u64,
@@ -113,10 +113,10 @@ pub const COMMANDS: &[Ask] = &[
     },
 ];
 
-/// A question: its line, the caller's field, and the end of its response.
+/// A question: its request line, the field of its caller, and the end of its response.
 pub type Question = (&'static str, &'static str, &'static str);
 
-/// What is answered after these commands, also of a code that is none of the desk's.
+/// What is answered after these commands, also about a code that the desk does not have.
 pub const QUESTIONS: &[Question] = &[
     (
         "GET /captive",
@@ -159,7 +159,7 @@ pub const QUESTIONS: &[Question] = &[
     ),
 ];
 
-/// The bytes of a request, its moment and its two answers.
+/// The bytes of a request, its time and its two answers.
 #[derive(Drop)]
 pub struct SentRequest {
     pub at: u64,
@@ -168,7 +168,7 @@ pub struct SentRequest {
     pub again: String,
 }
 
-/// The request, with that place as its number or without a number.
+/// Builds a request, with its index as its idempotency key or without a key.
 fn build_request(alloc: Global, ask: &Ask, place: usize, has_keys: bool) -> Option<SentRequest> {
     let caller = ask.caller;
     let fields = if has_keys {
@@ -184,7 +184,7 @@ fn build_request(alloc: Global, ask: &Ask, place: usize, has_keys: bool) -> Opti
     })
 }
 
-/// The requests, each with its place as its number or none with a number.
+/// Builds the requests, each with its index as its idempotency key, or all without keys.
 pub fn build_requests(alloc: Global, asks: &[Ask], has_keys: bool) -> Option<Vec<SentRequest>> {
     let mut all = Vec::new(alloc);
     for (place, ask) in asks.iter().enumerate() {
@@ -193,7 +193,7 @@ pub fn build_requests(alloc: Global, asks: &[Ask], has_keys: bool) -> Option<Vec
     Some(all)
 }
 
-/// The questions.
+/// Builds the questions.
 pub fn build_questions(alloc: Global) -> Option<Vec<SentRequest>> {
     let mut all = Vec::new(alloc);
     for (line, caller, answer) in QUESTIONS {
@@ -210,7 +210,7 @@ pub fn build_questions(alloc: Global) -> Option<Vec<SentRequest>> {
     Some(all)
 }
 
-/// The commands, and then the questions.
+/// Builds the day: the commands, and then the questions.
 pub fn build_day(alloc: Global, has_keys: bool) -> Option<Vec<SentRequest>> {
     let mut day = build_requests(alloc, COMMANDS, has_keys)?;
     for question in build_questions(alloc)? {

@@ -1,7 +1,7 @@
-//! Desks over new stores in memory: what they answer, exchanges with them, serving by them, and one that has
-//! stopped.
+//! Desks over new databases in memory: their answers, exchanges with them, serving by them, and a desk that
+//! has stopped.
 //!
-//! All of it is written for the desks of any place. Only `InMemory` and the last functions name the store.
+//! All of it is generic over the desks of a place. Only `InMemory` and the last functions name the database.
 ghost use Rattle.std.specs.Prelude.{⊤};
 ghost use Rattle.portal_os.specs.Laws.{memory_desk_is_fault_free};
 
@@ -27,7 +27,7 @@ use sqlite::{MemStore, Unknown};
 use std::alloc::Global;
 use std::io::Write;
 
-/// The desks in memory of the program, as a place without files.
+/// The program's desks in memory, as a place without files.
 #[derive(Drop)]
 pub struct InMemory;
 
@@ -87,13 +87,13 @@ impl Place for InMemory {
     }
 }
 
-/// A desk that was told nothing yet, with the sample settings.
+/// Opens a desk over an empty database, with the sample settings.
 fn new_desk<P: Place>(alloc: Global) -> Option<P::Fresh> {
     let settings = sample_settings(alloc).ok()?;
     P::open_desk_in_memory(alloc, settings).ok()
 }
 
-/// Requests as they arrive at their moments.
+/// Builds requests as they arrive, each at its time.
 fn build_arrivals(alloc: Global, requests: &[(u64, &[u8])]) -> Option<Vec<Arrival>> {
     let mut arrivals = Vec::new(alloc);
     for (at, request) in requests {
@@ -103,7 +103,7 @@ fn build_arrivals(alloc: Global, requests: &[(u64, &[u8])]) -> Option<Vec<Arriva
     Some(arrivals)
 }
 
-/// What the desk answers to requests that arrive one after another.
+/// Returns the responses of the desk to requests that arrive one after another.
 fn answers_of<D: Desk>(alloc: Global, desk: &mut D, arrivals: &[Arrival]) -> Option<Vec<Vec<u8>>> {
     let routes = Routes::new(alloc).ok()?;
     let mut out = Vec::new(alloc);
@@ -111,6 +111,7 @@ fn answers_of<D: Desk>(alloc: Global, desk: &mut D, arrivals: &[Arrival]) -> Opt
     Some(out)
 }
 
+/// Returns the responses of a new desk to requests, after others before them.
 fn answers_at<P: Place>(
     alloc: Global,
     before: &[Arrival],
@@ -123,6 +124,7 @@ fn answers_at<P: Place>(
     answers
 }
 
+/// Makes an exchange of a new desk with each client.
 fn exchange_at<P: Place>(alloc: Global, peers: &[Peer<'_>]) -> Option<Vec<ExchangeResult>> {
     let mut desk = new_desk::<P>(alloc)?;
     let met = exchange_with_peers(alloc, &mut desk, peers);
@@ -130,6 +132,7 @@ fn exchange_at<P: Place>(alloc: Global, peers: &[Peer<'_>]) -> Option<Vec<Exchan
     met
 }
 
+/// Serves connections of a host by a new desk. Returns the exit code and the errors that were printed.
 fn serve_new_desk<P: Place, H: Host, W: Write>(
     alloc: Global,
     host: &mut H,
@@ -142,7 +145,7 @@ fn serve_new_desk<P: Place, H: Host, W: Write>(
     ended
 }
 
-/// A file of plans as it would be kept.
+/// Prepares a load of the plans file, without the commit.
 fn prepare_plans<D: Desk>(alloc: Global, desk: &mut D) -> Option<Prepared> {
     let moment = Moment::new(0)?;
     match read_plans(alloc, PLANS.as_bytes()) {
@@ -151,8 +154,8 @@ fn prepare_plans<D: Desk>(alloc: Global, desk: &mut D) -> Option<Prepared> {
     }
 }
 
-/// Whether the desk stops where the same plans are prepared twice and kept twice: the store meets rows that
-/// it has.
+/// Checks that the desk stops if the same plans are prepared twice and committed twice: the database already
+/// has their rows.
 fn stops_after_duplicate<D: Desk>(alloc: Global, desk: &mut D) -> Option<bool> {
     let first = prepare_plans(alloc, desk)?;
     let second = prepare_plans(alloc, desk)?;
@@ -161,6 +164,7 @@ fn stops_after_duplicate<D: Desk>(alloc: Global, desk: &mut D) -> Option<bool> {
     Some(is_kept && is_refused && desk.is_stopped())
 }
 
+/// Checks that the desk answers the request with exactly this response.
 fn is_answered<D: Desk>(
     alloc: Global,
     desk: &mut D,
@@ -172,8 +176,8 @@ fn is_answered<D: Desk>(
     Some(met.taken.as_slice() == whole.as_bytes())
 }
 
-/// Whether a desk that has stopped answers so, by all bytes: to the peer, to a guest, and to a request that
-/// does not reach it.
+/// Checks that a desk that has stopped answers `stopped`, to the client and to a guest, and still answers a
+/// request that does not reach it.
 pub fn is_refused_by_stopped<D: Desk>(
     alloc: Global,
     desk: &mut D,
@@ -190,7 +194,7 @@ pub fn is_refused_by_stopped<D: Desk>(
     Some(is_refused && is_guest_refused && is_unrouted && desk.is_stopped())
 }
 
-/// Whether a desk that has stopped answers each question so.
+/// Checks that a desk that has stopped answers each question with `stopped`.
 fn are_refused_by_stopped<D: Desk>(alloc: Global, desk: &mut D) -> Option<bool> {
     let routes = Routes::new(alloc).ok()?;
     for sent in &build_questions(alloc)? {
@@ -202,7 +206,8 @@ fn are_refused_by_stopped<D: Desk>(alloc: Global, desk: &mut D) -> Option<bool> 
     Some(true)
 }
 
-/// Whether serving by a desk that has stopped ends, and each question and each subcommand says so.
+/// Stops the desk, and checks that serving by it ends, and that each question and each subcommand gives
+/// `stopped`.
 fn stopped_desk_answers_stopped<D: Desk>(alloc: Global, desk: &mut D) -> Option<bool> {
     let is_stopped = stops_after_duplicate(alloc, desk)?;
     let is_answered = are_refused_by_stopped(alloc, desk)?;
@@ -211,6 +216,7 @@ fn stopped_desk_answers_stopped<D: Desk>(alloc: Global, desk: &mut D) -> Option<
     Some(is_stopped && is_answered && is_served && is_said)
 }
 
+/// Checks the same for a new desk of a place.
 fn is_stop_reported_at<P: Place>(alloc: Global) -> Option<bool> {
     let mut desk = new_desk::<P>(alloc)?;
     let is_told = stopped_desk_answers_stopped(alloc, &mut desk);
@@ -218,7 +224,7 @@ fn is_stop_reported_at<P: Place>(alloc: Global) -> Option<bool> {
     is_told
 }
 
-/// What a new desk answers to requests that arrive in one run, after others in a run before it.
+/// Returns the responses of a new desk to requests that arrive in one run, after others in a run before it.
 pub fn answers_in_memory(
     alloc: Global,
     before: &[(u64, &[u8])],
@@ -229,17 +235,17 @@ pub fn answers_in_memory(
     answers_at::<InMemory>(alloc, before.as_slice(), arrivals.as_slice())
 }
 
-/// What a new desk answers to a request.
+/// Returns the response of a new desk to a request.
 pub fn answer(alloc: Global, request: &[u8]) -> Option<Vec<u8>> {
     answers_in_memory(alloc, &[], &[(MOMENT, request)])?.pop()
 }
 
-/// One exchange of a new desk with each peer, in their order.
+/// Makes an exchange of a new desk with each client, in their order.
 pub fn exchange_in_memory(alloc: Global, peers: &[Peer<'_>]) -> Option<Vec<ExchangeResult>> {
     exchange_at::<InMemory>(alloc, peers)
 }
 
-/// Serves a host by a new desk, and gives the status with the faults that were printed.
+/// Serves connections of a host by a new desk. Returns the exit code and the errors that were printed.
 pub fn serve_in_memory<H: Host, W: Write>(
     alloc: Global,
     host: &mut H,
@@ -249,7 +255,7 @@ pub fn serve_in_memory<H: Host, W: Write>(
     serve_new_desk::<InMemory, H, W>(alloc, host, count, output)
 }
 
-/// Serving ends where the desk has stopped, and each request and each subcommand says so.
+/// Serving ends if the desk has stopped, and each request and each subcommand gives `stopped`.
 #[test]
 fn stopped_desk(rt: HostRuntime) {
     assert!(rt; is_stop_reported_at::<InMemory>(rt.alloc()) == Some(true));

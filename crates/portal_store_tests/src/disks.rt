@@ -1,4 +1,4 @@
-//! A store in files in memory, which are closed after each job, or which stop answering.
+//! A database in files in memory, which are closed after each job, or which crash.
 //!
 //! Only the functions of this file name a connection over files.
 use crate::files::{CrashPoint, Image, answer, crash_images};
@@ -8,9 +8,9 @@ use sqlite_disk::Disk;
 use std::alloc::Global;
 use std::test::Fail;
 
-/// What is left of files that stopped: what the job tells, whether they were closed, whether they answer
-/// still, and their bytes where the process ends and where the power fails. Then writes that were not synced
-/// are lost.
+/// What is left of files that crashed: the result of the job, whether the files were closed, whether they
+/// still answer, and their bytes if the process ends and if the power fails. If the power fails, writes that
+/// were not synced are lost.
 #[derive(Drop)]
 pub struct CrashResult {
     pub told: JobResult,
@@ -20,15 +20,15 @@ pub struct CrashResult {
     pub failed: Image,
 }
 
-/// A store in files in memory.
+/// A database in files in memory.
 #[derive(Drop)]
 pub struct InFiles {
     alloc: Global,
     image: Image,
 }
 
-/// Opens the store, does the job and closes the store. Answers what the job tells, whether the store was
-/// closed, and the files.
+/// Opens the database, runs the job and closes the database. Returns the result of the job, whether the
+/// database was closed, and the files.
 fn open<D: Disk + Drop>(
     alloc: Global,
     files: Files<D>,
@@ -47,7 +47,7 @@ fn open<D: Disk + Drop>(
 }
 
 impl InFiles {
-    /// Two new files.
+    /// Makes two empty files.
     pub fn new(alloc: Global) -> InFiles {
         InFiles {
             alloc,
@@ -55,7 +55,7 @@ impl InFiles {
         }
     }
 
-    /// Files with these bytes.
+    /// Makes files with these bytes.
     pub fn of(alloc: Global, image: &Image) -> Result<InFiles, Fail> {
         Ok(InFiles {
             alloc,
@@ -63,12 +63,12 @@ impl InFiles {
         })
     }
 
-    /// The bytes of the files.
+    /// Returns the bytes of the files.
     pub fn image(&self) -> Result<Image, Fail> {
         self.image.copy()
     }
 
-    /// Does the job with the store, and keeps the files.
+    /// Runs the job on the database, and keeps the files. Fails if they cannot be closed.
     pub fn run_job(&mut self, job: Job<'_>) -> Result<JobResult, Fail> {
         let files = self.image.files(self.alloc)?;
         let (told, is_closed, files) = open(self.alloc, files, job)?;
@@ -79,7 +79,7 @@ impl InFiles {
         Ok(told)
     }
 
-    /// Does the job in files that stop so. What stands in these files stays.
+    /// Runs the job on a copy of the files that crashes at this point. These files stay as they are.
     pub fn run_and_crash(&self, job: Job<'_>, limit: CrashPoint) -> Result<CrashResult, Fail> {
         let files = self.image.crashing_files(self.alloc, limit)?;
         let (told, is_closed, mut files) = open(self.alloc, files, job)?;

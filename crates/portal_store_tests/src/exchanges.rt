@@ -1,4 +1,4 @@
-//! Exchanges with peers that send and take in pieces, and that break off.
+//! Exchanges with clients that send and take in pieces, and that break off.
 use crate::desks::exchange_in_memory;
 use crate::requests::{CAPTIVE, MOMENT, REQUEST};
 use portal_desk::Desk;
@@ -8,7 +8,7 @@ use portal_model::moment::Moment;
 use std::alloc::Global;
 use std::io::{self, Read, Write};
 
-/// Sends at most `size` bytes a read, counts the reads, and fails at one of them.
+/// A reader that gives at most `size` bytes a read, counts the reads, and fails at one of them.
 #[derive(Drop)]
 pub struct Sender<'b> {
     pub bytes: &'b [u8],
@@ -17,7 +17,7 @@ pub struct Sender<'b> {
     pub fails_at: usize,
 }
 
-/// One that sends all of these bytes.
+/// Makes a reader that gives all of these bytes.
 pub fn new_sender(bytes: &[u8], size: usize) -> Sender<'_> {
     Sender {
         bytes,
@@ -41,8 +41,8 @@ impl<'b> Read for Sender<'b> {
     }
 }
 
-/// Keeps what it takes, at most `size` bytes a write, counts the writes, and once it took `bytes_before_cut` bytes fails
-/// or takes nothing.
+/// A writer that keeps what it takes, at most `size` bytes a write, counts the writes, and after `room` bytes
+/// fails or takes nothing.
 #[derive(Drop)]
 pub struct Taker {
     pub taken: Vec<u8>,
@@ -52,7 +52,7 @@ pub struct Taker {
     pub writes: usize,
 }
 
-/// One that takes all there is.
+/// Makes a writer that takes everything.
 pub fn new_taker(alloc: Global, size: usize) -> Taker {
     Taker {
         taken: Vec::new(alloc),
@@ -80,8 +80,8 @@ impl Write for Taker {
     }
 }
 
-/// A peer that sends these bytes at a moment, so many at once, and takes so many at once. A read of it may
-/// fail (0: none), and once it took `bytes_before_cut` bytes it fails, or takes nothing.
+/// A client that sends these bytes at a time, so many at once, and takes so many at once. One of its reads
+/// may fail (0: none), and after `room` bytes its writes fail or take nothing.
 #[derive(Clone, Copy)]
 pub struct Peer<'b> {
     pub at: u64,
@@ -93,7 +93,7 @@ pub struct Peer<'b> {
     pub fails: bool,
 }
 
-/// A peer that sends all of it and takes all there is, so many bytes at once.
+/// Makes a client that sends all of the bytes and takes the whole response, so many bytes at once.
 pub fn whole_peer(at: u64, bytes: &[u8], size: usize) -> Peer<'_> {
     Peer {
         at,
@@ -106,7 +106,7 @@ pub fn whole_peer(at: u64, bytes: &[u8], size: usize) -> Peer<'_> {
     }
 }
 
-/// What came of an exchange, the reads and the writes that were made, and what was taken.
+/// The result of an exchange, the number of its reads and writes, and the bytes that were taken.
 #[derive(Drop)]
 pub struct ExchangeResult {
     pub ended: Result<Done, Cut>,
@@ -115,7 +115,7 @@ pub struct ExchangeResult {
     pub taken: Vec<u8>,
 }
 
-/// One exchange with the peer.
+/// Makes one exchange of the desk with the client.
 pub fn exchange_with_peer<D: Desk>(
     alloc: Global,
     desk: &mut D,
@@ -145,7 +145,7 @@ pub fn exchange_with_peer<D: Desk>(
     })
 }
 
-/// One exchange with each, in their order.
+/// Makes one exchange of the desk with each client, in their order.
 pub fn exchange_with_peers<D: Desk>(
     alloc: Global,
     desk: &mut D,
@@ -160,7 +160,7 @@ pub fn exchange_with_peers<D: Desk>(
     Some(met)
 }
 
-/// Whether all of that response went out, and no more.
+/// Checks that all of that response was sent, and no more.
 pub fn is_done(met: &ExchangeResult, status: u16, response: &[u8]) -> bool {
     let done = Done {
         status,
@@ -169,7 +169,7 @@ pub fn is_done(met: &ExchangeResult, status: u16, response: &[u8]) -> bool {
     met.ended == Ok(done) && met.taken.as_slice() == response
 }
 
-/// Whether the exchange was cut off at a read, before anything was written.
+/// Checks that the exchange failed at a read, before anything was written.
 pub fn is_unread(met: &ExchangeResult) -> bool {
     let cut = Cut {
         cause: Cause::Read,
@@ -179,7 +179,7 @@ pub fn is_unread(met: &ExchangeResult) -> bool {
     met.ended == Err(cut) && met.writes == 0
 }
 
-/// Whether the exchange was cut off once so many bytes of a response of that length were taken.
+/// Checks that the exchange failed at a write, after so many bytes of a response of that length.
 pub fn is_unsent(met: &ExchangeResult, written: usize, whole: usize) -> bool {
     let cut = Cut {
         cause: Cause::Write,
@@ -189,7 +189,7 @@ pub fn is_unsent(met: &ExchangeResult, written: usize, whole: usize) -> bool {
     met.ended == Err(cut) && met.taken.len() == written
 }
 
-/// The bytes that a peer sends and takes at once, and the reads and the writes of the exchange.
+/// The bytes that a client sends and takes at once, and the reads and the writes of the exchange.
 const COUNTS: &[(usize, usize, usize, usize)] = &[
     (1, 1, 70, 224),
     (7, 7, 10, 32),
@@ -200,7 +200,7 @@ const COUNTS: &[(usize, usize, usize, usize)] = &[
     (1, 1_000, 70, 1),
 ];
 
-/// The reads and the writes of an exchange in which the guest is told the captive state.
+/// Returns the numbers of reads and writes of an exchange in which the guest is given the captive state.
 fn count_calls(alloc: Global, size: usize, takes: usize) -> Option<(usize, usize)> {
     let mut peer = whole_peer(MOMENT, REQUEST, size);
     peer.takes = takes;
@@ -212,6 +212,7 @@ fn count_calls(alloc: Global, size: usize, takes: usize) -> Option<(usize, usize
     }
 }
 
+/// An exchange makes as few reads and writes as the sizes allow.
 #[test]
 fn reads_and_writes_counted(rt: HostRuntime) {
     for (size, takes, reads, writes) in COUNTS {

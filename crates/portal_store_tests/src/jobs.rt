@@ -1,4 +1,4 @@
-//! What is done with a store over files, which is closed then. A desk is closed as the program closes it.
+//! Jobs on a database in files, which is closed after each. A desk is closed as the program closes it.
 use crate::day::SentRequest;
 use crate::desks::is_refused_by_stopped;
 use crate::exchanges::{exchange_with_peer, whole_peer};
@@ -17,38 +17,40 @@ use sqlite_disk::Disk;
 use std::alloc::Global;
 use std::test::Fail;
 
+/// A job on a database.
 #[derive(Clone, Copy)]
 pub enum Job<'a> {
     /// SQL beside the desk.
     Sql(&'a [&'a str]),
-    /// A desk over the store is sent the requests until it stops. Each is answered as it says, and in the end
-    /// the counters are what the rows come to.
+    /// The requests are sent to a desk over the database until it stops. Each has to be answered as it says,
+    /// and in the end the counters have to agree with the rows.
     Send(&'a [SentRequest]),
-    /// All that stands there is told.
+    /// Everything in the database is read.
     Whole,
 }
 
-/// What a job tells.
+/// The result of a job.
 #[derive(Drop)]
 pub enum JobResult {
     Nothing,
-    /// The files stopped answering before the store was open.
+    /// The files crashed before the database was open.
     Unopened,
-    /// The store was not adopted.
+    /// The database was not attached.
     Unattached(OpenFault),
-    /// So many requests were accepted, and whether the desk stopped then.
+    /// The number of requests that were accepted, and whether the desk stopped then.
     Accepted(usize, bool),
-    /// The request at that place was answered otherwise than it says; one more than there are stands for the
-    /// counters.
+    /// The index of the request that was answered otherwise than it says; one more than the number of
+    /// requests means the counters.
     Otherwise(usize),
     Whole(String),
 }
 
-/// What came of requests: how many were accepted, and whether the desk stopped then; or the place of one that
-/// was answered otherwise than it says. One more than there are requests stands for the counters.
+/// The result of sending requests: how many were accepted, and whether the desk stopped then; or the index of
+/// the one that was answered otherwise than it says. One more than the number of requests means the counters.
 type Outcome = Result<(usize, bool), usize>;
 
-/// Sends the requests in their order until the desk stops. One that stopped answers nothing more.
+/// Sends the requests in order until the desk stops, and then compares the counters with the rows. A desk
+/// that has stopped has to answer `stopped` to everything.
 fn send_to<D: Desk>(
     alloc: Global,
     desk: &mut D,
@@ -77,12 +79,13 @@ fn send_to<D: Desk>(
     })
 }
 
-/// The same of all routes.
+/// Sends the requests to the desk, with all routes.
 fn send<D: Desk>(alloc: Global, desk: &mut D, requests: &[SentRequest]) -> Option<Outcome> {
     let routes = Routes::new(alloc).ok()?;
     send_to(alloc, desk, &routes, requests)
 }
 
+/// Converts the result of sending requests into that of the job.
 fn result_of_outcome(outcome: Option<Outcome>) -> JobResult {
     match outcome {
         Some(Ok((count, is_stopped))) => JobResult::Accepted(count, is_stopped),
@@ -91,10 +94,10 @@ fn result_of_outcome(outcome: Option<Outcome>) -> JobResult {
     }
 }
 
-/// The files of a store that was closed, or the store that was not.
+/// The files of a database that was closed, or the database that was not.
 pub type Closed<D> = Result<Files<D>, (Error, FileStore<D>)>;
 
-/// A desk over the store is sent the requests, and closed.
+/// Attaches the database, sends the requests to the desk over it, and closes it.
 fn send_with_settings<D: Disk + Drop>(
     alloc: Global,
     conn: Connection<FileStore<D>>,
@@ -114,7 +117,7 @@ fn send_with_settings<D: Disk + Drop>(
     }
 }
 
-/// The same by the sample settings.
+/// Does the same with the sample settings.
 fn send_with_sample_settings<D: Disk + Drop>(
     alloc: Global,
     conn: Connection<FileStore<D>>,
@@ -129,7 +132,7 @@ fn send_with_sample_settings<D: Disk + Drop>(
     }
 }
 
-/// Does the job, and closes the store.
+/// Runs the job, and closes the database.
 pub fn run<D: Disk + Drop>(
     alloc: Global,
     conn: Connection<FileStore<D>>,

@@ -1,6 +1,6 @@
-//! Tests at real stores, in memory and over files, of what no request and no command reaches: stops at each
-//! call of the files, requests in pieces, reads and writes that fail, hosts and places that are made up.
-//! Requests are the one vocabulary; what they are answered as a whole is in tests/cases.
+//! Tests over real databases, in memory and in files, of what no request and no subcommand reaches: a crash
+//! at each call of the files, requests in pieces, reads and writes that fail, and hosts and places that stand
+//! in for the machine. Whole responses to whole requests are tested in `tests/cases`.
 #![tactic(auto)]
 
 #[cfg(test)]

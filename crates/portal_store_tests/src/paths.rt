@@ -4,15 +4,15 @@ use sqlite::Unknown;
 use std::fs;
 use std::test::Fail;
 
-/// A path that the test alone uses, and that of the log beside it.
+/// A path that this test alone uses, and that of the log beside it.
 const PATH: &str = "file_at_the_path.db";
 
 const LOG: &str = "file_at_the_path.db-wal";
 
-/// A path in a folder that is not there.
+/// A path in a folder that does not exist.
 const NOWHERE: &str = "no_folder/file_at_the_path.db";
 
-/// Opens the file at a path, makes a table there, and closes the file. Whether that went well.
+/// Opens the file at a path, creates a table there, and closes the file. Returns whether that succeeded.
 fn can_create_table(rt: &HostRuntime, path: &str) -> bool {
     match open_path(rt, path, Unknown) {
         Ok(opened) => {

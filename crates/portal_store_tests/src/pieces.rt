@@ -1,5 +1,5 @@
-//! Requests that come in pieces, and whose reads or writes fail: they are answered as a whole one is, before
-//! the last read nothing is carried out, and at a write all of it stands.
+//! Requests that come in pieces, and whose reads or writes fail. They are answered as whole ones are; before
+//! the last read nothing is carried out; and if a write fails, the command is committed all the same.
 use crate::day::{COMMANDS, SentRequest, build_day, build_requests};
 use crate::desks::{answer, exchange_in_memory};
 use crate::exchanges::{ExchangeResult, Peer, is_done, is_unread, is_unsent, whole_peer};
@@ -7,7 +7,7 @@ use crate::requests::MOMENT;
 use portal_http::exchanges::status_in;
 use std::alloc::Global;
 
-/// Whether the exchange ended with a whole response that ends so.
+/// Checks that the exchange ended with a whole response that ends with this text.
 fn is_answered(met: &ExchangeResult, end: &str) -> bool {
     let is_whole = match met.ended {
         Ok(done) => {
@@ -18,8 +18,8 @@ fn is_answered(met: &ExchangeResult, end: &str) -> bool {
     is_whole && met.taken.as_slice().ends_with(end.as_bytes())
 }
 
-/// Whether each exchange is cut off where a read of its peer fails, and each other one answered as the next
-/// of the requests says. None is left.
+/// Checks that each exchange fails if a read of its client fails, that each other one is answered as the next
+/// request says, and that no request is left.
 fn are_answered(met: &[ExchangeResult], peers: &[Peer<'_>], day: &[SentRequest]) -> bool {
     let mut left = day.iter();
     for (met, peer) in met.iter().zip(peers) {
@@ -38,7 +38,7 @@ fn are_answered(met: &[ExchangeResult], peers: &[Peer<'_>], day: &[SentRequest])
     met.len() == peers.len() && left.next().is_none()
 }
 
-/// Whether the day is answered where each request comes in pieces of that size.
+/// Checks that the day is answered if each request comes in pieces of that size.
 fn is_day_answered(alloc: Global, size: usize, has_keys: bool) -> Option<bool> {
     let day = build_day(alloc, has_keys)?;
     let mut peers: Vec<Peer<'_>> = Vec::new(alloc);
@@ -51,6 +51,7 @@ fn is_day_answered(alloc: Global, size: usize, has_keys: bool) -> Option<bool> {
     Some(are_answered(met.as_slice(), peers.as_slice(), day.as_slice()))
 }
 
+/// The day is answered if its requests come in pieces.
 #[test]
 fn day_in_pieces(rt: HostRuntime) {
     for size in [1usize, 2, 7, 80_000] {
@@ -61,6 +62,7 @@ fn day_in_pieces(rt: HostRuntime) {
     }
 }
 
+/// The day with idempotency keys is answered if its requests come in pieces.
 #[test]
 fn idempotent_day_in_pieces(rt: HostRuntime) {
     for size in [2usize, 80_000] {
@@ -71,8 +73,8 @@ fn idempotent_day_in_pieces(rt: HostRuntime) {
     }
 }
 
-/// Whether the day is answered where before each request comes the same with each of its reads failing in
-/// turn.
+/// Checks that the day is answered if before each request the same request comes with each of its reads
+/// failing in turn: a request that was not read to its end commits nothing.
 fn commits_nothing(alloc: Global, has_keys: bool) -> Option<bool> {
     let day = build_day(alloc, has_keys)?;
     let mut peers: Vec<Peer<'_>> = Vec::new(alloc);
@@ -87,17 +89,19 @@ fn commits_nothing(alloc: Global, has_keys: bool) -> Option<bool> {
     Some(are_answered(met.as_slice(), peers.as_slice(), day.as_slice()))
 }
 
+/// A command is not carried out if a read of its request fails.
 #[test]
 fn commands_cut_at_reads(rt: HostRuntime) {
     assert!(rt; commits_nothing(rt.alloc(), false) == Some(true));
 }
 
+/// A command with an idempotency key is not carried out if a read of its request fails.
 #[test]
 fn idempotent_commands_cut_at_reads(rt: HostRuntime) {
     assert!(rt; commits_nothing(rt.alloc(), true) == Some(true));
 }
 
-/// The lengths of the responses to the commands.
+/// Returns the lengths of the responses to the commands.
 fn response_lengths(alloc: Global, day: &[SentRequest]) -> Option<Vec<usize>> {
     let mut peers: Vec<Peer<'_>> = Vec::new(alloc);
     for sent in day {
@@ -112,14 +116,15 @@ fn response_lengths(alloc: Global, day: &[SentRequest]) -> Option<Vec<usize>> {
     Some(lengths)
 }
 
-/// How much of a response is taken before it is cut off: so many sixteenths, short of the last byte.
+/// Returns how many bytes of a response are taken before its write fails: so many sixteenths, short of the
+/// last byte.
 fn bytes_before_cut(length: usize, part: usize) -> usize {
     let parts = (length / 16).saturating_mul(part);
     parts.min(length.saturating_sub(1))
 }
 
-/// Whether of each two exchanges the first was cut off in the response, and the second answered as the same
-/// request sent once more: under a number as before.
+/// Checks for each two exchanges that the first was cut off in its response, and that the second was answered
+/// as a request that is sent again: with an idempotency key as the first time.
 fn stay_committed(
     met: &[ExchangeResult],
     lengths: &[usize],
@@ -139,8 +144,8 @@ fn stay_committed(
     lengths.len() == day.len() && met.len() / 2 == day.len()
 }
 
-/// Whether all stands of each command although its response was cut off once so many sixteenths of it were
-/// taken: a write failed, or took nothing.
+/// Checks that each command is committed although its response was cut off after so many sixteenths: a write
+/// failed, or took nothing.
 fn stays_committed(alloc: Global, part: usize, has_keys: bool) -> Option<bool> {
     let day = build_requests(alloc, COMMANDS, has_keys)?;
     let lengths = response_lengths(alloc, day.as_slice())?;
@@ -163,6 +168,7 @@ fn stays_committed(alloc: Global, part: usize, has_keys: bool) -> Option<bool> {
     ))
 }
 
+/// A command is committed even if a write of its response fails.
 #[test]
 fn commands_cut_at_writes(rt: HostRuntime) {
     for part in 0..=16 {
@@ -173,6 +179,7 @@ fn commands_cut_at_writes(rt: HostRuntime) {
     }
 }
 
+/// A command with an idempotency key is committed even if a write of its response fails.
 #[test]
 fn idempotent_commands_cut_at_writes(rt: HostRuntime) {
     for part in [0usize, 7, 16] {
@@ -183,8 +190,8 @@ fn idempotent_commands_cut_at_writes(rt: HostRuntime) {
     }
 }
 
-/// A front, one piece so many times, and an end. `reads` are those of a peer that sends a byte a read, up to
-/// that which decides the request.
+/// A request: a front, a piece so many times, and an end. `reads` is the number of reads, of one byte each,
+/// up to the one that determines the response.
 #[derive(Clone, Copy)]
 struct Hostile {
     front: &'static [u8],
@@ -194,7 +201,7 @@ struct Hostile {
     reads: usize,
 }
 
-/// Requests that no honest client sends, and their reads. Of HTTP/1.2 the line is read up to there.
+/// Requests that no correct client sends, and their reads. A request of HTTP/1.2 is read up to its version.
 const REQUESTS: &[(&[u8], usize)] = &[
     (b"", 1),
     (b"GET /captive HTTP/1.1\r\nHost: api\r\nPortal", 41),
@@ -289,7 +296,7 @@ const MANY_FIELDS: Hostile = Hostile {
     reads: 250,
 };
 
-/// Requests at the limits of a head and of a body, and one more.
+/// Requests at the limits of a head and of a body, and one past each.
 const LIMITS: &[Hostile] = &[
     LONG_FIELD,
     Hostile {
@@ -312,7 +319,7 @@ const LIMITS: &[Hostile] = &[
     },
 ];
 
-/// A request that is written out.
+/// Makes a hostile request from a row of the table: its bytes, and the number of reads that it takes.
 fn hostile_request(row: &(&'static [u8], usize)) -> Hostile {
     let (front, reads) = *row;
     Hostile {
@@ -324,6 +331,7 @@ fn hostile_request(row: &(&'static [u8], usize)) -> Hostile {
     }
 }
 
+/// Returns the bytes of a request.
 fn bytes_of(alloc: Global, row: &Hostile) -> Option<Vec<u8>> {
     let mut bytes = row.front.to_vec(alloc).ok()?;
     for _ in 0..row.times {
@@ -333,7 +341,7 @@ fn bytes_of(alloc: Global, row: &Hostile) -> Option<Vec<u8>> {
     Some(bytes)
 }
 
-/// The sizes of the pieces in which a request is sent, the least first.
+/// Returns the sizes of the pieces in which a request is sent, the smallest first.
 fn piece_sizes(length: usize) -> &'static [usize] {
     if length < 1_000 {
         &[1, 2, 7, 4_096, 80_000]
@@ -342,7 +350,7 @@ fn piece_sizes(length: usize) -> &'static [usize] {
     }
 }
 
-/// The size of the pieces of which each fails in turn, and how many decide a request of that length.
+/// Returns the size of the pieces of which each fails in turn, and how many of them determine the response.
 fn piece_size_and_reads(length: usize, reads: usize) -> (usize, usize) {
     if length < 1_000 {
         (1, reads)
@@ -351,7 +359,7 @@ fn piece_size_and_reads(length: usize, reads: usize) -> (usize, usize) {
     }
 }
 
-/// Whether each exchange sent that response whole.
+/// Checks that each exchange sent that whole response.
 fn are_done(met: &[ExchangeResult], response: &[u8]) -> bool {
     for met in met {
         if !is_done(met, status_in(response), response) {
@@ -361,6 +369,7 @@ fn are_done(met: &[ExchangeResult], response: &[u8]) -> bool {
     true
 }
 
+/// Checks that each exchange failed at a read, before anything was written.
 fn are_unread(met: &[ExchangeResult]) -> bool {
     for met in met {
         if !is_unread(met) {
@@ -370,8 +379,8 @@ fn are_unread(met: &[ExchangeResult]) -> bool {
     true
 }
 
-/// Whether the request is answered as by a run, in pieces of each size; of the least none is read past that
-/// which decides it.
+/// Checks that the request is answered in pieces of each size as it is by a run. In pieces of the smallest
+/// size no more is read than determines the response.
 fn is_same_in_pieces(alloc: Global, row: &Hostile) -> Option<bool> {
     let bytes = bytes_of(alloc, row)?;
     let response = answer(alloc, bytes.as_slice())?;
@@ -388,6 +397,7 @@ fn is_same_in_pieces(alloc: Global, row: &Hostile) -> Option<bool> {
     Some(is_read && is_same)
 }
 
+/// Requests that no correct client sends are answered in pieces as they are whole.
 #[test]
 fn hostile_requests_in_pieces(rt: HostRuntime) {
     for (place, row) in REQUESTS.iter().enumerate() {
@@ -398,6 +408,7 @@ fn hostile_requests_in_pieces(rt: HostRuntime) {
     }
 }
 
+/// Requests at the limits are answered in pieces as they are whole.
 #[test]
 fn limits_in_pieces(rt: HostRuntime) {
     for (place, row) in LIMITS.iter().enumerate() {
@@ -405,8 +416,7 @@ fn limits_in_pieces(rt: HostRuntime) {
     }
 }
 
-/// Whether nothing is written where a read of the request fails, each of them in turn. A read more is not
-/// made.
+/// Checks that nothing is written if a read of the request fails, each in turn. No further read is made.
 fn is_cut_at_reads(alloc: Global, row: &Hostile) -> Option<bool> {
     let bytes = bytes_of(alloc, row)?;
     let (size, reads) = piece_size_and_reads(bytes.len(), row.reads);
@@ -420,6 +430,7 @@ fn is_cut_at_reads(alloc: Global, row: &Hostile) -> Option<bool> {
     Some(done.len() == 1 && are_unread(unread) && done.first()?.ended.is_ok())
 }
 
+/// A request that no correct client sends gets no response if one of its reads fails.
 #[test]
 fn hostile_requests_cut_at_reads(rt: HostRuntime) {
     for (place, row) in REQUESTS.iter().enumerate() {
@@ -430,6 +441,7 @@ fn hostile_requests_cut_at_reads(rt: HostRuntime) {
     }
 }
 
+/// A request at the limits gets no response if one of its reads fails.
 #[test]
 fn limits_cut_at_reads(rt: HostRuntime) {
     for (place, row) in LIMITS.iter().enumerate() {
@@ -437,8 +449,7 @@ fn limits_cut_at_reads(rt: HostRuntime) {
     }
 }
 
-/// Whether the response to the request is cut off where a write fails, or takes nothing, once so many bytes
-/// are taken, each number of them.
+/// Checks that the response is cut off if a write fails, or takes nothing, after each number of bytes.
 fn is_cut_at_writes(alloc: Global, row: &Hostile) -> Option<bool> {
     let bytes = bytes_of(alloc, row)?;
     let response = answer(alloc, bytes.as_slice())?;
@@ -462,6 +473,8 @@ fn is_cut_at_writes(alloc: Global, row: &Hostile) -> Option<bool> {
     Some(met.len() == peers.len())
 }
 
+/// Hostile requests, where each write of the response fails once: the client has got what was written before
+/// that, and nothing more.
 #[test]
 fn hostile_requests_cut_at_writes(rt: HostRuntime) {
     for (place, row) in REQUESTS.iter().enumerate() {

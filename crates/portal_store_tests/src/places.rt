@@ -1,4 +1,4 @@
-//! A place of one settings file, with the faults that it is to answer.
+//! A place of one settings file, with the errors that it has to give, and a network.
 ghost use Rattle.std.specs.Prelude.{⊤};
 
 use portal_commands::place::{Files, Opened, Place};
@@ -24,7 +24,7 @@ pub const FILES: Files<'static> = Files {
     settings: "portal.toml",
 };
 
-/// The same with a database that was made just now.
+/// The same with a database that is new.
 pub const NEW: Files<'static> = Files {
     db: "new.db",
     settings: "portal.toml",
@@ -36,7 +36,8 @@ pub const STUCK: Files<'static> = Files {
     settings: "portal.toml",
 };
 
-/// What stands for the files of a machine: a text, and the faults of reading and of opening.
+/// Stands in for the files of a machine: the text of the settings file, and the errors of reading it and of
+/// opening the database.
 #[derive(Clone, Copy)]
 pub struct Shelf {
     pub alloc: Global,
@@ -45,7 +46,7 @@ pub struct Shelf {
     pub opening: Option<ProgramError>,
 }
 
-/// A place at which all goes well.
+/// Makes a stand-in without errors.
 pub fn good_shelf(alloc: Global) -> Shelf {
     Shelf {
         alloc,
@@ -56,7 +57,7 @@ pub fn good_shelf(alloc: Global) -> Shelf {
 }
 
 impl Shelf {
-    /// The place of these files, whose desks are those in memory of another place.
+    /// Makes the place of these files. Its desks are those in memory of another place.
     pub fn place<P: Place>(&self) -> GivenPlace<P> {
         GivenPlace {
             shelf: *self,
@@ -65,7 +66,7 @@ impl Shelf {
     }
 }
 
-/// A place of given files. Each desk is one over a new store in memory of another place.
+/// A place of given files. Each desk is one over a new database in memory of another place.
 #[derive(Drop)]
 pub struct GivenPlace<P: Place> {
     shelf: Shelf,
@@ -153,17 +154,17 @@ impl<P: Place> Place for GivenPlace<P> {
     }
 }
 
-/// A loopback address of which a port can be had, or not. Each connection breaks before it is accepted.
+/// A loopback address of which a port can be bound, or not. Each connection breaks before it is accepted.
 #[derive(Clone, Copy)]
 pub struct TestNetwork {
     pub is_free: bool,
 }
 
-/// A port at which every connection breaks.
+/// A port at which each connection breaks.
 #[derive(Clone, Copy)]
 pub struct Broken;
 
-/// What no peer sends or takes.
+/// A reader that gives nothing, and a writer that takes nothing.
 #[derive(Clone, Copy)]
 pub struct Nothing;
 

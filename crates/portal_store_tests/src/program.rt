@@ -1,4 +1,4 @@
-//! The program over words, a reader and two writers: what goes out, and the status with which it ends.
+//! The program over its arguments, a reader and two writers: its output, and its exit code.
 use crate::desks::InMemory;
 use crate::places::{TestNetwork, good_shelf};
 use crate::requests::{CAPTIVE, MOMENT, REQUEST};
@@ -13,7 +13,7 @@ use std::io::{self, Error, ErrorKind, Read, Write};
 
 const SEED: &str = "0000000000000000000000000000000000000000000000000000000000000000";
 
-/// A reader that gives one byte a read, and fails once so many reads were made.
+/// A reader that gives one byte a read, and fails after so many reads.
 #[derive(Drop)]
 struct FailingReader<'b> {
     bytes: &'b [u8],
@@ -35,8 +35,8 @@ impl<'b> Read for FailingReader<'b> {
     }
 }
 
-/// A writer that keeps what it takes: at most 100 bytes a write, and no more than it has room for. Then it
-/// fails, or takes nothing.
+/// A writer that keeps what it takes: at most 100 bytes a write, and `room` bytes in all. Then it fails, or
+/// takes nothing.
 #[derive(Drop)]
 struct FailingWriter {
     taken: Vec<u8>,
@@ -60,7 +60,7 @@ impl Write for FailingWriter {
     }
 }
 
-/// An environment whose words are given.
+/// An environment with these arguments.
 #[derive(Drop)]
 struct GivenWords<'w> {
     words: &'w [&'w [u8]],
@@ -88,8 +88,7 @@ impl<'w> Env for GivenWords<'w> {
     }
 }
 
-/// Whether the answer to what the reader gives ends with this status, and says just this beside what it
-/// writes.
+/// Runs `answer` at a place, and checks its exit code and the errors that it prints.
 fn answer_exits_at<P: Place, R: Read, W: Write>(
     alloc: Global,
     now: u64,
@@ -117,7 +116,7 @@ fn answer_exits_at<P: Place, R: Read, W: Write>(
     ended == status && errors.as_slice() == said.as_bytes()
 }
 
-/// The same of the desks in memory.
+/// Runs `answer` with a desk in memory, and checks its exit code and the errors that it prints.
 fn answer_exits_with<R: Read, W: Write>(
     alloc: Global,
     now: u64,
@@ -130,7 +129,7 @@ fn answer_exits_with<R: Read, W: Write>(
     answer_exits_at::<InMemory, R, W>(alloc, now, seed, input, output, status, said)
 }
 
-/// The status with which the program ends, with such words and a guest's request.
+/// Runs the program with these arguments and a guest's request, and returns its exit code.
 fn run_for_exit_code<P: Place>(
     alloc: Global,
     words: &[&str],
@@ -149,14 +148,15 @@ fn run_for_exit_code<P: Place>(
     )
 }
 
-/// Whether the bytes begin and end so; nothing stands for no bytes.
+/// Checks that the bytes begin and end with these texts; an empty front means no bytes.
 fn is_framed(bytes: &[u8], front: &str, end: &str) -> bool {
     bytes.is_empty() == front.is_empty()
         && bytes.starts_with(front.as_bytes())
         && bytes.ends_with(end.as_bytes())
 }
 
-/// Whether a request of which so many bytes are read ends so, and so many bytes are written.
+/// Checks the end of `answer` if so many bytes of the request can be read, and that so many bytes are
+/// written.
 fn ends_after_reads(
     alloc: Global,
     reads_left: usize,
@@ -173,6 +173,7 @@ fn ends_after_reads(
     is_ended && output.len() == written
 }
 
+/// `answer` ends with `cut` if a read of the request fails.
 #[test]
 fn requests_cut_off(rt: HostRuntime) {
     for reads_left in 0..70 {
@@ -182,8 +183,8 @@ fn requests_cut_off(rt: HostRuntime) {
     assert!(rt; ends_after_reads(rt.alloc(), 70, 0, "", 224));
 }
 
-/// Whether the response is begun, and it ends so, where there is room for so many bytes. Then a write fails,
-/// or takes nothing.
+/// Checks the end of `answer` if so many bytes of the response can be written, and that those are its first
+/// ones. Then a write fails, or takes nothing.
 fn ends_at_room(alloc: Global, room: usize, fails: bool, status: u8, said: &str) -> bool {
     let mut input = REQUEST;
     let mut output = FailingWriter {
@@ -197,6 +198,7 @@ fn ends_at_room(alloc: Global, room: usize, fails: bool, status: u8, said: &str)
         && CAPTIVE.as_bytes().starts_with(output.taken.as_slice())
 }
 
+/// `answer` ends with `cut` if a write of the response fails.
 #[test]
 fn responses_cut_off(rt: HostRuntime) {
     for room in 0..224 {
@@ -208,6 +210,7 @@ fn responses_cut_off(rt: HostRuntime) {
     assert!(rt; ends_at_room(rt.alloc(), 224, true, 0, ""));
 }
 
+/// `answer` ends with `cut` if a write of the response takes nothing.
 #[test]
 fn responses_not_taken(rt: HostRuntime) {
     for room in 0..224 {
@@ -219,7 +222,7 @@ fn responses_not_taken(rt: HostRuntime) {
     assert!(rt; ends_at_room(rt.alloc(), 224, false, 0, ""));
 }
 
-/// Words, the room for the output, the status, and how the output and the errors begin.
+/// Arguments, the room for the output, the exit code, and how the output and the errors begin.
 type Call = (
     &'static [&'static str],
     usize,
@@ -306,7 +309,7 @@ const CALLS: &[Call] = &[
     ),
 ];
 
-/// Whether the program ends as the call says.
+/// Checks that the program ends as the call says.
 fn is_ended(alloc: Global, call: &Call) -> bool {
     let (words, room, status, wrote, said) = call;
     let mut output = FailingWriter {
@@ -321,6 +324,7 @@ fn is_ended(alloc: Global, call: &Call) -> bool {
         && is_framed(errors.as_slice(), said, "")
 }
 
+/// The program ends with the right exit code and texts for each command line.
 #[test]
 fn words_to_status(rt: HostRuntime) {
     for (n, call) in CALLS.iter().enumerate() {
@@ -328,7 +332,7 @@ fn words_to_status(rt: HostRuntime) {
     }
 }
 
-/// How many words there are, and whether the second is an umlaut.
+/// Returns how many arguments there are, and whether the second is an umlaut.
 fn read_arguments(alloc: Global, words: &[&[u8]]) -> Result<(usize, bool), ProgramError> {
     let words = words_of(&(GivenWords { words }, alloc))?;
     let is_umlaut = match words.get(1) {
@@ -338,6 +342,7 @@ fn read_arguments(alloc: Global, words: &[&[u8]]) -> Result<(usize, bool), Progr
     Ok((words.len(), is_umlaut))
 }
 
+/// Arguments are read as UTF-8; one that is not gives `usage`.
 #[test]
 fn words_in_utf8(rt: HostRuntime) {
     let umlaut: &[&[u8]] = &[b"portal", b"\xc3\xa4", b""];

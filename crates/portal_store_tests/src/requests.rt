@@ -1,7 +1,7 @@
 //! Requests, and whole responses to them.
 use std::alloc::Global;
 
-/// The moment of the whole responses: 2020-03-02 05:08:13 UTC.
+/// The time of the whole responses: 2020-03-02 05:08:13 UTC.
 pub const MOMENT: u64 = 1_583_125_693;
 
 /// The request of a guest's device: 70 bytes.
@@ -18,7 +18,7 @@ pub const CAPTIVE: &str = "HTTP/1.1 200 OK\r\n\
     \r\n\
     {\"captive\":true,\"user-portal-url\":\"https://wifi.example/portal\"}";
 
-/// The whole response to a request that is no request.
+/// The whole response to bytes that are no valid request.
 pub const BAD_REQUEST: &str = "HTTP/1.1 400 Bad Request\r\n\
     Date: Mon, 02 Mar 2020 05:08:13 GMT\r\n\
     Content-Type: application/json\r\n\
@@ -58,7 +58,7 @@ pub const DESK: &str = "Portal-Token: desk-token\r\n";
 
 pub const GATE: &str = "Portal-Token: gate-token\r\n";
 
-/// A request with that body, by its line and its fields.
+/// Builds a request with that body, from its request line and its fields.
 pub fn request(alloc: Global, line: &str, fields: &str, body: &[u8]) -> Option<Vec<u8>> {
     let size = body.len();
     let head = format!(in alloc;

@@ -8,8 +8,8 @@ use std::str;
 
 const BATCH: &[u8] = b"{\"batch\":\"b1\",\"plan\":\"hour\",\"count\":100}";
 
-/// The codes of a print file at the end of a response: what stands before the first comma of each line but
-/// the first.
+/// Returns the codes of a print file at the end of a response: the text before the first comma of each line
+/// but the first.
 fn codes_in(alloc: Global, response: &[u8]) -> Option<Vec<String>> {
     let text = str::from_utf8(response).ok()?;
     let mut codes = Vec::new(alloc);
@@ -23,7 +23,7 @@ fn codes_in(alloc: Global, response: &[u8]) -> Option<Vec<String>> {
     Some(codes)
 }
 
-/// The codes of the batch, as another desk prints them.
+/// Returns the codes of the batch, as another desk prints them.
 fn batch_codes(alloc: Global, plans: &[u8], batch: &[u8]) -> Option<Vec<String>> {
     let sheet = request(alloc, "GET /desk/batches/b1/print", DESK, b"")?;
     let requests: [(u64, &[u8]); 3] = [(1000, plans), (1000, batch), (1000, sheet.as_slice())];
@@ -31,7 +31,7 @@ fn batch_codes(alloc: Global, plans: &[u8], batch: &[u8]) -> Option<Vec<String>>
     codes_in(alloc, response.as_slice())
 }
 
-/// The sale and the redemption of each code.
+/// Builds the sale and the redemption of each code.
 fn sell_and_redeem_requests(alloc: Global, codes: &[String]) -> Option<Vec<Vec<u8>>> {
     let mut requests = Vec::new(alloc);
     for code in codes {
@@ -45,7 +45,7 @@ fn sell_and_redeem_requests(alloc: Global, codes: &[String]) -> Option<Vec<Vec<u
     Some(requests)
 }
 
-/// How many responses of the run have the status 200, and the last response.
+/// Runs all requests. Returns how many responses have the status 200, and the last response.
 fn run_all_requests(alloc: Global) -> Option<(usize, Vec<u8>)> {
     let plans = request(alloc, "POST /desk/plans", DESK, PLANS.as_bytes())?;
     let batch = request(alloc, "POST /desk/batches", DESK, BATCH)?;
@@ -72,6 +72,7 @@ const LAST: &str =
     "\r\n\r\n{\"can-extend-session\":true,\"captive\":false,\"seconds-remaining\":360000,\
     \"user-portal-url\":\"https://wifi.example/portal\"}";
 
+/// All 202 requests are accepted, and the device has a hundred hours.
 #[test]
 fn run_of_202_requests(rt: HostRuntime) {
     let (accepted, last) = run_all_requests(rt.alloc()).expect(&rt, "a run");

@@ -1,4 +1,4 @@
-//! The two orders in which sales are listed: by moment and printed code, and as the vouchers were issued.
+//! The two orders in which sales are listed: by time and printed code, and as the vouchers were issued.
 use portal_model::moment::Moment;
 use portal_tables::attaching::Refused;
 use portal_tables::errors::StoreFault;
@@ -7,7 +7,7 @@ use sqlite::{Alter, Connection};
 use std::alloc::Global;
 use std::test::Fail;
 
-/// Three vouchers that are sold in another order than they were issued, two of them at one moment.
+/// Three vouchers that are sold in another order than they were issued, two of them at one time.
 const SOLD: &str =
     "INSERT INTO portal_plans VALUES ('hour', 300, 1, 3600, 0, 30, 1), ('gig', 500, 3, 0, 1073741824, 30, 0);
     INSERT INTO portal_batches VALUES ('b1', 'hour', 900, 2592900, 2), ('b2', 'gig', 900, 2592900, 1);
@@ -16,9 +16,10 @@ const SOLD: &str =
     INSERT INTO portal_counts VALUES ('3N55-WA4S-KH53', 0), ('3N55-WA4S-KH5V-JR49', 0), ('2222-2222-223N', 0);
     UPDATE portal_head SET last_moment = 1000";
 
-/// Moments, each with an amount.
+/// Times, each with an amount.
 type Amounts = Result<Vec<(Moment, u64)>, StoreFault>;
 
+/// Attaches a connection, and returns its tables.
 fn attach_tables<S: Alter + Drop>(conn: Connection<S>) -> Result<Tables<S>, Fail> {
     match Tables::adopt(conn) {
         Ok(tables) => Ok(tables),
@@ -29,7 +30,7 @@ fn attach_tables<S: Alter + Drop>(conn: Connection<S>) -> Result<Tables<S>, Fail
     }
 }
 
-/// The sales from a moment to 1000, in both orders.
+/// Returns the sales from a time to 1000, in both orders.
 fn read_sales<S: Alter>(
     alloc: Global,
     tables: &mut Tables<S>,
@@ -40,6 +41,7 @@ fn read_sales<S: Alter>(
     Some((by_moment, tables.sales_as_issued(alloc, from, to)))
 }
 
+/// Checks that the amounts are these.
 fn are_amounts(amounts: &Amounts, wanted: &[(u64, u64)]) -> bool {
     let Ok(amounts) = amounts else {
         return false;
@@ -52,6 +54,7 @@ fn are_amounts(amounts: &Amounts, wanted: &[(u64, u64)]) -> bool {
     amounts.len() == wanted.len()
 }
 
+/// Sales are listed by time and printed code, and in the order of issue.
 #[test]
 fn sales_in_both_orders(rt: HostRuntime) -> Result<(), Fail> {
     let mut conn = attach_tables(Connection::open_in_memory(rt.alloc())?)?.release();

@@ -1,5 +1,5 @@
-//! Serving: what peers are sent, what is printed, and the status, over a host that is made up; a port that is
-//! taken.
+//! Serving: the bytes that clients are sent, what is printed, and the exit code, over a host that stands in
+//! for the machine; and a port that is taken.
 ghost use Rattle.std.specs.Prelude.{⊤};
 
 use crate::desks::serve_in_memory;
@@ -15,7 +15,7 @@ use std::io::{self, ErrorKind, Write};
 use std::rt::Clock;
 use std::time::Duration;
 
-/// What a peer does.
+/// What a client does.
 #[derive(Clone, Copy)]
 enum Peer {
     /// It asks for its captive state, and takes the response.
@@ -30,8 +30,8 @@ enum Peer {
     Gone,
 }
 
-/// A host of so many peers, whose clock may fail. It counts how often it was asked for a connection and for a
-/// pause, and keeps what peers were sent.
+/// A host of these clients, whose clock may fail. It counts how often a connection and how often a pause is
+/// asked for, and keeps the bytes that clients are sent.
 #[derive(Drop)]
 struct Script<'p> {
     alloc: Global,
@@ -91,7 +91,7 @@ impl<'p> Host for Script<'p> {
     }
 }
 
-/// A host of these peers.
+/// Makes a host of these clients.
 fn new_script(alloc: Global, peers: &[Peer], clock: Result<(), ProgramError>) -> Script<'_> {
     Script {
         alloc,
@@ -103,7 +103,7 @@ fn new_script(alloc: Global, peers: &[Peer], clock: Result<(), ProgramError>) ->
     }
 }
 
-/// Serves at port 8080, and gives the status with the faults that were printed.
+/// Serves connections at port 8080. Returns the exit code and the errors that were printed.
 pub fn serve_with_errors<D: Desk, H: Host, W: Write>(
     alloc: Global,
     desk: &mut D,
@@ -117,8 +117,8 @@ pub fn serve_with_errors<D: Desk, H: Host, W: Write>(
     Some((status, errors))
 }
 
-/// What came of serving: the status, how often a connection was asked for, what peers were sent, and what was
-/// printed.
+/// The end of serving: the exit code, how often a connection was asked for, the bytes that clients were sent,
+/// and what was printed.
 #[derive(Drop)]
 struct ExitResult {
     status: u8,
@@ -129,7 +129,7 @@ struct ExitResult {
 }
 
 impl ExitResult {
-    /// Whether it ended so, and printed that, the faults last.
+    /// Compares it with this exit code, this count of connections, and these texts.
     fn is(&self, status: u8, accepts: usize, output: &[u8], errors: &str) -> bool {
         self.status == status
             && self.accepts == accepts
@@ -138,7 +138,7 @@ impl ExitResult {
     }
 }
 
-/// A new desk serves so many connections of the peers, and so many bytes of output are taken.
+/// Serves so many connections of the clients by a new desk, with so many bytes of room for the output.
 fn run_and_collect(
     alloc: Global,
     peers: &[Peer],
@@ -159,8 +159,8 @@ fn run_and_collect(
     })
 }
 
-/// Peers of which some are gone before they are accepted, and the pauses that are made: after the second in a
-/// row, and after each further one.
+/// Clients of which some are gone before they are accepted, and the pauses that are made: after the second in
+/// a row, and after each further one.
 const GONE: &[(&[Peer], usize)] = &[
     (&[Peer::Gone, Peer::Asks, Peer::Gone], 0),
     (&[Peer::Gone, Peer::Gone], 1),
@@ -170,7 +170,7 @@ const GONE: &[(&[Peer], usize)] = &[
     ),
 ];
 
-/// How often a server pauses that serves these peers.
+/// Returns how often a server pauses that serves these clients.
 fn pauses(alloc: Global, peers: &[Peer]) -> Option<usize> {
     let mut host = new_script(alloc, peers, Ok(()));
     let mut output = new_taker(alloc, 10);
@@ -178,6 +178,7 @@ fn pauses(alloc: Global, peers: &[Peer]) -> Option<usize> {
     if status == 0 { Some(host.pauses) } else { None }
 }
 
+/// The server pauses after the second failed accept in a row, and after each further one.
 #[test]
 fn pauses_after_failing_accepts(rt: HostRuntime) {
     for (peers, wanted) in GONE {
@@ -185,7 +186,7 @@ fn pauses_after_failing_accepts(rt: HostRuntime) {
     }
 }
 
-/// The line that tells the port.
+/// The line with the port.
 const LISTENING: &[u8] = b"listening 127.0.0.1:8080\n";
 
 const PEERS: &[Peer] = &[
@@ -197,7 +198,8 @@ const PEERS: &[Peer] = &[
     Peer::Asks,
 ];
 
-/// Whether each of these peers is sent what is due to it, and each that broke off is told of.
+/// Checks that each of these clients is sent its response, and that an error is printed for each that broke
+/// off.
 fn are_served(alloc: Global) -> Option<bool> {
     let ended = run_and_collect(alloc, PEERS, Ok(()), 6, 1_000)?;
     let begun = &CAPTIVE[..100];
@@ -206,12 +208,13 @@ fn are_served(alloc: Global) -> Option<bool> {
     Some(ended.is(0, 6, LISTENING, errors) && ended.sent.as_slice() == sent.as_bytes())
 }
 
+/// Clients are served in turn, whatever the clients before them did.
 #[test]
 fn peers_one_after_another(rt: HostRuntime) {
     assert!(rt; are_served(rt.alloc()) == Some(true));
 }
 
-/// The clock, the connections to be served, and what comes of it with two peers: status, faults, connections.
+/// The clock, the number of connections, and the end with two clients: exit code, errors, connections.
 const ENDS: &[(Result<(), ProgramError>, u64, u8, &str, usize)] = &[
     (Ok(()), 0, 0, "", 0),
     (Ok(()), 2, 0, "", 2),
@@ -219,7 +222,7 @@ const ENDS: &[(Result<(), ProgramError>, u64, u8, &str, usize)] = &[
     (Err(ProgramError::NoMemory), 2, 3, "portal: no_memory\n", 1),
 ];
 
-/// Whether serving two peers ends so.
+/// Checks that serving two clients ends like this.
 fn is_ended(
     alloc: Global,
     clock: Result<(), ProgramError>,
@@ -232,6 +235,7 @@ fn is_ended(
     Some(ended.is(status, accepts, LISTENING, said))
 }
 
+/// Serving ends after the count of connections, or with the error of the clock.
 #[test]
 fn ends_of_serving(rt: HostRuntime) {
     for (n, (clock, count, status, said, accepts)) in ENDS.iter().enumerate() {
@@ -240,7 +244,7 @@ fn ends_of_serving(rt: HostRuntime) {
     }
 }
 
-/// Whether a desk that has stopped ends the program before another connection is waited for.
+/// Checks that `serve`, with a desk that has stopped, returns before it waits for another connection.
 pub fn stopped_desk_ends_serve<D: Desk>(alloc: Global, desk: &mut D) -> Option<bool> {
     let mut host = new_script(alloc, &[Peer::Asks], Ok(()));
     let mut output = Vec::new(alloc);
@@ -250,12 +254,13 @@ pub fn stopped_desk_ends_serve<D: Desk>(alloc: Global, desk: &mut D) -> Option<b
     Some(is_printed && status == 3 && host.accepts == 0)
 }
 
-/// Whether nobody is served where so many bytes of the line that tells the port are taken, and no more.
+/// Checks that nobody is served if only so many bytes of the line with the port can be written.
 fn is_cut(alloc: Global, room: usize) -> Option<bool> {
     let ended = run_and_collect(alloc, &[Peer::Asks], Ok(()), 1, room)?;
     Some(ended.is(3, 0, LISTENING.get(..room)?, "portal: cut\n"))
 }
 
+/// Nobody is served if the line with the port cannot be written.
 #[test]
 fn line_cut_off(rt: HostRuntime) {
     for room in 0..25 {
@@ -263,19 +268,20 @@ fn line_cut_off(rt: HostRuntime) {
     }
 }
 
-/// Whether a port that is taken cannot be had again.
+/// Checks that a port that is bound cannot be bound again.
 fn is_port_taken(rt: &HostRuntime) -> Option<bool> {
     let listener = bind_loopback(rt, 0).ok()?;
     let port = listener.local_addr().ok()?.port();
     Some(matches!(bind_loopback(rt, port), Err(ProgramError::Network)))
 }
 
+/// A port cannot be bound twice.
 #[test]
 fn port_taken_twice(rt: HostRuntime) {
     assert!(rt; is_port_taken(&rt) == Some(true));
 }
 
-/// A clock that answers so many seconds, or fails.
+/// A clock that gives this time, or fails.
 #[derive(Drop)]
 struct Fixed {
     answer: Result<Duration, ErrorKind>,
@@ -294,7 +300,7 @@ impl Clock for Fixed {
     }
 }
 
-/// What the clock answers, in milliseconds, and the moment.
+/// What the clock gives, in milliseconds, and the time of the request.
 const MOMENTS: &[(Result<u64, ErrorKind>, Result<u64, ProgramError>)] = &[
     (Ok(1_999), Ok(1)),
     (Ok(253_370_764_799_000), Ok(253_370_764_799)),
@@ -305,6 +311,7 @@ const MOMENTS: &[(Result<u64, ErrorKind>, Result<u64, ProgramError>)] = &[
     (Err(ErrorKind::OutOfMemory), Err(ProgramError::NoMemory)),
 ];
 
+/// Returns the time of a request for this answer of the clock.
 fn moment_of(answer: Result<Duration, ErrorKind>) -> Result<u64, ProgramError> {
     match moment_now(&Fixed { answer }) {
         Ok(moment) => Ok(moment.get()),
@@ -312,6 +319,7 @@ fn moment_of(answer: Result<Duration, ErrorKind>) -> Result<u64, ProgramError> {
     }
 }
 
+/// The time of a request is that of the clock in whole seconds, at most the greatest time.
 #[test]
 fn moments_of_clocks(rt: HostRuntime) {
     for (n, (answer, wanted)) in MOMENTS.iter().enumerate() {
@@ -324,6 +332,7 @@ fn moments_of_clocks(rt: HostRuntime) {
     assert!(rt; moment_of(Ok(Duration::MAX)) == Ok(253_370_764_799));
 }
 
+/// Two seeds are not the same.
 #[test]
 fn seeds_differ(rt: HostRuntime) {
     let (one, other) = (fresh_seed(&rt), fresh_seed(&rt));

@@ -1,9 +1,9 @@
-//! SQL beside the desk, and what stands in a store.
+//! SQL beside the desk, and all that a database holds.
 use sqlite::{Alter, Connection};
 use std::alloc::Global;
 use std::test::Fail;
 
-/// Carries the statements of each text out.
+/// Executes the statements of each text.
 pub fn execute_all<S: Alter>(conn: &mut Connection<S>, texts: &[&str]) -> Result<(), Fail> {
     for text in texts {
         conn.execute_batch(text)?;
@@ -11,7 +11,7 @@ pub fn execute_all<S: Alter>(conn: &mut Connection<S>, texts: &[&str]) -> Result
     Ok(())
 }
 
-/// Adds each row that the query answers to the text.
+/// Appends each row of the query's result to the text.
 fn write_rows<S: Alter>(conn: &mut Connection<S>, sql: &str, whole: &mut String) -> Option<()> {
     for row in conn.query_all(sql, &[]).ok()? {
         writeln!(whole, "{row:?}").ok()?;
@@ -19,7 +19,7 @@ fn write_rows<S: Alter>(conn: &mut Connection<S>, sql: &str, whole: &mut String)
     Some(())
 }
 
-/// The names of the tables of a store, in order.
+/// Returns the names of the tables of a database, in order.
 fn table_names<S: Alter>(alloc: Global, conn: &mut Connection<S>) -> Option<Vec<String>> {
     let mut names = Vec::new(alloc);
     let sql = "SELECT name FROM sqlite_master WHERE type = 'table' ORDER BY name";
@@ -29,8 +29,8 @@ fn table_names<S: Alter>(alloc: Global, conn: &mut Connection<S>) -> Option<Vec<
     Some(names)
 }
 
-/// All that stands in a store: what its tables, indexes and views were made of, and each row of each table.
-/// `None` where it is not read, or there is no memory.
+/// Returns all that a database holds: the statements that made its tables, indexes and views, and each row of
+/// each table. None if it cannot be read, or if out of memory.
 pub fn dump_database<S: Alter>(alloc: Global, conn: &mut Connection<S>) -> Option<String> {
     let mut whole = String::new(alloc);
     write_rows(

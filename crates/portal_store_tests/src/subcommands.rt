@@ -1,4 +1,4 @@
-//! The subcommands over a place: which fault comes first, what is printed, and the status.
+//! The subcommands over a place: which error comes first, what is printed, and the exit code.
 use crate::desks::InMemory;
 use crate::places::{FILES, NEW, SETTINGS, STUCK, Shelf, TestNetwork, good_shelf};
 use crate::requests::{CAPTIVE, MOMENT};
@@ -25,7 +25,7 @@ const REPORT: &str = "day            sold             sales refunded           r
     total             0              0.00        0              0.00\n\
     net 0.00\n";
 
-/// What a command printed, and its status.
+/// What a subcommand printed, and its exit code.
 #[derive(Drop)]
 struct ExitResult {
     status: u8,
@@ -34,7 +34,7 @@ struct ExitResult {
 }
 
 impl ExitResult {
-    /// Whether it ended with a status, and with these texts alone.
+    /// Compares it with an exit code and these texts.
     fn is(&self, status: u8, output: &str, errors: &str) -> bool {
         self.status == status
             && self.output.as_slice() == output.as_bytes()
@@ -42,21 +42,21 @@ impl ExitResult {
     }
 }
 
-/// A subcommand and its words.
+/// A subcommand and its arguments.
 #[derive(Clone, Copy)]
 enum Subcommand<'w> {
-    /// `answer`, its moment, its seed, and whether it is over files.
+    /// `answer`, its time, its seed, and whether it is over files.
     Answer(u64, &'w str, bool),
     /// `print` and its batch.
     Print(&'w str),
     /// `takings`, its first and its last day.
     Takings(&'w str, &'w str),
     Check,
-    /// `serve`, where the port is free or not.
+    /// `serve`, and whether the port is free.
     Serve(bool),
 }
 
-/// The status of `answer`, of the request of a guest.
+/// Runs `answer` with the request of a guest, and returns its exit code.
 fn answer_guest<P: Place>(
     alloc: Global,
     place: P,
@@ -68,7 +68,7 @@ fn answer_guest<P: Place>(
     answer(alloc, place, request, &mut input, output, errors)
 }
 
-/// What `answer` is asked for, over files or without.
+/// Makes the options of `answer`, over files or without.
 fn answer_options(now: u64, seed: &str, has_files: bool) -> AnswerOptions<'_> {
     AnswerOptions {
         db: if has_files { Some(FILES.db) } else { None },
@@ -82,7 +82,7 @@ fn answer_options(now: u64, seed: &str, has_files: bool) -> AnswerOptions<'_> {
     }
 }
 
-/// The status of the subcommand over the files of the place.
+/// Runs the subcommand over the files of the place, and returns its exit code.
 fn run_for_exit_code<P: Place>(
     alloc: Global,
     place: P,
@@ -106,7 +106,7 @@ fn run_for_exit_code<P: Place>(
     }
 }
 
-/// What the subcommand prints over the shelf, and its status.
+/// Runs the subcommand over the files, and returns what it printed and its exit code.
 fn run_and_collect<P: Place>(shelf: &Shelf, asked: &Subcommand<'_>) -> ExitResult {
     let mut output = Vec::new(shelf.alloc);
     let mut errors = Vec::new(shelf.alloc);
@@ -124,8 +124,7 @@ fn run_and_collect<P: Place>(shelf: &Shelf, asked: &Subcommand<'_>) -> ExitResul
     }
 }
 
-/// Whether the subcommand over the shelf, with desks in memory, ends with a status and with these texts
-/// alone.
+/// Runs the subcommand over the files, with desks in memory, and checks its exit code and its texts.
 fn exits_with(
     shelf: &Shelf,
     asked: &Subcommand<'_>,
@@ -136,7 +135,7 @@ fn exits_with(
     run_and_collect::<InMemory>(shelf, asked).is(status, output, errors)
 }
 
-/// A settings file, the faults of reading it and of opening the database, and what is told first.
+/// A settings file, the errors of reading it and of opening the database, and the one that is printed.
 const ERRORS: &[(&str, Option<ProgramError>, Option<ProgramError>, &str)] = &[
     (
         "",
@@ -183,13 +182,14 @@ const OVER_FILES: &[Subcommand<'static>] = &[
     Subcommand::Serve(false),
 ];
 
-/// What the words say comes before any file.
+/// Subcommands with invalid arguments: that error comes before any of a file.
 const BAD_WORDS: &[Subcommand<'static>] = &[
     Subcommand::Answer(253_370_764_800, SEED, true),
     Subcommand::Answer(MOMENT, "00", true),
     Subcommand::Takings("1970-01-02", "1970-01-01"),
 ];
 
+/// Checks that each of the subcommands ends with this exit code and this error.
 fn all_exit_with(shelf: &Shelf, all: &[Subcommand<'_>], status: u8, errors: &str) -> bool {
     for asked in all {
         if !exits_with(shelf, asked, status, "", errors) {
@@ -199,7 +199,7 @@ fn all_exit_with(shelf: &Shelf, all: &[Subcommand<'_>], status: u8, errors: &str
     true
 }
 
-/// Neither file is asked for where none is named.
+/// The first error is printed. Without files none is asked for.
 #[test]
 fn first_error(rt: HostRuntime) {
     for (n, (text, reading, opening, said)) in ERRORS.iter().enumerate() {
@@ -219,7 +219,7 @@ fn first_error(rt: HostRuntime) {
     }
 }
 
-/// Subcommands over files without a fault: the status, the output and the errors.
+/// Subcommands over files without an error: the exit code, the output and the errors.
 const ENDS: &[(Subcommand<'static>, u8, &str, &str)] = &[
     (Subcommand::Answer(MOMENT, SEED, true), 0, CAPTIVE, ""),
     (Subcommand::Print("b1"), 1, "", "portal: unknown_batch\n"),
@@ -248,6 +248,7 @@ const ENDS: &[(Subcommand<'static>, u8, &str, &str)] = &[
     ),
 ];
 
+/// Each subcommand over files without an error ends as it has to.
 #[test]
 fn no_error(rt: HostRuntime) {
     let shelf = good_shelf(rt.alloc());
@@ -259,7 +260,7 @@ fn no_error(rt: HostRuntime) {
     }
 }
 
-/// Whether `check` finds a good database in these files, and prints that on its errors.
+/// Checks that `check` prints `ok` for these files, with this text on its errors.
 fn check_succeeds<P: Place>(alloc: Global, files: Files<'_>, said: &str) -> bool {
     let mut output = Vec::new(alloc);
     let mut errors = Vec::new(alloc);
@@ -273,7 +274,7 @@ fn check_succeeds<P: Place>(alloc: Global, files: Files<'_>, said: &str) -> bool
     ended.is(0, "ok\n", said)
 }
 
-/// A database that is new, and one that cannot be closed: the answer and the status stay.
+/// A database that is new, and one that cannot be closed: the output and the exit code stay the same.
 #[test]
 fn new_and_not_closed(rt: HostRuntime) {
     let alloc = rt.alloc();
@@ -282,11 +283,12 @@ fn new_and_not_closed(rt: HostRuntime) {
     assert!(rt; check_succeeds::<InMemory>(alloc, STUCK, "portal: file\n  stuck.db: no room\n"));
 }
 
-/// Whether these printed nothing but that the desk has stopped.
+/// Checks that only the line of a stopped desk was printed, with exit code 3.
 fn is_stopped_output(status: u8, output: &[u8], errors: &[u8]) -> bool {
     status == 3 && output.is_empty() && errors == b"portal: stopped\n".as_slice()
 }
 
+/// Checks that `print` reports a desk that has stopped.
 fn is_print_stopped<D: Desk>(alloc: Global, desk: &mut D) -> bool {
     let mut output = Vec::new(alloc);
     let mut errors = Vec::new(alloc);
@@ -294,6 +296,7 @@ fn is_print_stopped<D: Desk>(alloc: Global, desk: &mut D) -> bool {
     is_stopped_output(status, output.as_slice(), errors.as_slice())
 }
 
+/// Checks that `check` reports a desk that has stopped.
 fn is_check_stopped<D: Desk>(alloc: Global, desk: &mut D) -> bool {
     let mut output = Vec::new(alloc);
     let mut errors = Vec::new(alloc);
@@ -301,6 +304,7 @@ fn is_check_stopped<D: Desk>(alloc: Global, desk: &mut D) -> bool {
     is_stopped_output(status, output.as_slice(), errors.as_slice())
 }
 
+/// Checks that `takings` reports a desk that has stopped.
 fn are_takings_stopped<D: Desk>(alloc: Global, desk: &mut D) -> Option<bool> {
     let range = read_range("1970-01-02", "1970-01-02")?;
     let mut output = Vec::new(alloc);
@@ -309,7 +313,7 @@ fn are_takings_stopped<D: Desk>(alloc: Global, desk: &mut D) -> Option<bool> {
     Some(is_stopped_output(status, output.as_slice(), errors.as_slice()))
 }
 
-/// The status of `answer` at the desk, where no byte of the response is lost.
+/// Returns the exit code of `answer` at the desk. None if not all of the response is written.
 fn answer_status<D: Desk>(alloc: Global, desk: &mut D, request: &str) -> Option<u8> {
     let routes = Routes::new(alloc).ok()?;
     let moment = Moment::new(MOMENT)?;
@@ -327,8 +331,8 @@ fn answer_status<D: Desk>(alloc: Global, desk: &mut D, request: &str) -> Option<
     .ok()
 }
 
-/// Whether each subcommand says that the desk has stopped. A request that does not reach it is answered as
-/// ever.
+/// Checks that each subcommand reports a desk that has stopped. A request that does not reach the desk is
+/// answered as before.
 pub fn subcommands_print_stopped<D: Desk>(alloc: Global, desk: &mut D) -> Option<bool> {
     let are_said = is_print_stopped(alloc, desk)
         && is_check_stopped(alloc, desk)

@@ -1,8 +1,8 @@
-//! What makes a store of schema version 1, and what each later version adds: the first has no counters, and
-//! the first two keep no requests.
+//! SQL that makes a database of schema version 1, and what each later version adds: the first has no
+//! counters, and the first two keep no requests.
 
 /// A gigabyte redeemed and used up, and an hour redeemed, both from 1000 on. A voucher was sold and not
-/// redeemed, and one not sold.
+/// redeemed, and one was not sold.
 pub const FIRST: &str = "CREATE TABLE portal_head (id INTEGER PRIMARY KEY, layout INTEGER NOT NULL,
     last_moment INTEGER NOT NULL, grants INTEGER NOT NULL, sessions INTEGER NOT NULL) STRICT;
     CREATE TABLE portal_plans (id TEXT NOT NULL PRIMARY KEY, price INTEGER NOT NULL, uses INTEGER NOT NULL,

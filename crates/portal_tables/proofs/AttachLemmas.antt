@@ -1,4 +1,4 @@
--- How the steps of adopting a store follow one another.
+-- How the steps of attaching the tables follow one another.
 use Rattle.portal_tables.proofs.Common.{◌≡◌, ◌⊎◌, ◌≤◌, ◌∙◌, ℕ, IsTrue, lit≤, true, false, inl, inr, IfSome, IfNone, List, Option, Some, None, sym, subst, arith, Schema, Database, State, HasCleanDisk, IsUnchanged, Survives, survives_then, both, Contents, Holds, HoldsIn, this_schema_version, KeepsOthers, CrashStateHasOthers, are_names_free, QueryAnswers, IsOneRow, GivesSchemaVersion, is_usable_schema, HasMigrated, version_number, migrated_rows, OldSchema, First, Second, Third, Fourth, IsCarried, IsCompleted, CrashStateCarries, MayBeMigrated, HasNoActionOnOurs, GivesKnownVersion}
 use Rattle.sqlite.specs.Order.{Row}
 
@@ -9,19 +9,19 @@ tells_by db rows None answers one none = inr (rows, answers, none)
 
 -- ---- foreign keys
 
--- tables that stand, and on which no foreign key acts
+-- tables that exist, and on which no foreign key acts
 pub whole_spares : (schema : Schema) → is_usable_schema schema ≡ true → HasNoActionOnOurs schema
 whole_spares schema whole = (both _ _ whole).1
 
--- a schema with room for the tables
+-- a schema to which the tables can be added
 pub free_spares : (schema : Schema) → are_names_free schema ≡ true → HasNoActionOnOurs schema
 free_spares schema free = (both _ _ free).1
 
--- a look changed nothing
+-- reading the head changed nothing
 pub spared_before : (old mid : State) → IsUnchanged old mid → HasNoActionOnOurs mid.now.schema → HasNoActionOnOurs old.now.schema
 spared_before old mid same spared = subst (λ (db : Database). HasNoActionOnOurs db.schema) same.0.now_is spared
 
--- ---- a look at the head, and then the upgrade
+-- ---- reading the head, and then the migration
 
 upgrades_crash : (from : OldSchema) (old mid new : State) → (HasCleanDisk mid → GivesSchemaVersion old.now (Some (version_number from)) × IsUnchanged old mid) → Survives old mid (λ _. ⊥) → Survives mid new (MayBeMigrated from mid)
     → Survives old new (λ trees. HasNoActionOnOurs old.now.schema × CrashStateCarries old.now trees)
@@ -38,7 +38,7 @@ upgrades_crash from old mid new look one two =
       ),
     )) one two
 
--- a look at the head, and what it led to
+-- reading the head, and what follows
 brings : (from : OldSchema) (old mid new : State) → GivesSchemaVersion old.now (Some (version_number from)) → IsUnchanged old mid → HasMigrated from mid new → IsCarried old new
 brings from old mid new tells same did = record {
   carries = inr (
@@ -72,7 +72,7 @@ known Second = (lit≤ tt, lit≤ tt)
 known Third = (lit≤ tt, lit≤ tt)
 known Fourth = (lit≤ tt, lit≤ tt)
 
--- the layout that the look told
+-- the schema version that was read
 module _ (from : OldSchema) (old mid new : State) {o : Option ℕ} (look : HasCleanDisk mid → GivesSchemaVersion old.now o × IsUnchanged old mid) (told : o ≡ Some (version_number from)) (later : Survives mid new (MayBeMigrated from mid)) where
   seen : HasCleanDisk mid → GivesSchemaVersion old.now (Some (version_number from)) × IsUnchanged old mid
   seen clean = let it = look clean in (subst (GivesSchemaVersion old.now) told it.0, it.1)

@@ -1,4 +1,4 @@
--- What adopting a store comes to, where the store shows a history.
+-- The result of attaching the tables to a database that holds a ledger.
 use Rattle.portal_tables.proofs.Common.{◌≡◌, ◌≢◌, ◌⊎◌, inl, inr, ◌<◌, ◌≤◌, ℕ, true, false, cond, nat_eq, true≢false, IsTrue, [], Option, Some, None, refl, sym, ap, subst, ◌∙◌, arith, lit≤, Held, state, Trees, Schema, Database, IsDatabase, State, HasCleanDisk, Survives, survives_weaker, Ledger, all_rows_of, running, IsAsBefore, CrashStateHolds, at_open, new_store, Holds, CrashStateHoldsRows, this_schema_version, KeepsOthers, CrashStateHasOthers, others_none, version_number, OldSchema, First, Second, Third, Fourth, GivesSchemaVersion, Refused, KeepsOrMigrates, Stays, IsMigrated, FailsToAttach, HeadIsNoView, IsExactCause, IsKnown, AreTablesReady, IsCauseIn, CrashStateCarries, MayAttach, GivesKnownVersion, HoldsLedgerIn, HoldsLedger, all_contents_of, IsNoNameTaken, IsAnyNameTaken, HoldsOlder, StoreHolds}
 use Rattle.sqlite.specs.View.{doubt as doubt_of}
 use Rattle.sqlite_trees.specs.declared.store.Store.{Ghosts}
@@ -13,7 +13,7 @@ use Rattle.portal_tables.specs.TablesRepresent.{ConnRepresents, CrashStatesOfCon
 use Rattle.portal_tables.proofs.StateLemmas.{IsSettled, left_store}
 use Rattle.portal_tables.proofs.MigratingLemmas.{upgraded_shows}
 
--- ---- what stands in a store that shows a history
+-- ---- the tables of a database that holds a ledger
 
 never_both : {X : Type 0} (schema : Schema) → IsAnyNameTaken schema → IsNoNameTaken schema → X
 never_both schema one none = absurd (true≢false (sym one ∙ none))
@@ -21,7 +21,7 @@ never_both schema one none = absurd (true≢false (sym one ∙ none))
 named : (schema_version : ℕ) (L : Ledger) (db : Database) → HoldsLedgerIn schema_version L db → IsAnyNameTaken db.schema
 named schema_version L db shown = let place = shown.holds.places.heads in head_named db.schema place.at place.tree shown.holds.tables_exist.heads.exists
 
--- the head tells the layout
+-- the head gives the schema version
 tells_it : (schema_version : ℕ) (L : Ledger) (db : Database) → HoldsLedgerIn schema_version L db → 1 ≤ schema_version → (o : Option ℕ) → GivesSchemaVersion db o → o ≡ Some schema_version
 tells_it schema_version L db shown low = let place = shown.holds.places.heads in tells db place.at place.tree _ shown.holds.tables_exist.heads.exists shown.holds.store.heads low
 
@@ -40,7 +40,7 @@ high_enough Fourth = lit≤ tt
 tells_old : (from : OldSchema) (L : Ledger) (db : Database) → HoldsLedgerIn (version_number from) L db → (o : Option ℕ) → GivesSchemaVersion db o → o ≡ Some (version_number from)
 tells_old from L db shown = tells_it (version_number from) L db shown (low_enough from)
 
--- a layout is told by its number
+-- a schema version is known by its number
 abbrev by_number : ℕ → OldSchema
 by_number n = cond (nat_eq n 1) First (cond (nat_eq n 2) Second (cond (nat_eq n 3) Third Fourth))
 
@@ -56,7 +56,7 @@ same_number e = cc
 same_layout : (a b : OldSchema) → ◌≡◌ {A = Option ℕ} (Some (version_number a)) (Some (version_number b)) → a ≡ b
 same_layout a b e = sym (numbered_back a) ∙ ap by_number (same_number e) ∙ numbered_back b
 
--- a store of this version's layout, looked at as one that may lack the index
+-- a database of this schema version, as one that may lack the index
 as_older : (L : Ledger) (db : Database) → HoldsLedger L db → HoldsOlder L db
 as_older L db shown = (
   Fourth,
@@ -71,7 +71,7 @@ as_older L db shown = (
   },
 )
 
--- a new store shows what was accepted there: nothing
+-- a new database holds the empty ledger
 new_shown : (L : Ledger) (db : Database) → L ≡ [] → Holds db new_store → HoldsLedger L db
 new_shown L db none holds = subst (λ x. HoldsLedger x db) (sym none) (tt, holds)
 
@@ -106,7 +106,7 @@ ready_shown L old new shows ready = go shows ready.holds
     go (inr (inr is)) (inl made) = (new_shown L new.now is.0 made.1, made.2)
     go (inr (inr is)) (inr kept) = never_both old.now.schema kept.0 is.1
 
--- what a stop may leave
+-- the crash states
 left_carried : (L : Ledger) (old : Database) (trees : Trees) → CrashStateCarries old trees → HoldsOlder L old → CrashStateHolds (HoldsLedger L) trees × CrashStateHasOthers old trees
 left_carried L old trees kept shown =
     let is : kept.0 ≡ shown.0 = same_layout kept.0 shown.0 (tells_old shown.0 L old shown.1 (Some (version_number kept.0)) kept.1) in
@@ -129,7 +129,7 @@ left_shown L old trees shows may = go shows may.1
     go (inr (inr is)) (inl made) = (new_left L trees is.0 made.1, made.2)
     go (inr (inr is)) (inr kept) = never_both old.schema kept.0 is.1
 
--- a store that shows a ledger is ours, and not newer
+-- a database that holds a ledger has the product's tables, and is not newer
 none_is_not_some : (n : ℕ) → ◌≡◌ {A = Option ℕ} None (Some n) → ⊥
 none_is_not_some n e = cc
 
@@ -152,7 +152,7 @@ never_newer L old (inl shown) why = not_newer L old (as_older L old shown) why
 never_newer L old (inr (inl shown)) why = not_newer L old shown why
 never_newer L old (inr (inr is)) why = never_both old.schema why.0 is.1
 
--- ---- whatever table stands under the head's name
+-- ---- whatever table has the head's name
 
 module _ (db : Database) (no_view : HeadIsNoView db.schema) (ours : IsAnyNameTaken db.schema) (told : Option ℕ) (tells_this : GivesSchemaVersion db told) where
   pub exact_known : IsKnown db → (schema_version : ℕ) × (1 ≤ schema_version) × (schema_version ≤ this_schema_version) × (told ≡ Some schema_version)
@@ -177,12 +177,12 @@ known_by db trees may = (may.0, go may.1)
     go (inl made) = inl made.0
     go (inr kept) = let it = kept.1 in inr (kept.0, (version_number it.0, low_enough it.0, high_enough it.0, it.1))
 
--- nothing is added to what a stop may leave of it
+-- no crash state is added
 pub spares : (old new : State) → ¬ IsKnown old.now → Survives old new (MayAttach old.now) → Survives old new (λ _. ⊥)
 spares old new unknown crash = survives_weaker old new (MayAttach old.now) (λ _. ⊥) (λ _ db may. unknown (known_by old.now db may)) crash
 
 module _ {S : Type 0} (g : Ghosts S) where
-  -- ---- it was adopted
+  -- ---- the tables were attached
 
   pub adopted : (L : Ledger) (old : Held S) (tables : Tables S) → tables.is_stopped ≡ false → IsSettled g tables.conn → ConnRepresents g old L → (IsTrue (state g old).is_open → AreTablesReady (state g old) (state g tables.conn))
       → TablesRepresent g tables (running L)

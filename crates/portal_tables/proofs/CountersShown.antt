@@ -1,4 +1,4 @@
--- The counters of a history, as the tables keep them, are the sums over the rows as the tables keep them.
+-- The counters of a history, as the tables store them, are the sums over the rows as the tables store them.
 use Rattle.portal_tables.proofs.Common.{◌≡◌, inl, ℕ, ◌+◌, cond, List, [], ◌∷◌, map, filter, count_by, sum_by, refl, ap, ap₂, sym, subst, ◌∙◌, bytes_eq, nat_eq, option_and_then, AllByRecursion, length-map, recursion_from_All, sum_by-cons, Has, has_image, IsCode, text_of, Plan, History, limit_or_none, plan_among, Rows, VoucherRow, SessionRow, GrantRow, CountRow, rows_of, count_from, total_from, remaining_of, IsLegal, rows_are_numbered, counts_are_sums, totals_are_sums, rows_are_typed, rows_for_sums, has_mapped, voucher_kept, session_kept, grant_kept, count_kept, contents_of, RequestRow, this_schema_version, code_test}
 use Rattle.sqlite_trees.proofs.ListLemmas.{map-map, filter-map}
 use Rattle.portal_tables_queries.specs.Audit.{IsAudited, total_in}

@@ -68,7 +68,7 @@ module _ {X : Type 0} (key : X → ℕ) where
       let tail = same_order xs _ strict.1 (subst (λ l. IsPermutation l (filter (is_above x) ys)) later (IsPermutation-filter (is_above x) _ _ same)) (ascending-filter (λ a b. key a ≤ key b) (is_above x) ys up) in
       split x ys up ∙ ap₂ ◌++◌ head tail
 
-  -- ---- a list that is numbered without a gap
+  -- ---- a list with numbers without a gap
 
   past : (low from count : ℕ) (xs : List X) → low < from → map key xs ≡ range_with_len from count → AllByRecursion (λ x. low < key x) xs
   past low from count [] h is = tt

@@ -17,7 +17,7 @@ has_one None x has = absurd has
 has_one (Some y) x (inl e) = ap Some (sym e)
 has_one (Some y) x (inr none) = absurd none
 
--- ---- what a ledger keeps is held
+-- ---- what a ledger stores is held
 
 the_mark : (mark : Fingerprint) (o : Option Answer) (k : KeptRequest) → option_map (kept_with mark) o ≡ Some k → mark ≡ k.mark
 the_mark mark None k e = absurd (cc)
@@ -43,7 +43,7 @@ held_of (a ∷ L) sound mark k has key = elim (has_part (requests_of L) (option_
   | inr last ↦ last_held L a mark k sound.0.free (has_one (request_kept (history_of L) a) k last) key
 ]
 
--- ---- what is held is kept
+-- ---- what is held is stored
 
 find_has : {X : Type 0} (p : X → Bool) (xs : List X) (x : X) → find p xs ≡ Some x → Has xs x × (p x ≡ true)
 find_has p [] x e = absurd (cc)

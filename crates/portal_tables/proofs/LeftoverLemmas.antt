@@ -110,7 +110,7 @@ module _ (image : Image) (db : Trees) (held : HoldsDatabase image db) (size : �
         | inr off ↦ omega (arith, none, off, stored_same)
       ]
 
--- ---- what they show
+-- ---- what they hold
 
 or_else : (A B : Type 0) → ∥ A ∥₁ → ∥ A ⊎ B ∥₁
 or_else A B one = ∥∥₁_map one (λ it. let r : A ⊎ B = inl it in r)
@@ -119,7 +119,7 @@ module _ (Shows : Database → Type 0) (Blank : Type 0) (bare : Blank → (trees
   empty_left : Blank → (db : Trees) → IsEmpty db → CrashStateHolds Shows db
   empty_left blank db empty = (no_schema, empty_is_sound db empty.1, bare blank db)
 
-  -- the files hold a table set that shows it, or no database yet
+  -- the files hold tables that hold it, or no database yet
   abbrev Shown : Image → Type 0
   Shown image = ((db : Trees) × HoldsDatabase image db × CrashStateHolds Shows db) ⊎ (IsNothing image × Blank)
 

@@ -23,7 +23,7 @@ module _ (h : History) (legal : IsLegal h) (id : List ℕ) where
   abbrev of_batch : List VoucherRow
   of_batch = filter (λ (v : VoucherRow). bytes_eq v.batch id) (vouchers_of h)
 
-  -- the rows that have the batch, as they are kept
+  -- the rows that have the batch, as they are stored
   kept_rows : filter (λ (v : VoucherRow). bytes_eq id v.batch) (map voucher_kept (vouchers_of h)) ≡ map voucher_kept of_batch
   kept_rows = filter-map voucher_kept (λ (v : VoucherRow). bytes_eq id v.batch) (vouchers_of h) ∙ (λ i. map voucher_kept (filter (λ (v : VoucherRow). swapped id v.batch i) (vouchers_of h)))
 

@@ -1,4 +1,4 @@
--- From a value that stands among others to the one that a search by its key gives.
+-- From a value among others to the one that a search by its key gives.
 use Rattle.portal_tables.proofs.Common.{◌≡◌, inl, inr, ℕ, ◌+◌, ◌<◌, ◌≤◌, Bool, true, false, ◌||◌, List, [], ◌∷◌, map, find, Option, Some, None, refl, sym, ap, subst, ◌∙◌, arith, zero, suc, bytes_eq, true≢false, range_with_len, list_any, cases_Bool, bytes_eq-Decides, Has, has_duplicate}
 use Rattle.portal_tables_sql.proofs.Named.{found_has}
 
@@ -74,7 +74,7 @@ apart_by_text key (z ∷ xs) once x y hx hy same =
       ]
     ]
 
--- ---- keys that are numbered
+-- ---- keys that are numbers
 
 pub from_on : {P : Type 0} (key : P → ℕ) (from count : ℕ) (xs : List P) → map key xs ≡ range_with_len from count → (x : P) → Has xs x → (from ≤ key x) × (key x < from + count)
 from_on key from count [] is x h = absurd h

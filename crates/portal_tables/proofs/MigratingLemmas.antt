@@ -1,4 +1,4 @@
--- An upgraded store shows the history that it showed.
+-- A migrated database holds the ledger that it held.
 use Rattle.portal_tables.proofs.Common.{lit<, ◌≡◌, inl, inr, ◌+◌, ◌<◌, ℕ, IsTrue, Bool, cond, Option, None, option_map, List, [], ◌∷◌, ◌++◌, map, filter, count_by, sum_by, refl, sym, ap, ap₂, subst, ◌∙◌, bytes_eq, nat_eq, option_and_then, AllByRecursion, recursion_from_All, sum_by-cons, Trees, Database, State, HasCleanDisk, Survives, IsCode, text_of, Plan, History, limit_or_none, plan_among, Rows, VoucherRow, SessionRow, GrantRow, CountRow, TotalRow, rows_of, count_from, total_from, remaining_of, IsLegal, counts_are_sums, totals_are_sums, rows_are_typed, Represents, at_open, Holds, this_schema_version, rows_for_sums, HaveNoFingerprints, HoldsLedgerIn, CrashStateHoldsEither, Fingerprint, KeptRequest, Accepted, Ledger, IsSound, history_of, answer_in, kept_with, request_kept, requests_of, all_rows_of, RequestRow, row_of_request, the_sound_is_legal, HasMigrated, MayMigrate, version_number, migrated_rows, OldSchema, First, Second, Third, Fourth, voucher_kept, session_kept, grant_kept, count_kept, contents_of, all_contents_of, HoldsLedger, code_test}
 use Rattle.std.proofs.Common.{option_to_list}
 use Rattle.portal_model_laws.proofs.Basics.{filter-map}
@@ -44,7 +44,7 @@ totals_kept r [] = refl
 totals_kept r (s ∷ ss) =
     ap₂ ◌∷◌ (ap₂ (total_given r.plans s) (sums_kept (λ (g : GrantRow). g.seconds) (λ g. refl) s.number r.grants) (sums_kept (λ (g : GrantRow). g.bytes) (λ g. refl) s.number r.grants)) (totals_kept r ss)
 
--- the rows of a history in layout 1, upgraded, are its rows in this version's
+-- the rows of a history in schema version 1, migrated, are its rows in this version
 first_is : (ks : List RequestRow) (h : History) → IsLegal h → migrated_rows First (contents_of ks 1 (rows_of h)) ≡ contents_of [] this_schema_version (rows_of h)
 first_is ks h legal =
     let r = rows_of h in
@@ -54,7 +54,7 @@ first_is ks h legal =
     ap₂ (λ (counts : List CountRow) (ms : List TotalRow). record (contents_of [] this_schema_version r) { counts = counts; totals = ms })
     (counts_kept r.grants r.vouchers grants vouchers ∙ sym (ap (map count_kept) (counts_are_sums h legal))) (totals_kept r r.sessions ∙ sym (totals_are_sums h legal))
 
--- where no request acted once, none is kept
+-- if no request has an idempotency key, none is stored
 none_kept : (L : Ledger) → AllByRecursion (λ (a : Accepted). a.mark ≡ None) L → requests_of L ≡ []
 none_kept [] all = refl
 none_kept (a ∷ L) all =
@@ -64,7 +64,7 @@ none_kept (a ∷ L) all =
 unmarked : (L : Ledger) → HaveNoFingerprints L → map row_of_request (requests_of L) ≡ []
 unmarked L all = ap (map row_of_request) (none_kept L (recursion_from_All (λ (a : Accepted). a.mark ≡ None) L all))
 
--- the rows of a ledger that an older layout can show, upgraded, are its rows in this version's layout
+-- the rows of a ledger that an older schema version can hold, migrated, are its rows in this version
 pub upgraded_is : (from : OldSchema) (L : Ledger) → IsSound L → (version_number from < 3 → HaveNoFingerprints L) → migrated_rows from (all_contents_of (version_number from) (all_rows_of L)) ≡ all_contents_of this_schema_version (all_rows_of L)
 upgraded_is First L sound few =
     let H = history_of L in
@@ -73,7 +73,7 @@ upgraded_is Second L sound few = ap (λ (ks : List RequestRow). contents_of ks t
 upgraded_is Third L sound few = refl
 upgraded_is Fourth L sound few = refl
 
--- ---- where a connection stands
+-- ---- what a connection represents
 
 pub upgraded_shows : (from : OldSchema) (L : Ledger) (db : Database) → IsSound L → (version_number from < 3 → HaveNoFingerprints L) → Holds db (migrated_rows from (all_contents_of (version_number from) (all_rows_of L))) → HoldsLedger L db
 upgraded_shows from L db sound few holds = (sound, subst (Holds db) (upgraded_is from L sound few) holds)

@@ -1,4 +1,4 @@
--- Files that are opened, and opened again, stand at the history that they show.
+-- A connection to files that are opened, or opened again, represents the ledger that they hold.
 use Rattle.portal_tables.proofs.Common.{◌≡◌, [], false, inl, inr, IsTrue, refl, subst, sym, ∥∥₁_elim, ∥∥₁_map, Image, outcomes, Trees, Database, Held, state, Schema, IsCleanLeft, IsNothing, LeavesFiles, image_of, file_state, over_files, IsOpened, empty_is_sound, view, faults, recovers, is_shielded, Ledger, CrashStateHolds, at_open, shows_under, is_any_name_taken, StoreHolds}
 use Rattle.sqlite_disk.specs.declared.Disk.{Ghosts}
 use Rattle.sqlite_disk.specs.declared.Files.{Files}
@@ -24,7 +24,7 @@ use Rattle.portal_tables.proofs.LeftoverLemmas.{no_schema, found_empty, store_le
 abbrev pub IsSettledOver : {D : Type 0} {g : Ghosts D} → Held (FileStore D g) → Type 0
 IsSettledOver c = (db : Trees) → IsTrue (file_state c).is_open → (file_state c).may_leave db → db ≡ (file_state c).committed.trees
 
--- an empty schema has no table of ours
+-- an empty schema has none of the product's tables
 bare : (schema : Schema) → schema ≡ record { tables = []; indexes = []; views = [] } → is_any_name_taken schema ≡ false
 bare schema none = subst (λ (s : Schema). is_any_name_taken s ≡ false) (sym none) refl
 
@@ -90,7 +90,7 @@ module _ {D : Type 0} {g : Ghosts D} (L : Ledger) where
       at_open (StoreHolds L) s law opened.0.is_open opened.0.autocommit opened.0.clean live.0
       (subst (StoreHolds L) (sym opened.0.clean) (shows_under (StoreHolds L) s.committed.trees s.committed.schema live.1 here))
 
-  -- a store that was not closed leaves no more than its connection did
+  -- a store that was not closed has no more crash states than its connection had
   pub unclosed_shows : (old : Held (FileStore D g)) (last : FileStore D g) → ConnRepresents over_files old L → IsQuiet view faults recovers is_shielded old.store last → (files : Tables) → IsCrashStateOfStore last files → FilesHold files L
   unfolding Tables IsCrashStateOfStore ConnRepresents FilesHold
   unclosed_shows old last at quiet trees may = at.left trees (quiet.outcomes trees may)
@@ -124,7 +124,7 @@ module _ {D : Type 0} {g : Ghosts D} (L : Ledger) where
     pub closed_show : (rest : Leftover D g) → (IsCleanLeft rest → LeavesFiles files rest) → ClosedHold files rest L
     closed_show rest leaves = (closed_shows, λ clean. closed_left rest (leaves clean))
 
--- a new store in memory shows the empty history
+-- a new database in memory holds the empty ledger
 pub empty_stands : (c : Held MemStore) → IsEmpty (state over_memory c) → ConnRepresents over_memory c []
 unfolding ConnRepresents
 empty_stands c empty =

@@ -1,4 +1,4 @@
--- A commit keeps the tables of others.
+-- A commit keeps the other tables.
 use Rattle.portal_tables.proofs.Common.{◌≡◌, inl, inr, true, true≢false, sym, ◌∙◌, arith, Held, state, HasCleanDisk, IsUnchanged, Survives, survives_then, MarkedChanges, Ledger, all_rows_of, running, IsUndone, Represents, at_open, again_at, after_command, this_schema_version, KeepsOthers, CommitsRows, MayCommitRows, others_none, StoreFault, all_contents_of}
 use Rattle.sqlite_trees.specs.declared.store.Store.{Ghosts}
 use Rattle.portal_tables.specs.declared.errors.StoreFault.TheVariants.{Memory}
@@ -7,7 +7,7 @@ use Rattle.portal_tables.specs.TablesRepresent.{Files, IsFaultFree, OthersKept, 
 use Rattle.portal_tables.proofs.StateLemmas.{IsSettled, IsTold, honest_is}
 
 module _ {S : Type 0} (g : Ghosts S) where
-  -- tables that work keep the tables of others as they are
+  -- tables that work keep the other tables as they are
   others_at : (L : Ledger) (old : Tables S) → IsSettled g old.conn → TablesRepresent g old (running L) → Represents (KeepsOthers (state g old.conn).now) (state g old.conn)
   unfolding TablesRepresent
   others_at L old law at =
@@ -22,7 +22,7 @@ module _ {S : Type 0} (g : Ghosts S) where
   unfolding TablesRepresent
   others_stopped L old new stopped at = absurd (true≢false (sym stopped ∙ at.0))
 
-  -- tables that stop before they wrote anything
+  -- tables that stop before they write anything
   pub others_halted : (L : Ledger) (old : Tables S) → IsSettled g old.conn → TablesRepresent g old (running L) → OthersKept g old (record old { is_stopped = true })
   unfolding Files OthersStay CrashStatesHaveOthers
   others_halted L old law at = (λ works. absurd (true≢false works), (others_at L old law at).left)

@@ -44,7 +44,7 @@ module _ {X Y : Type 0} (f : X → Option Y) where
 
 -- ---- the vouchers behind the rows that were listed
 
--- the vouchers that pass, in the order in which they are kept
+-- the vouchers that pass, in the order in which they are stored
 record Behind (passes : VoucherRow → Bool) (cmp : VoucherRow → VoucherRow → Ordering) (values listed : List VoucherRow) : Type 0 where
   vouchers : List VoucherRow
   same : IsPermutation (filter passes values) vouchers

@@ -28,7 +28,7 @@ module _ (plans : List Plan) (before : List Batch) (b : Batch) where
   other_batch : (id : List ℕ) → bytes_eq b.id id ≡ false → batch_among (before ++ b ∷ []) id ≡ batch_among before id
   other_batch id off = found_more id ∙ ap (λ t. option_or (batch_among before id) (cond t (Some b) None)) off ∙ or_none (batch_among before id)
 
-  -- a batch whose id stands already
+  -- a batch whose id is there already
   pub price_stays : (old : List ℕ → Option ℕ) → ArePrices plans before old → is_some (old b.id) ≡ true → ArePrices plans (before ++ b ∷ []) old
   price_stays old is there =
       let same : (id : List ℕ) → batch_among (before ++ b ∷ []) id ≡ batch_among before id = λ id. elim (cases_Bool (bytes_eq b.id id)) [

@@ -1,4 +1,4 @@
--- A report of a session without an allowance leaves the row of its total as it is.
+-- A report of a session without an allowance does not change the row of its total.
 use Rattle.portal_tables.proofs.Common.{◌≡◌, ℕ, Bool, true, false, cond, List, [], ◌∷◌, map, All, Option, Some, None, option_map, refl, ap, ap₂, sym, ◌∙◌, nat_eq, max, Decides-eqb, All-head, All-tail, All-map, All-weaker, IsFirst, openings_first, session_at, all_sessions, with_report, History, Grant, grants_of, members, oldest, session_of, session_row, totals_of, openings, session_opened, total_row, totalled_if, remaining_of, Session}
 use Rattle.portal_model_laws.proofs.Basics.{map-map}
 

@@ -1,4 +1,4 @@
--- What a reading leaves as it was shows the same history.
+-- A database that a read does not change holds the same history.
 use Rattle.portal_tables.proofs.Common.{IsTrue, true, List, map, subst, sym, arith, Result, Ok, Err, IsErrAnd, err_from_is_err_and, IfOk-weaker, Held, state, Database, State, HasCleanDisk, History, Ledger, history_of, requests_of, rows_of, IsLegal, RequestRow, row_of_request, the_sound_is_legal, Fails, ReadsOnly, fails_then, looks_weaker, reads_fails, reads_then, same_now, still_open, Contents, RowError, HasFirst, HasTables, this_schema_version, first_held, first_there, ReadsHistory, HoldsHistory, HoldsLedger, contents_of}
 use Rattle.sqlite.specs.Store.{Ghosts}
 use Rattle.portal_tables_rows.specs.Selects.{ReadsRow}
@@ -10,7 +10,7 @@ has_tables h db shown = (shown.1.1.places, shown.1.1.tables_exist)
 pub has_all_tables : (L : Ledger) (db : Database) → HoldsLedger L db → HasTables db.schema
 has_all_tables L db shown = (shown.1.places, shown.1.tables_exist)
 
--- tables that show a ledger show its history
+-- tables that hold a ledger hold its history
 pub history_shown : (L : Ledger) (db : Database) → HoldsLedger L db → HoldsHistory (history_of L) db
 history_shown L db shown = (the_sound_is_legal L shown.0, (map row_of_request (requests_of L), shown.1))
 
@@ -24,11 +24,11 @@ module _ (h : History) (a b : State) (read : ReadsOnly HasTables a b) (clean : H
 -- ---- calls that read a history, one after another
 
 module _ {S : Type 0} (g : Ghosts S) where
-  -- what was read comes to a value of which something else is so
+  -- what was read gives a value for which something else holds
   pub shown_as : {A B : Type 0} {a b : Held S} {x : A} {y : B} {P : History → A → Type 0} {Q : History → B → Type 0} → ((h : History) → IsLegal h → P h x → Q h y) → ReadsHistory g a b (Ok x) P → ReadsHistory g a b (Ok y) Q
   shown_as leads r = record { found = λ clean live h shown. leads h shown.0 (r.found clean live h shown); looks = r.looks }
 
-  -- rows of a table, which show the history whatever requests are kept
+  -- the rows of a table, which hold the history whatever requests are stored
   pub of_rows : {A : Type 0} {a b : Held S} {result : Result A RowError} {Is : Contents → A → Type 0} {Own : Contents → Type 0} → ReadsRow g a b result Is Own
       → ReadsHistory g a b result (λ h x. (requests : List RequestRow) × Is (contents_of requests this_schema_version (rows_of h)) x)
   of_rows {result = result} r = record { found = λ clean live h shown. IfOk-weaker result _ _ (λ x is. (shown.1.0, is)) (r.found clean _ shown.1.1); looks = r.looks }

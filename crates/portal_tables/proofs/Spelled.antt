@@ -1,4 +1,4 @@
--- Devices are told by their printed texts.
+-- Devices differ if their printed texts differ.
 use Rattle.portal_tables.proofs.Common.{◌≡◌, ℕ, List, subst, IsDevice, SpellsDevice, text_of_device}
 use Rattle.portal_model.proofs.Devices.{reads-back}
 

@@ -1,4 +1,4 @@
--- From what the calls of the store say to how the tables stand.
+-- From the promises of the calls on the rows to the state that the tables represent.
 use Rattle.portal_tables.proofs.Common.{◌≡◌, ◌⊎◌, inl, inr, ℕ, true, false, IsTrue, Bool, List, [], ◌∷◌, ◌++◌, map, Option, Some, None, option_map, refl, sym, ap, subst, ◌∙◌, ◌≤◌, arith, append-nil, true≢false, option_and_then, Result, Ok, Err, IsErrAnd, err_from_is_err_and, map-append, Held, state, Trees, Database, State, HasCleanDisk, IsUnchanged, Survives, survives_then, survives_weaker, Changes, entry, History, changes_of, answer_of, Rows, rows_of, MarkedChanges, KeptRequest, Fingerprint, Accepted, Ledger, IsSound, history_of, answer_in, kept_with, request_kept, requests_of, all_rows_of, RequestRow, row_of_request, running, stopped, MayBeFound, the_sound_is_legal, kept_under, IsUndone, ReadsOnly, Fails, Looks, Represents, CrashStateHolds, still_at, at_open, again_at, left_still, StoreFault, Holds, HasTables, this_schema_version, RowError, CommitsRows, MayCommitRows, after_changes, after_command, with_kept_request, HoldsLedger, OfHistory, OfLedger, contents_of, all_contents_of, StoreHolds}
 use Rattle.std.specs.Prelude.{IfOk}
 use Rattle.std.specs.Option.{option_to_list}
@@ -16,11 +16,11 @@ use Rattle.portal_tables.proofs.ShownLemmas.{has_all_tables, history_shown}
 abbrev pub IsSettled : {S : Type 0} → Ghosts S → Held S → Type 0
 IsSettled g conn = (db : Trees) → IsTrue (state g conn).is_open → (state g conn).may_leave db → db ≡ (state g conn).committed.trees
 
--- what a fault comes to
+-- the `StoreFault` of an error
 abbrev pub IsTold : StoreFault → Bool → Bool → Type 0
 IsTold fault old new = ((fault ≡ Memory) × (new ≡ old)) ⊎ ((fault ≡ Stopped) × (new ≡ true))
 
--- tables that show a history are a store that does
+-- a database whose tables hold a ledger holds it
 pub left_store : (h : Ledger) (trees : Trees) → CrashStateHolds (HoldsLedger h) trees → CrashStateHolds (StoreHolds h) trees
 left_store h trees left = (left.0, left.1, inl left.2)
 
@@ -34,12 +34,12 @@ store_at h s at = record {
   left = λ trees may. left_store h trees (at.left trees may);
 }
 
--- ---- what a command and its mark make of the tables of a ledger
+-- ---- the tables of a ledger after a command and its request
 
 marked_rows : (requests : List KeptRequest) (k : KeptRequest) → map row_of_request (requests ++ k ∷ []) ≡ map row_of_request requests ++ row_of_request k ∷ []
 marked_rows requests k = map-append row_of_request requests (k ∷ [])
 
--- the rows with the request of the mark beside
+-- the rows with the request of the fingerprint
 marked : (schema_version : ℕ) (L : Ledger) (a : Accepted) (changes : Changes) (rows : Rows) (mark : Option Fingerprint) → mark ≡ a.mark → changes_of (history_of L) a.command a.at ≡ Some changes
     → with_kept_request mark (answer_of changes) (contents_of (map row_of_request (requests_of L)) schema_version rows) ≡ contents_of (map row_of_request (requests_of (a ∷ L))) schema_version rows
 marked schema_version L a changes rows None same is =
@@ -50,7 +50,7 @@ marked schema_version L a changes rows (Some mark) same is =
     ap (λ (ks : List RequestRow). contents_of ks schema_version rows)
     (sym (marked_rows (requests_of L) (kept_with mark (answer_of changes))) ∙ ap (λ (o : Option KeptRequest). map row_of_request (requests_of L ++ option_to_list o)) (sym own))
 
--- tables that hold what the changes make of a ledger's rows show the ledger with the command
+-- tables that hold a ledger's rows after the changes of a command hold the ledger with the command
 grows : (L : Ledger) (m : MarkedChanges) (a : Accepted) (db : Database) → IsSound L → Fits (running L) m a → Holds db (after_command m (all_contents_of this_schema_version (all_rows_of L))) → HoldsLedger (a ∷ L) db
 grows L m a db sound may holds =
     let H = history_of L in
@@ -61,7 +61,7 @@ grows L m a db sound may holds =
     ap (with_kept_request m.mark (answer_of m.changes)) led ∙ marked this_schema_version L a m.changes (rows_of (entry a.at a.command ∷ H)) m.mark may.2 may.1 in
     ((may.0, sound), subst (Holds db) led_all holds)
 
--- ---- what a stop may leave
+-- ---- crash states
 
 leaves_before : (a b : State) (files : Trees) → HasCleanDisk b → Survives a b (λ _. ⊥) → b.may_leave files → a.may_leave files
 leaves_before a b files clean survives may = elim (survives.crash clean files may) [ inl was ↦ was | inr none ↦ absurd none ]
@@ -88,7 +88,7 @@ module _ {S : Type 0} (g : Ghosts S) where
   running_is tables (running h) at on = (h, refl)
   running_is tables (stopped h doubt) at on = absurd (let off = at.0 in cc)
 
-  -- what tables that stopped answer
+  -- the result of a call on tables that have stopped
   pub stays_read : (tables : Tables S) (s : DeskState) → TablesRepresent g tables s → tables.is_stopped ≡ true → (new : DeskState) × TablesRepresent g tables new × AddsNoCrashState g tables tables × FailsToRead Memory Stopped s Stopped new
   unfolding Files IsCrashState
   stays_read tables s at on = let it = stopped_is tables s at on in (s, at, λ files may. may, subst (λ (x : DeskState). FailsToRead Memory Stopped x Stopped x) (sym it.2) (refl, refl))
@@ -142,9 +142,9 @@ module _ {S : Type 0} (g : Ghosts S) where
       let clean = honest_is new honest in
       subst (λ (y : DeskState). (x : DeskState) × TablesRepresent g new x × AddsNoCrashState g old new × FailsToRead Memory Stopped y fault x) (sym it.1) (fails_at it.0 old new mid (subst (TablesRepresent g old) it.1 at) clean failed later law fault told (same clean))
 
-  -- ---- what a reading of the store comes to, told to the caller
+  -- ---- the result of a read, as the caller gets it
 
-  -- tables that stopped
+  -- tables that have stopped
   pub read_stopped : {A : Type 0} (tables : Tables S) (result : Result A StoreFault) {fault : StoreFault} {Is : Ledger → A → Type 0} → (fault ≡ Stopped) × (tables.is_stopped ≡ true) → IsErrAnd result (λ e. e ≡ fault)
       → ReadsTables g tables tables result Is
   read_stopped tables result on fails =
@@ -249,7 +249,7 @@ module _ {S : Type 0} (g : Ghosts S) where
       subst (λ (y : DeskState). (x : DeskState) × TablesRepresent g new x × FailsToKeep Memory Stopped y a fault x) (sym it.1)
       (doubts_at it.0 m a old new mid (subst (TablesRepresent g old) it.1 at) clean (subst (λ (y : DeskState). Fits y m a) it.1 may) (undone (omega (arith, clean, later.clean))) crash later law fault told (same clean))
 
-  -- tables that stop before they wrote anything
+  -- tables that stop before they write anything
   halts_at : (L : Ledger) (a : Accepted) (tables : Tables S) → TablesRepresent g tables (running L) → TablesRepresent g (record tables { is_stopped = true }) (stopped L (Some a))
   unfolding TablesRepresent
   halts_at L a tables at = (refl, λ trees left. inl (at.1.left trees left))
@@ -274,7 +274,7 @@ module _ {S : Type 0} (g : Ghosts S) where
   unfolding Files IsCrashStateOfConn IsCrashState
   released_left tables files may = may
 
--- ---- what a reopening may find after a stop
+-- ---- what a reopening may find after a crash
 
 pub leaves : {S : Type 0} (g : Ghosts S) (tables : Tables S) (s : DeskState) → TablesRepresent g tables s → CrashStatesHold g tables (MayBeFound s)
 unfolding Files TablesRepresent IsCrashState FilesHold
@@ -286,7 +286,7 @@ pub sound_at : {S : Type 0} (g : Ghosts S) (L : Ledger) (tables : Tables S) → 
 unfolding TablesRepresent
 sound_at g L tables at = at.1.shown.0
 
--- ---- what files show
+-- ---- what files hold
 
 store_sound : (L : Ledger) (db : Database) → StoreHolds L db → IsSound L
 store_sound L db (inl shown) = shown.0

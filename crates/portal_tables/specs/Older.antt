@@ -1,4 +1,4 @@
--- When a database of an older layout shows a ledger, and what its upgrade may leave.
+-- When a database of an older schema version holds a ledger, and the crash states of its migration.
 use Rattle.std.specs.Prelude.{◌≡◌, ◌⊎◌, ◌<◌, ◌≤◌, ℕ, false, List, length, All, None}
 use Rattle.sqlite.specs.Tree.{Trees}
 use Rattle.sqlite.specs.Effect.{Database}
@@ -14,11 +14,11 @@ use Rattle.portal_tables_schema.specs.Migrations.{version_number}
 use Rattle.portal_tables_schema.specs.declared.schema_versions.OldSchema.{OldSchema}
 use Rattle.portal_tables.specs.HoldsLedger.{all_contents_of, HoldsLedger}
 
--- no request of the ledger acts once
+-- no request of the ledger has an idempotency key
 abbrev pub HaveNoFingerprints : Ledger → Type 0
 HaveNoFingerprints L = All (λ (a : Accepted). a.mark ≡ None) L
 
--- plans of at most 1,000 uses, and codes of twelve signs
+-- plans of at most 1,000 uses, and codes of twelve characters
 abbrev pub IsShort : Command → Type 0
 IsShort (Load plans) = All (λ (p : Plan). p.uses ≤ 1000) plans
 IsShort (Issue batch plan codes) = All (λ (code : List ℕ). length code ≡ 12) codes
@@ -31,7 +31,8 @@ IsShort (Close number) = Unit {0}
 abbrev pub AreShort : Ledger → Type 0
 AreShort L = All (λ (a : Accepted). IsShort a.command) L
 
--- The tables of the layout hold just the rows of the ledger. Numbered requests came with layout 3, long codes and many uses with 4, and no table or view has the name of a later layout's.
+-- The tables of the schema version hold just the rows of the ledger. Idempotency keys came with version 3,
+-- and long codes and many uses with version 4. No table or view has the name of a table of a later version.
 pub record HoldsLedgerIn (schema_version : ℕ) (L : Ledger) (db : Database) : Type 0 where
   pub sound : IsSound L
   pub unmarked : schema_version < 3 → HaveNoFingerprints L
@@ -41,6 +42,7 @@ pub record HoldsLedgerIn (schema_version : ℕ) (L : Ledger) (db : Database) : T
   pub no_requests : schema_version < 3 → is_name_taken db.schema requests_name ≡ false
   pub holds : HoldsIn schema_version false db (all_contents_of schema_version (all_rows_of L))
 
--- a table set shows the ledger in that layout, or in this version's
+-- the trees of a crash state hold the ledger in that schema version, or in this one
 abbrev pub CrashStateHoldsEither : OldSchema → Ledger → Trees → Type 0
-CrashStateHoldsEither from L trees = CrashStateHolds (HoldsLedgerIn (version_number from) L) trees ⊎ CrashStateHolds (HoldsLedger L) trees
+CrashStateHoldsEither from L trees =
+    CrashStateHolds (HoldsLedgerIn (version_number from) L) trees ⊎ CrashStateHolds (HoldsLedger L) trees

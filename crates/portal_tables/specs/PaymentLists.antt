@@ -1,4 +1,4 @@
--- The sales and the refunds within two moments, in their order.
+-- The sales and the refunds between two times, in their order.
 use Rattle.std.specs.Prelude.{◌≡◌, ℕ, Bool, ◌&&◌, nat_le, List, map, filter, Option, Some, IsPermutation}
 use Rattle.std.specs.List.Sorted.{IsSorted}
 use Rattle.std.specs.declared.cmp.Ordering.{Ordering}
@@ -9,29 +9,30 @@ use Rattle.portal_model.specs.declared.record.Session.{Session}
 use Rattle.portal_tables_queries.specs.Lists.{is_within, by_refund, by_sale}
 use Rattle.portal_tables.specs.HoldsLedger.{voucher_kept}
 
--- an answer's moment and amount
+-- the time and the amount of an answer, as a payment
 abbrev pub payment_of : ℕ × ℕ → Payment
 payment_of p = payment p.0 p.1
 
--- the payment lies within the two moments, both included
+-- the payment is between the two times, both included
 abbrev pub is_paid_within : ℕ → ℕ → Payment → Bool
 is_paid_within from to p = nat_le from p.at && nat_le p.at to
 
--- the earlier sale first, and of two at one moment the one of the lesser printed code
+-- the earlier sale first, and of two at one time the one of the lesser printed code
 abbrev pub by_printed_sale : VoucherRow → VoucherRow → Ordering
 by_printed_sale a b = by_sale (voucher_kept a) (voucher_kept b)
 
--- the earlier refund first, and of two at one moment the one of the lesser printed code
+-- the earlier refund first, and of two at one time the one of the lesser printed code
 abbrev pub by_printed_refund : VoucherRow → VoucherRow → Ordering
 by_printed_refund a b = by_refund (voucher_kept a) (voucher_kept b)
 
--- The answer has the sales of the history within the two moments, in the order in which their vouchers were issued. So there is one such answer.
+-- The answer has the sales of the history between the two times, in the order in which their vouchers were
+-- issued. So there is one such answer.
 pub record AreSales (h : History) (from to : ℕ) (answer : List (ℕ × ℕ)) : Type 0 where
   pub payments : IsPermutation (filter (is_paid_within from to) (sales_of h)) (map payment_of answer)
   pub each : map (sale_from (rows_of h)) (filter (λ v. is_within from to v.sold) (vouchers_of h)) ≡ map (λ p. Some (payment_of p)) answer
 
--- The answer has the sales of the history within the two moments, by moment, and at one moment by the printed codes of their vouchers. No
--- two vouchers have one code, so there is one such answer.
+-- The answer has the sales of the history between the two times, ordered by time and then by the printed code
+-- of the voucher. No two vouchers have one code, so there is one such answer.
 pub record AreOrderedSales (h : History) (from to : ℕ) (answer : List (ℕ × ℕ)) : Type 0 where
   pub payments : IsPermutation (filter (is_paid_within from to) (sales_of h)) (map payment_of answer)
   pub vouchers : List VoucherRow
@@ -39,7 +40,8 @@ pub record AreOrderedSales (h : History) (from to : ℕ) (answer : List (ℕ × 
   pub sorted : IsSorted by_printed_sale vouchers
   pub each : map (sale_from (rows_of h)) vouchers ≡ map (λ p. Some (payment_of p)) answer
 
--- The answer has the refunds of the history within the two moments, in the order of the vouchers. No two vouchers have one code, so there is one such answer.
+-- The answer has the refunds of the history between the two times, ordered by time and then by the printed
+-- code of the voucher. No two vouchers have one code, so there is one such answer.
 pub record AreRefunds (h : History) (from to : ℕ) (answer : List (ℕ × ℕ)) : Type 0 where
   pub payments : IsPermutation (filter (is_paid_within from to) (refunds_of h)) (map payment_of answer)
   pub vouchers : List VoucherRow
@@ -47,6 +49,6 @@ pub record AreRefunds (h : History) (from to : ℕ) (answer : List (ℕ × ℕ))
   pub sorted : IsSorted by_printed_refund vouchers
   pub each : map refund_from vouchers ≡ map (λ p. Some (payment_of p)) answer
 
--- the session of the number, where it is open at the moment
+-- the session of the number, if it is open at the time
 abbrev pub open_session_of : History → ℕ → ℕ → Option Session
 open_session_of h t n = kept_if (is_open_at t) (session_of h n)

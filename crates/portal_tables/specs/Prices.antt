@@ -15,6 +15,6 @@ pub record ArePrices (plans : List Plan) (batches : List Batch) (price_of : List
   pub price : (id : List ℕ) → price_of id ≡ price_among plans batches id
   pub priced : (id : List ℕ) → is_some (price_of id) ≡ is_some (batch_among batches id)
 
--- a sale at this price, where there is one
+-- the payment of a sale at this price, if there is a price
 abbrev pub payment_at : Option ℕ → List ℕ × Option ℕ → Option Payment
 payment_at price sale = option_and_then (λ at. option_map (payment at) price) sale.1

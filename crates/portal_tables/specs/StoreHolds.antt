@@ -1,4 +1,4 @@
--- When a store shows a ledger.
+-- When a database holds a ledger, in this schema version or an older one.
 use Rattle.std.specs.Prelude.{◌≡◌, ◌⊎◌, false, true, []}
 use Rattle.sqlite.specs.Schema.{Schema}
 use Rattle.sqlite.specs.Effect.{Database}
@@ -9,22 +9,23 @@ use Rattle.portal_tables_schema.specs.declared.schema_versions.OldSchema.{OldSch
 use Rattle.portal_tables.specs.Older.{HoldsLedgerIn}
 use Rattle.portal_tables.specs.HoldsLedger.{HoldsLedger}
 
--- no table and no view has a name of ours
+-- no table and no view has one of the product's names
 abbrev pub IsNoNameTaken : Schema → Type 0
 IsNoNameTaken schema = is_any_name_taken schema ≡ false
 
--- one has
+-- a table or a view has one of the product's names
 abbrev pub IsAnyNameTaken : Schema → Type 0
 IsAnyNameTaken schema = is_any_name_taken schema ≡ true
 
--- a store in which nothing was accepted, and which has no table of ours
+-- a database without the product's tables holds the empty ledger
 abbrev pub IsNewDatabase : Ledger → Database → Type 0
 IsNewDatabase L db = (L ≡ []) × IsNoNameTaken db.schema
 
--- a store of an older layout, or of this one without the index of the sessions
+-- a database of an older schema version, or of this one without the index of the sessions
 abbrev pub HoldsOlder : Ledger → Database → Type 0
 HoldsOlder L db = (from : OldSchema) × HoldsLedgerIn (version_number from) L db
 
--- The store's tables hold just the rows of the ledger, in this version's layout or in an older one, or it is a new one.
+-- The tables hold just the rows of the ledger, in this schema version or in an older one, or the database is
+-- a new one.
 abbrev pub StoreHolds : Ledger → Database → Type 0
 StoreHolds L db = HoldsLedger L db ⊎ (HoldsOlder L db ⊎ IsNewDatabase L db)

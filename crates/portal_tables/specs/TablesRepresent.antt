@@ -1,4 +1,5 @@
--- When tables stand so, and what a stop may leave of them. The layers above cite these words and none of SQL.
+-- When tables represent a state of the desk, and their crash states. The layers above cite these words and
+-- none of SQL.
 use Rattle.std.specs.Prelude.{◌≡◌, ◌⊎◌, ◌∷◌, Some, None, Result, Ok, MatchResult, IsErrAnd, IsErrOf, true, false}
 use Rattle.sqlite.specs.Tree.{Trees}
 use Rattle.sqlite.specs.State.{HasCleanDisk, IsUnchanged, Survives}
@@ -16,32 +17,34 @@ use Rattle.portal_tables.specs.declared.tables.Tables.{Tables}
 use Rattle.portal_tables.specs.HoldsLedger.{HoldsLedger}
 use Rattle.portal_tables.specs.StoreHolds.{StoreHolds}
 
--- what a stop may leave: a set of tables, other tables beside ours among them; no layer above looks into it
+-- a crash state: a set of tables, the product's and others; no layer above looks into it
 unfoldable pub Files : Type 0
 Files = Trees
 
--- the files show the history
+-- the files hold the ledger
 unfoldable pub FilesHold : Files → Ledger → Type 0
 unfolding Files
 FilesHold files L = CrashStateHolds (StoreHolds L) files
 
--- files that show what the standing allows
+-- the files hold a ledger that the state allows
 abbrev pub AllowedByState : DeskState → Trees → Type 0
 AllowedByState (running L) trees = CrashStateHolds (HoldsLedger L) trees
 AllowedByState (stopped L None) trees = CrashStateHolds (HoldsLedger L) trees
-AllowedByState (stopped L (Some a)) trees = CrashStateHolds (HoldsLedger L) trees ⊎ CrashStateHolds (HoldsLedger (a ∷ L)) trees
+AllowedByState (stopped L (Some a)) trees =
+    CrashStateHolds (HoldsLedger L) trees ⊎ CrashStateHolds (HoldsLedger (a ∷ L)) trees
 
 module _ {S : Type 0} (g : Ghosts S) where
-  -- a connection that stands at a ledger: open, outside a transaction, and its store shows the ledger, now and in what a stop may leave
+  -- a connection that represents a ledger: it is open and outside a transaction, and its database holds the
+  -- ledger, now and in each crash state
   unfoldable pub ConnRepresents : Held S → Ledger → Type 0
   ConnRepresents conn L = Represents (StoreHolds L) (state g conn)
 
-  -- each set of files that a stop at this moment may leave shows the ledger
+  -- each crash state of the connection holds the ledger
   unfoldable pub CrashStatesOfConnHold : Held S → Ledger → Type 0
   unfolding Files
   CrashStatesOfConnHold conn L = (files : Files) → (state g conn).may_leave files → FilesHold files L
 
-  -- a stop at this moment may leave these files
+  -- the files are a crash state of the connection
   unfoldable pub IsCrashStateOfConn : Held S → Files → Type 0
   unfolding Files
   IsCrashStateOfConn conn files = (state g conn).may_leave files
@@ -54,62 +57,69 @@ module _ {S : Type 0} (g : Ghosts S) where
   unfoldable pub IsFaultFree : Tables S → Type 0
   IsFaultFree tables = HasCleanDisk (state g tables.conn)
 
-  -- the tables stand so
+  -- the tables represent the state: running with a ledger, or stopped
   unfoldable pub TablesRepresent : Tables S → DeskState → Type 0
-  TablesRepresent tables (running L) = (tables.is_stopped ≡ false) × Represents (HoldsLedger L) (state g tables.conn)
+  TablesRepresent tables (running L) =
+      (tables.is_stopped ≡ false) × Represents (HoldsLedger L) (state g tables.conn)
   TablesRepresent tables (stopped L doubt) = (tables.is_stopped ≡ true) × ((trees : Trees) → (state g tables.conn).may_leave trees → AllowedByState (stopped L doubt) trees)
 
-  -- a stop at this moment may leave these files
+  -- the files are a crash state of the tables
   unfoldable pub IsCrashState : Tables S → Files → Type 0
   unfolding Files
   IsCrashState tables files = (state g tables.conn).may_leave files
 
-  -- each set of files that it may leave shows a ledger of this kind
+  -- each crash state of the tables holds a ledger of this kind
   abbrev pub CrashStatesHold : Tables S → (Ledger → Type 0) → Type 0
-  CrashStatesHold tables Is = (files : Files) → IsCrashState tables files → (L : Ledger) × Is L × FilesHold files L
+  CrashStatesHold tables Is =
+      (files : Files) → IsCrashState tables files → (L : Ledger) × Is L × FilesHold files L
 
-  -- Each set of files that a stop may leave after has the tables of others: each one whose name is none of ours is there still, with the rows
-  -- that it had before.
+  -- Each crash state has the other tables: each table whose name is not one of the product's is still there,
+  -- with the rows that it had before.
   unfoldable pub CrashStatesHaveOthers : Held S → Held S → Type 0
   unfolding Files
-  CrashStatesHaveOthers old new = (files : Files) → (state g new).may_leave files → CrashStateHasOthers (state g old).now files
+  CrashStatesHaveOthers old new =
+      (files : Files) → (state g new).may_leave files → CrashStateHasOthers (state g old).now files
 
-  -- so does the store
+  -- the database has the other tables, with the rows that they had before
   unfoldable pub OthersStay : Held S → Held S → Type 0
   OthersStay old new = KeepsOthers (state g old).now (state g new).now
 
-  -- the tables of others were kept: in the store, where the tables work, and in what a stop may leave
+  -- the other tables were kept: in the database, if the tables work, and in each crash state
   abbrev pub OthersKept : Tables S → Tables S → Type 0
-  OthersKept old new = (new.is_stopped ≡ false → OthersStay old.conn new.conn) × CrashStatesHaveOthers old.conn new.conn
+  OthersKept old new =
+      (new.is_stopped ≡ false → OthersStay old.conn new.conn) × CrashStatesHaveOthers old.conn new.conn
 
-  -- they have stopped
+  -- the tables have stopped
   abbrev pub IsStopped : Tables S → Type 0
   IsStopped tables = tables.is_stopped ≡ true
 
-  -- the fault tells what became of it: want of memory leaves them stopped or working as they were, and after `Stopped` they have stopped
+  -- after `Memory` the tables are stopped or working as they were; after `Stopped` they have stopped
   abbrev pub FaultGivesStop : Tables S → Tables S → StoreFault → Type 0
   FaultGivesStop old new fault = ((fault ≡ Memory) × (new.is_stopped ≡ old.is_stopped)) ⊎ ((fault ≡ Stopped) × IsStopped new)
 
-  -- after `Stopped` they have stopped, and any other answer leaves them stopped or working as they were; whatever the disk did
+  -- after `Stopped` the tables have stopped; after any other result they are stopped or working as they were,
+  -- whatever the disk did
   abbrev pub TablesKeepStop : {T : Type 0} → Tables S → Tables S → Result T StoreFault → Type 0
-  TablesKeepStop old new result = MatchResult result (λ _. new.is_stopped ≡ old.is_stopped) (FaultGivesStop old new)
+  TablesKeepStop old new result =
+      MatchResult result (λ _. new.is_stopped ≡ old.is_stopped) (FaultGivesStop old new)
 
-  -- What the fault of a call on the store comes to: want of memory is told only where nothing has changed since, and no stop leaves more.
+  -- The error of a call on the tables: it is `Memory` only if nothing has changed since, and no crash state
+  -- was added.
   pub record GivesFault (old new : Tables S) (fault : StoreFault) : Type 0 where
     pub gives_fault : FaultGivesStop old new fault
     pub same : HasCleanDisk (state g new.conn) → fault ≡ Memory → IsUnchanged (state g old.conn) (state g new.conn)
     pub survives : Survives (state g old.conn) (state g new.conn) (λ _. ⊥)
 
-  -- what a reading of the store comes to: what it found, with the tables as they were, or what its fault comes to
+  -- the result of a read: what was found, with the tables as they were, or the error
   abbrev pub GivesRead : {T : Type 0} → Tables S → Tables S → Result T RowError → Result T StoreFault → Type 0
   GivesRead old new read result = MatchResult read (λ found. (result ≡ Ok found) × (new ≡ old)) (λ _. IsErrAnd result (GivesFault old new))
 
-  -- each set of files that a stop may leave after is one that it might leave before
+  -- each crash state is one of those before
   abbrev pub AddsNoCrashState : Tables S → Tables S → Type 0
   AddsNoCrashState old new = (files : Files) → IsCrashState new files → IsCrashState old files
 
-  -- A call that reads the tables: it answers what is so of the ledger at which they stand and changes nothing, or it fails. What has stopped
-  -- answers `Stopped` and stays as it is.
+  -- A call that reads the tables: it gives what holds of the ledger that they represent and changes nothing,
+  -- or it fails. Tables that have stopped give `Stopped` and stay as they are.
   pub record ReadsTables {A : Type 0} (old new : Tables S) (result : Result A StoreFault) (Is : Ledger → A → Type 0) : Type 0 where
     pub fault_free : IsFaultFree new → IsFaultFree old
     pub stopped : IsStopped old → IsErrOf result Stopped × (new ≡ old)

@@ -1,4 +1,5 @@
-//! The steps by which the tables of a store are made ready.
+//! The steps that make the product's tables ready in a database: create them, check them or migrate
+//! them.
 
 ghost use Rattle.std.specs.Prelude.{◌≡◌, ◌≢◌, ◌⊎◌, ◌<◌, ℕ, false, IsTrue, Some, None, IfOk, IfErr, OnOk};
 ghost use Rattle.std.specs.Prelude.{MatchResult};
@@ -12,7 +13,12 @@ ghost use Rattle.portal_tables_schema.specs.SchemaVersions.{GivesSchemaVersion};
 ghost use Rattle.portal_tables_schema.specs.Migrations.{HasMigrated};
 ghost use Rattle.portal_tables_schema.specs.declared.schema_versions.OldSchema.TheVariants.{Fourth};
 ghost use Rattle.portal_tables.specs.Attaching.{IsCarried, IsCompleted, IsKnown, AreTablesReady, IsCauseIn};
-ghost use Rattle.portal_tables.specs.Attaching.{CrashStateCarries, MayAttach, MayBeMigrated, HasNoActionOnOurs};
+ghost use Rattle.portal_tables.specs.Attaching.{
+  CrashStateCarries,
+  MayAttach,
+  MayBeMigrated,
+  HasNoActionOnOurs,
+};
 ghost use Rattle.portal_tables.specs.Attaching.{GivesKnownVersion, GivesNewerVersion};
 ghost use Rattle.portal_tables.specs.declared.errors.OpenFault.TheVariants.{NotOurs, Newer, Memory, Store};
 
@@ -26,8 +32,8 @@ use portal_tables_schema::schema_versions::{
 use portal_tables_sql::query::is_answering;
 use sqlite::{Alter, Connection, Error, ErrorCode};
 
-/// What an error comes to. Want of memory is told only where the connection still answers, and so nothing
-/// has changed.
+/// Maps an SQLite error to an `OpenFault`. It is `Memory` only if the connection still answers; then
+/// nothing has changed.
 fn open_fault_of<S: Alter>(conn: &mut Connection<S>, error: &Error) -> OpenFault
     ensures gives_fault { (result ≡ Memory) ⊎ (result ≡ Store) }
     ensures same { HasCleanDisk (state S.Store conn.new) → result ≡ Memory
@@ -40,7 +46,8 @@ fn open_fault_of<S: Alter>(conn: &mut Connection<S>, error: &Error) -> OpenFault
     OpenFault::Store
 }
 
-/// The layout, where the head is one row with one from 1 on.
+/// Reads the schema version from the head row. It is `None` if the head is not one row with a version
+/// from 1 on.
 fn read_schema_version<S: Alter>(conn: &mut Connection<S>) -> Result<Option<u64>, OpenFault>
     ensures gives_version { HasCleanDisk (state S.Store conn.new)
         → IfOk result (λ schema_version. GivesSchemaVersion (state S.Store conn.old).now schema_version
@@ -61,7 +68,8 @@ fn read_schema_version<S: Alter>(conn: &mut Connection<S>) -> Result<Option<u64>
     }
 }
 
-/// Makes the tables in a store that has none of them.
+/// Creates the product's tables in a database that has none of them. Fails with `Store` if a foreign key
+/// acts on one of their names.
 fn create_tables<S: Alter>(conn: &mut Connection<S>) -> Result<(), OpenFault>
     requires { conn.old.in_transaction ≡ false }
     ensures made { HasCleanDisk (state S.Store conn.new)
@@ -86,8 +94,8 @@ fn create_tables<S: Alter>(conn: &mut Connection<S>) -> Result<(), OpenFault>
     }
 }
 
-/// Upgrades the tables of an older layout. Where a foreign key acts on a table of ours, also on one that
-/// the layout does not have yet, nothing is written.
+/// Migrates the database from an older schema version. If a foreign key acts on one of the product's
+/// table names, it fails with `Store` and writes nothing.
 fn check_and_migrate<S: Alter>(conn: &mut Connection<S>, from: OldSchema) -> Result<(), OpenFault>
     requires { conn.old.in_transaction ≡ false }
     ensures done { HasCleanDisk (state S.Store conn.new) → IsTrue (state S.Store conn.old).is_open
@@ -108,7 +116,8 @@ fn check_and_migrate<S: Alter>(conn: &mut Connection<S>, from: OldSchema) -> Res
     Ok(())
 }
 
-/// Makes the index of this layout's tables, where it is missing.
+/// Creates the index of the sessions in a database of this schema version, if it is missing. Fails with
+/// `Store` if a table is missing or a foreign key acts on one.
 fn add_session_index<S: Alter>(conn: &mut Connection<S>) -> Result<(), OpenFault>
     requires { conn.old.in_transaction ≡ false }
     ensures done { HasCleanDisk (state S.Store conn.new) → IsTrue (state S.Store conn.old).is_open
@@ -133,7 +142,9 @@ fn add_session_index<S: Alter>(conn: &mut Connection<S>) -> Result<(), OpenFault
     Ok(())
 }
 
-/// Goes on with the tables that stand in a store; those of an older layout are upgraded.
+/// Checks the tables that the database has, by their schema version, and migrates them if they are
+/// older. Fails with `NotOurs` if the head gives no schema version, and with `Newer` if the version is
+/// newer than this one.
 fn migrate_existing<S: Alter>(conn: &mut Connection<S>) -> Result<(), OpenFault>
     requires { conn.old.in_transaction ≡ false }
     ensures why { HasCleanDisk (state S.Store conn.new)
@@ -174,7 +185,8 @@ fn migrate_existing<S: Alter>(conn: &mut Connection<S>) -> Result<(), OpenFault>
     }
 }
 
-/// Makes the tables ready, whatever stands in the store.
+/// Makes the tables ready: creates them if the database has none of them, or else checks and migrates
+/// those that it has. Fails with `Store` inside a transaction.
 pub(crate) fn create_or_migrate<S: Alter>(conn: &mut Connection<S>) -> Result<(), OpenFault>
     ensures why { HasCleanDisk (state S.Store conn.new)
         → MatchResult result (λ _. IsKnown (state S.Store conn.old).now)

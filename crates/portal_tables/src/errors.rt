@@ -1,24 +1,25 @@
-//! Errors of the tables.
+//! The errors of the tables.
 
-/// Why a call of the tables did not answer.
+/// Why a call on the tables failed.
 #[derive(Clone, Copy, Debug, PartialEq, Eq)]
 pub enum StoreFault {
-    /// Memory was wanted and refused. Nothing changed, and the call may be made again.
+    /// Out of memory. Nothing changed, and the call may be repeated.
     Memory,
-    /// The tables stopped: each call but `release` answers so from now on. Open the files again.
+    /// The tables have stopped: from now on each call but `is_stopped` and `release` fails with it. Open
+    /// the files again.
     Stopped,
 }
 
-/// Why a store was not adopted.
+/// Why the tables were not attached.
 #[derive(Clone, Copy, Debug, PartialEq, Eq)]
 pub enum OpenFault {
-    /// A table or a view of the product's names stands there, and the head is not one row with a layout
-    /// from 1 on. Nothing changed.
+    /// A table or a view has one of the product's names, and the head is not one row with a schema
+    /// version from 1 on. Nothing changed.
     NotOurs,
-    /// The layout is past this version's. Nothing changed.
+    /// The schema version is newer than this one. Nothing changed.
     Newer,
-    /// Memory was wanted and refused. Nothing changed, and the same connection may be adopted again.
+    /// Out of memory. Nothing changed, and the same connection may be attached again.
     Memory,
-    /// The store failed, or is none that this version can work with. Open the files again.
+    /// The database failed, or this version cannot work with it. Open the files again.
     Store,
 }

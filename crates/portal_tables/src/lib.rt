@@ -1,4 +1,5 @@
-//! The product's tables in a store.
+//! The product's tables in a database: opening it, attaching the tables, reading records and committing
+//! commands.
 #![tactic(auto)]
 
 mod attach_steps;

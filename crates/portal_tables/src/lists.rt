@@ -1,4 +1,4 @@
-//! Lists of a history, each entry of which is read from several tables.
+//! Lists whose entries are read from several tables: open sessions, and sales with their prices.
 
 ghost use Rattle.std.specs.Prelude.{◌≡◌, filter};
 ghost use Rattle.std.specs.List.{filter_map};
@@ -19,7 +19,7 @@ use portal_tables_rows::rows::RowError;
 use sqlite::{Alter, Connection};
 use std::alloc::Global;
 
-/// The session of the number, where it is open at `t`.
+/// Reads the session with this number, or `None` if it is not open at the time `t`.
 fn read_session_if_open<S: Alter>(
     conn: &mut Connection<S>,
     number: u64,
@@ -37,7 +37,7 @@ fn read_session_if_open<S: Alter>(
     }
 }
 
-/// The sessions of these numbers that are open at `t`, in their order.
+/// Reads those of the sessions with these numbers that are open at the time `t`, in this order.
 fn read_sessions_if_open<S: Alter>(
     alloc: Global,
     conn: &mut Connection<S>,
@@ -56,7 +56,8 @@ fn read_sessions_if_open<S: Alter>(
     Ok(sessions)
 }
 
-/// The sessions that are open at `t`, by number. One that has ended or has nothing left costs no look-up.
+/// Reads the sessions that are open at the time `t`, ordered by number. It does not look up sessions
+/// that have ended or have nothing left of their allowance.
 pub(crate) fn read_open_sessions<S: Alter>(
     alloc: Global,
     conn: &mut Connection<S>,
@@ -70,7 +71,7 @@ pub(crate) fn read_open_sessions<S: Alter>(
     Ok(sessions)
 }
 
-/// All plans and all batches.
+/// Reads all plans and all batches.
 fn read_plans_and_batches<S: Alter>(
     conn: &mut Connection<S>,
 ) -> Result<(Vec<Plan>, Vec<Batch>), RowError>
@@ -82,9 +83,8 @@ fn read_plans_and_batches<S: Alter>(
     Ok((plans, batches))
 }
 
-/// The sales within the two moments, both included: of each the moment, and the price in hundredths. They
-/// are ordered as their vouchers were issued. The plans and the batches are read once, however many sales
-/// there are.
+/// Reads the sales between two times, both included, each as its time and its price in hundredths. They
+/// are in the order in which their vouchers were issued. It reads the plans and the batches once.
 pub(crate) fn read_sales_as_issued<S: Alter>(
     alloc: Global,
     conn: &mut Connection<S>,
@@ -100,9 +100,8 @@ pub(crate) fn read_sales_as_issued<S: Alter>(
     Ok(price_sales(alloc, &prices, &sales)?)
 }
 
-/// The sales within the two moments, both included: of each the moment, and the price in hundredths. They
-/// are ordered by moment, and at one moment by the voucher's printed code. The plans and the batches are
-/// read once, however many sales there are.
+/// Reads the sales between two times, both included, each as its time and its price in hundredths. They
+/// are ordered by time and then by the voucher's printed code. It reads the plans and the batches once.
 pub(crate) fn read_sales_by_moment<S: Alter>(
     alloc: Global,
     conn: &mut Connection<S>,

@@ -1,4 +1,4 @@
-//! A store of an older layout is brought to this version's.
+//! Migrates a database of an older schema version, and maps the errors.
 
 ghost use Rattle.std.specs.Prelude.{◌≡◌, ◌⊎◌, false, IsTrue, OnOk, IfErr};
 ghost use Rattle.sqlite.specs.Tree.{Trees};
@@ -19,8 +19,8 @@ use portal_tables_schema::schema_versions::OldSchema;
 use portal_tables_sql::query::is_answering;
 use sqlite::{Alter, Connection, Error, ErrorCode};
 
-/// What a fault comes to. Want of memory is told only where the connection still answers, and so nothing
-/// has changed.
+/// Maps an error of the rows to an `OpenFault`. It is `Memory` only if the connection still answers;
+/// then nothing has changed.
 fn open_fault_of<S: Alter>(conn: &mut Connection<S>, fault: &RowError) -> OpenFault
     ensures gives_fault { (result ≡ Memory) ⊎ (result ≡ Store) }
     ensures same { HasCleanDisk (state S.Store conn.new) → result ≡ Memory
@@ -37,8 +37,9 @@ fn open_fault_of<S: Alter>(conn: &mut Connection<S>, fault: &RowError) -> OpenFa
     OpenFault::Store
 }
 
-/// Gives a store of an older layout this version's tables, index and layout, in one transaction. Memory
-/// leaves all as it was; after Store the files show the same ledger, in the one layout or in the other.
+/// Migrates a database of an older schema version to this version, with the index of the sessions, in
+/// one transaction. After `Memory` the database is as it was. After `Store` the files hold the same
+/// ledger, in the old schema version or in this one.
 pub(crate) fn migrate_schema<S: Alter>(
     conn: &mut Connection<S>,
     from: OldSchema,

@@ -1,4 +1,4 @@
-//! Files opened, and opened again.
+//! Opens a database, and opens it again.
 
 ghost use Rattle.std.specs.Prelude.{[], IfErr, IfOk, IfSome, IsTrue};
 ghost use Rattle.sqlite_wal.specs.Files.{image_at};
@@ -13,17 +13,18 @@ use sqlite::{Connection, Error, FileFrom, FileStore, Leftover, MemStore, Options
 use sqlite_disk::{Disk, Files};
 use std::alloc::{AllocError, Global};
 
-/// A new store in memory: nothing was accepted in it. Only want of memory is an error.
+/// Opens a new, empty database in memory. The only error is out of memory.
 pub fn open_in_memory(alloc: Global) -> Result<Connection<MemStore>, AllocError>
     ensures { IfOk result (λ conn. ConnRepresents over_memory conn []) }
 {
     Connection::open_in_memory(alloc)
 }
 
-/// Opens files. Where they show a ledger, as a stop leaves them, the connection stands at it; files with
-/// no database yet show that nothing was accepted. Whatever they hold, the connection finds those tables,
-/// ours and those of others. Where they are not opened, what a stop may leave of them shows the ledger
-/// still.
+/// Opens a database in two files: the database file and its log.
+///
+/// If the files hold a ledger, as after a crash, the connection represents that ledger. Files with no
+/// database yet hold the empty ledger. The connection has all tables that the files hold, the product's
+/// and others. If the files are not opened, their crash states still hold the ledger.
 pub fn open_files<D: Disk + Drop>(
     alloc: Global,
     files: Files<D>,
@@ -40,11 +41,13 @@ pub fn open_files<D: Disk + Drop>(
     Connection::open_files(alloc, files, options)
 }
 
-/// Opens the database file at a path with its log, both made where they are missing. They are locked
-/// until the connection is let go. No contract says what a file holds, nor ties a path to one: `S` stands
-/// for what the two held when they were opened. Where that shows a ledger, the connection stands at it,
-/// and what a stop may leave of files that were locked and not opened shows it still. Nothing is left
-/// over where the files were not locked, or no random number could be drawn.
+/// Opens the database file at `path` and its log, and creates them if they are missing. Both are locked
+/// until the connection is released.
+///
+/// No contract says what a file holds, or ties a path to a file: `S` gives what the two files held when
+/// they were opened. If that holds a ledger, the connection represents it, and the crash states of files
+/// that were locked but not opened still hold it. The error has no leftover if the files were not
+/// locked, or if no random number could be drawn.
 pub fn open_path<S: Start>(
     host: &HostRuntime,
     path: &str,
@@ -59,16 +62,16 @@ pub fn open_path<S: Start>(
     Connection::open_from(host, path, false, start)
 }
 
-/// What is left of files that were not closed, or not opened again, and why.
+/// What is left of a database that was not closed, or not opened again, and the error.
 pub enum Unopened<D: Disk> {
-    /// They were not closed: their store.
+    /// The files were not closed: the store that still has them.
     Unclosed(Error, FileStore<D>),
-    /// They were closed, and not opened again.
+    /// The files were closed and not opened again: what is left of them.
     Refused(Error, Leftover<D>),
 }
 
-/// Closes the files of a connection and opens them again. What stood there stands there, and what a stop
-/// may leave of files that were not closed, or not opened again, shows it still.
+/// Closes the files of a connection and opens them again. The new connection represents the same ledger.
+/// If the files are not closed, or not opened again, their crash states still hold that ledger.
 pub fn reopen<D: Disk + Drop>(
     alloc: Global,
     conn: Connection<FileStore<D>>,
@@ -76,7 +79,8 @@ pub fn reopen<D: Disk + Drop>(
 ) -> Result<Connection<FileStore<D>>, Unopened<D>>
     ensures opened { (L : Ledger) → ConnRepresents over_files conn L
         → IfOk result (λ again. HasCleanDisk (file_state again) → ConnRepresents over_files again L) }
-    ensures fails_to_open { (L : Ledger) → ConnRepresents over_files conn L → IfErr result (λ e. UnopenedHolds e L) }
+    ensures fails_to_open { (L : Ledger) → ConnRepresents over_files conn L
+        → IfErr result (λ e. UnopenedHolds e L) }
 {
     match conn.close_files() {
         Ok(files) => match Connection::open_files(alloc, files, options) {

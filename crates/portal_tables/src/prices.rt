@@ -16,7 +16,8 @@ use portal_tables_rows::rows::RowError;
 use std::alloc::Global;
 use std::collections::HashMap;
 
-/// The price of the batch's plan, in hundredths. A batch without its plan is a foreign row.
+/// Finds the price of a batch, in hundredths: the price of its plan. Fails with `ForeignRow` if the plan
+/// is missing.
 fn price_of_batch(plans: &[Plan], batch: &Batch) -> Result<u64, RowError>
     ensures { IfOk result
         (λ price. (plan : Plan) × (plan_among plans.now batch.now.plan ≡ Some plan) × (price ≡ plan.price)) }
@@ -27,8 +28,8 @@ fn price_of_batch(plans: &[Plan], batch: &Batch) -> Result<u64, RowError>
     }
 }
 
-/// The price of each batch in hundredths, by its id: of two batches with one id that of the first. A
-/// batch without its plan is a foreign row.
+/// Returns a map from batch ids to prices in hundredths. If two batches have one id, the first counts.
+/// Fails with `ForeignRow` if the plan of a batch is missing.
 pub(crate) fn prices_by_batch<'a>(
     alloc: Global,
     plans: &[Plan],
@@ -48,7 +49,8 @@ pub(crate) fn prices_by_batch<'a>(
     Ok(prices)
 }
 
-/// The moment and the price of a sale. A sale of no batch is a foreign row.
+/// Returns the time and the price of a sale. Fails with `ForeignRow` if the sale's batch is not in the
+/// map.
 fn price_of_sale(prices: &HashMap<&str, u64>, sale: &SaleValue) -> Result<(Moment, u64), RowError>
     ensures { IfOk result
         (λ payment. payment_at (get_by (λ k. bytes_eq sale.now.batch k.now) prices.now)
@@ -60,7 +62,7 @@ fn price_of_sale(prices: &HashMap<&str, u64>, sale: &SaleValue) -> Result<(Momen
     }
 }
 
-/// The moment and the price of each of these sales, in their order.
+/// Returns the time and the price of each of these sales, in this order.
 pub(crate) fn price_sales(
     alloc: Global,
     prices: &HashMap<&str, u64>,

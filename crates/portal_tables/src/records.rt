@@ -1,4 +1,4 @@
-//! The records of a history, read from several tables.
+//! Reads the records of a history, each from several tables.
 
 ghost use Rattle.std.specs.Prelude.{◌≡◌, Some, IfOk, is_some};
 ghost use Rattle.sqlite.specs.Held.{state};
@@ -25,7 +25,8 @@ use portal_tables_rows::rows::{RowError, SessionValue};
 use sqlite::{Alter, Connection};
 use std::alloc::Global;
 
-/// The head.
+/// Reads the time of the last command and the numbers of redemptions and sessions. Fails with
+/// `ForeignRow` if there is no head row.
 pub(crate) fn read_head<S: Alter>(conn: &mut Connection<S>) -> Result<Head, RowError>
     ensures { ReadsHistory S.Store conn.old conn.new result (λ h head. head ≡ head_of h) }
 {
@@ -39,7 +40,7 @@ pub(crate) fn read_head<S: Alter>(conn: &mut Connection<S>) -> Result<Head, RowE
     }
 }
 
-/// A batch, and its plan.
+/// Reads a batch and its plan. Fails with `ForeignRow` if one is missing.
 pub(crate) fn read_batch_and_plan<S: Alter>(
     conn: &mut Connection<S>,
     id: &Id,
@@ -56,7 +57,7 @@ pub(crate) fn read_batch_and_plan<S: Alter>(
     }
 }
 
-/// The voucher of a code.
+/// Reads the voucher with this code, with its plan, its expiry and how often it was redeemed, or `None`.
 pub(crate) fn read_voucher<S: Alter>(
     conn: &mut Connection<S>,
     code: &Code,
@@ -81,7 +82,7 @@ pub(crate) fn read_voucher<S: Alter>(
     }))
 }
 
-/// Whether a voucher of the code was issued.
+/// Whether a voucher with this code was issued.
 pub(crate) fn read_is_held<S: Alter>(
     conn: &mut Connection<S>,
     code: &Code,
@@ -93,7 +94,8 @@ pub(crate) fn read_is_held<S: Alter>(
     Ok(found.is_some())
 }
 
-/// What was granted in all: what remains, and what was used.
+/// Computes the allowance of a session: the sum of what remains and what was used. It is `None` if there
+/// is no limit. Fails with `ForeignRow` if the sum is below 0 or does not fit.
 fn allowance_of(remaining: Option<i64>, used: u64) -> Result<Option<u64>, RowError>
     ensures { IfOk result (λ allowance. allowance ≡ allowance_from remaining used) }
 {
@@ -112,10 +114,11 @@ fn allowance_of(remaining: Option<i64>, used: u64) -> Result<Option<u64>, RowErr
     }
 }
 
-/// The numbers below this one are those that a column of integers keeps.
+/// 2^63: an INTEGER column holds the numbers below it.
 pub(crate) const LIMIT: u64 = 1 << 63;
 
-/// The session of a row that was read.
+/// Makes a session from its row, with its end, its allowance and whether its plan extends sessions.
+/// Fails with `ForeignRow` if the total or the plan is missing.
 fn session_of_row<S: Alter>(
     conn: &mut Connection<S>,
     row: &SessionValue,
@@ -146,7 +149,7 @@ fn session_of_row<S: Alter>(
     })
 }
 
-/// The session of a number.
+/// Reads the session with this number, or `None`.
 pub(crate) fn read_session<S: Alter>(
     conn: &mut Connection<S>,
     number: u64,
@@ -162,7 +165,7 @@ pub(crate) fn read_session<S: Alter>(
     }
 }
 
-/// The session of the device with the greatest number.
+/// Reads the device's last session, the one with the greatest number, or `None`.
 pub(crate) fn read_last_session<S: Alter>(
     conn: &mut Connection<S>,
     device: &Device,
@@ -176,7 +179,7 @@ pub(crate) fn read_last_session<S: Alter>(
     }
 }
 
-/// The request that is kept under the caller's number, with what its caller was told.
+/// Reads the request with this caller and idempotency key, and the answer that was given, or `None`.
 pub(crate) fn read_kept_request<S: Alter>(
     alloc: Global,
     conn: &mut Connection<S>,

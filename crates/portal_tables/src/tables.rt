@@ -1,4 +1,4 @@
-//! The tables behind a connection: records, and commands that are kept.
+//! The tables over a connection: they read records and commit commands.
 
 ghost use Rattle.std.specs.Prelude.{◌≡◌, ◌↔◌, ◌⊎◌, true, false, IsTrue, MatchResult, IsErrOf, is_some};
 ghost use Rattle.sqlite.specs.Held.{state};
@@ -6,13 +6,31 @@ ghost use Rattle.sqlite.specs.State.{HasCleanDisk, IsUnchanged, Survives};
 ghost use Rattle.portal_ledger.specs.Ledger.{Accepted, Ledger, history_of};
 ghost use Rattle.portal_model.specs.History.{head_of, plan_of, batch_of, issued_of, voucher_of, session_of};
 ghost use Rattle.portal_model.specs.History.{last_session_of};
-ghost use Rattle.portal_tables_rows.specs.Commands.{FitsInColumns as FitsColumns, FitsSession, FitsIssue, FitsRedeem};
+ghost use Rattle.portal_tables_rows.specs.Commands.{
+  FitsInColumns as FitsColumns,
+  FitsSession,
+  FitsIssue,
+  FitsRedeem,
+};
 ghost use Rattle.portal_tables_rows.specs.Commands.{FitsReport, FitsAnswer, FitsFingerprint, FitsWithAnswer};
 ghost use Rattle.portal_ledger.specs.States.{State as DeskState, running};
 ghost use Rattle.portal_ledger.specs.Calls.{Fits, Keeps, FailsToKeep};
 ghost use Rattle.portal_tables.specs.HoldsLedger.{IsHeldUnder};
-ghost use Rattle.portal_tables.specs.TablesRepresent.{ConnRepresents, ConnIsFaultFree, IsCrashStateOfConn, Files, IsFaultFree, IsCrashState};
-ghost use Rattle.portal_tables.specs.TablesRepresent.{OthersKept, TablesRepresent, IsStopped, TablesKeepStop, FaultGivesStop};
+ghost use Rattle.portal_tables.specs.TablesRepresent.{
+  ConnRepresents,
+  ConnIsFaultFree,
+  IsCrashStateOfConn,
+  Files,
+  IsFaultFree,
+  IsCrashState,
+};
+ghost use Rattle.portal_tables.specs.TablesRepresent.{
+  OthersKept,
+  TablesRepresent,
+  IsStopped,
+  TablesKeepStop,
+  FaultGivesStop,
+};
 ghost use Rattle.portal_tables.specs.TablesRepresent.{ReadsTables, GivesFault, GivesRead};
 ghost use Rattle.portal_tables.specs.declared.errors.StoreFault.TheVariants.{Memory, Stopped};
 
@@ -39,14 +57,14 @@ use portal_tables_sql::query::is_answering;
 use sqlite::{Alter, Connection, Error, ErrorCode};
 use std::alloc::Global;
 
-/// The product's tables in a store.
+/// The product's tables in a database.
 pub struct Tables<S: Alter> {
     conn: Connection<S>,
     is_stopped: bool,
 }
 
 impl<S: Alter> Tables<S> {
-    /// Tables that work, over a connection that is ready.
+    /// Makes tables that work, over a connection whose tables are ready.
     pub(crate) fn new(conn: Connection<S>) -> Tables<S>
         ensures { result ≡ record { conn = conn; is_stopped = false } }
     {
@@ -56,13 +74,15 @@ impl<S: Alter> Tables<S> {
         }
     }
 
-    /// Hands the connection back. Where the tables are not stopped, it stands where they stood. A stop
-    /// leaves of it what it might leave of them.
+    /// Returns the connection. If the tables have not stopped, it represents the same ledger. It has no
+    /// crash state that the tables did not have.
     pub fn release(self) -> Connection<S>
         ensures same { result ≡ self.conn }
-        ensures represents { (L : Ledger) → TablesRepresent S.Store self (running L) → ConnRepresents S.Store result L }
+        ensures represents { (L : Ledger) → TablesRepresent S.Store self (running L)
+            → ConnRepresents S.Store result L }
         ensures fault_free { ConnIsFaultFree S.Store result → IsFaultFree S.Store self }
-        ensures left { (files : Files) → IsCrashStateOfConn S.Store result files → IsCrashState S.Store self files }
+        ensures left { (files : Files) → IsCrashStateOfConn S.Store result files
+            → IsCrashState S.Store self files }
     {
         let Tables {
             conn,
@@ -71,14 +91,14 @@ impl<S: Alter> Tables<S> {
         conn
     }
 
-    /// Whether the tables have stopped: each call but this and `release` answers `Stopped` then.
+    /// Whether the tables have stopped: then each call but this and `release` fails with `Stopped`.
     pub fn is_stopped(&self) -> bool
         ensures { IsTrue result ↔ IsStopped S.Store self.now }
     {
         self.is_stopped
     }
 
-    /// Whether the tables work: where they have stopped, the error is `Stopped`.
+    /// Checks that the tables have not stopped. The error is `Stopped`.
     fn check_working(&self) -> Result<(), StoreFault>
         ensures { MatchResult result (λ _. self.now.is_stopped ≡ false)
             (λ fault. (fault ≡ Stopped) × IsStopped S.Store self.now) }
@@ -90,8 +110,8 @@ impl<S: Alter> Tables<S> {
         }
     }
 
-    /// What a fault comes to. Want of memory is told only where the connection still answers, and so
-    /// nothing has changed.
+    /// Maps an error of the rows to a `StoreFault`, and stops the tables unless it is `Memory`. It is
+    /// `Memory` only if the connection still answers; then nothing has changed.
     fn stop_on_fault(&mut self, fault: RowError) -> StoreFault
         ensures { GivesFault S.Store self.old self.new result }
     {
@@ -106,7 +126,7 @@ impl<S: Alter> Tables<S> {
         StoreFault::Stopped
     }
 
-    /// What a reading of the store comes to: what it found, or what its fault comes to.
+    /// Returns the result of a read, and stops the tables if its error is not `Memory`.
     fn answer_or_stop<T>(&mut self, read: Result<T, RowError>) -> Result<T, StoreFault>
         ensures { GivesRead S.Store self.old self.new read result }
     {
@@ -116,20 +136,24 @@ impl<S: Alter> Tables<S> {
         }
     }
 
-    /// Keeps what a command changes, and its request where it has a mark, in one transaction. They are to
-    /// be those of a command that may follow, under a key that is not held. Memory leaves all as it was.
-    /// After Stopped the files hold the command whole or not at all. Whatever comes of it, each table
-    /// beside the product's keeps its rows.
+    /// Commits a command in one transaction: its changes, and its request if it has an idempotency key.
+    ///
+    /// The changes must be those of a command that may come next, and the key must be free. After
+    /// `Memory` nothing has changed. After `Stopped` the files hold the command as a whole or not at
+    /// all. Fails with `Stopped` if the connection is inside a transaction or a number does not fit in a
+    /// column. In each case all other tables keep their rows.
     pub fn commit(&mut self, marked: &MarkedChanges) -> Result<(), StoreFault>
         ensures fault_free { IsFaultFree S.Store self.new → IsFaultFree S.Store self.old }
         ensures stopped { IsStopped S.Store self.old → IsErrOf result Stopped × (self.new ≡ self.old) }
         ensures stops { TablesKeepStop S.Store self.old self.new result }
-        ensures commit { IsFaultFree S.Store self.new → (old : DeskState) → TablesRepresent S.Store self.old old
+        ensures commit { IsFaultFree S.Store self.new → (old : DeskState)
+            → TablesRepresent S.Store self.old old
             → (a : Accepted) → Fits old marked.now a
             → (new : DeskState) × TablesRepresent S.Store self.new new
             × MatchResult result (λ _. Keeps old a new)
             (λ fault. FailsToKeep Memory Stopped old a fault new) }
-        ensures others { IsFaultFree S.Store self.new → (L : Ledger) → TablesRepresent S.Store self.old (running L)
+        ensures others { IsFaultFree S.Store self.new → (L : Ledger)
+            → TablesRepresent S.Store self.old (running L)
             → OthersKept S.Store self.old self.new }
     {
         if self.is_stopped {
@@ -146,7 +170,7 @@ impl<S: Alter> Tables<S> {
         }
     }
 
-    /// The last moment, and the numbers of redemptions and sessions.
+    /// Reads the time of the last command and the numbers of redemptions and sessions.
     pub fn head(&mut self) -> Result<Head, StoreFault>
         ensures { ReadsTables S.Store self.old self.new result (λ L found. found ≡ head_of (history_of L)) }
     {
@@ -155,7 +179,7 @@ impl<S: Alter> Tables<S> {
         self.answer_or_stop(read)
     }
 
-    /// The plan of the id, where it is held.
+    /// Reads the plan with this id, or `None`.
     pub fn plan(&mut self, id: &Id) -> Result<Option<Plan>, StoreFault>
         ensures { ReadsTables S.Store self.old self.new result
             (λ L found. found ≡ plan_of (history_of L) id.now) }
@@ -165,7 +189,7 @@ impl<S: Alter> Tables<S> {
         self.answer_or_stop(read)
     }
 
-    /// The batch of the id, where there is one.
+    /// Reads the batch with this id, or `None`.
     pub fn batch(&mut self, id: &Id) -> Result<Option<Batch>, StoreFault>
         ensures { ReadsTables S.Store self.old self.new result
             (λ L found. found ≡ batch_of (history_of L) id.now) }
@@ -175,7 +199,7 @@ impl<S: Alter> Tables<S> {
         self.answer_or_stop(read)
     }
 
-    /// The voucher of the code, where it was issued.
+    /// Reads the voucher with this code, or `None`.
     pub fn voucher(&mut self, code: &Code) -> Result<Option<Voucher>, StoreFault>
         ensures { ReadsTables S.Store self.old self.new result
             (λ L found. found ≡ voucher_of (history_of L) code.now) }
@@ -185,7 +209,7 @@ impl<S: Alter> Tables<S> {
         self.answer_or_stop(read)
     }
 
-    /// Whether a voucher of the code was issued: one look at the tables, where its voucher takes up to four.
+    /// Whether a voucher with this code was issued. It takes one query; `voucher` takes up to four.
     pub fn is_held(&mut self, code: &Code) -> Result<bool, StoreFault>
         ensures { ReadsTables S.Store self.old self.new result
             (λ L held. held ≡ is_some (issued_of (history_of L) code.now)) }
@@ -195,7 +219,7 @@ impl<S: Alter> Tables<S> {
         self.answer_or_stop(read)
     }
 
-    /// The session of the number, where there is one.
+    /// Reads the session with this number, or `None`.
     pub fn session(&mut self, number: u64) -> Result<Option<Session>, StoreFault>
         ensures { ReadsTables S.Store self.old self.new result
             (λ L found. found ≡ session_of (history_of L) number) }
@@ -205,7 +229,7 @@ impl<S: Alter> Tables<S> {
         self.answer_or_stop(read)
     }
 
-    /// The session of the device with the greatest number, where there is one.
+    /// Reads the device's session with the greatest number, or `None`.
     pub fn last_session(&mut self, device: &Device) -> Result<Option<Session>, StoreFault>
         ensures { ReadsTables S.Store self.old self.new result
             (λ L found. found ≡ last_session_of (history_of L) device.now) }
@@ -215,7 +239,7 @@ impl<S: Alter> Tables<S> {
         self.answer_or_stop(read)
     }
 
-    /// The request that is kept under the caller's number, with what its caller was told, where there is one.
+    /// Reads the request with this caller and idempotency key, and the answer that was given, or `None`.
     pub fn request(
         &mut self,
         alloc: Global,
@@ -231,6 +255,7 @@ impl<S: Alter> Tables<S> {
     }
 }
 
+/// Whether the numbers of the session fit in INTEGER columns.
 fn session_fits(session: &Session) -> bool
     ensures { IsTrue result ↔ FitsSession session.now }
 {
@@ -239,12 +264,14 @@ fn session_fits(session: &Session) -> bool
         && session.allowance.is_none_or(|allowance| allowance < LIMIT)
 }
 
+/// Whether the numbers of the issue fit in INTEGER columns.
 fn issue_fits(c: &IssueChange) -> bool
     ensures { IsTrue result ↔ FitsIssue c.now }
 {
     c.batch.size < LIMIT && (c.codes.as_slice().len() as u64) < LIMIT
 }
 
+/// Whether the numbers of the redemption fit in INTEGER columns.
 fn redeem_fits(c: &RedeemChange) -> bool
     ensures { IsTrue result ↔ FitsRedeem c.now }
 {
@@ -254,13 +281,14 @@ fn redeem_fits(c: &RedeemChange) -> bool
         && c.voucher.redeemed < LIMIT - 1
 }
 
+/// Whether the numbers of the report fit in INTEGER columns.
 fn report_fits(c: &ReportChange) -> bool
     ensures { IsTrue result ↔ FitsReport c.now }
 {
     session_fits(&c.session) && c.bytes < LIMIT
 }
 
-/// Whether each number of the changes can be kept.
+/// Whether the numbers of the changes fit in INTEGER columns.
 fn changes_fit(changes: &Changes) -> bool
     ensures { IsTrue result ↔ FitsColumns changes.now }
 {
@@ -275,7 +303,7 @@ fn changes_fit(changes: &Changes) -> bool
     }
 }
 
-/// Whether each number of the answer can be kept.
+/// Whether the numbers of the answer fit in INTEGER columns.
 fn answer_fits(answer: &Answer) -> bool
     ensures { IsTrue result ↔ FitsAnswer answer.now }
 {
@@ -302,7 +330,8 @@ fn answer_fits(answer: &Answer) -> bool
     }
 }
 
-/// Whether each number of the answer can be kept, where it is kept with a mark.
+/// Whether the numbers of the answer fit in INTEGER columns, if the request has an idempotency key.
+/// Without a key no answer is stored.
 fn fingerprint_fits(mark: &Option<RequestMark>, answer: &Answer) -> bool
     ensures { IsTrue result ↔ FitsFingerprint mark.now answer.now }
 {
@@ -312,7 +341,7 @@ fn fingerprint_fits(mark: &Option<RequestMark>, answer: &Answer) -> bool
     }
 }
 
-/// Whether each number that is kept with the changes and their answer can be.
+/// Whether the numbers of the changes, and of the answer if it is stored, fit in INTEGER columns.
 fn command_fits(marked: &MarkedChanges, answer: &Answer) -> bool
     ensures { IsTrue result ↔ FitsWithAnswer marked.now answer.now }
 {

@@ -1,4 +1,4 @@
--- What a text that only asks leaves of a connection, and which texts do.
+-- The state of a connection after a query that only reads, and which texts only read.
 use Rattle.portal_tables_queries.proofs.Common.{◌≡◌, inl, inr, false, ℕ, List, codes, Result, Option, Some, None, Ok, Err, IfOk, IfErr, OnOk, IsSome, IsTrue, refl, sym, ◌∙◌, IfOk-weaker, Row, Held, state, Error, State, HasCleanDisk, IsUnchanged, Survives, survives_weaker, Looks, looks_by, looks_weaker, select_of, up, Anything, Asks, OnlyAsks, Contents, HasFirst, HoldsFirst, plans_name, vouchers_name, sessions_name, grants_name, plan_columns, session_columns, voucher_columns}
 use Rattle.sqlite.specs.Store.{Ghosts}
 use Rattle.sqlite.specs.State.{Shown, FailsToQuery, IsNotRun, CommitsShowing}
@@ -71,7 +71,7 @@ unfolding everything
 grants_asked schema c is =
     (understood_idle texts.all_grants_text (written.Select (select_of grants_name texts.all_grants_columns None (up (codes "number")) None)) 0 (record { parsed = _; read = refl; is = refl; timeless = refl; counted = refl }) (λ schema. refl) (λ schema base. refl) schema c is).0
 
--- ---- what the query that asks such a text tells
+-- ---- the result of a query with such a text
 
 pub selects_first : {S A : Type 0} (g : Ghosts S) {a b : Held S} (sql : List ℕ) (params : Row) (result : Result A Error) (items : A → List Row) {Is : Contents → A → Type 0} → OnlyAsks sql
     → ((x : A) → Shown sql params (state g a) (state g b) (items x) → (t : Contents) → HoldsFirst (state g a).now t → Is t x) → (HasCleanDisk (state g b) → IfOk result (λ x. Shown sql params (state g a) (state g b) (items x)))

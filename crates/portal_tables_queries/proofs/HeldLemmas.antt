@@ -1,4 +1,4 @@
--- How calls that read an open connection follow one another: what a reading leaves as it was holds the same rows.
+-- How calls that read an open connection follow one another: what a read does not change holds the same rows.
 use Rattle.portal_tables_queries.proofs.Common.{◌≡◌, IsTrue, Result, Ok, Err, IfOk, IsErrAnd, ap, subst, sym, ◌∙◌, arith, true, err_from_is_err_and, IfOk-weaker, Schema, Database, Held, state, State, HasCleanDisk, Looks, ReadsOnly, looks_read, looks_then, looks_weaker, same_now, still_open, Contents, HoldsFirst, HasFirst, NotForeign, Holds, HasTables, this_schema_version, RowError}
 use Rattle.sqlite.specs.Store.{Ghosts}
 use Rattle.portal_tables_rows.specs.Selects.{ReadsRow}
@@ -16,7 +16,7 @@ early Has (Ok x) a b looks clean = omega (arith, clean, looks.crash.clean)
 early Has (Err e) a b looks clean = omega (arith, clean, looks.crash.clean)
 
 module _ {S : Type 0} (g : Ghosts S) where
-  -- a reading of one table, and of tables that stand in each layout
+  -- a read of one table, and of tables that each schema version has
   pub row_opened : {A : Type 0} {a b : Held S} {result : Result A RowError} {Is : Contents → A → Type 0} {Own : Contents → Type 0} → ReadsRow g a b result Is Own → ReadsOpen g HasTables Holds a b result Is Own
   row_opened r = record { read = λ clean live t held. r.found clean t held; looks = r.looks; foreign = λ clean live t held own. r.foreign clean t held own }
 

@@ -1,4 +1,4 @@
--- What each text that reads a list answers, by the rows that the tables hold.
+-- The result of each SELECT of a list, by the rows that the tables hold.
 use Rattle.portal_tables_queries.proofs.Common.{◌≡◌, ◌<◌, ℕ, List, [], ◌∷◌, ◌++◌, Bool, map, filter, length, true, false, refl, sym, ap, ap₂, subst, ◌∙◌, lit<, bytes_eq, Ordering, lit≤, Key, then-Equal, value_cmp-Text, Text, Row, column, value_cmp, Schema, Table, Term, State, map-map, filter-map, number, has_key, by_column, fields, IsSelection, text_test, selected, field_at, orders_by, by, passes, keys_of, VoucherRow, TotalRow, vouchers, totals, Contents, voucher_cells, total_cells, Holds, HasTables, ListsAs, is_within, by_place, by_refund, by_sale, by_number, sale_columns, sale_cells, vouchers_in, totals_in, Asks, IsSimple, total_columns, voucher_columns}
 use Rattle.std.specs.Ordering.{ordering_then}
 use Rattle.sqlite.specs.Query.{key_cmp}
@@ -49,7 +49,7 @@ totals_rows_are old new rows shown t h =
     let all = subst (λ xs. IsSelection (λ _. true) (by_column 0) xs rows) (totals_in old.now.trees place.tree t.totals (h.store.totals (lit≤ tt))) it in
     cells_listed total_cells (λ (_ : TotalRow). true) by_number t.totals (λ _. true) (by_column 0) (λ m. refl) (λ a b. number_order a.number b.number) rows all
 
--- ---- the vouchers with a moment within two
+-- ---- the vouchers with a time between two
 
 module _ (old new : State) (from to : ℕ) (rows : List Row) (t : Contents) (h : Holds old.now t) where
   abbrev params : Row

@@ -1,4 +1,4 @@
--- What the texts that read lists mean, wherever the tables stand.
+-- What the SELECT statements of lists mean, wherever the tables are in the schema.
 use Rattle.portal_tables_queries.proofs.Common.{ℕ, pos, negsuc, List, [], ◌∷◌, ◌++◌, codes, Option, Some, None, refl, false, Int, Term, lit, col, op2, Schema, Table, place_of, Ge, Le, Binary, TableExists, drafted, unlimited, IsSelect, all_columns, by, select_means, up, vouchers, totals, vouchers_name, totals_name, total_columns, voucher_columns}
 use Rattle.sqlite_tied.specs.Compute.{everything}
 use Rattle.sqlite_ast.specs.declared.Expr.{Expr}
@@ -19,7 +19,7 @@ totals_means schema at tree exists =
     (drafted tree [] (all_columns (totals tree)) (by (totals tree) 0 false) unlimited) (None ∷ Some Binary ∷ Some Binary ∷ []) (record { parsed = _; read = refl; is = refl; timeless = refl; counted = refl }) refl refl
     (simp (exists.named, exists.there) refl) (simp (exists.low, exists.typed) refl) refl (λ base. refl)
 
--- ---- vouchers with a moment within two
+-- ---- vouchers with a time between two
 
 -- WHERE column >= ?1 AND column <= ?2
 abbrev where_within : List ℕ → Option Expr
@@ -35,7 +35,7 @@ sold_text = codes "SELECT batch_id, sold FROM portal_vouchers WHERE sold >= ?1 A
 abbrev pub sold_columns : List (List ℕ)
 sold_columns = codes "batch_id" ∷ codes "sold" ∷ []
 
--- the same two as the terms that are shown
+-- the same two as the terms of the result
 abbrev pub sold_terms : Table → List Term
 sold_terms table = col 1 (place_of table 1) ∷ col 1 (place_of table 3) ∷ []
 

@@ -1,4 +1,4 @@
--- From the rows of an answer to the values that were read of them, in their order.
+-- From the rows of a result to the values that were read of them, in their order.
 use Rattle.portal_tables_queries.proofs.Common.{◌≡◌, ◌+◌, ◌<◌, arith, ℕ, pos, List, [], ◌∷◌, ◌++◌, map, filter, take, length, get_or, cond, Bool, true, false, ◌&&◌, nat_le, Option, Some, None, refl, sym, ap, ap₂, subst, ◌∙◌, Ordering, nat_cmp, is_ge, is_le, IsSorted, nat_tests, ints, get_or-map, length-map, map-append, take_more, filter-append, Null, Row, value_cmp, Ge, Le, Binary, value_cmp-Int, value_cmp-Null, value_cmp-apart, map-map, filter-map, pull_back, number, or_null, IsSelection, columns, TotalRow, Total, ends_row, more_mapped, Lists, ListsAs, IsReadAs, AreReadAs, is_within, may_be_open, numbers_open, sale_cells}
 use Rattle.std.specs.Option.{option_cmp}
 use Rattle.sqlite.specs.declared.types.Value.{Value}

@@ -1,4 +1,4 @@
--- Where a table holds rows that this product writes, so do the rows of an answer show.
+-- If this product writes the rows of a table, it writes the rows of a result.
 use Rattle.portal_tables_queries.proofs.Common.{◌≡◌, ℕ, List, map, filter, Bool, true, Option, Some, None, IsSome, refl, sym, ap, subst, ◌∙◌, Ordering, IsPermutation-sym, Row, Has, has_filtered, columns, has_image, has_along, VoucherRow, AreOwn, AreOfOwn, IsOwnVoucher, IsOwnSale, Lists, ListsAs, is_within, sale_columns}
 
 module _ {P : Type 0} (cells : P → Row) (n : ℕ) (all : (p : P) → columns n (cells p) ≡ cells p) (IsOwn : P → Type 0) where
@@ -21,12 +21,12 @@ listed_own IsOwn passes cmp ps listed l own p has =
     let kept = has_filtered passes ps p (has_along p listed (filter passes ps) (IsPermutation-sym _ _ l.same) has) in
     own p kept.0 kept.1
 
--- a moment within two is there
+-- a time between two is not missing
 pub within_some : (from to : ℕ) (o : Option ℕ) → is_within from to o ≡ true → IsSome o
 within_some from to None on = cc
 within_some from to (Some at) on = refl
 
--- the sales within two moments are of vouchers that this product writes
+-- the sales between two times are of vouchers that this product writes
 pub own_sales : (from to : ℕ) (vs : List VoucherRow) → AreOwn IsOwnVoucher vs → AreOwn IsOwnSale (map sale_columns (filter (λ (v : VoucherRow). is_within from to v.sold) vs))
 own_sales from to vs own p has =
     let sold : VoucherRow → Bool = λ v. is_within from to v.sold in

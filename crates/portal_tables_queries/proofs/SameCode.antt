@@ -1,4 +1,4 @@
--- Codes are told by their printed texts.
+-- Codes differ if their printed texts differ.
 use Rattle.portal_tables_queries.proofs.Common.{◌≡◌, ℕ, List, ap, subst, bytes_eq, bytes_eq-Decides, IsCode, Spells, text_of, agree}
 use Rattle.portal_codes.proofs.Spelling.{unique, printed_spells}
 

@@ -1,4 +1,4 @@
--- What a query leaves of a connection, whose rows are read one at a time.
+-- The state of a connection after a query whose rows are read one at a time.
 use Rattle.portal_tables_queries.proofs.Common.{◌≡◌, inl, inr, ℕ, List, [], ◌∷◌, ◌++◌, map, Result, Option, Some, None, Ok, Err, OnErr, IsTrue, refl, sym, ap, ap₂, subst, ◌∙◌, arith, map-append, Row, Schema, Database, reads_listing, IsSourceOf, Command, Select, Error, State, HasCleanDisk, IsUnchanged, Survives, ShowsRows, Begins, Held, state, survives_then, survives_weaker, unchanged, IsPlain, command_of, unchanged_then, given_begin, begins_shown, EndsIn, Compiled, CompileError, has_left, has_right, columns, ReadsOnly, Fails, Means, fails_then, AreOwn, Asks, IsDirect, IsSimple, AnswersCells}
 use Rattle.std.specs.Borrow.{Bor}
 use Rattle.sqlite.specs.Listing.{understood}
@@ -31,7 +31,7 @@ means_simple schema sql body names m = go (understood schema sql) m.is m.plain
 pub simple_asks : (sql : List ℕ) (schema : Schema) → IsSimple (understood schema sql) → Asks sql schema
 simple_asks sql schema simple c is = (subst IsSimple is simple).0
 
--- ---- an answer under the same database
+-- ---- a result under the same database
 
 module _ (sql : List ℕ) (params : Row) (old mid new : State) (same : IsUnchanged old mid) where
   shown_before : (rows : List Row) → Asks sql old.now.schema → Shown sql params mid new rows → Shown sql params old new rows
@@ -55,7 +55,7 @@ ends_directly : (command : Command) (db : Database) (params : Row) → IsDirect 
 ends_directly (Select plan names) db params direct = rw direct tt
 ends_directly _ db params direct = absurd direct
 
--- the rows that were given so far begin a whole answer
+-- the rows that were given so far begin a whole result
 begins_answer : (sql : List ℕ) (params : Row) (s : State) (rows : List Row) → IsTrue s.is_open → IsSimple (understood s.now.schema sql) → Begins sql params s rows → (tail : List Row) × Shown sql params s s (rows ++ tail)
 begins_answer sql params s rows live simple begins =
     begins_shown sql params s s rows begins (unchanged s live) (λ c db it source. ends_directly c.command db _ (subst IsSimple it.is simple).1)
@@ -70,7 +70,7 @@ module _ {S V : Type 0} (g : Ghosts S) (sql : List ℕ) (params : Row) (cells : 
     pub given : HasGiven g sql params now rows
     pub are : map cells values ≡ map (columns width) rows
 
-  -- so it is where the text asks; a stop leaves what it could leave before
+  -- the same if the text only reads; no crash state is added
   pub record ReadsOn (now : Held S) (values : List V) : Type 0 where
     pub read : HasCleanDisk (state g now) → Asks sql old.now.schema → HasGivenRows now values
     pub crash : Survives old (state g now) (λ _. IsTrue old.is_open → ¬ Asks sql old.now.schema)
@@ -94,14 +94,14 @@ module _ {S V : Type 0} (g : Ghosts S) (sql : List ℕ) (params : Row) (cells : 
     same_on : (o : Option (Bor Row)) → result ≡ Ok o → HasCleanDisk is → Asks sql old.now.schema → IsUnchanged old is
     same_on o ok clean asks = unchanged_then old was is (at_mid clean asks).same (rw ok at (moved.same clean))
 
-    -- a row came, and is not made a value yet
+    -- there is a row, which is not read as a value yet
     pub reads_row : (o : Option (Bor Row)) → result ≡ Ok o → ReadsOnly (Asks sql) old is
     reads_row o ok = record { same = λ clean _ asks. same_on o ok clean asks; crash = crash_on }
 
     given_row : (row : Bor Row) → result ≡ Ok (Some row) → (clean : HasCleanDisk is) (asks : Asks sql old.now.schema) → HasGiven g sql params now.conn.now ((at_mid clean asks).rows ++ row.now ∷ [])
     given_row row ok clean asks = let it = at_mid clean asks in (rw ok at (moved.ok clean)) sql params it.rows it.given
 
-    -- a row came, and was made a value
+    -- there is a row, which was read as a value
     pub reads_value : (row : Bor Row) → result ≡ Ok (Some row) → (value : V) → cells value ≡ columns width row.now → (more : List V) → more ≡ values ++ value ∷ [] → ReadsOn now.conn.now more
     reads_value row ok value one more is_more = record {
       read = λ clean asks.
@@ -115,14 +115,14 @@ module _ {S V : Type 0} (g : Ghosts S) (sql : List ℕ) (params : Row) (cells : 
       crash = crash_on;
     }
 
-    -- no row came: those so far are the answer
+    -- there is no further row: those so far are the result
     pub reads_all : result ≡ Ok None → HasCleanDisk is → Asks sql old.now.schema → AnswersCells (Shown sql params old is) cells width values
     reads_all ok clean asks =
         let it = at_mid clean asks in
         let shown : Shown sql params was is it.rows = (rw ok at (moved.ok clean)) sql params it.rows it.given in
         record { rows = it.rows; shown = shown_before sql params old was is it.same it.rows asks shown; are = it.are }
 
-    -- where each row of the answer is one's own, so is the row that came
+    -- if this product writes each row of the result, it writes this row
     pub own_row : (Own : Row → Type 0) (row : Bor Row) → result ≡ Ok (Some row) → HasCleanDisk is → IsSimple (understood old.now.schema sql)
         → ((rows : List Row) → Shown sql params old is rows → AreOwn Own rows) → Own row.now
     own_row Own row ok clean simple own =
@@ -135,7 +135,7 @@ module _ {S V : Type 0} (g : Ghosts S) (sql : List ℕ) (params : Row) (cells : 
         let whole = begins_answer sql params is rows same.0.is_open here begins in
         own _ (shown_before sql params old is is same _ asks whole.1) row.now (has_left rows whole.0 row.now (has_right it.rows (row.now ∷ []) row.now (inl refl)))
 
-    -- no row came, since the store failed
+    -- there is no row, since the query failed
     fails_here : (e : Error) → result ≡ Err e → Fails (Asks sql) was is
     fails_here e err = record {
       undone = λ clean _ asks outside settled. elim (rw err at (moved.kept clean)) [

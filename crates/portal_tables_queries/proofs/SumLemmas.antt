@@ -132,9 +132,9 @@ pub rows_exact : {P : Type 0} (cells : P → Row) (n : ℕ) → ((p : P) → col
     → (read ps : List P) (rows : List Row) → map cells read ≡ map (columns n) rows → rows ≡ map cells ps → read ≡ ps
 rows_exact cells n each exact read ps rows as_read held = map_exact cells exact read ps (as_read ∙ ap (map (columns n)) held ∙ map_same (columns n) cells each ps)
 
--- ---- sums that can be kept
+-- ---- sums that fit
 
--- where what is given in all can be kept, so can what was given so far, with one redemption more
+-- if what is given in total fits, so does what was given so far, with one redemption more
 pub given_kept : (grants : List GrantValue) (i : ℕ) (g : GrantValue) (before : Given) → i < length grants → g ≡ get_or grants i g → before ≡ given_so_far grants i g.session → ((number : ℕ) → IsKeptSum (given_to (map grant_read grants) number))
     → (before.seconds + g.seconds < 2 ^ 63) × (before.bytes + g.bytes < 2 ^ 63)
 given_kept grants i g before within is so_far fits =

@@ -1,11 +1,11 @@
--- What each text that reads a whole table answers, by the rows that the tables hold.
+-- The result of each SELECT of a whole table, by the rows that the tables hold.
 use Rattle.portal_tables_queries.proofs.Common.{◌≡◌, ℕ, ◌<◌, ◌≤◌, Bool, true, false, List, [], map, sym, ◌∙◌, true≢false, arith, lit<, lit≤, Row, Schema, Database, State, IsPlain, plans, batches, vouchers, sessions, grants, counts, totals, Contents, plan_cells, batch_cells, voucher_cells, session_cells, grant_cells, count_cells, total_cells, HoldsFirst, HasFirst, TablePlaces, TablesExist, HoldsIn, Holds, HasTables, this_schema_version, plans_in, batches_in, vouchers_in, sessions_in, grants_in, counts_in, totals_in, batch_columns, count_columns, plan_columns, session_columns, total_columns, voucher_columns}
 use Rattle.sqlite.specs.Listing.{understood}
 use Rattle.sqlite.specs.State.{Shown}
 use Rattle.portal_tables_queries.proofs.WholeTables.{whole_table}
 use Rattle.portal_tables_queries.proofs.WholeTexts as texts
 
--- ---- each layout has the six tables of layout 1
+-- ---- each schema version has the six tables of version 1
 
 too_low : {X : Type 0} (k n : ℕ) → k < n → n ≤ k → X
 too_low k n low high = absurd (omega arith)

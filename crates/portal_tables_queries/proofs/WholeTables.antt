@@ -1,4 +1,4 @@
--- A query for all rows of a table answers them in the order of their rowids.
+-- A query for all rows of a table gives them in the order of their rowids.
 use Rattle.portal_tables_queries.proofs.Common.{◌≡◌, ℕ, List, [], ◌∷◌, map, filter, Bool, true, false, Ordering, Less, Equal, Greater, ◌+◌, refl, sym, ap, subst, ◌∙◌, arith, add-one, get_or, true≢false, nat_le, nat_lt, ◌^◌, ◌-◌, cond, unwrap_or, slice_get, None, length, is_lt, is_eq, inl, inr, range_with_len, cases_Bool, nat_tests, IsPermutation, IsSorted, IsPermutation-sym, sorted_far, ranks_by, Key, Binary, value_cmp_total, then-Equal, Null, Row, value_cmp, Table, Trees, rowid, IsTable, Term, col, eval, Select, Schema, State, reads_as, place_of, map-map, filter-map, all_has, all_from, contains_had, has_filtered, rows_in, fields, has_along, simple, unlimited, same_rows, env, passes, shown_of, scan_all, Means, IsSelect, all_columns, select_from}
 use Rattle.std.specs.List.{IsDistinct}
 use Rattle.std.specs.Ordering.{ordering_reverse}
@@ -73,7 +73,7 @@ all_pass [] = refl
 all_pass (r ∷ rows) = ap (λ xs. r ∷ xs) (all_pass rows)
 
 module _ (sql : List ℕ) (table : Table) (names : List (List ℕ)) (old new : State) where
-  -- a text that means all columns of the table in the order of the rowids answers the rows of the table
+  -- a text that means all columns of the table in the order of the rowids gives the rows of the table
   pub whole_table : IsSelect old.now.schema sql table [] by_rowid unlimited names → IsTable (old.now.trees table.tree) → (rows : List Row) → Shown sql [] old new rows → rows ≡ rows_in table old.now.trees
   whole_table s up rows h =
       let read = reads_as sql [] old new old.now.schema refl _ s.is s.plain s.unlisted rows h in

@@ -1,4 +1,4 @@
--- What the texts that read a whole table mean, wherever the tables stand.
+-- What the SELECT statements of whole tables mean, wherever the tables are in the schema.
 use Rattle.portal_tables_queries.proofs.Common.{ℕ, pos, negsuc, List, [], ◌∷◌, codes, Some, None, refl, Int, lit, Schema, Binary, TableExists, drafted, unlimited, IsSelect, all_columns, select_means, up, plans, batches, vouchers, sessions, grants, counts, totals, plans_name, batches_name, vouchers_name, sessions_name, grants_name, counts_name, totals_name, batch_columns, count_columns, plan_columns, session_columns, total_columns, voucher_columns}
 use Rattle.sqlite_tied.specs.Compute.{everything}
 use Rattle.portal_tables_queries.proofs.WholeTables.{by_rowid, has_rowids}

@@ -11,6 +11,6 @@ module _ {P V : Type 0} (result : Result V RowError) (cells : P → Row) (n : �
   are_whole exact values is read clean t h =
       IfOk-weaker result _ _ (λ v cut. rows_exact cells n all exact (values v) (part t) rows (is v ∙ cut ∙ ap (map (columns n)) same) (answer clean t h)) read
 
-  -- where this product writes each, none of them is told as foreign
+  -- if this product writes each, none of them gives ForeignRow
   pub whole_own : (IsOwn : P → Type 0) → (AreOfOwn cells n IsOwn shown → NotForeign result) → BlamesForeign Hold (λ t. AreOwn IsOwn (part t)) old new result
   whole_own IsOwn own clean t h owns = own (subst (AreOfOwn cells n IsOwn) (sym same) (own_rows cells n all IsOwn (part t) rows (answer clean t h) owns))

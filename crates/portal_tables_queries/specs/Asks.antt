@@ -1,4 +1,4 @@
--- Texts that only ask, and the values that keep the rows of an answer.
+-- Queries that only read, and values that are read from the rows of a result.
 use Rattle.std.specs.Prelude.{◌≡◌, ℕ, List, [], map, None, Result, Ok, Err}
 use Rattle.sqlite.specs.Command.{Command}
 use Rattle.sqlite.specs.Command.TheVariants.{Select}
@@ -13,25 +13,25 @@ use Rattle.portal_tables_sql.specs.Finds.{columns}
 abbrev pub Anything : Schema → Type 0
 Anything schema = Unit {0}
 
--- the text means no write that shows its rows
+-- the text does not compile to a write with RETURNING
 abbrev pub Asks : List ℕ → Schema → Type 0
 Asks sql schema = (c : Compiled) → understood schema sql ≡ Ok c → c.returning ≡ None
 
--- so it is under each schema
+-- the same under each schema
 abbrev pub OnlyAsks : List ℕ → Type 0
 OnlyAsks sql = (schema : Schema) → Asks sql schema
 
--- a query that computes no table on its way
+-- a query that computes no other table first
 abbrev pub IsDirect : Command → Type 0
 IsDirect (Select plan names) = plan.lets ≡ []
 IsDirect command = ⊥
 
--- the text means such a query, and no write
+-- the text compiles to such a query
 abbrev pub IsSimple : Result Compiled CompileError → Type 0
 IsSimple (Ok c) = (c.returning ≡ None) × IsDirect c.command
 IsSimple (Err e) = ⊥
 
--- an answer shows rows whose first columns are the cells of the values
+-- the rows of the result have the cells of the values in their first columns
 pub record AnswersCells {V : Type 0} (Shows : List Row → Type 0) (cells : V → Row) (width : ℕ) (values : List V) : Type 0 where
   pub rows : List Row
   pub shown : Shows rows

@@ -1,4 +1,4 @@
--- When the counters of a store are what its other rows give.
+-- When the counters of a database are what its other rows give.
 use Rattle.std.specs.Prelude.{◌≡◌, ℕ, Bool, true, nat_eq, bytes_eq, List, map, length, IsTrue}
 use Rattle.std.specs.List.{list_all, list_any}
 use Rattle.std.specs.HashSet.{HashSet, contains}
@@ -20,7 +20,7 @@ total_in t s = total_from (rows_for_sums t.plans t.grants) s
 pub record IsAudited (t : Contents) : Type 0 where
   -- each count is the number of the redemptions with its code, also where no voucher has the code
   pub counts : (k : CountRow) → Has t.counts k → k.redeemed ≡ uses_in t.grants k.code
-  -- each total is what the sums give of a session that is there
+  -- each total is what the sums give of a session that exists
   pub totals : (m : TotalRow) → Has t.totals m → (s : SessionRow) × Has t.sessions s × (m ≡ total_in t s)
   -- each voucher has its count
   pub vouchers : (v : VoucherRow) → Has t.vouchers v → (k : CountRow) × Has t.counts k × (k.code ≡ v.code)
@@ -60,6 +60,6 @@ pub record AreReadRows (rows : CountedRows) (t : Contents) : Type 0 where
   pub sessions : map session_read rows.sessions.items ≡ t.sessions
   pub grants : map grant_read rows.grants.items ≡ t.grants
 
--- what is so of the rows that the open connection held in the six tables of layout 1
+-- what holds of the rows that the open connection had in the six tables of schema version 1
 abbrev pub OfFirst : State → State → (Contents → Type 0) → Type 0
 OfFirst old new Is = HasCleanDisk new → IsTrue old.is_open → (t : Contents) → HoldsFirst old.now t → Is t

@@ -1,4 +1,4 @@
--- What a reader lists of the values of a table.
+-- Lists of the values of a table that pass a test, in an order.
 use Rattle.std.specs.Prelude.{◌≡◌, ℕ, ℤ, pos, Bool, true, false, ◌&&◌, nat_le, int_lt, List, [], ◌∷◌, map, filter, Option, Some, None, IsSome, IsPermutation}
 use Rattle.std.specs.List.Sorted.{IsSorted}
 use Rattle.std.specs.Option.{option_cmp}
@@ -17,25 +17,26 @@ use Rattle.portal_tables_queries.specs.declared.lists.SaleValue.{SaleValue}
 
 -- ---- values that pass a test, in an order
 
+-- the list has the values that pass, in this order
 pub record Lists {P : Type 0} (passes : P → Bool) (cmp : P → P → Ordering) (values listed : List P) : Type 0 where
   pub same : IsPermutation (filter passes values) listed
   pub sorted : IsSorted cmp listed
 
--- the answer shows something of each of them
+-- the answer has of each of them what `shown` gives
 pub record ListsAs {P X : Type 0} (shown : P → X) (passes : P → Bool) (cmp : P → P → Ordering) (values : List P) (answer : List X) : Type 0 where
   pub listed : List P
   pub lists : Lists passes cmp values listed
   pub shows : answer ≡ map shown listed
 
--- ---- rows of an answer that were read
+-- ---- rows of a result that were read
 
--- the row has the cells of a value, and this was read of it
+-- the row has the cells of a value, and the answer is what `shown` gives of that value
 pub record IsReadAs {P X : Type 0} (cells : P → Row) (count : ℕ) (shown : P → X) (row : Row) (answer : X) : Type 0 where
   pub value : P
   pub is : cells value ≡ columns count row
   pub shows : answer ≡ shown value
 
--- so it is with each of the rows
+-- the same of each of the rows
 pub record AreReadAs {P X : Type 0} (cells : P → Row) (count : ℕ) (shown : P → X) (rows : List Row) (answer : List X) : Type 0 where
   pub values : List P
   pub are : map cells values ≡ map (columns count) rows
@@ -43,7 +44,7 @@ pub record AreReadAs {P X : Type 0} (cells : P → Row) (count : ℕ) (shown : P
 
 -- ---- tests
 
--- there is a moment, and it lies within the two, both included
+-- there is a time, and it is between the two, both included
 abbrev pub is_within : ℕ → ℕ → Option ℕ → Bool
 is_within from to None = false
 is_within from to (Some at) = nat_le from at && nat_le at to
@@ -53,11 +54,11 @@ abbrev pub is_left : Option ℤ → Bool
 is_left None = true
 is_left (Some left) = int_lt (pos 0) left
 
--- by its end and what remains the session may be open at the moment
+-- by its end and its remaining allowance the session may be open at the time
 abbrev pub may_be_open : ℕ → TotalRow → Bool
 may_be_open at m = is_below at m.ends && is_left m.remaining
 
--- the numbers of the sessions that may
+-- the numbers of the sessions that may be open at the time
 abbrev pub numbers_open : ℕ → List TotalRow → List ℕ
 numbers_open at totals = map (λ m. m.number) (filter (may_be_open at) totals)
 
@@ -67,11 +68,11 @@ numbers_open at totals = map (λ m. m.number) (filter (may_be_open at) totals)
 abbrev pub by_place : VoucherRow → VoucherRow → Ordering
 by_place a b = nat_cmp a.place b.place
 
--- the earlier sale first, and of two at one moment the lesser code
+-- the earlier sale first, and of two at one time the lesser code
 abbrev pub by_sale : VoucherRow → VoucherRow → Ordering
 by_sale a b = ordering_then (option_cmp nat_cmp a.sold b.sold) (slice_cmp nat_cmp a.code b.code)
 
--- the earlier refund first, and of two at one moment the lesser code
+-- the earlier refund first, and of two at one time the lesser code
 abbrev pub by_refund : VoucherRow → VoucherRow → Ordering
 by_refund a b = ordering_then (option_cmp nat_cmp a.refunded b.refunded) (slice_cmp nat_cmp a.code b.code)
 
@@ -81,22 +82,22 @@ by_number a b = nat_cmp a.number b.number
 
 -- ---- what is read of a voucher
 
--- of a sale: the batch, and the moment
+-- of a sale: the batch and the time
 abbrev pub sale_columns : VoucherRow → List ℕ × Option ℕ
 sale_columns v = (v.batch, v.sold)
 
 abbrev pub sale_read : SaleValue → List ℕ × Option ℕ
 sale_read s = (s.batch, Some s.at)
 
--- the sale of a voucher that this product writes
+-- a sale of a voucher that this product writes
 abbrev pub IsOwnSale : List ℕ × Option ℕ → Type 0
 IsOwnSale sale = IsIdText sale.0 × IsMomentIfSome sale.1 × IsSome sale.1
 
--- the same as the two columns of an answer
+-- a sale as two columns of a result
 abbrev pub sale_cells : List ℕ × Option ℕ → Row
 sale_cells sale = Text sale.0 ∷ or_null sale.1 ∷ []
 
--- of a refund: the moment, and the amount
+-- of a refund: the time and the amount
 abbrev pub refund_columns : VoucherRow → Option ℕ × Option ℕ
 refund_columns v = (v.refunded, v.amount)
 

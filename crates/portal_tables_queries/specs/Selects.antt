@@ -1,4 +1,5 @@
--- What the calls tell that read whole tables. Those of the six first tables change nothing, whatever else stands in the store.
+-- The promises of the calls that read whole tables. A read of the six first tables changes nothing, whatever
+-- else the database has.
 use Rattle.std.specs.Prelude.{Result, IfOk, IsTrue}
 use Rattle.sqlite.specs.Schema.{Schema}
 use Rattle.sqlite.specs.Effect.{Database}
@@ -12,20 +13,22 @@ use Rattle.portal_tables_rows.specs.First.{HoldsFirst, HasFirst}
 use Rattle.portal_tables_rows.specs.Foreign.{NotForeign, BlamesForeign}
 use Rattle.portal_tables_queries.specs.Asks.{Anything}
 
--- A SELECT: where the disk is clean, what it answers is so of the rows that the six tables hold. It writes nothing.
+-- A SELECT: if the disk is clean, Is holds of the rows of the six tables and the result. It writes nothing.
 pub record SelectsFirst {S A E : Type 0} (g : Ghosts S) (old new : Held S) (result : Result A E) (Is : Contents → A → Type 0) : Type 0 where
   pub rows : HasCleanDisk (state g new) → (t : Contents) → HoldsFirst (state g old).now t → IfOk result (Is t)
   pub looks : Looks HasFirst result (state g old) (state g new)
   pub always : Looks Anything result (state g old) (state g new)
 
--- The same of rows that are read as values; where each row that Own speaks of is one that this product writes, no fault of a foreign row is told.
+-- The same of rows that are read as values. If Own holds of the rows of the tables, the call does not give
+-- ForeignRow.
 pub record ReadsFirst {S A : Type 0} (g : Ghosts S) (old new : Held S) (result : Result A RowError) (Is : Contents → A → Type 0) (Own : Contents → Type 0) : Type 0 where
   pub found : HasCleanDisk (state g new) → (t : Contents) → HoldsFirst (state g old).now t → IfOk result (Is t)
   pub looks : Looks HasFirst result (state g old) (state g new)
   pub always : Looks Anything result (state g old) (state g new)
   pub foreign : BlamesForeign HoldsFirst Own (state g old) (state g new) result
 
--- Of a connection that is open: where the disk is clean, what is read is so of the rows that it holds. It writes nothing, and where Own is so of the rows, no fault of a foreign row is told.
+-- On an open connection: if the disk is clean, Is holds of the rows of the tables and what is read. It writes
+-- nothing. If Own holds of the rows of the tables, the call does not give ForeignRow.
 pub record ReadsOpen {S A : Type 0} (g : Ghosts S) (Has : Schema → Type 0) (Hold : Database → Contents → Type 0) (old new : Held S) (result : Result A RowError) (Is : Contents → A → Type 0) (Own : Contents → Type 0) : Type 0 where
   pub read : HasCleanDisk (state g new) → IsTrue (state g old).is_open → (t : Contents) → Hold (state g old).now t → IfOk result (Is t)
   pub looks : Looks Has result (state g old) (state g new)

@@ -13,7 +13,7 @@ use Rattle.portal_tables_queries.specs.declared.sums.Given.{Given}
 abbrev pub grant_read : GrantValue → GrantRow
 grant_read g = record { number = g.number; code = text_of g.code; session = g.session; moment = g.moment; seconds = g.seconds; bytes = g.bytes }
 
--- rows of which the sums over a session read no more than the plans and the redemptions
+-- rows with these plans and redemptions: the sums over a session read no others
 abbrev pub rows_for_sums : List Plan → List GrantRow → Rows
 rows_for_sums plans grants = record {
   head = record { last = 0; grants = 0; sessions = 0 };
@@ -26,7 +26,7 @@ rows_for_sums plans grants = record {
   totals = [];
 }
 
--- what the redemptions of the session gave
+-- what the redemptions of the session gave in total
 abbrev pub given_to : List GrantRow → ℕ → Given
 given_to grants number =
     let own = filter (λ g. nat_eq g.session number) grants in
@@ -43,14 +43,16 @@ uses_in grants code = count_by (λ g. bytes_eq g.code code) grants
 abbrev pub AreUses : {S : Type 0} → HashMap (List ℕ) ℕ S → List GrantRow → Type 0
 AreUses uses grants = (code : List ℕ) → IsCode code → unwrap_or (get bytes_eq uses code) 0 ≡ uses_in grants (text_of code)
 
--- ---- sums that can be kept
+-- ---- sums that fit
 
--- a column of integers keeps what was given in all
+-- the sums fit in INTEGER columns
 abbrev pub IsKeptSum : Given → Type 0
 IsKeptSum given = (given.seconds < 2 ^ 63) × (given.bytes < 2 ^ 63)
 
--- the sums over the redemptions can be kept: what those of each session give in all, and the session's end
+-- the sums over the redemptions fit in columns: what those of each session give in total, and the session's
+-- end
 pub record SumsFit (plans : List Plan) (sessions : List SessionRow) (grants : List GrantRow) : Type 0 where
   pub given : (number : ℕ) → IsKeptSum (given_to grants number)
   pub used : (s : SessionRow) → Has sessions s → s.used < 2 ^ 63
-  pub ends : (s : SessionRow) → Has sessions s → IsMomentIfSome (total_from (rows_for_sums plans grants) s).ends
+  pub ends : (s : SessionRow) → Has sessions s
+      → IsMomentIfSome (total_from (rows_for_sums plans grants) s).ends

@@ -1,4 +1,4 @@
-//! Whether the counters agree with the other rows.
+//! The audit: whether the counters agree with the other rows.
 
 ghost use Rattle.std.specs.Prelude.{◌≡◌, ◌↔◌, List, map, length, IfOk, IsTrue};
 ghost use Rattle.std.specs.List.{list_all};
@@ -25,7 +25,7 @@ use sqlite::{Alter, Connection};
 use std::alloc::Global;
 use std::collections::{HashMap, HashSet};
 
-/// Whether the count is what stands under its code.
+/// Whether a count is the number of redemptions of its code.
 fn is_count_right(uses: &HashMap<Code, u64>, count: &CountValue) -> bool
     ensures { (grants : List GrantRow) → AreUses uses.now grants
         → result ≡ is_counted grants (count_read count.now) }
@@ -33,7 +33,7 @@ fn is_count_right(uses: &HashMap<Code, u64>, count: &CountValue) -> bool
     count.redeemed == uses_of_code(uses, &count.code)
 }
 
-/// Whether each count is what stands under its code.
+/// Whether each count is the number of redemptions of its code.
 fn are_counts_right(uses: &HashMap<Code, u64>, counts: &[CountValue]) -> bool
     ensures { (grants : List GrantRow) → AreUses uses.now grants
         → result ≡ list_all (is_counted grants) (map count_read counts.now) }
@@ -41,7 +41,7 @@ fn are_counts_right(uses: &HashMap<Code, u64>, counts: &[CountValue]) -> bool
     counts.iter().all(|count| is_count_right(uses, count))
 }
 
-/// Whether each count is the number of the redemptions with its code.
+/// Whether each count is the number of redemptions with its code. The only error is out of memory.
 fn counts_agree(
     alloc: Global,
     grants: &[GrantValue],
@@ -55,7 +55,7 @@ fn counts_agree(
     Ok(are_counts_right(&uses, counts))
 }
 
-/// The codes that have a count.
+/// Returns the set of the codes that have a count. The only error is out of memory.
 fn counted_codes(alloc: Global, counts: &[CountValue]) -> Result<HashSet<Code>, RowError>
     ensures codes { IfOk result (λ codes. AreCounted codes (map count_read counts.now)) }
     ensures memory { NotForeign result }
@@ -69,7 +69,7 @@ fn counted_codes(alloc: Global, counts: &[CountValue]) -> Result<HashSet<Code>, 
     Ok(codes)
 }
 
-/// Whether the voucher's code is among these.
+/// Whether the voucher's code is in this set.
 fn is_code_among(codes: &HashSet<Code>, voucher: &VoucherValue) -> bool
     ensures { (counts : List CountRow) → AreCounted codes.now counts
         → result ≡ has_count counts (voucher_read voucher.now) }
@@ -79,7 +79,7 @@ fn is_code_among(codes: &HashSet<Code>, voucher: &VoucherValue) -> bool
     codes.contains(&voucher.code)
 }
 
-/// Whether the code of each voucher is among these.
+/// Whether the code of each voucher is in this set.
 fn are_codes_among(codes: &HashSet<Code>, vouchers: &[VoucherValue]) -> bool
     ensures { (counts : List CountRow) → AreCounted codes.now counts
         → result ≡ list_all (has_count counts) (map voucher_read vouchers.now) }
@@ -87,7 +87,7 @@ fn are_codes_among(codes: &HashSet<Code>, vouchers: &[VoucherValue]) -> bool
     vouchers.iter().all(|voucher| is_code_among(codes, voucher))
 }
 
-/// Whether each voucher has a count.
+/// Whether each voucher has a count. The only error is out of memory.
 fn vouchers_agree(
     alloc: Global,
     vouchers: &[VoucherValue],
@@ -101,14 +101,14 @@ fn vouchers_agree(
     Ok(are_codes_among(&codes, vouchers))
 }
 
-/// Whether the totals are the same, in the same order.
+/// Whether the stored totals are the computed ones, in the same order.
 fn are_totals_equal(totals: &[Total], sums: &[Total]) -> bool
     ensures { IsTrue result ↔ (totals.now ≡ sums.now) }
 {
     totals == sums
 }
 
-/// Whether the head has the numbers of redemptions and sessions.
+/// Whether the head row has the numbers of redemptions and of sessions that the tables have.
 fn head_agrees(head: &HeadValue, rows: &CountedRows) -> bool
     ensures { IsTrue result ↔
         ((head.now.grants ≡ length rows.now.grants.items)
@@ -117,7 +117,7 @@ fn head_agrees(head: &HeadValue, rows: &CountedRows) -> bool
     head.grants == rows.grants.len() as u64 && head.sessions == rows.sessions.len() as u64
 }
 
-/// Whether the counters agree with these rows.
+/// Whether the head row, the counts and the totals agree with these rows.
 fn counters_agree(
     head: &HeadValue,
     rows: &CountedRows,
@@ -144,10 +144,11 @@ fn counters_agree(
     Ok(are_totals_equal(totals, &sums))
 }
 
-/// Whether the counters of the store agree with its other rows: each count is the number of the
-/// redemptions with its code, each end and remainder is what the sums over the redemptions give of its
-/// session, each voucher and each session has its counters, and the head has the numbers of redemptions
-/// and sessions. A row that this product does not write, and a sum that no row keeps, is a foreign row.
+/// Whether the counters of the database agree with its other rows: each count is the number of
+/// redemptions with its code, each total is the sum over the redemptions of its session, each voucher
+/// has its count and each session its total, and the head row has the numbers of redemptions and of
+/// sessions. Fails with `ForeignRow` if a row is not one that this product writes, or if a sum does not
+/// fit in a column.
 pub fn audit<S: Alter>(conn: &mut Connection<S>) -> Result<bool, RowError>
     ensures { ReadsOpen S.Store HasTables Holds conn.old conn.new result
         (λ t audited. IsTrue audited ↔ IsAudited t)

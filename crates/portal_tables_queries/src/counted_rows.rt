@@ -11,8 +11,8 @@ use portal_model::plan::Plan;
 use portal_tables_rows::rows::{RowError, SessionValue, VoucherValue};
 use sqlite::{Alter, Connection};
 
-/// The rows of portal_plans, portal_vouchers, portal_sessions and portal_grants, each in the order of its
-/// rowids.
+/// The rows of `portal_plans`, `portal_vouchers`, `portal_sessions` and `portal_grants`, each in the
+/// order of the rowids.
 #[derive(Drop)]
 pub struct CountedRows {
     pub plans: Vec<Plan>,
@@ -21,7 +21,7 @@ pub struct CountedRows {
     pub grants: Vec<GrantValue>,
 }
 
-/// Reads these rows.
+/// Reads all plans, vouchers, sessions and redemptions.
 pub fn read_counted_rows<S: Alter>(conn: &mut Connection<S>) -> Result<CountedRows, RowError>
     ensures { ReadsOpen S.Store HasFirst HoldsFirst conn.old conn.new result
         (λ t rows. AreReadRows rows t) AreOwnRows }

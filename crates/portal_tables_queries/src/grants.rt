@@ -1,4 +1,4 @@
-//! The rows of portal_grants, read as values.
+//! The rows of `portal_grants`, read as values.
 
 ghost use Rattle.portal_tables_rows.specs.Contents.{grant_cells};
 ghost use Rattle.portal_tables_rows.specs.Foreign.{IsOfOwn, IsOwnGrant};
@@ -10,7 +10,7 @@ use portal_tables_rows::from_row::FromRow;
 use portal_tables_rows::rows::{RowError, code_in, moment_in};
 use sqlite::Row;
 
-/// A row of portal_grants: a redemption, with the seconds and bytes that it gave its session.
+/// A row of `portal_grants`: a redemption, with the seconds and bytes that it gave its session.
 #[derive(Clone, Copy, Debug, PartialEq, Eq)]
 pub struct GrantValue {
     pub number: u64,
@@ -30,6 +30,7 @@ impl FromRow for GrantValue {
 
     ghost own = { IsOfOwn grant_cells IsOwnGrant };
 
+    /// Reads a row of `portal_grants`.
     fn from_row(row: &Row) -> Result<GrantValue, RowError> {
         Ok(GrantValue {
             number: row.get(0)?,

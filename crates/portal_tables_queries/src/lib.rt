@@ -1,5 +1,4 @@
-//! Lists of rows and whole tables, the counters that they come to, and whether a store's counters agree
-//! with its rows.
+//! Queries over many rows: whole tables, filtered lists, sums over them, and the audit of the counters.
 #![tactic(auto)]
 
 pub mod audits;

@@ -1,4 +1,5 @@
-//! The rows of a table that pass a test, read as values in an order.
+//! Filtered and ordered lists: the codes of a batch, the sessions that may be open, and the sales and
+//! refunds between two times.
 
 ghost use Rattle.std.specs.Prelude.{◌≡◌, IfOk, IsSome, List, map, filter, true, bytes_eq, All};
 ghost use Rattle.portal_codes.specs.Code.{IsCode, text_of};
@@ -8,9 +9,23 @@ ghost use Rattle.portal_tables_rows.specs.Contents.{voucher_cells};
 ghost use Rattle.portal_tables_rows.specs.Foreign.{AreOwn, IsOwnRefund, IsOwnTotal, IsOwnVoucher, NotForeign};
 ghost use Rattle.portal_tables_rows.specs.Foreign.{AreOfOwn, SparesOwn};
 ghost use Rattle.portal_tables_rows.specs.Selects.{ReadsRow};
-ghost use Rattle.portal_tables_queries.specs.Lists.{Lists, ListsAs, IsReadAs, AreReadAs, is_within, may_be_open};
+ghost use Rattle.portal_tables_queries.specs.Lists.{
+  Lists,
+  ListsAs,
+  IsReadAs,
+  AreReadAs,
+  is_within,
+  may_be_open,
+};
 ghost use Rattle.portal_tables_queries.specs.Lists.{numbers_open};
-ghost use Rattle.portal_tables_queries.specs.Lists.{by_place, by_refund, by_sale, by_number, sale_columns, sale_read};
+ghost use Rattle.portal_tables_queries.specs.Lists.{
+  by_place,
+  by_refund,
+  by_sale,
+  by_number,
+  sale_columns,
+  sale_read,
+};
 ghost use Rattle.portal_tables_queries.specs.Lists.{refund_columns, refund_read};
 ghost use Rattle.portal_tables_rows.specs.Read.{voucher_read};
 ghost use Rattle.portal_tables_rows.specs.Steps.{ends_row};
@@ -26,26 +41,26 @@ use portal_tables_rows::rows::{RowError, VoucherValue};
 use sqlite::{Alter, Connection, Row, params};
 use std::alloc::Global;
 
-/// A sale of a voucher: the voucher's batch, and the moment.
+/// A sale of a voucher: the voucher's batch, and the time.
 #[derive(Clone, Copy, Debug, PartialEq, Eq)]
 pub struct SaleValue {
     pub batch: Id,
     pub at: Moment,
 }
 
-/// The code of a voucher's row.
+/// Reads the code in a row of `portal_vouchers`.
 fn read_voucher_code(row: &Row) -> Result<Code, RowError>
     ensures read { IfOk result (λ code. IsReadAs voucher_cells 6 (λ v. v.code) row.now (text_of code)) }
     ensures code { IfOk result IsCode }
     ensures own { SparesOwn voucher_cells IsOwnVoucher (columns 6 row.now) result }
 {
     let voucher = VoucherValue::from_row(row)?;
-    // Its text tells that it is a code.
+    // The contract of `text` says that this is a code.
     let _ = voucher.code.text();
     Ok(voucher.code)
 }
 
-/// The codes of these rows of vouchers, in their order.
+/// Reads the codes in these rows of `portal_vouchers`, in this order.
 fn read_voucher_codes(alloc: Global, rows: &[Row]) -> Result<Vec<Code>, RowError>
     ensures read { IfOk result
         (λ codes. AreReadAs voucher_cells 6 (λ v. v.code) rows.now (map text_of codes.items)) }
@@ -59,15 +74,16 @@ fn read_voucher_codes(alloc: Global, rows: &[Row]) -> Result<Vec<Code>, RowError
     Ok(codes)
 }
 
-/// Whether the session may be open at `at`: before its end, and with something left of its allowance.
+/// Whether a session may be open at the time `at`: it has not ended by then, and something is left of
+/// its allowance.
 fn may_be_open(total: &Total, at: Moment) -> bool
     ensures { result ≡ may_be_open at (ends_row total.now) }
 {
     total.ends.is_none_or(|ends| at < ends) && total.remaining.is_none_or(|left| left > 0)
 }
 
-/// The numbers of the sessions that may be open at `at`, of these and in their order. The errors are want
-/// of memory.
+/// Returns the numbers of those of these sessions that may be open at the time `at`, in this order. The
+/// only error is out of memory.
 fn numbers_of_open(alloc: Global, totals: &[Total], at: Moment) -> Result<Vec<u64>, RowError>
     ensures numbers { IfOk result (λ numbers. numbers.items ≡ numbers_open at (map ends_row totals.now)) }
     ensures memory { NotForeign result }
@@ -81,7 +97,7 @@ fn numbers_of_open(alloc: Global, totals: &[Total], at: Moment) -> Result<Vec<u6
     Ok(numbers)
 }
 
-/// The sale of a voucher. One that was not sold is a foreign row.
+/// Returns the sale of a voucher. Fails with `ForeignRow` if the voucher was not sold.
 fn sale_of(voucher: &VoucherValue) -> Result<SaleValue, RowError>
     ensures read { IfOk result (λ sale. sale_read sale ≡ sale_columns (voucher_read voucher.now)) }
     ensures own { IsSome (voucher_read voucher.now).sold → NotForeign result }
@@ -95,7 +111,7 @@ fn sale_of(voucher: &VoucherValue) -> Result<SaleValue, RowError>
     }
 }
 
-/// The sales of these vouchers, in their order.
+/// Returns the sales of these vouchers, in this order. Fails with `ForeignRow` if one was not sold.
 fn sales_of_vouchers(alloc: Global, vouchers: &[VoucherValue]) -> Result<Vec<SaleValue>, RowError>
     ensures read { IfOk result
         (λ sales. map sale_read sales.items ≡ map (λ v. sale_columns (voucher_read v)) vouchers.now) }
@@ -108,7 +124,8 @@ fn sales_of_vouchers(alloc: Global, vouchers: &[VoucherValue]) -> Result<Vec<Sal
     Ok(sales)
 }
 
-/// The refund of a voucher: the moment, and the amount in hundredths.
+/// Returns the refund of a voucher: the time, and the amount in hundredths. Fails with `ForeignRow` if
+/// the voucher was not refunded.
 fn refund_of(voucher: &VoucherValue) -> Result<(Moment, u64), RowError>
     ensures read { IfOk result (λ refund. refund_read refund ≡ refund_columns (voucher_read voucher.now)) }
     ensures own { IsOwnRefund (voucher_read voucher.now) → NotForeign result }
@@ -119,7 +136,8 @@ fn refund_of(voucher: &VoucherValue) -> Result<(Moment, u64), RowError>
     }
 }
 
-/// The refunds of these vouchers, in their order.
+/// Returns the refunds of these vouchers, in this order. Fails with `ForeignRow` if one was not
+/// refunded.
 fn refunds_of_vouchers(
     alloc: Global,
     vouchers: &[VoucherValue],
@@ -135,7 +153,7 @@ fn refunds_of_vouchers(
     Ok(refunds)
 }
 
-/// The codes of the batch, by place.
+/// Lists the codes of a batch, ordered by place.
 pub fn list_batch_codes<S: Alter>(
     alloc: Global,
     conn: &mut Connection<S>,
@@ -151,8 +169,8 @@ pub fn list_batch_codes<S: Alter>(
     Ok(read_voucher_codes(alloc, &rows)?)
 }
 
-/// The numbers of the sessions that may be open at `at`, in rising order: a session that is not among
-/// them has ended by then, or has nothing left.
+/// Lists the numbers of the sessions that may be open at the time `at`, ascending. Every other session
+/// has ended by then or has nothing left of its allowance.
 pub fn list_open_numbers<S: Alter>(
     alloc: Global,
     conn: &mut Connection<S>,
@@ -172,7 +190,7 @@ pub fn list_open_numbers<S: Alter>(
     Ok(numbers_of_open(alloc, &totals, at)?)
 }
 
-/// The sales within the two moments, both included, in the order in which their vouchers were issued.
+/// Lists the sales between two times, both included, in the order in which their vouchers were issued.
 pub fn list_sales_as_issued<S: Alter>(
     alloc: Global,
     conn: &mut Connection<S>,
@@ -192,8 +210,8 @@ pub fn list_sales_as_issued<S: Alter>(
     )
 }
 
-/// The sales within the two moments, both included: the earlier first, and of two at one moment the one
-/// of the voucher with the lesser printed code.
+/// Lists the sales between two times, both included, ordered by time and then by the voucher's printed
+/// code.
 pub fn list_sales_by_moment<S: Alter>(
     alloc: Global,
     conn: &mut Connection<S>,
@@ -215,8 +233,8 @@ pub fn list_sales_by_moment<S: Alter>(
     Ok(sales_of_vouchers(alloc, &vouchers)?)
 }
 
-/// The refunds within the two moments, both included, each with its moment and its amount in hundredths:
-/// the earlier first, and of two at one moment the one of the voucher with the lesser printed code.
+/// Lists the refunds between two times, both included, each as its time and its amount in hundredths.
+/// They are ordered by time and then by the voucher's printed code.
 pub fn list_refunds<S: Alter>(
     alloc: Global,
     conn: &mut Connection<S>,

@@ -1,4 +1,4 @@
-//! Questions that change nothing, whatever stands in the store.
+//! Runs a query that changes nothing, whatever the schema is.
 
 ghost use Rattle.std.specs.Prelude.{IfOk};
 ghost use Rattle.sqlite.specs.Held.{state};
@@ -10,7 +10,8 @@ ghost use Rattle.portal_tables_queries.specs.Asks.{Anything, OnlyAsks};
 use sqlite::types::ValueRef;
 use sqlite::{Alter, Connection, Error, Row};
 
-/// All rows of the answer of a query. A text that only asks changes nothing, even where it means nothing.
+/// Runs a query and returns all rows of its result. A query that only reads changes nothing, even if it
+/// does not compile.
 pub(crate) fn query_rows<S: Alter>(
     conn: &mut Connection<S>,
     sql: &str,

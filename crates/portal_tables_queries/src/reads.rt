@@ -1,4 +1,4 @@
-//! Rows of an answer, read as values.
+//! Reads the rows of a query as values.
 
 ghost use Rattle.std.specs.Prelude.{◌≡◌, ℕ, List, IfOk, map};
 ghost use Rattle.sqlite.specs.Held.{state};
@@ -28,6 +28,7 @@ impl FromRow for SaleValue {
 
     ghost own = { IsOfOwn sale_cells IsOwnSale };
 
+    /// Reads the batch and the time of a sale from two columns.
     fn from_row(row: &Row) -> Result<SaleValue, RowError> {
         Ok(SaleValue {
             batch: id_in(row, 0)?,
@@ -36,7 +37,8 @@ impl FromRow for SaleValue {
     }
 }
 
-/// The values that keep the rows of the answer of a query, read one at a time.
+/// Runs a query and reads each row of its result as a value, one row at a time. Fails with `ForeignRow`
+/// if a row is not one that this product writes.
 pub(crate) fn query_values<S: Alter, T: FromRow + Drop>(
     alloc: Global,
     conn: &mut Connection<S>,
@@ -65,7 +67,8 @@ pub(crate) fn query_values<S: Alter, T: FromRow + Drop>(
     Err(RowError::Sql(Error::SqliteFailure(ErrorCode::TooBig)))
 }
 
-/// The rows, each read, in their order.
+/// Reads each of these rows as a value, in this order. Fails with `ForeignRow` if a row is not one that
+/// this product writes.
 pub(crate) fn read_each_row<T: FromRow + Drop>(
     alloc: Global,
     rows: &[Row],

@@ -1,4 +1,4 @@
-//! The texts that read a whole table, one each: its rows, in the order of their rowids.
+//! The SELECT statements of whole tables, one for each table. The rows are in the order of the rowids.
 
 ghost use Rattle.std.specs.Prelude.{◌≡◌, map};
 ghost use Rattle.portal_tables_rows.specs.Contents.{plan_cells, batch_cells, voucher_cells, session_cells};
@@ -11,7 +11,7 @@ use crate::query::query_rows;
 use portal_tables_sql::query::read_all;
 use sqlite::{Alter, Connection, Error, Row};
 
-/// The rows of all plans.
+/// Runs the SELECT of all plans.
 pub(crate) fn select_all_plans<S: Alter>(conn: &mut Connection<S>) -> Result<Vec<Row>, Error>
     ensures { SelectsFirst S.Store conn.old conn.new result
         (λ t rows. rows.items ≡ map plan_cells t.plans) }
@@ -23,7 +23,7 @@ pub(crate) fn select_all_plans<S: Alter>(conn: &mut Connection<S>) -> Result<Vec
     )
 }
 
-/// The rows of all batches.
+/// Runs the SELECT of all batches.
 pub(crate) fn select_all_batches<S: Alter>(conn: &mut Connection<S>) -> Result<Vec<Row>, Error>
     ensures { Selects S.Store conn.old conn.new result
         (λ t rows. rows.items ≡ map batch_cells t.batches) }
@@ -35,7 +35,7 @@ pub(crate) fn select_all_batches<S: Alter>(conn: &mut Connection<S>) -> Result<V
     )
 }
 
-/// The rows of all vouchers.
+/// Runs the SELECT of all vouchers.
 pub(crate) fn select_all_vouchers<S: Alter>(conn: &mut Connection<S>) -> Result<Vec<Row>, Error>
     ensures { SelectsFirst S.Store conn.old conn.new result
         (λ t rows. rows.items ≡ map voucher_cells t.vouchers) }
@@ -47,7 +47,7 @@ pub(crate) fn select_all_vouchers<S: Alter>(conn: &mut Connection<S>) -> Result<
     )
 }
 
-/// The rows of all sessions.
+/// Runs the SELECT of all sessions.
 pub(crate) fn select_all_sessions<S: Alter>(conn: &mut Connection<S>) -> Result<Vec<Row>, Error>
     ensures { SelectsFirst S.Store conn.old conn.new result
         (λ t rows. rows.items ≡ map session_cells t.sessions) }
@@ -59,7 +59,7 @@ pub(crate) fn select_all_sessions<S: Alter>(conn: &mut Connection<S>) -> Result<
     )
 }
 
-/// The rows of all redemptions.
+/// Runs the SELECT of all redemptions.
 pub(crate) fn select_all_grants<S: Alter>(conn: &mut Connection<S>) -> Result<Vec<Row>, Error>
     ensures { SelectsFirst S.Store conn.old conn.new result
         (λ t rows. rows.items ≡ map grant_cells t.grants) }
@@ -71,7 +71,7 @@ pub(crate) fn select_all_grants<S: Alter>(conn: &mut Connection<S>) -> Result<Ve
     )
 }
 
-/// The rows of all counts.
+/// Runs the SELECT of the counts of all vouchers.
 pub(crate) fn select_all_counts<S: Alter>(conn: &mut Connection<S>) -> Result<Vec<Row>, Error>
     ensures { Selects S.Store conn.old conn.new result
         (λ t rows. rows.items ≡ map count_cells t.counts) }
@@ -83,7 +83,7 @@ pub(crate) fn select_all_counts<S: Alter>(conn: &mut Connection<S>) -> Result<Ve
     )
 }
 
-/// The rows of all totals.
+/// Runs the SELECT of the ends and the remaining allowances of all sessions.
 pub(crate) fn select_all_totals<S: Alter>(conn: &mut Connection<S>) -> Result<Vec<Row>, Error>
     ensures { Selects S.Store conn.old conn.new result
         (λ t rows. rows.items ≡ map total_cells t.totals) }

@@ -1,4 +1,5 @@
-//! The counters that a store is to have, summed over its other rows.
+//! Computes the counters from the other rows: how often each voucher was redeemed, and the end and the
+//! remaining allowance of each session.
 
 ghost use Rattle.std.specs.Prelude.{◌≡◌, ◌+◌, ◌<◌, ◌^◌, ℕ, List, nat_eq, bytes_eq, map, IfOk, option_map};
 ghost use Rattle.std.specs.Prelude.{unwrap_or};
@@ -10,7 +11,14 @@ ghost use Rattle.portal_tables_rows.specs.Foreign.{IsMomentIfSome, NotForeign};
 ghost use Rattle.portal_tables_rows.specs.Read.{voucher_read, session_read, count_read};
 ghost use Rattle.portal_tables_rows.specs.Steps.{ends_row};
 ghost use Rattle.portal_codes.specs.Code.{IsCode};
-ghost use Rattle.portal_tables_queries.specs.Sums.{AreUses, IsKeptSum, SumsFit, grant_read, rows_for_sums, given_to};
+ghost use Rattle.portal_tables_queries.specs.Sums.{
+  AreUses,
+  IsKeptSum,
+  SumsFit,
+  grant_read,
+  rows_for_sums,
+  given_to,
+};
 ghost use Rattle.portal_tables_queries.specs.Sums.{nothing_given};
 
 use crate::grants::GrantValue;
@@ -23,14 +31,14 @@ use portal_tables_rows::rows::{CountValue, RowError, SessionValue, VoucherValue}
 use std::alloc::Global;
 use std::collections::HashMap;
 
-/// What the redemptions of a session gave it in all.
+/// What the redemptions of a session gave it in total, in seconds and bytes.
 #[derive(Clone, Copy, Debug)]
 struct Given {
     seconds: u64,
     bytes: u64,
 }
 
-/// How often each code was redeemed.
+/// Counts the redemptions of each code. The only error is out of memory.
 pub(crate) fn count_uses_by_code(
     alloc: Global,
     grants: &[GrantValue],
@@ -46,7 +54,7 @@ pub(crate) fn count_uses_by_code(
     Ok(uses)
 }
 
-/// How often the code was redeemed: never, where it is not among these.
+/// Returns how often the code was redeemed: 0 if it is not in the map.
 pub(crate) fn uses_of_code(uses: &HashMap<Code, u64>, code: &Code) -> u64
     ensures found { result ≡ unwrap_or (get bytes_eq uses.now code.now) 0 }
     ensures code { IsCode code.now }
@@ -56,8 +64,8 @@ pub(crate) fn uses_of_code(uses: &HashMap<Code, u64>, code: &Code) -> u64
     uses.get(code).copied().unwrap_or(0)
 }
 
-/// How often each voucher was redeemed, in the order of the vouchers.
-/// The errors are want of memory.
+/// Computes how often each voucher was redeemed, in the order of the vouchers. The only error is out of
+/// memory.
 pub fn sum_counts(
     alloc: Global,
     vouchers: &[VoucherValue],
@@ -80,7 +88,7 @@ pub fn sum_counts(
     Ok(counts)
 }
 
-/// What a session was given, with one redemption more. A sum past 64 bits is a foreign row.
+/// Adds the seconds and bytes of one redemption. Fails with `ForeignRow` if a sum exceeds 64 bits.
 fn add_grant(given: Given, grant: &GrantValue) -> Result<Given, RowError>
     ensures sum { IfOk result
         (λ sum. sum
@@ -97,7 +105,8 @@ fn add_grant(given: Given, grant: &GrantValue) -> Result<Given, RowError>
     Ok(Given { seconds, bytes })
 }
 
-/// What each session was given, by its number.
+/// Sums the seconds and bytes that each session was given, by the session's number. Fails with
+/// `ForeignRow` if a sum exceeds 64 bits.
 fn sum_given_by_session(
     alloc: Global,
     grants: &[GrantValue],
@@ -117,7 +126,7 @@ fn sum_given_by_session(
     Ok(given)
 }
 
-/// What the session was given: nothing, where no redemption is in it.
+/// Returns what the session was given: nothing if it is not in the map.
 fn given_to_session(given: &HashMap<u64, Given>, session: u64) -> Given
     ensures { result ≡ unwrap_or (get nat_eq given.now session) nothing_given }
 {
@@ -130,15 +139,15 @@ fn given_to_session(given: &HashMap<u64, Given>, session: u64) -> Given
     }
 }
 
-/// The first plan with the id.
+/// Finds the first plan with this id.
 pub fn first_plan_with<'a>(plans: &'a [Plan], id: &Id) -> Option<&'a Plan>
     ensures { option_map (λ p. p.now) result ≡ plan_among plans.now id.now }
 {
     plans.iter().find(|plan| plan.id.is(id))
 }
 
-/// The end of a session that was opened then and given so many seconds: none where its plan does not
-/// limit them. An end past the greatest moment is a foreign row.
+/// Computes the end of a session from its start and the seconds that it was given. It is `None` if the
+/// plan sets no time limit. Fails with `ForeignRow` if the end is past the greatest time.
 fn end_of_session(plan: &Plan, opened: Moment, seconds: u64) -> Result<Option<Moment>, RowError>
     ensures end { IfOk result (λ ends. ends ≡ limit_or_none plan.now.seconds (opened + seconds)) }
     ensures kept { IsMomentIfSome (limit_or_none plan.now.seconds (opened + seconds)) → NotForeign result }
@@ -155,10 +164,11 @@ fn end_of_session(plan: &Plan, opened: Moment, seconds: u64) -> Result<Option<Mo
     }
 }
 
-/// What remains of so many bytes: none where the plan does not limit them. A number that no column of
-/// integers keeps is a foreign row.
+/// Computes how many bytes remain of what a session was given. It is `None` if the plan sets no limit of
+/// bytes. Fails with `ForeignRow` if a number does not fit in an INTEGER column.
 fn remainder_of(plan: &Plan, used: u64, bytes: u64) -> Result<Option<i64>, RowError>
-    ensures rest { IfOk result (λ remaining. remaining ≡ remaining_of used (limit_or_none plan.now.bytes bytes)) }
+    ensures rest { IfOk result
+        (λ remaining. remaining ≡ remaining_of used (limit_or_none plan.now.bytes bytes)) }
     ensures kept { bytes < 2 ^ 63 → used < 2 ^ 63 → NotForeign result }
 {
     if plan.bytes == 0 {
@@ -173,7 +183,8 @@ fn remainder_of(plan: &Plan, used: u64, bytes: u64) -> Result<Option<i64>, RowEr
     Ok(Some(bytes - used))
 }
 
-/// The end of the session and what remains of its allowance, by its first plan and what it was given.
+/// Computes the end of a session and its remaining allowance, from its plan and what it was given. There
+/// are no limits if no plan has the session's plan id.
 fn total_of_session(plans: &[Plan], session: &SessionValue, given: Given) -> Result<Total, RowError>
     ensures total { IfOk result
         (λ total. (grants : List _) → given ≡ given_to grants session.now.number
@@ -197,8 +208,8 @@ fn total_of_session(plans: &[Plan], session: &SessionValue, given: Given) -> Res
     })
 }
 
-/// The end of each session and what remains of its allowance, in the order of the sessions.
-/// A sum that no row keeps is a foreign row; the other errors are want of memory.
+/// Computes the end of each session and its remaining allowance, in the order of the sessions. Fails
+/// with `ForeignRow` if a sum does not fit in a column; the only other error is out of memory.
 pub fn sum_totals(
     alloc: Global,
     plans: &[Plan],

@@ -1,4 +1,4 @@
-//! Whole tables, read as values, in the order of their rowids.
+//! Reads whole tables as values, in the order of the rowids.
 
 ghost use Rattle.std.specs.Prelude.{◌≡◌, map};
 ghost use Rattle.portal_tables_rows.specs.Foreign.{AreOwn, IsOwnBatch, IsOwnCount, IsOwnGrant, IsOwnPlan};
@@ -22,7 +22,7 @@ use portal_tables_rows::column_values::Total;
 use portal_tables_rows::rows::{CountValue, RowError, SessionValue, VoucherValue};
 use sqlite::{Alter, Connection};
 
-/// All plans.
+/// Reads all plans.
 pub fn read_all_plans<S: Alter>(conn: &mut Connection<S>) -> Result<Vec<Plan>, RowError>
     ensures { ReadsFirst S.Store conn.old conn.new result
         (λ t plans. plans.items ≡ t.plans)
@@ -32,7 +32,7 @@ pub fn read_all_plans<S: Alter>(conn: &mut Connection<S>) -> Result<Vec<Plan>, R
     read_each_row(*rows.allocator(), &rows)
 }
 
-/// All batches.
+/// Reads all batches.
 pub fn read_all_batches<S: Alter>(conn: &mut Connection<S>) -> Result<Vec<Batch>, RowError>
     ensures { ReadsRow S.Store conn.old conn.new result
         (λ t batches. batches.items ≡ t.batches)
@@ -42,7 +42,7 @@ pub fn read_all_batches<S: Alter>(conn: &mut Connection<S>) -> Result<Vec<Batch>
     read_each_row(*rows.allocator(), &rows)
 }
 
-/// The rows of all vouchers.
+/// Reads the rows of all vouchers.
 pub fn read_all_vouchers<S: Alter>(conn: &mut Connection<S>) -> Result<Vec<VoucherValue>, RowError>
     ensures { ReadsFirst S.Store conn.old conn.new result
         (λ t vouchers. map voucher_read vouchers.items ≡ t.vouchers)
@@ -52,7 +52,7 @@ pub fn read_all_vouchers<S: Alter>(conn: &mut Connection<S>) -> Result<Vec<Vouch
     read_each_row(*rows.allocator(), &rows)
 }
 
-/// The rows of all sessions.
+/// Reads the rows of all sessions.
 pub fn read_all_sessions<S: Alter>(conn: &mut Connection<S>) -> Result<Vec<SessionValue>, RowError>
     ensures { ReadsFirst S.Store conn.old conn.new result
         (λ t sessions. map session_read sessions.items ≡ t.sessions)
@@ -62,7 +62,7 @@ pub fn read_all_sessions<S: Alter>(conn: &mut Connection<S>) -> Result<Vec<Sessi
     read_each_row(*rows.allocator(), &rows)
 }
 
-/// The rows of all redemptions.
+/// Reads the rows of all redemptions.
 pub fn read_all_grants<S: Alter>(conn: &mut Connection<S>) -> Result<Vec<GrantValue>, RowError>
     ensures { ReadsFirst S.Store conn.old conn.new result
         (λ t grants. map grant_read grants.items ≡ t.grants)
@@ -72,7 +72,7 @@ pub fn read_all_grants<S: Alter>(conn: &mut Connection<S>) -> Result<Vec<GrantVa
     read_each_row(*rows.allocator(), &rows)
 }
 
-/// The counts of all vouchers.
+/// Reads how often each voucher was redeemed.
 pub fn read_all_counts<S: Alter>(conn: &mut Connection<S>) -> Result<Vec<CountValue>, RowError>
     ensures { ReadsRow S.Store conn.old conn.new result
         (λ t counts. map count_read counts.items ≡ t.counts)
@@ -82,7 +82,7 @@ pub fn read_all_counts<S: Alter>(conn: &mut Connection<S>) -> Result<Vec<CountVa
     read_each_row(*rows.allocator(), &rows)
 }
 
-/// The ends of all sessions, and what remains of their allowances.
+/// Reads the end of each session and its remaining allowance.
 pub fn read_all_totals<S: Alter>(conn: &mut Connection<S>) -> Result<Vec<Total>, RowError>
     ensures { ReadsRow S.Store conn.old conn.new result
         (λ t totals. map ends_row totals.items ≡ t.totals)

@@ -1,4 +1,4 @@
--- The rows of each table, as SELECT shows them, are the cells of its values, and these tell the values.
+-- The rows of each table, as SELECT gives them, are the cells of its values, and these determine the values.
 use Rattle.portal_tables_rows.proofs.Common.{◌≡◌, ℕ, Bool, true, false, List, ◌∷◌, map, refl, ap, Value, Int, column, Trees, Stores, whole_row, less_rowid, fields, rows_in, opens_keyed, opens_numbered, rows_shown, exact_null, exact_signed, Plan, VoucherRow, SessionRow, GrantRow, CountRow, TotalRow, head, plans, batches, vouchers, sessions, grants, counts, totals, HeadRow, flag, batch_cells, count_cells, grant_cells, grant_stored, head_cells, head_stored, plan_cells, session_cells, session_stored, total_cells, total_stored, voucher_cells}
 use Rattle.portal_model.specs.declared.record.Batch.{Batch}
 use Rattle.portal_model.proofs.SamePlan.{same-plan}

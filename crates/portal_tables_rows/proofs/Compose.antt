@@ -36,7 +36,7 @@ module _ {S : Type 0} (g : Ghosts S) (f : Contents → Contents) (old begun last
   pub done : HasCleanDisk (state g last) → Shows (state g last) (state g end) (state g last).now (state g last).now false → CommitsRows f (state g old) (state g end)
   done clean shown = leads f (state g old) (state g (record old { in_transaction = true })) (state g last) (state g end) refl (stepped clean) shown
 
-  -- what a stop leaves
+  -- the crash states
   pub crash : Survives (state g begun) (state g last) (λ _. ⊥) → Survives (state g last) (state g end) (λ db. db ≡ (state g last).now.trees) → Survives (state g old) (state g end) (MayCommitRows f (state g old))
   crash inside ending =
       survives_then (state g old) (state g last) (state g end) _ _ (MayCommitRows f (state g old)) (λ _ db none. absurd none)

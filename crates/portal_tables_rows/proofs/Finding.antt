@@ -1,11 +1,11 @@
--- From the first row of an answer to what a finder tells.
+-- From the first row of a result to the value that is read.
 use Rattle.portal_tables_rows.proofs.Common.{◌≡◌, ℕ, List, map, filter, take, slice_get, Option, Some, None, Result, Ok, Err, is_eq, true, subst, IsPermutation, Value, Row, column, value_cmp, Ghosts, Held, state, HasCleanDisk, number, Finds, FindsLast, IsSelection, by_column, columns, has_key, finds_some, finds_none, finds_last, finds_no_last, reads_fails, Contents, AreOwn, IsOfOwn, Holds, HasTables}
 use Rattle.portal_tables_sql.specs.Looks.{ReadsOnly}
 use Rattle.portal_tables_rows.specs.declared.rows.RowError.{RowError}
 use Rattle.portal_tables_rows.specs.Selects.{ReadsFirstRow, ReadsRow}
 use Rattle.portal_tables_rows.proofs.Foreign.{of_first, of_last}
 
--- what the first row tells, if it is read as a value with its cells
+-- what the first row gives, if it is read as a value with its cells
 pub record Tells {T : Type 0} (cells : T → Row) (width : ℕ) (own : Row → Type 0) (rows : List Row) (Is : Option T → Type 0) (Own : Type 0) : Type 0 where
   pub some : (row : Row) (x : T) → slice_get rows 0 ≡ Some row → cells x ≡ columns width row → Is (Some x)
   pub none : slice_get rows 0 ≡ None → Is None

@@ -1,8 +1,8 @@
--- Of the rows that this product writes none is told as foreign.
+-- No row that this product writes gives ForeignRow.
 use Rattle.portal_tables_rows.proofs.Common.{◌≡◌, ℕ, List, map, filter, take, slice_get, Bool, Some, sym, ap, ◌∙◌, IsPermutation, Row, Has, columns, by_column, IsSelection, found_some, has_image, first_of_one, AreOwn}
 
 module _ {P : Type 0} (cells : P → Row) (n : ℕ) (all : (p : P) → columns n (cells p) ≡ cells p) (IsOwn : P → Type 0) (ps : List P) (own : AreOwn IsOwn ps) where
-  -- what is so of a row that shows a value which this product writes is so of a row that shows one of these
+  -- what holds of a row with the cells of a value that this product writes holds of a row with the cells of one of these
   pub of_one : {Q : Type 0} (row : Row) → Has (map cells ps) row → ((p : P) → IsOwn p → cells p ≡ columns n row → Q) → Q
   of_one row has q =
       let it = has_image cells ps row has in

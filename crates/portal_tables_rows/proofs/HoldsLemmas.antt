@@ -1,4 +1,4 @@
--- A statement on one table leaves the others.
+-- A statement on one table does not change the others.
 use Rattle.portal_tables_rows.proofs.Common.{◌≡◌, ◌==◌, ◌≤◌, ℕ, Bool, List, false, refl, sym, ap, subst, ◌∙◌, true≢false, slice_index_or, eq-eqb, Schema, Table, Row, Database, IsDatabase, State, Has, TableExists, Stores, whole_row, less_rowid, Plan, VoucherRow, SessionRow, GrantRow, CountRow, TotalRow, head, plans, batches, vouchers, sessions, grants, counts, totals, requests, Contents, HeadRow, head_stored, plan_cells, batch_cells, voucher_cells, session_stored, grant_stored, count_cells, total_stored, request_cells, RequestRow, HoldsIn, TablesExist, StoresRows}
 use Rattle.sqlite_rules.specs.Edit.{Edit}
 use Rattle.sqlite_rules.proofs.ListLemmas.{all_has}
@@ -15,7 +15,7 @@ apart schema a b x y p q off same =
     let e = q.only x (place_has schema.tables a x p.there) (eq-eqb _ _ same) in
     true≢false (sym (eq-eqb (initial x) (initial y) (ap initial e)) ∙ off)
 
--- the statement left the schema, the tables of other names and each table but this one
+-- the statement did not change the schema, the tables of other names and each table but this one
 pub record Touches (db : Database) (table : Table) (after : Database) : Type 0 where
   pub schema : after.schema ≡ db.schema
   pub others : (a : ℕ) (x : Table) → TableExists db.schema a x → (initial x == initial table) ≡ false → after.trees x.tree ≡ db.trees x.tree
@@ -69,7 +69,7 @@ module _ {schema_version : ℕ} {indexed : Bool} {db after : Database} {t : Cont
   requests_stay : IsOther (requests h.places.requests.tree) → 3 ≤ schema_version → Stores less_rowid request_cells (after.trees h.places.requests.tree) t.requests
   requests_stay off on = stays (requests h.places.requests.tree) (h.tables_exist.requests on).exists off (h.store.requests on)
 
-  -- all stand where they stood
+  -- all are where they were
   now_holds : (now : Contents) → StoresRows schema_version h.places after.trees now → HoldsIn schema_version indexed after now
   now_holds now store = record { places = h.places; tables_exist = subst (λ s. TablesExist schema_version indexed s h.places) (sym k.schema) h.tables_exist; store = store; sound = k.sound }
 

@@ -1,4 +1,4 @@
--- What the INSERT texts mean, wherever the tables stand.
+-- What the INSERT statements mean, wherever the tables are in the schema.
 use Rattle.portal_tables_rows.proofs.Common.{ℕ, pos, List, [], ◌∷◌, codes, refl, Null, Int, Term, lit, col, Schema, Values, Insert, TableExists, Means, means_is, insert_into, head, plans, batches, vouchers, sessions, grants, counts, totals, head_name, plans_name, batches_name, vouchers_name, sessions_name, grants_name, counts_name, totals_name}
 use Rattle.sqlite_tied.specs.Compute.{everything}
 use Rattle.sqlite_ast.specs.declared.Expr.TheVariants as expr

@@ -1,4 +1,4 @@
--- Statements on our tables keep the rows of the tables of others.
+-- Statements on the product's tables keep the rows of the other tables.
 use Rattle.portal_tables_rows.proofs.Common.{◌≡◌, true, true≢false, refl, sym, ap, subst, ◌∙◌, Schema, Table, Database, Has, head_name, plans_name, batches_name, vouchers_name, sessions_name, grants_name, counts_name, totals_name, requests_name, is_own, KeepsOthers}
 use Rattle.sqlite_schema.specs.Names.{same_name}
 use Rattle.portal_tables_rows.proofs.HoldsLemmas.{Touches}

@@ -1,4 +1,4 @@
--- Finding by any test that tells the key, and a test of two columns.
+-- Finding by any test that decides on the key, and a test of two columns.
 use Rattle.portal_tables_rows.proofs.Common.{◌≡◌, ℕ, ◌<◌, List, [], ◌∷◌, ◌&&◌, map, filter, slice_get, length, Bool, true, false, Some, None, refl, sym, ap, ap₂, subst, ◌∙◌, is_eq, true≢false, IsPermutation, Value, Text, Row, column, value_cmp, Table, col, Has, Finds, columns, fields, has_keys, found_some, found_none, has_image, equal_is, where_key, has_mapped, same_text, text_itself, column_is, field_at}
 use Rattle.sqlite.specs.Ops.{is_null}
 use Rattle.sqlite_schema.specs.Names.{place_of}

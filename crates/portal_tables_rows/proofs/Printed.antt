@@ -1,4 +1,4 @@
--- What stands as it is printed is read, and is printed alike again.
+-- What is stored in printed form is read, and its printed form is the same again.
 use Rattle.portal_tables_rows.proofs.Common.{◌≡◌, ℕ, List, ap, sym, subst, ◌∙◌, Spells, text_of, SpellsDevice, text_of_device, IsPrintedCode, IsPrintedDevice}
 use Rattle.portal_codes.proofs.Spelling.{unique, printed_spells}
 use Rattle.portal_model.proofs.Devices.{reads-back}

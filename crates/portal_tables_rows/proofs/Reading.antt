@@ -1,4 +1,4 @@
--- What each reading text answers, by the rows that the tables hold.
+-- The result of each SELECT, by the rows that the tables hold.
 use Rattle.portal_tables_rows.proofs.Common.{◌≡◌, ℕ, List, [], ◌∷◌, map, filter, take, refl, subst, Equal, lit<, lit≤, IsPermutation, Text, Row, Schema, understood, State, Shown, IsPlain, number, has_key, by_column, IsSelection, selected, first_selected, key_tests, literal_tests, orders_by, orders_down, head, plans, batches, vouchers, sessions, counts, totals, Contents, head_cells, plan_cells, batch_cells, voucher_cells, session_cells, count_cells, total_cells, Holds, HasTables}
 use Rattle.portal_tables_rows.proofs.Cells.{heads_in, plans_in, batches_in, vouchers_in, sessions_in, counts_in, totals_in}
 use Rattle.portal_tables_rows.proofs.SelectTexts as texts

@@ -1,4 +1,4 @@
--- What the reading text answers, by the rows that the table holds.
+-- The result of the SELECT, by the rows that the table holds.
 use Rattle.portal_tables_rows.proofs.Common.{ℕ, List, [], ◌∷◌, map, filter, refl, subst, Equal, lit<, lit≤, IsPermutation, Text, Row, Schema, understood, State, Shown, IsPlain, selected, requests, Contents, request_cells, Holds, HasTables, has_keys}
 use Rattle.portal_tables_rows.proofs.RequestTexts as texts
 use Rattle.portal_tables_rows.proofs.RequestCells.{requests_in}

@@ -1,4 +1,4 @@
--- What the INSERT of a kept request makes of the rows.
+-- The rows after the INSERT of a request.
 use Rattle.portal_tables_rows.proofs.Common.{refl, lit≤, cast_null, cast_int, cast_or_null, RequestRow, requests, request_cells, with_request}
 use Rattle.portal_tables_rows.proofs.HoldsLemmas.{requests_now}
 use Rattle.portal_tables_rows.proofs.TableSteps.{LeadsTo, adds}

@@ -1,4 +1,4 @@
--- What the SELECT texts mean, wherever the tables stand.
+-- What the SELECT statements mean, wherever the tables are in the schema.
 use Rattle.portal_tables_rows.proofs.Common.{ℕ, pos, negsuc, List, [], ◌∷◌, codes, Some, None, refl, true, false, Int, lit, col, Schema, Binary, TableExists, drafted, unlimited, IsSelect, all_columns, column_is, by, select_means, where_is, up, down, head, plans, batches, vouchers, sessions, counts, totals, head_name, plans_name, batches_name, vouchers_name, sessions_name, counts_name, totals_name}
 use Rattle.sqlite_tied.specs.Compute.{everything}
 use Rattle.sqlite_ast.specs.declared.Expr.TheVariants as expr

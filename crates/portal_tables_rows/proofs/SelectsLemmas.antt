@@ -1,4 +1,4 @@
--- From what a text means to what the query that asks it tells.
+-- From what a text means to the result of its query.
 use Rattle.portal_tables_rows.proofs.Common.{ℕ, List, Result, IfOk, IfOk-weaker, Row, Schema, Ghosts, Held, state, understood, HasCleanDisk, Shown, Error, IsPlain, looks_weaker, Contents, Holds, HasTables}
 use Rattle.portal_tables_sql.specs.Looks.{Looks}
 use Rattle.portal_tables_rows.specs.Selects.{Selects}

@@ -1,4 +1,4 @@
--- What one statement on a table of ours makes of the rows that it stores.
+-- The rows of one of the product's tables after one statement on it.
 use Rattle.portal_tables_rows.proofs.Common.{◌≡◌, ℕ, ℤ, pos, ◌/◌, Bool, cond, IsTrue, List, [], ◌∷◌, ◌++◌, map, drop, take, length, refl, sym, ap, ◌∙◌, Ok, Null, Row, Table, Term, col, eval_all, rowid, put_row, Values, Insert, State, Executes, TableExists, IsUnacted, Stores, number, put_by, less_rowid, whole_row, appended, put_in, rows_set, Means, Contents, Holds, KeepsOthers}
 use Rattle.sqlite.specs.Cast.{cast_row}
 use Rattle.sqlite_trees.specs.View.{is_int}
@@ -6,7 +6,7 @@ use Rattle.portal_tables_sql.proofs.Writes.{insert_edits, meant, row_added, row_
 use Rattle.portal_tables_rows.proofs.HoldsLemmas.{Touches, touches}
 use Rattle.portal_tables_rows.proofs.UpdateTexts.{IsSet}
 
--- a statement that leads to the rows that f gives, and keeps the tables of others
+-- a statement that changes the rows by f and keeps the other tables
 abbrev pub LeadsTo : List ℕ → Row → (Contents → Contents) → Type 1
 LeadsTo sql params f = (old new : State) (count : ℕ) → Executes sql params old new (Ok count) → (t : Contents) → Holds old.now t → Holds new.now (f t) × KeepsOthers old.now new.now
 

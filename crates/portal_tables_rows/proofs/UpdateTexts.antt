@@ -1,4 +1,4 @@
--- What the UPDATE texts mean, wherever the tables stand.
+-- What the UPDATE statements mean, wherever the tables are in the schema.
 use Rattle.portal_tables_rows.proofs.Common.{ℕ, pos, List, [], ◌∷◌, codes, refl, Null, Int, Term, lit, col, Schema, Update, TableExists, over, equals, Means, means_is, update_where, head, vouchers, sessions, counts, totals, head_name, vouchers_name, sessions_name, counts_name, totals_name}
 use Rattle.sqlite_tied.specs.Compute.{everything}
 use Rattle.sqlite_ast.specs.declared.Expr.TheVariants as expr

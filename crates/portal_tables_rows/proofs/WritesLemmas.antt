@@ -19,7 +19,7 @@ pub writes_then : {S : Type 0} (g : Ghosts S) {f k : Contents → Contents} {a b
     → Writes g f a b (Ok tt) → Writes g k b c result → Writes g (λ t. k (f t)) a c result
 writes_then g {f = f} {k = k} one two = writes_by g (λ t. k (f t)) (steps_then f k) one two
 
--- one statement on a table of ours
+-- one statement on one of the product's tables
 pub writes_run : {S : Type 0} (g : Ghosts S) {f : Contents → Contents} {sql : List ℕ} {params : Row} {a b : Transaction S} {result : Result (Unit {0}) Error}
     → LeadsTo sql params f → Inside g (Runs sql params) a b result → Writes g f a b result
 writes_run g {f = f} {sql = sql} {params = params} leads one = inside_by g {First = Runs sql params} {Second = MakesRows f} (λ p q ran. record {

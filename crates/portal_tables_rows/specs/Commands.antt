@@ -1,4 +1,4 @@
--- What each command makes of the rows, and which numbers it keeps.
+-- The rows after each command, and whether its numbers fit in the columns.
 use Rattle.std.specs.Prelude.{ℕ, ◌+◌, ◌^◌, ◌<◌, max, length, map, Option, Some, None, IfSome}
 use Rattle.portal_codes.specs.Code.{text_of}
 use Rattle.portal_model.specs.declared.plan.Plan.{Plan}
@@ -22,41 +22,49 @@ use Rattle.portal_ledger.specs.declared.marked.MarkedChanges.{MarkedChanges}
 use Rattle.portal_tables_rows.specs.Contents.{Contents}
 use Rattle.portal_tables_rows.specs.Steps.{with_plans, with_batch, with_vouchers, with_counts, with_session, with_grant, with_total, with_sale, with_refund, with_moment, with_numbers, with_use, with_close, with_redeemed, with_ends, with_request, opened_row, granted_row}
 
+-- the rows after a load
 abbrev pub after_load : LoadChange → Contents → Contents
 after_load c t = with_moment c.at (with_plans c.added t)
 
+-- the rows after an issue
 abbrev pub after_issue : IssueChange → Contents → Contents
 after_issue c t = let texts = map text_of c.codes in with_moment c.at (with_counts (new_counts texts) (with_vouchers (new_vouchers c.batch.id 0 texts) (with_batch c.batch t)))
 
+-- the rows after a sale
 abbrev pub after_sell : SellChange → Contents → Contents
 after_sell c t = with_moment c.at (with_sale (text_of c.voucher.code) c.at t)
 
--- the session that a redemption extends, or the one that it opens
+-- the rows after the running session was extended, or a new session was inserted
 abbrev pub after_placing : Option Session → Session → Plan → Contents → Contents
 after_placing (Some running) s plan t = with_ends (total_row s) t
 after_placing None s plan t = with_total (total_row s) (with_session (opened_row s plan.id) t)
 
+-- the rows after the session and the row of a redemption were written
 abbrev pub after_grant : RedeemChange → Contents → Contents
 after_grant c t = with_grant (granted_row (c.head.grants + 1) (text_of c.voucher.code) c.session.number c.at c.voucher.plan) (after_placing c.running c.session c.voucher.plan t)
 
+-- the rows after a redemption
 abbrev pub after_redeem : RedeemChange → Contents → Contents
 after_redeem c t = with_numbers c.at (c.head.grants + 1) (sessions_after c.head.sessions c.running) (with_redeemed (text_of c.voucher.code) (c.voucher.redeemed + 1) (after_grant c t))
 
--- what remains of a session's allowance: where it has none, its row stays as it is
+-- the rows after a session's remaining allowance was set; a session without an allowance keeps its row
 abbrev pub after_remainder : Option ℕ → TotalRow → Contents → Contents
 after_remainder None total t = t
 after_remainder (Some allowance) total t = with_ends total t
 
+-- the rows after a usage report
 abbrev pub after_report : ReportChange → Contents → Contents
 after_report c t = with_moment c.at (after_remainder c.session.allowance (total_row (with_report c.bytes c.session)) (with_use c.session.number (max c.bytes c.session.used) t))
 
+-- the rows after a refund
 abbrev pub after_refund : RefundChange → Contents → Contents
 after_refund c t = with_moment c.at (with_refund (text_of c.voucher.code) c.at c.amount t)
 
+-- the rows after a close
 abbrev pub after_close : CloseChange → Contents → Contents
 after_close c t = with_moment c.at (with_close c.session.number c.at t)
 
--- what a command makes of the rows
+-- the rows after the changes of a command
 abbrev pub after_changes : Changes → Contents → Contents
 after_changes (to.LoadChange c) t = after_load c t
 after_changes (to.IssueChange c) t = after_issue c t
@@ -66,22 +74,22 @@ after_changes (to.ReportChange c) t = after_report c t
 after_changes (to.RefundChange c) t = after_refund c t
 after_changes (to.CloseChange c) t = after_close c t
 
--- the request that was kept with it, where it had a mark
+-- the rows with the request and its answer, if it has an idempotency key
 abbrev pub with_kept_request : Option Fingerprint → Answer → Contents → Contents
 with_kept_request None answer t = t
 with_kept_request (Some mark) answer t = with_request (row_of_request (kept_with mark answer)) t
 
--- what a command and its mark make of the rows, with this answer
+-- the rows after a command whose request is stored with this answer
 abbrev pub after_command_with : MarkedChanges → Answer → Contents → Contents
 after_command_with m answer t = with_kept_request m.mark answer (after_changes m.changes t)
 
--- with the answer that the caller of the command is told
+-- the rows after a command whose request is stored with the answer that its caller gets
 abbrev pub after_command : MarkedChanges → Contents → Contents
 after_command m = after_command_with m (answer_of m.changes)
 
--- ---- numbers that a column of integers can keep
+-- ---- numbers that fit in an INTEGER column
 
--- a limit that is not there, or that is below
+-- the number is missing, or below the limit
 abbrev pub IsBelow : ℕ → Option ℕ → Type 0
 IsBelow limit None = Unit {0}
 IsBelow limit (Some n) = n < limit
@@ -105,7 +113,7 @@ pub record FitsReport (c : ReportChange) : Type 0 where
   pub session : FitsSession c.session
   pub bytes : c.bytes < 2 ^ 63
 
--- each number of the changes can be kept
+-- each number of the changes fits in an INTEGER column
 abbrev pub FitsInColumns : Changes → Type 0
 FitsInColumns (to.LoadChange c) = Unit {0}
 FitsInColumns (to.IssueChange c) = FitsIssue c
@@ -115,18 +123,18 @@ FitsInColumns (to.ReportChange c) = FitsReport c
 FitsInColumns (to.RefundChange c) = c.amount < 2 ^ 63
 FitsInColumns (to.CloseChange c) = c.session.number < 2 ^ 63
 
--- each number of the answer can be kept
+-- each number of the answer fits in an INTEGER column
 pub record FitsAnswer (answer : Answer) : Type 0 where
   pub n1 : (cells_of answer).n1 < 2 ^ 63
   pub n2 : IfSome (cells_of answer).n2 (λ n. n < 2 ^ 63)
   pub n3 : IfSome (cells_of answer).n3 (λ n. n < 2 ^ 63)
 
--- the same of the answer that is kept with a mark
+-- the same of the answer, if it is stored with a fingerprint
 abbrev pub FitsFingerprint : Option Fingerprint → Answer → Type 0
 FitsFingerprint None answer = Unit {0}
 FitsFingerprint (Some mark) answer = FitsAnswer answer
 
--- each number of the changes can be kept, and of what is kept with their mark
+-- each number fits that is stored with the changes, and with their fingerprint
 pub record FitsWithAnswer (m : MarkedChanges) (answer : Answer) : Type 0 where
   pub changes : FitsInColumns m.changes
   pub mark : FitsFingerprint m.mark answer

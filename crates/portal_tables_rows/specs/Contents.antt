@@ -1,4 +1,4 @@
--- The rows of the tables as values, and the cells in which each is kept.
+-- The rows of the tables as values, and the cells in which each is stored.
 use Rattle.std.specs.Prelude.{ℕ, ℤ, pos, Bool, if◌then◌else◌, List, [], ◌∷◌, Option}
 use Rattle.sqlite.specs.declared.types.Value.{Value}
 use Rattle.sqlite.specs.declared.types.Value.TheVariants.{Null, Int, Text, Blob}
@@ -18,7 +18,8 @@ pub record HeadRow : Type 0 where
   pub grants : ℕ
   pub sessions : ℕ
 
--- The rows of each table in the order of their rowids. Codes and devices are here the texts in which they are kept.
+-- The rows of each table in the order of the rowids. Codes and devices are here the texts in which they are
+-- stored.
 pub record Contents : Type 0 where
   pub heads : List HeadRow
   pub plans : List Plan
@@ -30,6 +31,7 @@ pub record Contents : Type 0 where
   pub totals : List TotalRow
   pub requests : List RequestRow
 
+-- the cell of a boolean
 abbrev pub flag : Bool → Value
 flag b = Int (if b then pos 1 else pos 0)
 
@@ -53,10 +55,11 @@ grant_stored g = number g.number ∷ Null ∷ Text g.code ∷ number g.session �
 abbrev pub total_stored : TotalRow → Row
 total_stored m = number m.number ∷ Null ∷ or_null m.ends ∷ signed_or_null m.remaining ∷ []
 
--- What SELECT shows of a row; of a table with a TEXT key it is the stored row less the rowid.
+-- What SELECT gives of a row. For a table with a TEXT key it is the stored row without the rowid.
 
 abbrev pub head_cells : HeadRow → Row
-head_cells h = number h.id ∷ number h.schema_version ∷ number h.last ∷ number h.grants ∷ number h.sessions ∷ []
+head_cells h =
+    number h.id ∷ number h.schema_version ∷ number h.last ∷ number h.grants ∷ number h.sessions ∷ []
 
 abbrev pub plan_cells : Plan → Row
 plan_cells p = Text p.id ∷ number p.price ∷ number p.uses ∷ number p.seconds ∷ number p.bytes ∷ number p.shelf_days ∷ flag p.extend ∷ []

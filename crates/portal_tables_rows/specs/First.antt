@@ -1,11 +1,11 @@
--- The six tables of layout 1, which every layout has.
+-- The six tables of schema version 1, which every schema version has.
 use Rattle.std.specs.Prelude.{false}
 use Rattle.sqlite.specs.Schema.{Schema}
 use Rattle.sqlite.specs.Effect.{Database}
 use Rattle.portal_tables_rows.specs.Contents.{Contents}
 use Rattle.portal_tables_rows.specs.Holds.{HoldsIn, HasTablesIn}
 
--- the database holds just these rows in the six tables; the rows of later tables are not looked at
+-- the database holds just these rows in the six tables; the rows of later tables are ignored
 abbrev pub HoldsFirst : Database → Contents → Type 0
 HoldsFirst db t = HoldsIn 1 false db t
 

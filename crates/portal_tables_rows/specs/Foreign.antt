@@ -1,4 +1,4 @@
--- Which rows this product writes, and that a fault of a foreign row is told of no such row.
+-- Which rows this product writes, and when a call may give ForeignRow.
 use Rattle.std.specs.Prelude.{◌≡◌, ℕ, ◌≤◌, Option, List, Result, IsSome, IfSome, IfErr}
 use Rattle.sqlite.specs.State.{State, HasCleanDisk}
 use Rattle.sqlite.specs.Effect.{Database}
@@ -24,19 +24,19 @@ use Rattle.portal_tables_rows.specs.Contents.{Contents, HeadRow}
 
 -- ---- rows that this product writes
 
--- the text of a code, as it is printed
+-- the text is a code in its printed form
 abbrev pub IsPrintedCode : List ℕ → Type 0
 IsPrintedCode text = (code : List ℕ) × IsCode code × (text_of code ≡ text)
 
--- the text of a device, as it is printed
+-- the text is a device in its printed form
 abbrev pub IsPrintedDevice : List ℕ → Type 0
 IsPrintedDevice text = (device : List ℕ) × IsDevice device × (text_of_device device ≡ text)
 
--- not past the greatest moment
+-- the time is not past the greatest one
 abbrev pub IsMomentCell : ℕ → Type 0
 IsMomentCell moment = moment ≤ greatest_moment
 
--- the same of a moment that may be missing
+-- the same of a time that may be missing
 abbrev pub IsMomentIfSome : Option ℕ → Type 0
 IsMomentIfSome moment = IfSome moment IsMomentCell
 
@@ -80,19 +80,19 @@ IsOwnCount k = IsPrintedCode k.code
 abbrev pub IsOwnTotal : TotalRow → Type 0
 IsOwnTotal m = IsMomentIfSome m.ends
 
--- the code of an answer is one, its batch an id, and its expiry a moment
+-- the code of an answer is valid, its batch is an id, and its expiry is a time
 abbrev pub IsOwnAnswer : Answer → Type 0
 IsOwnAnswer (IssueAnswer batch count expires) = IsIdText batch × IsMomentCell expires
 IsOwnAnswer answer = IsAnswerTyped answer
 
--- the row of a request that a program can keep, with what its caller is told
+-- the row of a request, with its answer, that this product can store
 pub record IsOwnRequest (k : RequestRow) : Type 0 where
   pub kept : KeptRequest
   pub mark : IsFingerprint kept.mark
   pub answer : IsOwnAnswer kept.answer
   pub is : row_of_request kept ≡ k
 
--- so is each of them
+-- each of the values is one that this product writes
 abbrev pub AreOwn : {P : Type 0} → (P → Type 0) → List P → Type 0
 AreOwn {P = P} IsOwn ps = (p : P) → Has ps p → IsOwn p
 
@@ -100,7 +100,7 @@ AreOwn {P = P} IsOwn ps = (p : P) → Has ps p → IsOwn p
 abbrev pub IsOfOwn : {P C : Type 0} → (P → C) → (P → Type 0) → C → Type 0
 IsOfOwn {P = P} cells IsOwn shown = (p : P) × IsOwn p × (cells p ≡ shown)
 
--- so are the first columns of each of the rows
+-- the first columns of each row are the cells of a value that this product writes
 abbrev pub AreOfOwn : {P : Type 0} → (P → Row) → ℕ → (P → Type 0) → List Row → Type 0
 AreOfOwn cells count IsOwn rows = AreOwn (λ row. IsOfOwn cells IsOwn (columns count row)) rows
 
@@ -116,21 +116,21 @@ pub record AreOwnRows (t : Contents) : Type 0 where
   pub totals : AreOwn IsOwnTotal t.totals
   pub requests : AreOwn IsOwnRequest t.requests
 
--- ---- faults
+-- ---- errors
 
--- the fault is one of the store
+-- the error is one of SQLite, not ForeignRow
 abbrev pub IsOfStore : RowError → Type 0
 IsOfStore (Sql e) = Unit {0}
 IsOfStore ForeignRow = ⊥
 
--- no fault of a foreign row was told
+-- the call did not give ForeignRow
 abbrev pub NotForeign : {X : Type 0} → Result X RowError → Type 0
 NotForeign r = IfErr r IsOfStore
 
--- nor is it, where the cells are those of a value that this product writes
+-- the call did not give ForeignRow if the cells are those of a value that this product writes
 abbrev pub SparesOwn : {P C X : Type 0} → (P → C) → (P → Type 0) → C → Result X RowError → Type 0
 SparesOwn {P = P} cells IsOwn shown r = (p : P) → IsOwn p → cells p ≡ shown → NotForeign r
 
--- A fault of a foreign row is told only where no rows are held of which each is one that this product writes.
+-- A call gives ForeignRow only if the database does not hold rows of which Own is true.
 abbrev pub BlamesForeign : {X : Type 0} → (Database → Contents → Type 0) → (Contents → Type 0) → State → State → Result X RowError → Type 0
 BlamesForeign Holds Own old new r = HasCleanDisk new → (t : Contents) → Holds old.now t → Own t → NotForeign r

@@ -1,4 +1,5 @@
--- When a database holds the product's tables in one of their layouts, wherever they stand among others.
+-- When a database holds rows in the product's tables of a schema version, wherever those tables are among
+-- others.
 use Rattle.std.specs.Prelude.{◌≡◌, ℕ, ◌≤◌, Bool, true, IsTrue, List, [], ◌∷◌, codes}
 use Rattle.sqlite.specs.Schema.{Schema}
 use Rattle.sqlite.specs.Table.{Table}
@@ -13,12 +14,12 @@ use Rattle.portal_tables_sql.specs.Stored.{Stores, whole_row, less_rowid}
 use Rattle.portal_tables_rows.specs.Schema.{head, plans, batches, vouchers, sessions, grants, counts, totals, requests}
 use Rattle.portal_tables_rows.specs.Contents.{Contents, head_stored, plan_cells, batch_cells, voucher_cells, session_stored, grant_stored, count_cells, total_stored, request_cells}
 
--- where a table stands: its place among the tables, and its tree
+-- where a table is: its index among the tables of the schema, and its tree
 pub record TablePlace : Type 0 where
   pub at : ℕ
   pub tree : ℕ
 
--- where each table stands
+-- where each of the product's tables is
 pub record TablePlaces : Type 0 where
   pub heads : TablePlace
   pub plans : TablePlace
@@ -30,11 +31,12 @@ pub record TablePlaces : Type 0 where
   pub totals : TablePlace
   pub requests : TablePlace
 
--- the table stands there, and no foreign key acts on it
+-- the table exists at this place, and no foreign key acts on it
 pub record IsTableAt (schema : Schema) (table : ℕ → Table) (place : TablePlace) : Type 0 where
   pub exists : TableExists schema place.at (table place.tree)
   pub unacted : IsUnacted schema place.tree
 
+-- the name of the index of the sessions
 abbrev pub index_name : List ℕ
 index_name = codes "portal_sessions_by_device"
 
@@ -47,7 +49,8 @@ pub record IsSessionIndex (index : Index) (tree : ℕ) : Type 0 where
 abbrev pub HasSessionIndex : Schema → ℕ → Type 0
 HasSessionIndex schema tree = (index : Index) × Has schema.indexes index × IsSessionIndex index tree
 
--- The tables of the layout stand there: the second brought the two of counters, the third the one of requests. Any layout may have the index of the sessions.
+-- The tables of the schema version exist at these places. Version 2 added the two tables of counters, and
+-- version 3 the table of requests. A database of any version may have the index of the sessions.
 pub record TablesExist (schema_version : ℕ) (indexed : Bool) (schema : Schema) (places : TablePlaces) : Type 0 where
   pub heads : IsTableAt schema head places.heads
   pub plans : IsTableAt schema plans places.plans
@@ -60,7 +63,8 @@ pub record TablesExist (schema_version : ℕ) (indexed : Bool) (schema : Schema)
   pub requests : 3 ≤ schema_version → IsTableAt schema requests places.requests
   pub index : IsTrue indexed → HasSessionIndex schema places.sessions.tree
 
--- their trees store these rows; of a table that the layout has not, the rows are not looked at
+-- the trees of the tables store these rows; the rows of a table that the schema version does not have are
+-- ignored
 pub record StoresRows (schema_version : ℕ) (places : TablePlaces) (trees : Trees) (t : Contents) : Type 0 where
   pub heads : Stores whole_row head_stored (trees places.heads.tree) t.heads
   pub plans : Stores less_rowid plan_cells (trees places.plans.tree) t.plans
@@ -72,28 +76,30 @@ pub record StoresRows (schema_version : ℕ) (places : TablePlaces) (trees : Tre
   pub totals : 2 ≤ schema_version → Stores whole_row total_stored (trees places.totals.tree) t.totals
   pub requests : 3 ≤ schema_version → Stores less_rowid request_cells (trees places.requests.tree) t.requests
 
--- the database holds just these rows in the tables of the layout
+-- the database holds just these rows in the tables of the schema version
 pub record HoldsIn (schema_version : ℕ) (indexed : Bool) (db : Database) (t : Contents) : Type 0 where
   pub places : TablePlaces
   pub tables_exist : TablesExist schema_version indexed db.schema places
   pub store : StoresRows schema_version places db.trees t
   pub sound : IsDatabase db
 
--- the layout of this version
+-- the schema version of this program
 abbrev pub this_schema_version : ℕ
 this_schema_version = 4
 
--- the same in the tables of this version's layout, with the index
+-- the database holds just these rows in the tables of this schema version, with the index
 abbrev pub Holds : Database → Contents → Type 0
 Holds db t = HoldsIn this_schema_version true db t
 
--- the schema has the tables of the layout, whatever they hold
+-- the schema has the tables of the schema version, whatever rows they hold
 abbrev pub HasTablesIn : ℕ → Bool → Schema → Type 0
-HasTablesIn schema_version indexed schema = (places : TablePlaces) × TablesExist schema_version indexed schema places
+HasTablesIn schema_version indexed schema =
+    (places : TablePlaces) × TablesExist schema_version indexed schema places
 
+-- the schema has the tables of this schema version and the index, whatever rows they hold
 abbrev pub HasTables : Schema → Type 0
 HasTables schema = HasTablesIn this_schema_version true schema
 
--- trees that a stop leaves hold the rows, under the schema that they list
+-- the trees of a crash state hold the rows, under the schema that they list
 abbrev pub CrashStateHoldsRows : Trees → Contents → Type 0
 CrashStateHoldsRows trees t = CrashStateHolds (λ db. Holds db t) trees

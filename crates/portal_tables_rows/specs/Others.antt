@@ -1,4 +1,4 @@
--- The tables of others: those beside ours, and that they keep their rows.
+-- The other tables: those that are not the product's, and that they keep their rows.
 use Rattle.std.specs.Prelude.{◌≡◌, ℕ, Bool, false, List, [], ◌∷◌}
 use Rattle.std.specs.List.{list_any}
 use Rattle.sqlite.specs.Table.{Table}
@@ -9,18 +9,18 @@ use Rattle.sqlite_rules.specs.Lists.{Has}
 use Rattle.portal_tables_sql.specs.Represents.{CrashStateHolds}
 use Rattle.portal_tables_rows.specs.Schema.{head_name, plans_name, batches_name, vouchers_name, sessions_name, grants_name, counts_name, totals_name, requests_name}
 
--- the names of our tables, of all layouts
+-- the names of the product's tables, of all schema versions
 abbrev pub own_names : List (List ℕ)
 own_names = head_name ∷ plans_name ∷ batches_name ∷ vouchers_name ∷ sessions_name ∷ grants_name ∷ counts_name ∷ totals_name ∷ requests_name ∷ []
 
--- the name is one of ours, as SQL compares names
+-- the name is one of the product's, as SQL compares names
 abbrev pub is_own : List ℕ → Bool
 is_own name = list_any (same_name name) own_names
 
--- each table of others, one whose name is none of ours, is there still, with the rows that it had
+-- each other table, whose name is not one of the product's, still exists with the rows that it had
 abbrev pub KeepsOthers : Database → Database → Type 0
 KeepsOthers db after = (table : Table) → Has db.schema.tables table → is_own table.name ≡ false → Has after.schema.tables table × (after.trees table.tree ≡ db.trees table.tree)
 
--- the same of trees that a stop leaves, under the schema that they list
+-- the same of the trees of a crash state, under the schema that they list
 abbrev pub CrashStateHasOthers : Database → Trees → Type 0
 CrashStateHasOthers db trees = CrashStateHolds (KeepsOthers db) trees

@@ -1,4 +1,4 @@
--- The rows that the readers read, as values.
+-- The rows of the values that are read.
 use Rattle.portal_codes.specs.Code.{text_of}
 use Rattle.portal_model.specs.Device.{text_of_device}
 use Rattle.portal_model.specs.Rows.{VoucherRow, SessionRow, CountRow}
@@ -9,7 +9,8 @@ use Rattle.portal_tables_rows.specs.declared.rows.CountValue.{CountValue}
 use Rattle.portal_tables_rows.specs.Contents.{HeadRow}
 
 abbrev pub head_read : HeadValue → HeadRow
-head_read h = record { id = 1; schema_version = h.schema_version; last = h.last; grants = h.grants; sessions = h.sessions }
+head_read h =
+    record { id = 1; schema_version = h.schema_version; last = h.last; grants = h.grants; sessions = h.sessions }
 
 abbrev pub voucher_read : VoucherValue → VoucherRow
 voucher_read v = record { code = text_of v.code; batch = v.batch; place = v.place; sold = v.sold; refunded = v.refunded; amount = v.amount }

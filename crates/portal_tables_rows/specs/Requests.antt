@@ -1,13 +1,14 @@
--- The rows of portal_requests, as they are found and read.
+-- The rows of portal_requests as they are found and read.
 use Rattle.std.specs.Prelude.{ℕ, List, option_map}
 use Rattle.std.specs.String.{string_bytes}
 use Rattle.portal_ledger.specs.RequestRow.{RequestRow, cells}
 use Rattle.portal_tables_rows.specs.declared.stored_requests.StoredRequest.{StoredRequest}
 
--- the caller and the number are the key together
+-- the caller and the idempotency key are the table's key together
 abbrev pub key_of : RequestRow → List ℕ × List ℕ
 key_of k = (k.caller, k.number)
 
+-- the row of a stored request
 abbrev pub request_read : StoredRequest → RequestRow
 request_read r = record {
   caller = string_bytes r.caller;

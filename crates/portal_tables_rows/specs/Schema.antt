@@ -1,4 +1,4 @@
--- The tables of all layouts, each at some tree, and the texts that make them.
+-- The tables of all schema versions, each with its tree, and the statements that create them.
 use Rattle.std.specs.Prelude.{Bool, true, false, [], ◌∷◌, Some, None, codes, List, ℕ}
 use Rattle.sqlite.specs.Collation.TheVariants.{Binary}
 use Rattle.sqlite.specs.declared.types.Value.TheVariants.{Null}

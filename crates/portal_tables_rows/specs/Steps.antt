@@ -1,4 +1,4 @@
--- What each statement makes of the rows.
+-- The rows after each statement, and the promises of statements and transactions.
 use Rattle.std.specs.Prelude.{◌≡◌, ℕ, cond, nat_eq, true, false, IsTrue, List, [], ◌∷◌, ◌++◌, map, None, Result}
 use Rattle.sqlite.specs.Store.{Ghosts}
 use Rattle.sqlite.specs.Tree.{Trees}
@@ -32,17 +32,20 @@ opened_row s plan = record { number = s.number; device = text_of_device s.device
 abbrev pub granted_row : ℕ → List ℕ → ℕ → ℕ → Plan → GrantRow
 granted_row number code session at plan = record { number = number; code = code; session = session; moment = at; seconds = plan.seconds; bytes = plan.bytes }
 
+-- how often the voucher with the code was redeemed
 abbrev pub count_row : List ℕ → ℕ → CountRow
 count_row code redeemed = record { code = code; redeemed = redeemed }
 
+-- the end of a session and its remaining allowance
 abbrev pub ends_row : Total → TotalRow
 ends_row m = record { number = m.number; ends = m.ends; remaining = m.remaining }
 
--- the head of a store in which nothing was accepted
+-- the head row of an empty database
 abbrev pub first_head : ℕ → HeadRow
-first_head schema_version = record { id = 1; schema_version = schema_version; last = 0; grants = 0; sessions = 0 }
+first_head schema_version =
+    record { id = 1; schema_version = schema_version; last = 0; grants = 0; sessions = 0 }
 
--- ---- a row more
+-- ---- one row more
 
 abbrev pub with_plan : Plan → Contents → Contents
 with_plan p t = record t { plans = t.plans ++ p ∷ [] }
@@ -84,67 +87,76 @@ with_total m t = record t { totals = put_by (λ (x : TotalRow). x.number) m t.to
 
 -- ---- a row changed
 
--- the sale of the voucher with the code
+-- the voucher with the code is sold at this time
 abbrev pub with_sale : List ℕ → ℕ → Contents → Contents
 with_sale code at t = record t { vouchers = map (sold_if code at) t.vouchers }
 
--- its refund
+-- the voucher with the code is refunded at this time
 abbrev pub with_refund : List ℕ → ℕ → ℕ → Contents → Contents
 with_refund code at amount t = record t { vouchers = map (refunded_if code at amount) t.vouchers }
 
+-- the head row with this time of the last command
 abbrev pub with_moment_if : ℕ → HeadRow → HeadRow
 with_moment_if at h = cond (nat_eq 1 h.id) (record h { last = at }) h
 
--- the last moment
+-- the time of the last command is this one
 abbrev pub with_moment : ℕ → Contents → Contents
 with_moment at t = record t { heads = map (with_moment_if at) t.heads }
 
+-- the head row with this time of the last command and these numbers of rows
 abbrev pub with_numbers_if : ℕ → ℕ → ℕ → HeadRow → HeadRow
 with_numbers_if at grants sessions h = cond (nat_eq 1 h.id) (record h { last = at; grants = grants; sessions = sessions }) h
 
--- the last moment and the numbers of rows
+-- the time of the last command and the numbers of redemptions and sessions are these
 abbrev pub with_numbers : ℕ → ℕ → ℕ → Contents → Contents
 with_numbers at grants sessions t = record t { heads = map (with_numbers_if at grants sessions) t.heads }
 
+-- the head row with this schema version
 abbrev pub with_schema_version_if : ℕ → HeadRow → HeadRow
-with_schema_version_if schema_version h = cond (nat_eq 1 h.id) (record h { schema_version = schema_version }) h
+with_schema_version_if schema_version h =
+    cond (nat_eq 1 h.id) (record h { schema_version = schema_version }) h
 
+-- the schema version is this one
 abbrev pub with_schema_version : ℕ → Contents → Contents
-with_schema_version schema_version t = record t { heads = map (with_schema_version_if schema_version) t.heads }
+with_schema_version schema_version t =
+    record t { heads = map (with_schema_version_if schema_version) t.heads }
 
--- what the session with the number has used
+-- the session with the number has used so many bytes
 abbrev pub with_use : ℕ → ℕ → Contents → Contents
 with_use number used t = record t { sessions = map (used_if number used) t.sessions }
 
--- its close
+-- the session with the number is closed at this time
 abbrev pub with_close : ℕ → ℕ → Contents → Contents
 with_close number at t = record t { sessions = map (closed_if number at) t.sessions }
 
--- how often the voucher with the code was redeemed
+-- the voucher with the code was redeemed so often
 abbrev pub with_redeemed : List ℕ → ℕ → Contents → Contents
 with_redeemed code redeemed t = record t { counts = map (counted_if code redeemed) t.counts }
 
+-- the total of the session with this number, with its new end and remaining allowance
 abbrev pub with_ends_if : TotalRow → TotalRow → TotalRow
-with_ends_if new m = cond (nat_eq new.number m.number) (record m { ends = new.ends; remaining = new.remaining }) m
+with_ends_if new m =
+    cond (nat_eq new.number m.number) (record m { ends = new.ends; remaining = new.remaining }) m
 
--- the end of the session with the number, and what remains of its allowance
+-- the session with the number has this end and this remaining allowance
 abbrev pub with_ends : TotalRow → Contents → Contents
 with_ends new t = record t { totals = map (with_ends_if new) t.totals }
 
 -- ---- statements and transactions
 
--- a statement inside a transaction led to the rows that f gives, with the tables of others as they were, and nothing is committed
+-- A statement inside a transaction changed the rows by f and kept the other tables. Nothing is committed.
 pub record MakesRows (f : Contents → Contents) (old new : State) : Type 0 where
   pub holds : (t : Contents) → Holds old.now t → Holds new.now (f t)
   pub others : (t : Contents) → Holds old.now t → KeepsOthers old.now new.now
   pub committed : new.committed ≡ old.committed
   pub mode : new.in_transaction ≡ true
 
--- a call on a transaction that leads to the rows that f gives
+-- a call on a transaction that changes the rows by f
 abbrev pub Writes : {S : Type 0} → Ghosts S → (Contents → Contents) → Transaction S → Transaction S → Result (Unit {0}) Error → Type 0
 Writes g f = Inside g (MakesRows f)
 
--- outside a transaction, a command led to the rows that f gives, with the tables of others as they were, and they are committed
+-- A command changed the rows by f and kept the other tables. It is committed, and the connection is outside a
+-- transaction.
 pub record CommitsRows (f : Contents → Contents) (old new : State) : Type 0 where
   pub holds : (t : Contents) → Holds old.now t → Holds new.now (f t)
   pub others : (t : Contents) → Holds old.now t → KeepsOthers old.now new.now
@@ -152,6 +164,7 @@ pub record CommitsRows (f : Contents → Contents) (old new : State) : Type 0 wh
   pub ended : new.in_transaction ≡ false
   pub is_open : IsTrue new.is_open
 
--- what a stop may leave beside what it could leave before
+-- the crash states that are added: they hold the rows changed by f, and the other tables
 abbrev pub MayCommitRows : (Contents → Contents) → State → Trees → Type 0
-MayCommitRows f old trees = (t : Contents) → Holds old.now t → CrashStateHoldsRows trees (f t) × CrashStateHasOthers old.now trees
+MayCommitRows f old trees =
+    (t : Contents) → Holds old.now t → CrashStateHoldsRows trees (f t) × CrashStateHasOthers old.now trees

@@ -1,4 +1,4 @@
-//! Callers and answers as the columns of portal_requests keep them.
+//! Converts callers and answers to the columns of `portal_requests`.
 
 ghost use Rattle.std.specs.Prelude.{◌≡◌, ◌<◌, ◌^◌, IfSome};
 ghost use Rattle.portal_ledger.specs.Fingerprint.{IsCaller};
@@ -11,7 +11,8 @@ use portal_model::change::Answer;
 use portal_model::name::Id;
 use sqlite::types::{ToSql, ValueRef};
 
-/// The text of a caller.
+/// The text of a caller in the column `caller`: `desk`, `gateway`, or the MAC address of a guest's
+/// device.
 #[derive(Clone, Copy)]
 pub enum CallerText {
     Desk,
@@ -20,7 +21,7 @@ pub enum CallerText {
 }
 
 impl CallerText {
-    /// The text of the caller.
+    /// Returns the text of a caller.
     pub fn of(caller: &Caller) -> CallerText
         ensures text { characters_of result ≡ text_of_caller caller.now }
         ensures caller { IsCaller caller.now }
@@ -32,7 +33,7 @@ impl CallerText {
         }
     }
 
-    /// Its bytes.
+    /// Returns the bytes of the text.
     pub fn as_bytes(&self) -> &[u8]
         ensures { result.now ≡ characters_of self.now }
     {
@@ -44,7 +45,7 @@ impl CallerText {
     }
 }
 
-/// The word of an answer: none, the id of a batch, or a printed code.
+/// The column `word` of an answer: NULL, the id of a batch, or a printed code.
 #[derive(Clone, Copy)]
 pub enum Word {
     Nothing,
@@ -55,6 +56,7 @@ pub enum Word {
 impl<'a> ToSql<'a> for &'a Word {
     ghost to_sql = { λ word. word_cell word.now };
 
+    /// Returns the cell: NULL, or the text.
     fn to_sql(self) -> ValueRef<'a> {
         match self {
             Word::Nothing => ValueRef::Null,
@@ -64,7 +66,10 @@ impl<'a> ToSql<'a> for &'a Word {
     }
 }
 
-/// An answer, in the columns of its kind.
+/// The columns of an answer in `portal_requests`, by its kind: 1 load (`n1` plans), 2 issue (`word`
+/// batch, `n1` codes, `n2` expiry), 3 sell (`word` code, `n1` price), 4 redeem (`n1` session, `n2` uses
+/// left, `n3` extended), 5 report (`n1` session, `n2` bytes used, `n3` still open), 6 refund (`word`
+/// code, `n1` amount), 7 close (`n1` session).
 #[derive(Clone, Copy)]
 pub struct AnswerRow {
     pub kind: u32,
@@ -74,13 +79,14 @@ pub struct AnswerRow {
     pub n3: Option<u64>,
 }
 
+/// Converts a boolean to the integer in a column: 1 for true, 0 for false.
 fn number_of_boolean(b: bool) -> u64
     ensures { result ≡ boolean b }
 {
     if b { 1 } else { 0 }
 }
 
-/// The columns of the answer.
+/// Converts an answer to its columns.
 pub fn answer_row(answer: &Answer) -> AnswerRow
     requires n1 { (cells_of answer.now).n1 < 2 ^ 63 }
     requires n2 { IfSome (cells_of answer.now).n2 (λ n. n < 2 ^ 63) }

@@ -1,4 +1,4 @@
-//! Values as the columns of a row keep them.
+//! Values that are bound to columns of text and of integers.
 
 ghost use Rattle.std.specs.Prelude.{◌≡◌, pos, option_map};
 ghost use Rattle.sqlite_value.specs.declared.value.Value.TheVariants.{Text};
@@ -6,7 +6,7 @@ ghost use Rattle.sqlite_value.specs.declared.value.Value.TheVariants.{Text};
 use portal_model::moment::Moment;
 use sqlite::types::{ToSql, ValueRef};
 
-/// A printed code or device, as a column of texts keeps it.
+/// Text for a TEXT column: a printed code, a device or a caller.
 #[derive(Clone, Copy)]
 pub struct PrintedText<'a> {
     pub bytes: &'a [u8],
@@ -15,12 +15,14 @@ pub struct PrintedText<'a> {
 impl<'a> ToSql<'a> for PrintedText<'a> {
     ghost to_sql = { λ characters. Text characters.bytes.now };
 
+    /// Returns the cell: the text.
     fn to_sql(self) -> ValueRef<'a> {
         ValueRef::Text(self.bytes)
     }
 }
 
-/// The end of a session, and what remains of its allowance: below 0 where more was used.
+/// A row of `portal_totals`: the end of a session and its remaining allowance in bytes, which is below 0
+/// if more was used.
 #[derive(Clone, Copy, Debug, PartialEq, Eq)]
 pub struct Total {
     pub number: u64,
@@ -28,7 +30,7 @@ pub struct Total {
     pub remaining: Option<i64>,
 }
 
-/// The moment as a column of integers keeps it.
+/// Converts an optional time to the integer in a column, in seconds. `None` is NULL.
 pub(crate) fn seconds_or_null(moment: Option<Moment>) -> Option<i64>
     ensures { result ≡ option_map pos moment }
 {

@@ -1,15 +1,43 @@
-//! The rows that a command changes, kept in one transaction.
+//! Writes the changes of a command to the tables, in one transaction.
 
 ghost use Rattle.std.specs.Prelude.{◌≡◌, ◌<◌, ◌^◌, length, map, false};
 ghost use Rattle.portal_codes.specs.Code.{text_of};
 ghost use Rattle.portal_model.specs.Rows.{new_vouchers, new_counts, total_row};
 ghost use Rattle.portal_tables_sql.specs.Commits.{Commits};
 ghost use Rattle.portal_tables_sql.specs.States.{IsUndone};
-ghost use Rattle.portal_tables_rows.specs.Steps.{Writes, CommitsRows, MayCommitRows, with_plans, with_vouchers, with_counts};
+ghost use Rattle.portal_tables_rows.specs.Steps.{
+  Writes,
+  CommitsRows,
+  MayCommitRows,
+  with_plans,
+  with_vouchers,
+  with_counts,
+};
 ghost use Rattle.portal_tables_rows.specs.Steps.{ends_row};
-ghost use Rattle.portal_tables_rows.specs.Commands.{after_load, after_issue, after_sell, after_placing, after_grant, after_redeem, after_remainder};
-ghost use Rattle.portal_tables_rows.specs.Commands.{after_report, after_refund, after_close, after_changes, FitsSession, FitsIssue};
-ghost use Rattle.portal_tables_rows.specs.Commands.{FitsRedeem, FitsReport, FitsInColumns, FitsFingerprint, FitsWithAnswer};
+ghost use Rattle.portal_tables_rows.specs.Commands.{
+  after_load,
+  after_issue,
+  after_sell,
+  after_placing,
+  after_grant,
+  after_redeem,
+  after_remainder,
+};
+ghost use Rattle.portal_tables_rows.specs.Commands.{
+  after_report,
+  after_refund,
+  after_close,
+  after_changes,
+  FitsSession,
+  FitsIssue,
+};
+ghost use Rattle.portal_tables_rows.specs.Commands.{
+  FitsRedeem,
+  FitsReport,
+  FitsInColumns,
+  FitsFingerprint,
+  FitsWithAnswer,
+};
 ghost use Rattle.portal_tables_rows.specs.Commands.{after_command_with, with_kept_request};
 
 use crate::column_values::Total;
@@ -34,7 +62,7 @@ use portal_model::plan::Plan;
 use portal_model::record::Session;
 use sqlite::{Alter, Connection, Error, Transaction};
 
-/// The end of the session, and what remains of its allowance.
+/// Returns the row of `portal_totals` for a session: its end and its remaining allowance.
 fn total_of(session: &Session) -> Total
     requires { FitsSession session.now }
     ensures { ends_row result ≡ total_row session.now }
@@ -49,7 +77,7 @@ fn total_of(session: &Session) -> Total
     }
 }
 
-/// Adds the plans, in order.
+/// Inserts these plans, in this order.
 fn insert_plans<S: Alter>(tx: &mut Transaction<'_, S>, plans: &[Plan]) -> Result<(), Error>
     ensures { Writes S.Store (with_plans plans.now) tx.old tx.new result }
 {
@@ -59,7 +87,7 @@ fn insert_plans<S: Alter>(tx: &mut Transaction<'_, S>, plans: &[Plan]) -> Result
     Ok(())
 }
 
-/// Adds the vouchers of a batch, in order.
+/// Inserts the vouchers of a batch, in this order.
 fn insert_vouchers<S: Alter>(
     tx: &mut Transaction<'_, S>,
     batch: &Id,
@@ -75,7 +103,7 @@ fn insert_vouchers<S: Alter>(
     Ok(())
 }
 
-/// Adds a count of 0 for each code.
+/// Inserts a count of 0 redemptions for each code.
 fn insert_counts<S: Alter>(tx: &mut Transaction<'_, S>, codes: &[Code]) -> Result<(), Error>
     ensures { Writes S.Store (with_counts (new_counts (map text_of codes.now))) tx.old tx.new result }
 {
@@ -85,7 +113,7 @@ fn insert_counts<S: Alter>(tx: &mut Transaction<'_, S>, codes: &[Code]) -> Resul
     Ok(())
 }
 
-/// Keeps new plans.
+/// Writes a load: inserts the new plans and sets the time of the last command.
 fn apply_load<S: Alter>(tx: &mut Transaction<'_, S>, c: &LoadChange) -> Result<(), Error>
     ensures { Writes S.Store (after_load c.now) tx.old tx.new result }
 {
@@ -93,7 +121,8 @@ fn apply_load<S: Alter>(tx: &mut Transaction<'_, S>, c: &LoadChange) -> Result<(
     set_last_moment(tx, c.at)
 }
 
-/// Keeps a batch, its vouchers and their counts.
+/// Writes an issue: inserts the batch, its vouchers and their counts, and sets the time of the last
+/// command.
 fn apply_issue<S: Alter>(tx: &mut Transaction<'_, S>, c: &IssueChange) -> Result<(), Error>
     requires { FitsIssue c.now }
     ensures { Writes S.Store (after_issue c.now) tx.old tx.new result }
@@ -104,7 +133,7 @@ fn apply_issue<S: Alter>(tx: &mut Transaction<'_, S>, c: &IssueChange) -> Result
     set_last_moment(tx, c.at)
 }
 
-/// Keeps a sale.
+/// Writes a sale: sets when the voucher was sold, and the time of the last command.
 fn apply_sell<S: Alter>(tx: &mut Transaction<'_, S>, c: &SellChange) -> Result<(), Error>
     ensures { Writes S.Store (after_sell c.now) tx.old tx.new result }
 {
@@ -112,13 +141,15 @@ fn apply_sell<S: Alter>(tx: &mut Transaction<'_, S>, c: &SellChange) -> Result<(
     set_last_moment(tx, c.at)
 }
 
-/// Keeps the session of a redemption: the one that it extends, or a new one.
+/// Writes the session of a redemption: sets the end of the running session, or inserts a new session and
+/// its total.
 fn extend_or_insert_session<S: Alter>(
     tx: &mut Transaction<'_, S>,
     c: &RedeemChange,
 ) -> Result<(), Error>
     requires { FitsSession c.now.session }
-    ensures { Writes S.Store (after_placing c.now.running c.now.session c.now.voucher.plan) tx.old tx.new result }
+    ensures { Writes S.Store (after_placing c.now.running c.now.session c.now.voucher.plan)
+        tx.old tx.new result }
 {
     let total = total_of(&c.session);
     match c.running {
@@ -130,7 +161,7 @@ fn extend_or_insert_session<S: Alter>(
     }
 }
 
-/// Keeps a redemption and its session.
+/// Writes the session of a redemption, and inserts the redemption.
 fn apply_grant<S: Alter>(tx: &mut Transaction<'_, S>, c: &RedeemChange) -> Result<(), Error>
     requires { FitsRedeem c.now }
     ensures { Writes S.Store (after_grant c.now) tx.old tx.new result }
@@ -146,7 +177,7 @@ fn apply_grant<S: Alter>(tx: &mut Transaction<'_, S>, c: &RedeemChange) -> Resul
     )
 }
 
-/// Keeps a redemption: its session, its row, the count of its voucher and the numbers of rows.
+/// Writes a redemption: its session, its row, the count of its voucher, and the numbers in the head row.
 fn apply_redeem<S: Alter>(tx: &mut Transaction<'_, S>, c: &RedeemChange) -> Result<(), Error>
     requires { FitsRedeem c.now }
     ensures { Writes S.Store (after_redeem c.now) tx.old tx.new result }
@@ -160,10 +191,11 @@ fn apply_redeem<S: Alter>(tx: &mut Transaction<'_, S>, c: &RedeemChange) -> Resu
     set_head_numbers(tx, c.at, c.head.grants + 1, sessions)
 }
 
-/// Keeps what remains of the session's allowance. A session without one costs no statement.
+/// Sets the session's remaining allowance. It runs no statement for a session without an allowance.
 fn set_remaining<S: Alter>(tx: &mut Transaction<'_, S>, session: &Session) -> Result<(), Error>
     requires { FitsSession session.now }
-    ensures { Writes S.Store (after_remainder session.now.allowance (total_row session.now)) tx.old tx.new result }
+    ensures { Writes S.Store (after_remainder session.now.allowance (total_row session.now))
+        tx.old tx.new result }
 {
     match session.allowance {
         Some(_) => set_session_total(tx, &total_of(session)),
@@ -171,7 +203,7 @@ fn set_remaining<S: Alter>(tx: &mut Transaction<'_, S>, session: &Session) -> Re
     }
 }
 
-/// Keeps a report of usage.
+/// Writes a usage report: the bytes used, the remaining allowance, and the time of the last command.
 fn apply_report<S: Alter>(tx: &mut Transaction<'_, S>, c: &ReportChange) -> Result<(), Error>
     requires { FitsReport c.now }
     ensures { Writes S.Store (after_report c.now) tx.old tx.new result }
@@ -182,7 +214,7 @@ fn apply_report<S: Alter>(tx: &mut Transaction<'_, S>, c: &ReportChange) -> Resu
     set_last_moment(tx, c.at)
 }
 
-/// Keeps a refund.
+/// Writes a refund: sets when the voucher was refunded and the amount, and the time of the last command.
 fn apply_refund<S: Alter>(tx: &mut Transaction<'_, S>, c: &RefundChange) -> Result<(), Error>
     requires { c.now.amount < 2 ^ 63 }
     ensures { Writes S.Store (after_refund c.now) tx.old tx.new result }
@@ -191,7 +223,7 @@ fn apply_refund<S: Alter>(tx: &mut Transaction<'_, S>, c: &RefundChange) -> Resu
     set_last_moment(tx, c.at)
 }
 
-/// Keeps a close.
+/// Writes a close: sets when the session was closed, and the time of the last command.
 fn apply_close<S: Alter>(tx: &mut Transaction<'_, S>, c: &CloseChange) -> Result<(), Error>
     requires { c.now.session.number < 2 ^ 63 }
     ensures { Writes S.Store (after_close c.now) tx.old tx.new result }
@@ -200,7 +232,7 @@ fn apply_close<S: Alter>(tx: &mut Transaction<'_, S>, c: &CloseChange) -> Result
     set_last_moment(tx, c.at)
 }
 
-/// Keeps what a command changes, inside a transaction.
+/// Writes the changes of a command, inside a transaction. It does not commit.
 fn apply_changes<S: Alter>(tx: &mut Transaction<'_, S>, changes: &Changes) -> Result<(), Error>
     requires { FitsInColumns changes.now }
     ensures { Writes S.Store (after_changes changes.now) tx.old tx.new result }
@@ -216,7 +248,7 @@ fn apply_changes<S: Alter>(tx: &mut Transaction<'_, S>, changes: &Changes) -> Re
     }
 }
 
-/// Keeps the request of a command that has a mark, with what its caller is told.
+/// Inserts the request of a command with its answer, if the request has an idempotency key.
 fn insert_request_if_keyed<S: Alter>(
     tx: &mut Transaction<'_, S>,
     mark: &Option<RequestMark>,
@@ -231,7 +263,8 @@ fn insert_request_if_keyed<S: Alter>(
     }
 }
 
-/// Keeps what a command changes, and its request with the answer where it has a mark, inside a transaction.
+/// Writes the changes of a command, and its request with the answer if it has an idempotency key, inside
+/// a transaction. It does not commit.
 fn apply_with_fingerprint<S: Alter>(
     tx: &mut Transaction<'_, S>,
     marked: &MarkedChanges,
@@ -244,8 +277,9 @@ fn apply_with_fingerprint<S: Alter>(
     insert_request_if_keyed(tx, &marked.mark, answer)
 }
 
-/// One transaction: all that the command changes, and its request with the answer where it has a mark, or
-/// nothing.
+/// Commits a command in one transaction: its changes, and its request with the answer if it has an
+/// idempotency key. On an error the database is as it was while the connection is open; a crash state
+/// may have the whole change.
 pub fn commit_command<S: Alter>(
     conn: &mut Connection<S>,
     marked: &MarkedChanges,

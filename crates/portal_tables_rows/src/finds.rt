@@ -1,4 +1,5 @@
-//! The rows of a key, read as values.
+//! Reads the row of a key as a value. Each function returns `None` if there is no such row, and fails
+//! with `ForeignRow` if the row is not one that this product writes.
 
 ghost use Rattle.std.specs.Prelude.{◌<◌, ◌^◌, IfOk, IfSome, option_map};
 ghost use Rattle.portal_codes.specs.Code.{IsCode, text_of};
@@ -25,7 +26,8 @@ use portal_model::plan::Plan;
 use portal_model::record::Batch;
 use sqlite::{Alter, Connection};
 
-/// The row of the head.
+/// Reads the head row: the schema version, the time of the last command, and the numbers of redemptions
+/// and sessions.
 pub fn read_head_row<S: Alter>(conn: &mut Connection<S>) -> Result<Option<HeadValue>, RowError>
     ensures { ReadsRow S.Store conn.old conn.new result
         (λ t found. Finds (λ (x : HeadRow). x.id) 1 t.heads (option_map head_read found))
@@ -35,7 +37,7 @@ pub fn read_head_row<S: Alter>(conn: &mut Connection<S>) -> Result<Option<HeadVa
     read_first_row(&rows)
 }
 
-/// The plan with the id.
+/// Reads the plan with this id.
 pub fn read_plan_row<S: Alter>(conn: &mut Connection<S>, id: &Id) -> Result<Option<Plan>, RowError>
     ensures { ReadsRow S.Store conn.old conn.new result
         (λ t found. Finds (λ (x : Plan). x.id) id.now t.plans found)
@@ -45,7 +47,7 @@ pub fn read_plan_row<S: Alter>(conn: &mut Connection<S>, id: &Id) -> Result<Opti
     read_first_row(&rows)
 }
 
-/// The batch with the id.
+/// Reads the batch with this id.
 pub fn read_batch_row<S: Alter>(
     conn: &mut Connection<S>,
     id: &Id,
@@ -58,7 +60,7 @@ pub fn read_batch_row<S: Alter>(
     read_first_row(&rows)
 }
 
-/// The row of the voucher with the code.
+/// Reads the row of the voucher with this code.
 pub fn read_voucher_row<S: Alter>(
     conn: &mut Connection<S>,
     code: &Code,
@@ -73,7 +75,7 @@ pub fn read_voucher_row<S: Alter>(
     read_first_row(&rows)
 }
 
-/// The row of the session with the number.
+/// Reads the row of the session with this number.
 pub fn read_session_row<S: Alter>(
     conn: &mut Connection<S>,
     number: u64,
@@ -88,7 +90,7 @@ pub fn read_session_row<S: Alter>(
     read_first_row(&rows)
 }
 
-/// The count of the voucher with the code.
+/// Reads how often the voucher with this code was redeemed.
 pub fn read_count_row<S: Alter>(
     conn: &mut Connection<S>,
     code: &Code,
@@ -102,7 +104,8 @@ pub fn read_count_row<S: Alter>(
     read_first_row(&rows)
 }
 
-/// The end of the session with the number.
+/// Reads the row of `portal_totals` of the session with this number: its end, and its remaining bytes. None
+/// if there is no such row.
 pub fn read_total_row<S: Alter>(
     conn: &mut Connection<S>,
     number: u64,
@@ -116,7 +119,7 @@ pub fn read_total_row<S: Alter>(
     read_first_row(&rows)
 }
 
-/// The row of the session of the device with the greatest number.
+/// Reads the row of the device's last session: the one with the greatest number.
 pub fn read_last_session_row<S: Alter>(
     conn: &mut Connection<S>,
     device: &Device,

@@ -1,4 +1,4 @@
-//! Values that keep a row of one table, each read of that row.
+//! Reads a row of each table as a value, by the trait `FromRow`.
 
 ghost use Rattle.std.specs.Prelude.{◌≡◌, ℕ, IfOk};
 ghost use Rattle.sqlite.specs.Order.{Row as Cells};
@@ -21,20 +21,20 @@ use portal_model::plan::Plan;
 use portal_model::record::Batch;
 use sqlite::Row;
 
-/// A value that keeps a row of one table.
+/// A value that is read from one row of a table.
 pub trait FromRow: Sized {
-    // The cells of the value, and how many columns of a row they are.
+    // The cells of the value, and how many columns of a row they take.
     ghost cells: { Self → Cells };
 
     ghost width: { ℕ };
 
-    // What is so of each value that is read.
+    // What holds of each value that is read.
     ghost proper: { Self → Type 0 };
 
     // Which cells are those of a row that this product writes.
     ghost own: { Cells → Type 0 };
 
-    /// The value of the row. A row that is none that this product writes is a foreign one.
+    /// Reads a row as a value. Fails with `ForeignRow` if the row is not one that this product writes.
     fn from_row(row: &Row) -> Result<Self, RowError>
         ensures cells { IfOk result (λ x. cells x ≡ columns width row.now) }
         ensures proper { IfOk result proper }
@@ -50,6 +50,7 @@ impl FromRow for HeadValue {
 
     ghost own = { IsOfOwn head_cells IsOwnHead };
 
+    /// Reads the row of `portal_head`. Fails with `ForeignRow` if its id is not 1.
     fn from_row(row: &Row) -> Result<HeadValue, RowError> {
         let id: u64 = row.get(0)?;
         if id != 1 {
@@ -73,6 +74,7 @@ impl FromRow for Plan {
 
     ghost own = { IsOfOwn plan_cells IsOwnPlan };
 
+    /// Reads a row of `portal_plans`. Fails with `ForeignRow` if the plan is not within the limits.
     fn from_row(row: &Row) -> Result<Plan, RowError> {
         let id = id_in(row, 0)?;
         let price = row.get(1)?;
@@ -95,6 +97,7 @@ impl FromRow for Batch {
 
     ghost own = { IsOfOwn batch_cells IsOwnBatch };
 
+    /// Reads a row of `portal_batches`.
     fn from_row(row: &Row) -> Result<Batch, RowError> {
         Ok(Batch {
             id: id_in(row, 0)?,
@@ -115,6 +118,7 @@ impl FromRow for VoucherValue {
 
     ghost own = { IsOfOwn voucher_cells IsOwnVoucher };
 
+    /// Reads a row of `portal_vouchers`.
     fn from_row(row: &Row) -> Result<VoucherValue, RowError> {
         Ok(VoucherValue {
             code: code_in(row, 0)?,
@@ -136,6 +140,7 @@ impl FromRow for SessionValue {
 
     ghost own = { IsOfOwn session_cells IsOwnSession };
 
+    /// Reads a row of `portal_sessions`.
     fn from_row(row: &Row) -> Result<SessionValue, RowError> {
         Ok(SessionValue {
             number: row.get(0)?,
@@ -157,6 +162,7 @@ impl FromRow for CountValue {
 
     ghost own = { IsOfOwn count_cells IsOwnCount };
 
+    /// Reads a row of `portal_counts`.
     fn from_row(row: &Row) -> Result<CountValue, RowError> {
         Ok(CountValue {
             code: code_in(row, 0)?,
@@ -174,6 +180,7 @@ impl FromRow for Total {
 
     ghost own = { IsOfOwn total_cells IsOwnTotal };
 
+    /// Reads a row of `portal_totals`.
     fn from_row(row: &Row) -> Result<Total, RowError> {
         Ok(Total {
             number: row.get(0)?,
@@ -183,7 +190,7 @@ impl FromRow for Total {
     }
 }
 
-/// The value of the first of the rows, where there is one.
+/// Reads the first of these rows as a value, or returns `None` if there are no rows.
 pub(crate) fn read_first_row<T: FromRow>(rows: &[Row]) -> Result<Option<T>, RowError>
     ensures { ReadsFirstRow T.cells T.width T.proper T.own rows.now result }
 {

@@ -1,8 +1,15 @@
-//! The statements that add a row, one each.
+//! The INSERT statements, one for each table but `portal_requests`.
 
 ghost use Rattle.std.specs.Prelude.{◌<◌, ◌^◌};
 ghost use Rattle.portal_codes.specs.Code.{text_of};
-ghost use Rattle.portal_tables_rows.specs.Steps.{Writes, count_row, ends_row, first_head, granted_row, new_voucher};
+ghost use Rattle.portal_tables_rows.specs.Steps.{
+  Writes,
+  count_row,
+  ends_row,
+  first_head,
+  granted_row,
+  new_voucher,
+};
 ghost use Rattle.portal_tables_rows.specs.Steps.{opened_row, with_batch, with_count, with_grant, with_head};
 ghost use Rattle.portal_tables_rows.specs.Steps.{with_plan, with_session, with_total, with_voucher};
 
@@ -15,7 +22,7 @@ use portal_model::record::{Batch, Session};
 use portal_tables_sql::query::write;
 use sqlite::{Alter, Error, Transaction, params};
 
-/// Adds a plan.
+/// Inserts a plan.
 pub(crate) fn insert_plan<S: Alter>(tx: &mut Transaction<'_, S>, plan: &Plan) -> Result<(), Error>
     ensures { Writes S.Store (with_plan plan.now) tx.old tx.new result }
 {
@@ -35,7 +42,7 @@ pub(crate) fn insert_plan<S: Alter>(tx: &mut Transaction<'_, S>, plan: &Plan) ->
     )
 }
 
-/// Adds a batch.
+/// Inserts a batch.
 pub(crate) fn insert_batch<S: Alter>(
     tx: &mut Transaction<'_, S>,
     batch: &Batch,
@@ -56,7 +63,7 @@ pub(crate) fn insert_batch<S: Alter>(
     )
 }
 
-/// Adds a voucher in its place in the batch.
+/// Inserts a voucher at its place in the batch.
 pub(crate) fn insert_voucher<S: Alter>(
     tx: &mut Transaction<'_, S>,
     code: &Code,
@@ -81,7 +88,7 @@ pub(crate) fn insert_voucher<S: Alter>(
     )
 }
 
-/// Adds a session that is opened on the plan.
+/// Inserts a session that is opened on this plan.
 pub(crate) fn insert_session<S: Alter>(
     tx: &mut Transaction<'_, S>,
     session: &Session,
@@ -103,7 +110,7 @@ pub(crate) fn insert_session<S: Alter>(
     )
 }
 
-/// Adds a redemption of the code, on the terms of the plan.
+/// Inserts a redemption of the code in this session, with the seconds and bytes of the plan.
 pub(crate) fn insert_grant<S: Alter>(
     tx: &mut Transaction<'_, S>,
     number: u64,
@@ -135,7 +142,7 @@ pub(crate) fn insert_grant<S: Alter>(
     )
 }
 
-/// Adds the count of a voucher.
+/// Inserts how often a voucher was redeemed.
 pub fn insert_count<S: Alter>(
     tx: &mut Transaction<'_, S>,
     code: &Code,
@@ -157,7 +164,7 @@ pub fn insert_count<S: Alter>(
     )
 }
 
-/// Adds the end of a session, and what remains of its allowance.
+/// Inserts the end of a session and its remaining allowance.
 pub fn insert_total<S: Alter>(tx: &mut Transaction<'_, S>, total: &Total) -> Result<(), Error>
     requires { total.now.number < 2 ^ 63 }
     ensures { Writes S.Store (with_total (ends_row total.now)) tx.old tx.new result }
@@ -170,7 +177,7 @@ pub fn insert_total<S: Alter>(tx: &mut Transaction<'_, S>, total: &Total) -> Res
     )
 }
 
-/// Adds the row of the head: no row of the other tables, and nothing accepted.
+/// Inserts the head row of an empty database, with this schema version.
 pub fn insert_head<S: Alter>(tx: &mut Transaction<'_, S>, schema_version: u64) -> Result<(), Error>
     requires { schema_version < 2 ^ 63 }
     ensures { Writes S.Store (with_head (first_head schema_version)) tx.old tx.new result }

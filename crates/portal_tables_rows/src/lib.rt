@@ -1,5 +1,6 @@
-//! The rows of the product's tables in a store: what each statement reads and writes, and one transaction for
-//! each command.
+//! The tables as rows: the statements on them, one function each, and the transaction of a command.
+//! `HoldsIn` in specs/Holds.antt says when a database holds given rows in the tables of a schema
+//! version.
 #![tactic(auto)]
 
 pub mod answers;

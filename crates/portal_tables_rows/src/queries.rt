@@ -1,4 +1,4 @@
-//! The texts that read, one each: the rows of its answer.
+//! The SELECT statements by key, one for each function. Each returns the rows of the result.
 
 ghost use Rattle.std.specs.Prelude.{◌≡◌, ◌<◌, ◌^◌, List, map, take};
 ghost use Rattle.sqlite.specs.declared.types.Value.TheVariants.{Text};
@@ -16,7 +16,7 @@ use portal_model::name::{Device, Id};
 use portal_tables_sql::query::read_all;
 use sqlite::{Alter, Connection, Error, Row, params};
 
-/// The row of the head.
+/// Runs the SELECT of the head row.
 pub(crate) fn select_head<S: Alter>(conn: &mut Connection<S>) -> Result<Vec<Row>, Error>
     ensures { Selects S.Store conn.old conn.new result
         (λ t rows. AreOfKey 0 (number_cell 1) (map head_cells t.heads) rows.items) }
@@ -28,7 +28,7 @@ pub(crate) fn select_head<S: Alter>(conn: &mut Connection<S>) -> Result<Vec<Row>
     )
 }
 
-/// The rows of the plan.
+/// Runs the SELECT of the plan with this id.
 pub(crate) fn select_plan<S: Alter>(conn: &mut Connection<S>, id: &Id) -> Result<Vec<Row>, Error>
     ensures { Selects S.Store conn.old conn.new result
         (λ t rows. AreOfKey 0 (Text id.now) (map plan_cells t.plans) rows.items) }
@@ -40,7 +40,7 @@ pub(crate) fn select_plan<S: Alter>(conn: &mut Connection<S>, id: &Id) -> Result
     )
 }
 
-/// The rows of the batch.
+/// Runs the SELECT of the batch with this id.
 pub(crate) fn select_batch<S: Alter>(conn: &mut Connection<S>, id: &Id) -> Result<Vec<Row>, Error>
     ensures { Selects S.Store conn.old conn.new result
         (λ t rows. AreOfKey 0 (Text id.now) (map batch_cells t.batches) rows.items) }
@@ -52,7 +52,7 @@ pub(crate) fn select_batch<S: Alter>(conn: &mut Connection<S>, id: &Id) -> Resul
     )
 }
 
-/// The rows of the voucher.
+/// Runs the SELECT of the voucher with this code.
 pub(crate) fn select_voucher<S: Alter>(
     conn: &mut Connection<S>,
     code: &Code,
@@ -71,7 +71,7 @@ pub(crate) fn select_voucher<S: Alter>(
     )
 }
 
-/// The rows of the session.
+/// Runs the SELECT of the session with this number.
 pub(crate) fn select_session<S: Alter>(
     conn: &mut Connection<S>,
     number: u64,
@@ -87,7 +87,7 @@ pub(crate) fn select_session<S: Alter>(
     )
 }
 
-/// The rows of the count of the voucher.
+/// Runs the SELECT of how often the voucher with this code was redeemed.
 pub(crate) fn select_count<S: Alter>(
     conn: &mut Connection<S>,
     code: &Code,
@@ -105,7 +105,7 @@ pub(crate) fn select_count<S: Alter>(
     )
 }
 
-/// The rows of the end of the session.
+/// Runs the SELECT of the end and the remaining allowance of the session with this number.
 pub(crate) fn select_total<S: Alter>(
     conn: &mut Connection<S>,
     number: u64,
@@ -121,7 +121,7 @@ pub(crate) fn select_total<S: Alter>(
     )
 }
 
-/// The row of the last session of the device.
+/// Runs the SELECT of the device's session with the greatest number.
 pub(crate) fn select_last_session<S: Alter>(
     conn: &mut Connection<S>,
     device: &Device,
@@ -142,7 +142,7 @@ pub(crate) fn select_last_session<S: Alter>(
     )
 }
 
-/// The rows of the vouchers of the batch, by place.
+/// Runs the SELECT of the batch's vouchers, ordered by place.
 pub fn select_batch_vouchers<S: Alter>(
     conn: &mut Connection<S>,
     batch: &Id,

@@ -1,4 +1,4 @@
-//! Kept requests: one row more, and the row of a key.
+//! Inserts and reads the idempotent requests in `portal_requests`, by caller and idempotency key.
 
 ghost use Rattle.std.specs.Prelude.{◌≡◌, ◌<◌, ◌^◌, pos, IfOk, IfSome, IsPermutation, filter, map, option_map};
 ghost use Rattle.sqlite.specs.declared.types.Value.TheVariants.{Text};
@@ -25,7 +25,7 @@ use portal_tables_sql::query::{read_all, write};
 use sqlite::{Alter, Connection, Error, Row, Transaction, params};
 use std::alloc::Global;
 
-/// The number as a column of integers keeps it.
+/// Converts an optional number below 2^63 to the integer in a column. `None` is NULL.
 fn integer_or_null(number: Option<u64>) -> Option<i64>
     requires { IfSome number (λ n. n < 2 ^ 63) }
     ensures { result ≡ option_map pos number }
@@ -36,7 +36,7 @@ fn integer_or_null(number: Option<u64>) -> Option<i64>
     }
 }
 
-/// Adds the request of the mark with the answer that its caller is told.
+/// Inserts a request, by its fingerprint, with the answer to it.
 pub fn insert_request<S: Alter>(
     tx: &mut Transaction<'_, S>,
     mark: &RequestMark,
@@ -71,7 +71,7 @@ pub fn insert_request<S: Alter>(
     )
 }
 
-/// The rows of the request.
+/// Runs the SELECT of the request with this caller and idempotency key.
 fn select_request<S: Alter>(
     conn: &mut Connection<S>,
     caller: &[u8],
@@ -90,7 +90,7 @@ fn select_request<S: Alter>(
     )
 }
 
-/// The row of the request of the caller with the number.
+/// Reads the row of the request with this caller and idempotency key, or `None`.
 fn read_stored_request<S: Alter>(
     conn: &mut Connection<S>,
     caller: &[u8],
@@ -107,7 +107,8 @@ fn read_stored_request<S: Alter>(
     }
 }
 
-/// The kept request of the caller with the number.
+/// Reads the request with this caller and idempotency key, with the answer that was given, or `None`.
+/// Fails with `ForeignRow` if the row is not one that this product writes.
 pub fn read_request_row<S: Alter>(
     alloc: Global,
     conn: &mut Connection<S>,

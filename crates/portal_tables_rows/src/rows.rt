@@ -1,4 +1,4 @@
-//! What is read of a row, and why a row is not read.
+//! The values that are read from rows, the readers of single columns, and the errors of reading.
 
 ghost use Rattle.std.specs.Prelude.{◌≡◌, IfOk};
 ghost use Rattle.sqlite.specs.Order.{column};
@@ -11,7 +11,13 @@ ghost use Rattle.sqlite.specs.declared.error.Error.TheVariants.{SqliteFailure};
 ghost use Rattle.sqlite.specs.declared.error.ErrorCode.TheVariants.{OutOfMemory};
 ghost use Rattle.portal_model.specs.IdText.{IsIdText};
 ghost use Rattle.portal_tables_rows.specs.declared.rows.RowError.TheVariants.{Sql};
-ghost use Rattle.portal_tables_rows.specs.Foreign.{IsMomentCell, IsMomentIfSome, IsPrintedCode, IsPrintedDevice, SparesOwn};
+ghost use Rattle.portal_tables_rows.specs.Foreign.{
+  IsMomentCell,
+  IsMomentIfSome,
+  IsPrintedCode,
+  IsPrintedDevice,
+  SparesOwn,
+};
 
 use portal_codes::Code;
 use portal_model::moment::Moment;
@@ -19,18 +25,19 @@ use portal_model::name::{Device, Id};
 use sqlite::{Error, Row};
 use std::alloc::{AllocError, AllocFailed};
 
-/// Why the tables were not read.
+/// Why a row was not read or written.
 #[derive(Debug, Drop)]
 pub enum RowError {
-    /// The store answered an error.
+    /// SQLite gave an error.
     Sql(Error),
-    /// A row is none that this product writes.
+    /// A row is not one that this product writes.
     ForeignRow,
 }
 
 impl From<Error> for RowError {
     ghost from_gives = { λ e f. f ≡ Sql e };
 
+    /// Wraps an error of SQLite.
     fn from(error: Error) -> RowError {
         RowError::Sql(error)
     }
@@ -39,6 +46,7 @@ impl From<Error> for RowError {
 impl<T: Drop> From<AllocFailed<T>> for RowError {
     ghost from_gives = { λ _ f. f ≡ Sql (SqliteFailure OutOfMemory) };
 
+    /// Makes the error out of memory from a failed allocation.
     fn from(failed: AllocFailed<T>) -> RowError {
         RowError::Sql(Error::from(failed))
     }
@@ -47,12 +55,13 @@ impl<T: Drop> From<AllocFailed<T>> for RowError {
 impl From<AllocError> for RowError {
     ghost from_gives = { λ _ f. f ≡ Sql (SqliteFailure OutOfMemory) };
 
+    /// Makes the error out of memory from a failed allocation.
     fn from(error: AllocError) -> RowError {
         RowError::Sql(Error::from(error))
     }
 }
 
-/// The row of portal_head.
+/// The row of `portal_head`. `last` is the time of the last command.
 #[derive(Clone, Copy, Debug, PartialEq, Eq)]
 pub struct HeadValue {
     pub schema_version: u64,
@@ -61,7 +70,7 @@ pub struct HeadValue {
     pub sessions: u64,
 }
 
-/// A row of portal_vouchers.
+/// A row of `portal_vouchers`. `amount` is the refund in hundredths.
 #[derive(Clone, Copy, Debug, PartialEq, Eq)]
 pub struct VoucherValue {
     pub code: Code,
@@ -72,7 +81,7 @@ pub struct VoucherValue {
     pub amount: Option<u64>,
 }
 
-/// A row of portal_sessions.
+/// A row of `portal_sessions`. `used` is in bytes.
 #[derive(Clone, Copy, Debug, PartialEq, Eq)]
 pub struct SessionValue {
     pub number: u64,
@@ -83,14 +92,14 @@ pub struct SessionValue {
     pub closed: Option<Moment>,
 }
 
-/// A row of portal_counts.
+/// A row of `portal_counts`: how often a voucher was redeemed.
 #[derive(Clone, Copy, Debug, PartialEq, Eq)]
 pub struct CountValue {
     pub code: Code,
     pub redeemed: u64,
 }
 
-/// The id in a column.
+/// Reads the id in column `at`. Fails with `ForeignRow` if the text is not an id.
 pub fn id_in(row: &Row, at: usize) -> Result<Id, RowError>
     ensures column { IfOk result (λ id. column row.now at ≡ Text id) }
     ensures own { SparesOwn Text IsIdText (column row.now at) result }
@@ -99,7 +108,7 @@ pub fn id_in(row: &Row, at: usize) -> Result<Id, RowError>
     Id::read(&text).ok_or(RowError::ForeignRow)
 }
 
-/// The code in a column, where it stands as it is printed.
+/// Reads the code in column `at`. Fails with `ForeignRow` if the text is not a code in its printed form.
 pub fn code_in(row: &Row, at: usize) -> Result<Code, RowError>
     ensures column { IfOk result (λ code. column row.now at ≡ Text (text_of code)) }
     ensures own { SparesOwn Text IsPrintedCode (column row.now at) result }
@@ -116,7 +125,8 @@ pub fn code_in(row: &Row, at: usize) -> Result<Code, RowError>
     }
 }
 
-/// The device in a column, where it stands as it is printed.
+/// Reads the device in column `at`. Fails with `ForeignRow` if the text is not a device in its printed
+/// form.
 pub(crate) fn device_in(row: &Row, at: usize) -> Result<Device, RowError>
     ensures column { IfOk result (λ device. column row.now at ≡ Text (text_of_device device)) }
     ensures device { IfOk result IsDevice }
@@ -134,7 +144,7 @@ pub(crate) fn device_in(row: &Row, at: usize) -> Result<Device, RowError>
     }
 }
 
-/// The moment in a column.
+/// Reads the time in column `at`. Fails with `ForeignRow` if the number is past the greatest time.
 pub fn moment_in(row: &Row, at: usize) -> Result<Moment, RowError>
     ensures column { IfOk result (λ moment. column row.now at ≡ number moment) }
     ensures own { SparesOwn number IsMomentCell (column row.now at) result }
@@ -143,7 +153,8 @@ pub fn moment_in(row: &Row, at: usize) -> Result<Moment, RowError>
     Moment::new(seconds).ok_or(RowError::ForeignRow)
 }
 
-/// The moment in a column, where there is one.
+/// Reads the time in column `at`, or `None` if it is NULL. Fails with `ForeignRow` if the number is past
+/// the greatest time.
 pub(crate) fn moment_or_null_in(row: &Row, at: usize) -> Result<Option<Moment>, RowError>
     ensures column { IfOk result (λ moment. column row.now at ≡ or_null moment) }
     ensures own { SparesOwn or_null IsMomentIfSome (column row.now at) result }
@@ -155,7 +166,7 @@ pub(crate) fn moment_or_null_in(row: &Row, at: usize) -> Result<Option<Moment>, 
     }
 }
 
-/// The flag in a column: 0 or 1.
+/// Reads the boolean in column `at`. Fails with `ForeignRow` if the number is not 0 or 1.
 pub(crate) fn flag_in(row: &Row, at: usize) -> Result<bool, RowError>
     ensures column { IfOk result (λ b. column row.now at ≡ flag b) }
     ensures own { SparesOwn flag (λ _. Unit {0}) (column row.now at) result }

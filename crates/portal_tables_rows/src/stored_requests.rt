@@ -1,4 +1,4 @@
-//! The rows of portal_requests, and each as a kept request.
+//! Reads the rows of `portal_requests`, and parses each as a request with its answer.
 
 ghost use Rattle.std.specs.Prelude.{◌≡◌, Some, None, IfOk};
 ghost use Rattle.portal_codes.specs.Code.{IsCode, text_of};
@@ -8,7 +8,13 @@ ghost use Rattle.portal_ledger.specs.RequestRow.{text_of_caller, boolean};
 ghost use Rattle.portal_tables_sql.specs.Finds.{columns};
 ghost use Rattle.portal_tables_rows.specs.Contents.{request_cells};
 ghost use Rattle.portal_model.specs.IdText.{IsIdText};
-ghost use Rattle.portal_tables_rows.specs.Foreign.{IsMomentCell, IsOwnAnswer, IsOwnRequest, IsPrintedCode, NotForeign};
+ghost use Rattle.portal_tables_rows.specs.Foreign.{
+  IsMomentCell,
+  IsOwnAnswer,
+  IsOwnRequest,
+  IsPrintedCode,
+  NotForeign,
+};
 ghost use Rattle.portal_tables_rows.specs.Foreign.{SparesOwn};
 ghost use Rattle.portal_tables_rows.specs.Requests.{request_read};
 
@@ -22,7 +28,7 @@ use portal_model::name::{Device, Id};
 use sqlite::Row;
 use std::alloc::Global;
 
-/// A row of portal_requests.
+/// A row of `portal_requests`, not parsed yet.
 #[derive(Drop)]
 pub struct StoredRequest {
     pub caller: String,
@@ -37,6 +43,7 @@ pub struct StoredRequest {
     pub n3: Option<u64>,
 }
 
+/// Reads the ten columns of a row of `portal_requests`.
 pub(crate) fn stored_request_of(row: &Row) -> Result<StoredRequest, RowError>
     ensures cells { IfOk result (λ request. request_cells (request_read request) ≡ columns 10 row.now) }
     ensures own { NotForeign result }
@@ -55,7 +62,7 @@ pub(crate) fn stored_request_of(row: &Row) -> Result<StoredRequest, RowError>
     })
 }
 
-/// The code that a text is, where it stands as it is printed.
+/// Parses a code in its printed form. Fails with `ForeignRow` for any other text.
 fn parse_printed_code(text: &str) -> Result<Code, RowError>
     ensures text { IfOk result (λ code. text_of code ≡ text.now) }
     ensures code { IfOk result IsCode }
@@ -72,7 +79,8 @@ fn parse_printed_code(text: &str) -> Result<Code, RowError>
     }
 }
 
-/// The caller that a text is: `desk`, `gateway`, or a device as it is printed.
+/// Parses a caller: `desk`, `gateway`, or a device in its printed form. Fails with `ForeignRow` for any
+/// other text.
 fn parse_caller(text: &str) -> Result<Caller, RowError>
     ensures text { IfOk result (λ caller. text_of_caller caller ≡ text.now) }
     ensures caller { IfOk result IsCaller }
@@ -95,7 +103,7 @@ fn parse_caller(text: &str) -> Result<Caller, RowError>
     }
 }
 
-/// The flag that a number is: 0 or 1.
+/// Parses a boolean: 0 or 1. Fails with `ForeignRow` for any other number.
 fn parse_boolean(number: u64) -> Result<bool, RowError>
     ensures boolean { IfOk result (λ b. boolean b ≡ number) }
     ensures own { SparesOwn boolean (λ _. Unit {0}) number result }
@@ -107,7 +115,8 @@ fn parse_boolean(number: u64) -> Result<bool, RowError>
     }
 }
 
-/// The answer to an issue, of its columns.
+/// Parses the columns of the answer to an issue: the batch, the number of codes and the expiry. Fails
+/// with `ForeignRow` for an invalid id or time.
 fn parse_issue_answer(word: &str, count: u64, expires: u64) -> Result<Answer, RowError>
     ensures cells { IfOk result (λ answer.
         cells_of answer ≡ cells 2 (Some word.now) count (Some expires) None) }
@@ -127,7 +136,8 @@ fn parse_issue_answer(word: &str, count: u64, expires: u64) -> Result<Answer, Ro
     })
 }
 
-/// The answer, of the columns of its kind.
+/// Parses the answer in a row, by the row's kind. Fails with `ForeignRow` if the columns do not fit the
+/// kind.
 fn parse_answer(row: &StoredRequest) -> Result<Answer, RowError>
     ensures cells { IfOk result (λ answer. cells_of answer ≡ (request_read row.now).answer) }
     ensures typed { IfOk result IsAnswerTyped }
@@ -159,7 +169,8 @@ fn parse_answer(row: &StoredRequest) -> Result<Answer, RowError>
     }
 }
 
-/// The request that a row keeps. A row that this product does not write is refused.
+/// Parses a row of `portal_requests` as a request with its answer. Fails with `ForeignRow` if the row is
+/// not one that this product writes.
 pub fn parse_request(alloc: Global, row: &StoredRequest) -> Result<KeptRequest, RowError>
     ensures row { IfOk result (λ kept. row_of_request kept ≡ request_read row.now) }
     ensures typed { IfOk result IsKeptTyped }

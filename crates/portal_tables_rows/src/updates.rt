@@ -1,9 +1,22 @@
-//! The statements that change a row, one each.
+//! The UPDATE statements, one for each function.
 
 ghost use Rattle.std.specs.Prelude.{◌<◌, ◌^◌};
 ghost use Rattle.portal_codes.specs.Code.{text_of};
-ghost use Rattle.portal_tables_rows.specs.Steps.{Writes, ends_row, with_close, with_ends, with_schema_version, with_moment};
-ghost use Rattle.portal_tables_rows.specs.Steps.{with_numbers, with_redeemed, with_refund, with_sale, with_use};
+ghost use Rattle.portal_tables_rows.specs.Steps.{
+  Writes,
+  ends_row,
+  with_close,
+  with_ends,
+  with_schema_version,
+  with_moment,
+};
+ghost use Rattle.portal_tables_rows.specs.Steps.{
+  with_numbers,
+  with_redeemed,
+  with_refund,
+  with_sale,
+  with_use,
+};
 
 use crate::column_values::{PrintedText, Total, seconds_or_null};
 use portal_codes::Code;
@@ -11,7 +24,7 @@ use portal_model::moment::Moment;
 use portal_tables_sql::query::write;
 use sqlite::{Alter, Error, Transaction, params};
 
-/// Notes that the voucher was sold.
+/// Sets when the voucher was sold.
 pub(crate) fn set_sold<S: Alter>(
     tx: &mut Transaction<'_, S>,
     code: &Code,
@@ -32,7 +45,7 @@ pub(crate) fn set_sold<S: Alter>(
     )
 }
 
-/// Notes the refund of the voucher.
+/// Sets when the voucher was refunded, and the amount in hundredths.
 pub(crate) fn set_refunded<S: Alter>(
     tx: &mut Transaction<'_, S>,
     code: &Code,
@@ -56,7 +69,7 @@ pub(crate) fn set_refunded<S: Alter>(
     )
 }
 
-/// Sets the last moment.
+/// Sets the time of the last command in the head row.
 pub(crate) fn set_last_moment<S: Alter>(
     tx: &mut Transaction<'_, S>,
     at: Moment,
@@ -70,7 +83,7 @@ pub(crate) fn set_last_moment<S: Alter>(
     )
 }
 
-/// Sets the last moment and the numbers of redemptions and sessions.
+/// Sets the time of the last command and the numbers of redemptions and sessions in the head row.
 pub(crate) fn set_head_numbers<S: Alter>(
     tx: &mut Transaction<'_, S>,
     at: Moment,
@@ -88,7 +101,7 @@ pub(crate) fn set_head_numbers<S: Alter>(
     )
 }
 
-/// Sets the layout.
+/// Sets the schema version in the head row.
 pub fn set_schema_version<S: Alter>(
     tx: &mut Transaction<'_, S>,
     schema_version: u64,
@@ -103,7 +116,7 @@ pub fn set_schema_version<S: Alter>(
     )
 }
 
-/// Sets what the session has used.
+/// Sets how many bytes the session has used.
 pub(crate) fn set_used<S: Alter>(
     tx: &mut Transaction<'_, S>,
     number: u64,
@@ -120,7 +133,7 @@ pub(crate) fn set_used<S: Alter>(
     )
 }
 
-/// Notes that the session was closed.
+/// Sets when the session was closed.
 pub(crate) fn set_closed<S: Alter>(
     tx: &mut Transaction<'_, S>,
     number: u64,
@@ -158,7 +171,7 @@ pub(crate) fn set_redeemed<S: Alter>(
     )
 }
 
-/// Sets the end of the session, and what remains of its allowance.
+/// Sets the end of the session and its remaining allowance.
 pub(crate) fn set_session_total<S: Alter>(
     tx: &mut Transaction<'_, S>,
     total: &Total,

@@ -1,4 +1,4 @@
--- Tables made beside those of an older layout.
+-- Tables that are created beside those of an older schema version.
 use Rattle.portal_tables_schema.proofs.Common.{◌≡◌, inl, inr, ℕ, Bool, true, ◌+◌, ◌≤◌, ◌<◌, ◌==◌, false, max, fold, find, List, [], ◌∷◌, Option, Some, None, IfSome, refl, sym, ap, subst, arith, ne_eqb, lit≤, lit<, option_map, option_and_then, cases_Bool, Schema, Table, Database, created, next_tree, Order, Index, Reference, place_has, Has, all_has, IsUnacted, IsUnactedBy, any_autoincrement, HasItsSequence, HasMade, still_stands, both, counts_of, unacted_of, head, plans, batches, vouchers, sessions, grants, counts, totals, requests, counts_name, totals_name, requests_name, Contents, TablePlace, IsTableAt, HoldsIn, HasSessionIndex, HasFreeNames, has_free_names, without_counters, without_requests, moved}
 use Rattle.std.specs.Option.{option_or}
 use Rattle.std.proofs.lemmas.List.Folds.{find-append}
@@ -17,7 +17,7 @@ room_is schema e =
     let p2 = both _ _ p1.1 in
     record { numbered = counts_of (any_autoincrement schema) _ p0.0; counts = unacted_of schema _ p1.0; totals = unacted_of schema _ p2.0; requests = unacted_of schema _ p2.1 }
 
--- ---- a table made beside one that stands
+-- ---- a table created beside one that exists
 
 -- its tree is past those of the tables that are there
 past : (schema : Schema) (t : Table) → Has schema.tables t → t.tree < next_tree schema
@@ -117,7 +117,7 @@ still_in schema_version had db after made idle h t f = record {
 too_low : {X : Type 0} (k n : ℕ) → k < n → n ≤ k → X
 too_low k n low high = absurd (omega arith)
 
--- from the tables of layout 1 to those of layout 2: the two of counters, just made
+-- from the tables of schema version 1 to those of version 2: the two of counters, just created
 pub counted : (db mid after : Database) → HasFreeNames db.schema → HasMade db (counts 0) mid → HasMade mid (totals 0) after → (had : Bool) (t : Contents) → HoldsIn 1 had db t → HoldsIn 2 had after (without_counters t)
 unfolding same_name
 counted db mid after room one two had t f =
@@ -153,7 +153,7 @@ counted db mid after room one two had t f =
       sound = two.sound;
     }
 
--- from the tables of layout 2 to those of layouts 3 and 4: the one of requests, just made
+-- from the tables of schema version 2 to those of versions 3 and 4: the one of requests, just created
 pub asked : (db after : Database) → HasFreeNames db.schema → HasMade db (requests 0) after → (had : Bool) (t : Contents) → HoldsIn 2 had db t → HoldsIn 4 had after (without_requests t)
 unfolding same_name
 asked db after room one had t f =
@@ -187,7 +187,7 @@ asked db after room one had t f =
       sound = one.sound;
     }
 
--- layouts 3 and 4 have the same tables
+-- schema versions 3 and 4 have the same tables
 pub alike : (had : Bool) (db : Database) (t : Contents) → HoldsIn 3 had db t → HoldsIn 4 had db t
 alike had db t f = record {
   places = f.places;
@@ -217,7 +217,7 @@ alike had db t f = record {
   sound = f.sound;
 }
 
--- from the tables of layout 1 to those of this version: the three, just made
+-- from the tables of schema version 1 to those of this version: the three, just created
 pub widened_first : (db mid late after : Database) → HasFreeNames db.schema → HasMade db (counts 0) mid → HasMade mid (totals 0) late → HasItsSequence late.schema → HasMade late (requests 0) after
     → (had : Bool) (t : Contents) → HoldsIn 1 had db t → HoldsIn 4 had after (without_requests (without_counters t))
 widened_first db mid late after room one two counting three had t f =

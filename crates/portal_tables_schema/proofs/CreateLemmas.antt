@@ -19,7 +19,7 @@ IsIdle table = AllByRecursion (λ (ref : Reference). (ref.on_delete ≡ NoAction
 pub still_by : (db after : Database) (made : Table) (name : List ℕ) → IsIdle made → HasMade db made after → IsUnactedBy db.schema name → IsUnactedBy after.schema name
 still_by db after made name idle h unacted = subst (λ s. IsUnactedBy s name) (sym h.is) (still_unacted db.schema made name (λ ref has. all_has _ made.references ref idle has) unacted)
 
--- a table of ours that was made, and has no row yet
+-- one of the product's tables that was created, and has no row yet
 pub record IsReady (db : Database) (table : ℕ → Table) (place : TablePlace) : Type 0 where
   pub exists : TableExists db.schema place.at (table place.tree)
   pub unacted : IsUnactedBy db.schema (table place.tree).name

@@ -1,4 +1,4 @@
--- One transaction that leads from the tables of a layout to those of this version.
+-- One transaction from the tables of a schema version to those of this one.
 use Rattle.portal_tables_schema.proofs.Common.{◌≡◌, inl, inr, ℕ, Bool, true≢false, true, false, IsTrue, refl, sym, subst, ◌∙◌, arith, Ghosts, Held, state, Schema, HasCleanDisk, Survives, Shows, KeepsCommit, FailsToCommit, Error, survives_then, survives_begin, IsUndone, Contents, Holds, HoldsIn, CrashStateHoldsRows, this_schema_version, KeepsOthers, CrashStateHasOthers, MakesRowsFrom, CommitsFrom, MayCommitFrom}
 
 module _ {S : Type 0} (g : Ghosts S) (schema_version : ℕ) (had : Bool) (Room : Schema → Type 0) (f : Contents → Contents) (old begun last end : Held S) (begins : begun ≡ record old { in_transaction = true })
@@ -22,7 +22,7 @@ module _ {S : Type 0} (g : Ghosts S) (schema_version : ℕ) (had : Bool) (Room :
     is_open = shown.is_open;
   }
 
-  -- what a stop leaves
+  -- the crash states
   pub led_crash : Survives (state g begun) (state g last) (λ _. ⊥) → Survives (state g last) (state g end) (λ db. db ≡ (state g last).now.trees)
       → Survives (state g old) (state g end) (MayCommitFrom schema_version had Room f (state g old))
   led_crash inside ending =

@@ -1,4 +1,4 @@
--- What the test of a schema tells.
+-- What the test of a schema means.
 use Rattle.portal_tables_schema.proofs.Common.{◌≡◌, true, Schema, any_autoincrement, both, counts_of, unacted_of, AreNamesFree, are_names_free}
 
 pub free_is : (schema : Schema) → are_names_free schema ≡ true → AreNamesFree schema

@@ -1,4 +1,4 @@
--- How an upgrade goes from the rows that were read to the tables that it leaves.
+-- How a migration goes from the rows that were read to the tables after it.
 use Rattle.portal_tables_schema.proofs.Common.{◌≡◌, false, IsTrue, ℕ, suc, zero, ◌+◌, ◌<◌, get_or, map, List, [], ◌∷◌, refl, sym, ap, subst, ◌∙◌, arith, Less, All, ◌^◌, nat_tests, ints, IsStrictlyIncreasing, value_cmp, Database, State, HasCleanDisk, Survives, survives_then, survives_weaker, IsUndone, reads_then, same_now, still_open, value_cmp-Int, number, SessionRow, TotalRow, count_from, total_from, CountRow, Total, Contents, session_stored, Anything, Holds, CrashStateHoldsRows, this_schema_version, KeepsOthers, CrashStateHasOthers, with_schema_version, ends_row, CountValue, voucher_read, session_read, count_read, OldSchema, First, Rise, CommitsFrom, MayCommitFrom, HasMigrated, MayMigrate, after_migration, migrated_rows, counts_read, totals_read, counts_summed, totals_summed, version_number, CountersFit, get_or-map, length-map}
 use Rattle.sqlite.specs.Tree.{IsTable}
 use Rattle.portal_tables_sql.specs.Looks.{ReadsOnly, Fails}
@@ -63,7 +63,7 @@ totals_are t gs ps plans ss items ms is same_plans same_sessions read_plans read
     ∙ ap (λ l. map (total_from (rows_for_sums t.plans (map grant_read gs))) (map session_read l)) same_sessions
     ∙ ap (map (total_from (rows_for_sums t.plans (map grant_read gs)))) read_sessions ∙ ap (λ l. map (total_from (rows_for_sums t.plans l)) t.sessions) grants
 
--- ---- what a reading leaves
+-- ---- the state after a read
 
 module _ (a b : State) (read : ReadsOnly Anything a b) (clean : HasCleanDisk b) (live : IsTrue a.is_open) (t : Contents) (first : HoldsFirst a.now t) where
   pub first_after : HoldsFirst b.now t
@@ -106,7 +106,7 @@ module _ (a b c d e : State) (one : ReadsOnly Anything a b) (two : ReadsOnly Any
         totals = ap totals_read same4 ∙ totals clean live2 t first2 (ap (map grant_read) same2 ∙ read);
       }
 
-  -- where the counters that the rows come to can be kept, so can those that are written
+  -- if the computed counters fit, so do those that are written
   pub upgrade_fits : HasCleanDisk d → IsTrue a.is_open → (t : Contents) → HoldsFirst a.now t → CountersFit t → All (λ (k : CountValue). k.redeemed < 2 ^ 63) ks1 × All (λ (m : Total). m.number < 2 ^ 63) ms1
   upgrade_fits clean live t first fits =
       let k = knows clean live t first in
@@ -149,7 +149,7 @@ undone_after a d e read clean live undone =
     let same = read.same clean live tt in
     record { now = λ on. undone.now on ∙ same.0.committed_is; committed = λ on. undone.committed on ∙ same.0.committed_is; ended = undone.ended }
 
--- a layout that has its counters is brought up with none added
+-- a schema version that has its counters is migrated without new ones
 pub later_done : (from : OldSchema) (a e : State) → ((t : Contents) → after_migration from [] [] t ≡ migrated_rows from t) → CommitsFrom (version_number from) false Anything (after_migration from [] []) a e → HasMigrated from a e
 later_done from a e same led = record {
   holds = λ t h. subst (Holds e.now) (same t) (led.holds tt t h);

@@ -1,4 +1,4 @@
--- Where no view has the head's name, the head tells one thing.
+-- If no view has the head's name, the head gives one schema version.
 use Rattle.portal_tables_schema.proofs.Common.{◌≡◌, ◌⊎◌, inl, inr, ◌+◌, ℕ, List, [], ◌∷◌, map, Option, Some, None, Ok, false, ◌<◌, length, arith, refl, sym, ap, subst, ◌∙◌, slice_get, IsPermutation, IsPermutation-map, IsPermutation-sym, IsPermutation-trans, Null, Row, column, Table, Term, Select, overlay, IsAnswer, Database, understood, reads_listing, IsSourceOf, position_from, table_named, view_named, Compiled, number, drafted, over, unlimited, IsScan, scan_all, passes, shown_of, keys_of, program_of, head_name, schema_version_text, QueryAnswers, IsOneRow, GivesSchemaVersion}
 use Rattle.sqlite.specs.Effect.{Reads}
 use Rattle.std.proofs.lemmas.Option.{slice_get_cases}
@@ -9,7 +9,7 @@ use Rattle.portal_tables_sql.proofs.Texts.{same_value, understood_as, refused_as
 use Rattle.portal_tables_schema.proofs.HeadVersion.{layout_is_text, untimed, unshown, one_along}
 use Rattle.portal_tables_schema.proofs.HeadScan.{layout_statement, IsScanOf, scans, finds_none, lists_none}
 
--- the text has no meaning there, or its answers have the same rows
+-- the text does not compile there, or its results have the same rows
 IsSure : Database → Type 0
 IsSure db = ((c : Compiled) → ¬ (understood db.schema schema_version_text ≡ Ok c)) ⊎ ((a b : List Row) → QueryAnswers db a → QueryAnswers db b → IsPermutation a b)
 

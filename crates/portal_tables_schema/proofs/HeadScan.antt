@@ -1,4 +1,4 @@
--- The text that asks for the layout reads the rows of whatever table has the head's name, so its answer is one.
+-- The query of the schema version reads the rows of whatever table has the head's name, so it has one result.
 use Rattle.portal_tables_schema.proofs.Common.{◌≡◌, ◌⊎◌, inl, inr, ◌+◌, ℕ, pos, negsuc, List, [], ◌∷◌, codes, Bool, true, false, if◌then◌else◌, Option, Some, None, Ok, Err, refl, sym, subst, slice_get, Int, Table, Schema, Term, lit, col, table_named, view_named, column_named, is_key, Select, misses_table, cases_Bool, CompileError, drafted, unlimited, select_of, core_of, from_table, IsPlainSelect, program_of, head_name}
 use Rattle.sqlite_schema.specs.declared.schema.Column.{Column}
 use Rattle.sqlite_schema.specs.Names.{same_name}
@@ -87,7 +87,7 @@ module _ (schema : Schema) where
   unfolding command read
   read_err e is base = rw is refl
 
--- a scan of one table that shows one term of each row; or the text is refused for something else than want of a table
+-- a scan of one table with one term of each row; or the text does not compile, for another cause than a missing table
 abbrev pub IsScanOf : Schema → Table → Type 0
 IsScanOf schema table =
     ((term : Term) × (names : List Name) × ((base : ℕ) → command schema [] base layout_statement ≡ Ok (Select (program_of (drafted table.tree [] (term ∷ []) [] unlimited)) names)))

@@ -1,4 +1,4 @@
--- What the text that asks for the layout means, tells and leaves.
+-- The query of the schema version: what it means, what it gives, and that it changes nothing.
 use Rattle.portal_tables_schema.proofs.Common.{◌≡◌, inl, inr, ◌≤◌, ℕ, pos, negsuc, true, false, List, [], ◌∷◌, map, length, codes, Option, Some, None, IsSome, Ok, Err, Result, IfOk, IfErr, OnErr, refl, sym, ap, subst, ◌∙◌, arith, cond, nat_le, slice_get, unwrap_or, ◌-◌, ◌^◌, IsPermutation, length_permutation, IsPermutation-sym, Null, Int, Error, Row, column, lit, col, Schema, Select, Rows, overlay, IsAnswer, Database, RefusesToRead, understood, IsSourceOf, State, IsUnchanged, Survives, FailsToShow, store_error, IsPlain, command_of, survives_weaker, Compiled, CompileError, Has, TableExists, IsUndone, Stores, number, drafted, over, unlimited, IsScan, scan_all, passes, shown_of, keys_of, select_of, select_means, IsText, Means, head, head_name, HeadRow, head_stored, schema_version_text, is_any_name_taken, IsNoQuery, QueryAnswers, IsOneRow, GivesSchemaVersion}
 use Rattle.sqlite.specs.declared.error.Error.TheVariants.{SqlInputError}
 use Rattle.sqlite_trees.specs.declared.error.StoreError.{StoreError}
@@ -27,11 +27,11 @@ pub unshown : (schema : Schema) (base : ℕ) → returning schema base (written.
 unfolding everything
 unshown schema base = refl
 
--- whatever stands under the name
+-- whatever has the name
 layout_idle : (schema : Schema) (c : Compiled) → understood schema schema_version_text ≡ Ok c → IsIdle c
 layout_idle = understood_idle schema_version_text (written.Select (select_of head_name (codes "layout" ∷ []) None [] None)) 0 layout_is_text untimed unshown
 
--- where the head stands
+-- if the head exists
 layout_means : (schema : Schema) (at tree : ℕ) → TableExists schema at (head tree) → Means schema schema_version_text (Select (record { lets = []; body = over tree [] (col 1 2 ∷ []) }) (codes "layout" ∷ []))
 unfolding everything
 layout_means schema at tree exists =
@@ -39,7 +39,7 @@ layout_means schema at tree exists =
     (drafted tree [] (col 1 2 ∷ []) [] unlimited) (Some Binary ∷ []) layout_is_text refl refl
     (simp (exists.named, exists.there) refl) (simp (exists.low, exists.typed) refl) refl (λ base. refl)
 
--- ---- what it leaves
+-- ---- the state after it
 
 module _ (old new : State) where
   answered : (rows : List Row) → Shown schema_version_text [] old new rows → QueryAnswers old.now rows × IsUnchanged old new
@@ -109,7 +109,7 @@ module _ (old new : State) where
   asked_undone (Ok x) outside settled h = tt
   asked_undone (Err e) outside settled h = failed e outside settled h
 
--- ---- what it tells where the head stands
+-- ---- what it gives if the head exists
 
 pub no_tables : (db : Trees) (t : ℕ) → overlay db [] t ≡ db t
 no_tables db t = elim (nat_le (2 ^ 31) t) as (λ b. unwrap_or (cond b (slice_get [] (t - 2 ^ 31)) None) (db t) ≡ db t) [ true ↦ refl | false ↦ refl ]

@@ -1,4 +1,4 @@
--- What the test of the indexes tells.
+-- What the test of the indexes means.
 use Rattle.portal_tables_schema.proofs.Common.{◌≡◌, ◌||◌, inl, inr, ℕ, Bool, true, false, List, [], ◌∷◌, Some, IsTrue, refl, sym, ap, ◌∙◌, true≢false, slice_get, option_and_then, list_any, cases_Bool, eqb-true, Schema, Database, Index, table_named, Has, both, sessions, sessions_name, Contents, TablePlaces, TablesExist, HoldsIn, HasSessionIndex, is_indexed, has_index_on, is_session_index}
 use Rattle.std.proofs.lemmas.Slice.Eq.{bytes_eq-Decides}
 

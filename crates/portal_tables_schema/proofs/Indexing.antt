@@ -1,4 +1,4 @@
--- CREATE INDEX leaves all that the tables hold, and the index stands.
+-- CREATE INDEX keeps all that the tables hold, and the index exists after it.
 use Rattle.portal_tables_schema.proofs.Common.{◌≡◌, ℕ, Bool, true, false, List, [], ◌∷◌, codes, Ok, refl, sym, ap, subst, ◌∙◌, Schema, Table, Database, State, ExecutesInside, Index, Order, next_tree, Has, all_has, head, plans, batches, vouchers, sessions, grants, counts, totals, requests, Contents, TablePlace, IsTableAt, TablesExist, HoldsIn, HasSessionIndex, KeepsOthers, moved, MakesRowsFrom}
 use Rattle.sqlite_schema.specs.Names.{same_name}
 use Rattle.sqlite_catalog.specs.Change.{with_index, indexed}
@@ -34,7 +34,7 @@ index_defined : (tree : ℕ) → (order : Order) × (index_defined_by (sessions 
 unfolding everything
 index_defined tree = (_, refl)
 
--- the index stands
+-- the index exists
 now_indexed : (db : Database) (tree : ℕ) (after : Database) → HasIndexed db (sessions tree) index_text after → HasSessionIndex after.schema tree
 unfolding same_name
 now_indexed db tree after k =

@@ -80,7 +80,7 @@ rises (m ∷ ms) rise = rises_from 0 m ms (omega arith) rise
 
 -- ---- what the steps of a migration come to
 
--- from layout 1, with the counters that rise
+-- from schema version 1, with counters in the order of their keys
 pub brought_first : (counts : List CountValue) (totals : List Total) → Rise totals → (t : Contents)
     → after_migration First counts totals t ≡ with_schema_version this_schema_version (record t { counts = counts_read counts; totals = totals_read totals; requests = [] })
 brought_first counts totals rise t =

@@ -1,4 +1,4 @@
--- A table and an index that are made keep the tables of others.
+-- Creating a table or an index keeps the other tables.
 use Rattle.portal_tables_schema.proofs.Common.{inl, inr, List, ◌∷◌, [], ◌++◌, sym, subst, Schema, Table, Database, Has, all_has, HasMade, KeepsOthers, others_then, HasMadeFirst, HasMadeLast}
 
 pub has_more : {X : Type 0} (xs ys : List X) (x : X) → Has xs x → Has (xs ++ ys) x

@@ -1,4 +1,4 @@
--- What creating the tables makes of a database.
+-- What creating the product's tables makes of a database.
 use Rattle.std.specs.Prelude.{◌≡◌, [], ◌∷◌, true, false, Bool, IsTrue, not, is_some, ◌&&◌, ◌||◌}
 use Rattle.sqlite.specs.Schema.{Schema}
 use Rattle.sqlite.specs.Tree.{Trees}
@@ -15,7 +15,7 @@ use Rattle.portal_tables_rows.specs.Steps.{first_head}
 use Rattle.portal_tables_rows.specs.Holds.{Holds, CrashStateHoldsRows, this_schema_version}
 use Rattle.portal_tables_rows.specs.Others.{KeepsOthers, CrashStateHasOthers}
 
--- no foreign key that is there acts on a table of these names, and tables that count have the table that keeps the numbers
+-- no foreign key acts on a table of these names, and a schema with AUTOINCREMENT has sqlite_sequence
 pub record AreNamesFree (schema : Schema) : Type 0 where
   pub numbered : HasItsSequence schema
   pub heads : IsUnactedBy schema head_name
@@ -33,10 +33,11 @@ abbrev pub are_names_free : Schema → Bool
 are_names_free schema =
     (not (any_autoincrement schema) || is_some (sequence schema)) && has_no_action_on_ours schema
 
--- a step of a transaction that makes tables, where a schema whose tables count has the table that keeps the numbers
+-- a step of a transaction that creates tables, if a schema with AUTOINCREMENT has sqlite_sequence
 abbrev pub Makes : (Database → Database → Type 0) → State → State → Type 0
 Makes Made old new = HasItsSequence old.now.schema → Made old.now new.now × HasItsSequence new.now.schema × Shows old new new.now old.committed true
 
+-- the first four tables
 pub record HasMadeFirst (db after : Database) : Type 0 where
   pub one : Database
   pub two : Database
@@ -52,6 +53,7 @@ pub record HasMadeCounters (db after : Database) : Type 0 where
   pub counts : HasMade db (counts 0) one
   pub totals : HasMade one (totals 0) after
 
+-- the last five tables
 pub record HasMadeLast (db after : Database) : Type 0 where
   pub one : Database
   pub two : Database
@@ -66,11 +68,11 @@ pub record HasMadeLast (db after : Database) : Type 0 where
 abbrev pub no_rows : Contents
 no_rows = record { heads = []; plans = []; batches = []; vouchers = []; sessions = []; grants = []; counts = []; totals = []; requests = [] }
 
--- a new store: one row of the head, and no other
+-- the rows of a new database: the head row and no other
 abbrev pub new_store : Contents
 new_store = record no_rows { heads = first_head this_schema_version ∷ [] }
 
--- inside a transaction the tables were made beside those of others, and nothing is committed
+-- Inside a transaction the tables were created and the other tables kept. Nothing is committed.
 pub record Builds (old new : State) : Type 0 where
   pub holds : Holds new.now new_store
   pub others : KeepsOthers old.now new.now
@@ -83,12 +85,13 @@ pub record IsCommitted (s : State) : Type 0 where
   pub ended : s.in_transaction ≡ false
   pub same : s.committed ≡ s.now
 
--- a new store was made beside the tables of others, where there was room for it, and all is committed
+-- If the names were free, the tables were created and the other tables kept. All is committed.
 pub record IsCreated (old new : State) : Type 0 where
   pub made : AreNamesFree old.now.schema → Holds new.now new_store
   pub others : AreNamesFree old.now.schema → KeepsOthers old.now new.now
   pub committed : IsCommitted new
 
--- what a stop may leave beside what it could leave before
+-- the crash states that are added, if the names were free: the rows of a new database, with the other tables
 abbrev pub MayBuild : State → Trees → Type 0
-MayBuild old trees = AreNamesFree old.now.schema → CrashStateHoldsRows trees new_store × CrashStateHasOthers old.now trees
+MayBuild old trees =
+    AreNamesFree old.now.schema → CrashStateHoldsRows trees new_store × CrashStateHasOthers old.now trees

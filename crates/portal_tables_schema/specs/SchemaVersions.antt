@@ -1,4 +1,4 @@
--- What stands of the product's tables in a store, by their names, and the layout that the head tells.
+-- Which of the product's tables a schema has, by their names, and which schema version the head row gives.
 use Rattle.std.specs.Prelude.{◌≡◌, ◌≤◌, ◌⊎◌, ℕ, Bool, ◌||◌, ◌&&◌, is_some, List, [], ◌∷◌, codes, Option, Some, None, Ok, Err, false, nat_eq, bytes_eq, slice_get, option_and_then}
 use Rattle.sqlite.specs.Order.{Row, column}
 use Rattle.std.specs.List.{list_any}
@@ -27,27 +27,27 @@ is_any_name_taken schema =
     is_name_taken schema head_name
     || (is_name_taken schema plans_name || (is_name_taken schema batches_name || (is_name_taken schema vouchers_name || (is_name_taken schema sessions_name || (is_name_taken schema grants_name || (is_name_taken schema counts_name || (is_name_taken schema totals_name || (is_name_taken schema requests_name))))))))
 
--- no foreign key acts on a table of the product's names, whether such a table stands or not
+-- no foreign key acts on one of the product's table names, whether that table exists or not
 abbrev pub has_no_action_on_ours : Schema → Bool
 has_no_action_on_ours schema =
     are_harmless head_name schema
     && (are_harmless plans_name schema && (are_harmless batches_name schema && (are_harmless vouchers_name schema && (are_harmless sessions_name schema && (are_harmless grants_name schema && (are_harmless counts_name schema && (are_harmless totals_name schema && are_harmless requests_name schema)))))))
 
--- the table stands
+-- a table has the name
 abbrev pub has_table : Schema → List ℕ → Bool
 has_table schema name = is_some (table_named schema name)
 
--- so does each of the product's tables
+-- each of the product's tables exists
 abbrev pub has_our_tables : Schema → Bool
 has_our_tables schema =
     has_table schema head_name
     && (has_table schema plans_name && (has_table schema batches_name && (has_table schema vouchers_name && (has_table schema sessions_name && (has_table schema grants_name && (has_table schema counts_name && (has_table schema totals_name && has_table schema requests_name)))))))
 
--- each stands, and no foreign key acts on one of them
+-- each of them exists, and no foreign key acts on one of them
 abbrev pub is_usable_schema : Schema → Bool
 is_usable_schema schema = has_our_tables schema && has_no_action_on_ours schema
 
--- the index is that by which the last session of a device is found, on the sessions in the tree
+-- the index by which the last session of a device is found, on the table with this tree
 abbrev pub is_session_index : ℕ → Index → Bool
 is_session_index tree index = same_name index.name index_name && (nat_eq index.table tree && bytes_eq index.columns (2 ∷ 0 ∷ []))
 
@@ -56,20 +56,21 @@ abbrev pub has_index_on : List Index → Option Table → Bool
 has_index_on indexes None = false
 has_index_on indexes (Some table) = list_any (is_session_index table.tree) indexes
 
--- it has been made on the product's table of sessions
+-- the product's table of sessions has this index
 abbrev pub is_indexed : Schema → Bool
 is_indexed schema = has_index_on schema.indexes (option_and_then (slice_get schema.tables) (table_named schema sessions_name))
 
--- ---- the layout
+-- ---- the schema version
 
+-- the query of the schema version
 abbrev pub schema_version_text : List ℕ
 schema_version_text = codes "SELECT layout FROM portal_head"
 
--- the text means nothing under the schema
+-- the query does not compile under the schema
 abbrev pub IsNoQuery : Schema → Type 0
 IsNoQuery schema = (fault : CompileError) × (understood schema schema_version_text ≡ Err fault)
 
--- the text answers these rows
+-- the query gives these rows
 pub record QueryAnswers (db : Database) (rows : List Row) : Type 0 where
   pub compiled : Compiled
   pub is : understood db.schema schema_version_text ≡ Ok compiled
@@ -77,11 +78,14 @@ pub record QueryAnswers (db : Database) (rows : List Row) : Type 0 where
   pub from : IsSourceOf (reads_listing db.schema schema_version_text) db source
   pub reads : Reads compiled.command source [] rows
 
--- the rows are one, which begins with a layout from 1 on
+-- there is one row, which begins with a schema version from 1 on
 abbrev pub IsOneRow : List Row → ℕ → Type 0
-IsOneRow rows schema_version = (row : Row) × (rows ≡ row ∷ []) × (column row 0 ≡ number schema_version) × (1 ≤ schema_version)
+IsOneRow rows schema_version =
+    (row : Row) × (rows ≡ row ∷ []) × (column row 0 ≡ number schema_version) × (1 ≤ schema_version)
 
--- The head is one row with this layout, by what the text answers. None: the text is refused, or answers something else.
+-- The head is one row with this schema version, as the query gives it. None: the query does not compile, or
+-- gives something else.
 abbrev pub GivesSchemaVersion : Database → Option ℕ → Type 0
-GivesSchemaVersion db (Some schema_version) = (rows : List Row) × QueryAnswers db rows × IsOneRow rows schema_version
+GivesSchemaVersion db (Some schema_version) =
+    (rows : List Row) × QueryAnswers db rows × IsOneRow rows schema_version
 GivesSchemaVersion db None = IsNoQuery db.schema ⊎ ((rows : List Row) × QueryAnswers db rows × ((schema_version : ℕ) → ¬ IsOneRow rows schema_version))

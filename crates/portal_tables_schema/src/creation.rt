@@ -1,4 +1,4 @@
-//! New tables.
+//! Creates the product's tables, their index and the head row.
 
 ghost use Rattle.std.specs.Prelude.{◌≡◌, ℕ, Bool, true, false};
 ghost use Rattle.portal_tables_sql.specs.Commits.{Commits};
@@ -8,7 +8,13 @@ ghost use Rattle.portal_tables_sql.specs.States.{IsUndone};
 ghost use Rattle.portal_tables_rows.specs.Schema.{head, plans, batches, vouchers, sessions, grants, counts};
 ghost use Rattle.portal_tables_rows.specs.Schema.{totals, requests};
 ghost use Rattle.portal_tables_schema.specs.Migrations.{MakesRowsFrom};
-ghost use Rattle.portal_tables_schema.specs.Creation.{AreNamesFree, HasMadeCounters, HasMadeFirst, HasMadeLast, Builds};
+ghost use Rattle.portal_tables_schema.specs.Creation.{
+  AreNamesFree,
+  HasMadeCounters,
+  HasMadeFirst,
+  HasMadeLast,
+  Builds,
+};
 ghost use Rattle.portal_tables_schema.specs.Creation.{IsCreated, Makes, MayBuild, are_names_free};
 
 use crate::schema_versions::has_no_action_on_ours;
@@ -18,6 +24,7 @@ use portal_tables_sql::room::{has_autoincrement, has_sequence};
 use sqlite::{Alter, Connection, Error, Transaction};
 use sqlite_schema::schema::Schema;
 
+/// Creates the table `portal_head`.
 fn make_head_table<S: Alter>(tx: &mut Transaction<'_, S>) -> Result<(), Error>
     ensures { Inside S.Store (Makes (λ db after. HasMade db (head 0) after)) tx.old tx.new result }
 {
@@ -29,6 +36,7 @@ fn make_head_table<S: Alter>(tx: &mut Transaction<'_, S>) -> Result<(), Error>
     )
 }
 
+/// Creates the table `portal_plans`.
 fn make_plans_table<S: Alter>(tx: &mut Transaction<'_, S>) -> Result<(), Error>
     ensures { Inside S.Store (Makes (λ db after. HasMade db (plans 0) after)) tx.old tx.new result }
 {
@@ -41,6 +49,7 @@ fn make_plans_table<S: Alter>(tx: &mut Transaction<'_, S>) -> Result<(), Error>
     )
 }
 
+/// Creates the table `portal_batches`.
 fn make_batches_table<S: Alter>(tx: &mut Transaction<'_, S>) -> Result<(), Error>
     ensures { Inside S.Store (Makes (λ db after. HasMade db (batches 0) after)) tx.old tx.new result }
 {
@@ -53,6 +62,7 @@ fn make_batches_table<S: Alter>(tx: &mut Transaction<'_, S>) -> Result<(), Error
     )
 }
 
+/// Creates the table `portal_vouchers`.
 fn make_vouchers_table<S: Alter>(tx: &mut Transaction<'_, S>) -> Result<(), Error>
     ensures { Inside S.Store (Makes (λ db after. HasMade db (vouchers 0) after)) tx.old tx.new result }
 {
@@ -65,6 +75,7 @@ fn make_vouchers_table<S: Alter>(tx: &mut Transaction<'_, S>) -> Result<(), Erro
     )
 }
 
+/// Creates the table `portal_sessions`.
 fn make_sessions_table<S: Alter>(tx: &mut Transaction<'_, S>) -> Result<(), Error>
     ensures { Inside S.Store (Makes (λ db after. HasMade db (sessions 0) after)) tx.old tx.new result }
 {
@@ -77,6 +88,7 @@ fn make_sessions_table<S: Alter>(tx: &mut Transaction<'_, S>) -> Result<(), Erro
     )
 }
 
+/// Creates the table `portal_grants`, which holds the redemptions.
 fn make_grants_table<S: Alter>(tx: &mut Transaction<'_, S>) -> Result<(), Error>
     ensures { Inside S.Store (Makes (λ db after. HasMade db (grants 0) after)) tx.old tx.new result }
 {
@@ -90,6 +102,7 @@ fn make_grants_table<S: Alter>(tx: &mut Transaction<'_, S>) -> Result<(), Error>
     )
 }
 
+/// Creates the table `portal_counts`, which holds how often each voucher was redeemed.
 pub(crate) fn make_counts_table<S: Alter>(tx: &mut Transaction<'_, S>) -> Result<(), Error>
     ensures { Inside S.Store (Makes (λ db after. HasMade db (counts 0) after)) tx.old tx.new result }
 {
@@ -101,6 +114,7 @@ pub(crate) fn make_counts_table<S: Alter>(tx: &mut Transaction<'_, S>) -> Result
     )
 }
 
+/// Creates the table `portal_totals`, which holds the end of each session and its remaining allowance.
 pub(crate) fn make_totals_table<S: Alter>(tx: &mut Transaction<'_, S>) -> Result<(), Error>
     ensures { Inside S.Store (Makes (λ db after. HasMade db (totals 0) after)) tx.old tx.new result }
 {
@@ -112,6 +126,7 @@ pub(crate) fn make_totals_table<S: Alter>(tx: &mut Transaction<'_, S>) -> Result
     )
 }
 
+/// Creates the table `portal_requests`, which holds the idempotent requests.
 pub(crate) fn make_requests_table<S: Alter>(tx: &mut Transaction<'_, S>) -> Result<(), Error>
     ensures { Inside S.Store (Makes (λ db after. HasMade db (requests 0) after)) tx.old tx.new result }
 {
@@ -124,6 +139,7 @@ pub(crate) fn make_requests_table<S: Alter>(tx: &mut Transaction<'_, S>) -> Resu
     )
 }
 
+/// Creates the first four tables: head, plans, batches and vouchers.
 fn make_first_tables<S: Alter>(tx: &mut Transaction<'_, S>) -> Result<(), Error>
     ensures { Inside S.Store (Makes HasMadeFirst) tx.old tx.new result }
 {
@@ -134,7 +150,7 @@ fn make_first_tables<S: Alter>(tx: &mut Transaction<'_, S>) -> Result<(), Error>
     Ok(())
 }
 
-/// Makes the two tables of counters.
+/// Creates the two tables of counters, `portal_counts` and `portal_totals`.
 fn make_counter_tables<S: Alter>(tx: &mut Transaction<'_, S>) -> Result<(), Error>
     ensures { Inside S.Store (Makes HasMadeCounters) tx.old tx.new result }
 {
@@ -143,6 +159,7 @@ fn make_counter_tables<S: Alter>(tx: &mut Transaction<'_, S>) -> Result<(), Erro
     Ok(())
 }
 
+/// Creates the last five tables: sessions, redemptions, the two of counters, and requests.
 fn make_last_tables<S: Alter>(tx: &mut Transaction<'_, S>) -> Result<(), Error>
     ensures { Inside S.Store (Makes HasMadeLast) tx.old tx.new result }
 {
@@ -153,7 +170,7 @@ fn make_last_tables<S: Alter>(tx: &mut Transaction<'_, S>) -> Result<(), Error>
     Ok(())
 }
 
-/// Makes the index by which the last session of a device is found.
+/// Creates the index on `portal_sessions` by which the last session of a device is found.
 pub(crate) fn make_session_index<S: Alter>(tx: &mut Transaction<'_, S>) -> Result<(), Error>
     ensures { Inside S.Store (λ old new. (schema_version : ℕ) (had : Bool) →
         MakesRowsFrom schema_version had schema_version true (λ t. t) old new)
@@ -166,6 +183,7 @@ pub(crate) fn make_session_index<S: Alter>(tx: &mut Transaction<'_, S>) -> Resul
     )
 }
 
+/// Creates all tables, the index and the head row, inside a transaction. It does not commit.
 fn create_schema_inside<S: Alter>(tx: &mut Transaction<'_, S>) -> Result<(), Error>
     ensures { Inside S.Store (λ old new. AreNamesFree old.now.schema → Builds old new) tx.old tx.new result }
 {
@@ -176,7 +194,9 @@ fn create_schema_inside<S: Alter>(tx: &mut Transaction<'_, S>) -> Result<(), Err
     Ok(())
 }
 
-/// Makes the tables of this version's layout, with the index, and the row of the head, in one transaction.
+/// Creates the tables of this schema version, the index and the head row, in one transaction. On an
+/// error the database is as it was while the connection is open; a crash state may have the whole
+/// change.
 pub fn create_schema<S: Alter>(conn: &mut Connection<S>) -> Result<(), Error>
     requires { conn.old.in_transaction ≡ false }
     ensures { Commits S.Store IsCreated (λ old new. AreNamesFree old.now.schema → IsUndone old new) MayBuild
@@ -188,7 +208,8 @@ pub fn create_schema<S: Alter>(conn: &mut Connection<S>) -> Result<(), Error>
     Ok(())
 }
 
-/// Whether the schema has room for the tables: no foreign key acts on a table of their names.
+/// Whether the product's tables can be added: no foreign key acts on a table of their names, and a
+/// schema that uses AUTOINCREMENT has `sqlite_sequence`.
 pub fn can_add_tables(schema: &Schema) -> bool
     ensures { result ≡ are_names_free schema.now }
 {

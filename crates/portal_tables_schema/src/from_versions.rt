@@ -1,4 +1,5 @@
-//! A store of an older layout is brought to this version's.
+//! Migrates a database of an older schema version to this version, with counters that are computed from
+//! its rows.
 
 ghost use Rattle.std.specs.Prelude.{◌≡◌, ◌<◌, ◌^◌, ◌↔◌, OnOk, OnErr, IfOk, IsTrue, All, true, false, map};
 ghost use Rattle.sqlite.specs.Held.{state};
@@ -8,12 +9,29 @@ ghost use Rattle.portal_tables_sql.specs.Looks.{Looks};
 ghost use Rattle.portal_tables_queries.specs.Asks.{Anything};
 ghost use Rattle.portal_tables_rows.specs.Contents.{Contents};
 ghost use Rattle.portal_tables_rows.specs.First.{HoldsFirst};
-ghost use Rattle.portal_tables_rows.specs.Foreign.{AreOwn, AreOwnRows, IsOwnVoucher, NotForeign, BlamesForeign};
+ghost use Rattle.portal_tables_rows.specs.Foreign.{
+  AreOwn,
+  AreOwnRows,
+  IsOwnVoucher,
+  NotForeign,
+  BlamesForeign,
+};
 ghost use Rattle.portal_tables_rows.specs.Holds.{HoldsIn};
 ghost use Rattle.portal_tables_queries.specs.Audit.{OfFirst};
 ghost use Rattle.portal_tables_schema.specs.declared.schema_versions.OldSchema.TheVariants.{First};
-ghost use Rattle.portal_tables_schema.specs.Migrations.{CanMigrate, CommitsFrom, MayCommitFrom, HasMigrated, MayMigrate};
-ghost use Rattle.portal_tables_schema.specs.Migrations.{after_migration, counts_read, totals_read, counts_summed};
+ghost use Rattle.portal_tables_schema.specs.Migrations.{
+  CanMigrate,
+  CommitsFrom,
+  MayCommitFrom,
+  HasMigrated,
+  MayMigrate,
+};
+ghost use Rattle.portal_tables_schema.specs.Migrations.{
+  after_migration,
+  counts_read,
+  totals_read,
+  counts_summed,
+};
 ghost use Rattle.portal_tables_schema.specs.Migrations.{totals_summed, has_free_names, version_number};
 ghost use Rattle.portal_tables_queries.specs.Sums.{SumsFit, grant_read};
 
@@ -28,10 +46,10 @@ use portal_tables_rows::column_values::Total;
 use portal_tables_rows::rows::{CountValue, RowError};
 use sqlite::{Alter, Connection, Error, ErrorCode};
 
-/// The first number that a column of integers does not keep.
+/// 2^63, the first number that an INTEGER column cannot hold.
 const LIMIT: u64 = 1 << 63;
 
-/// The counts of all vouchers, summed over all redemptions.
+/// Reads all vouchers and counts the redemptions of each.
 fn compute_counts<S: Alter>(
     conn: &mut Connection<S>,
     grants: &[GrantValue],
@@ -47,7 +65,8 @@ fn compute_counts<S: Alter>(
     Ok(sum_counts(*vouchers.allocator(), vouchers.as_slice(), grants)?)
 }
 
-/// The ends of all sessions and what remains of their allowances, summed over all redemptions.
+/// Reads all plans and sessions, and computes the end of each session and its remaining allowance from
+/// its redemptions.
 fn compute_totals<S: Alter>(
     conn: &mut Connection<S>,
     grants: &[GrantValue],
@@ -70,22 +89,23 @@ fn compute_totals<S: Alter>(
     )?)
 }
 
-/// Whether a column of integers keeps each count.
+/// Whether each count fits in an INTEGER column.
 fn counts_fit(counts: &[CountValue]) -> bool
     ensures { IsTrue result ↔ All (λ k. k.redeemed < 2 ^ 63) counts.now }
 {
     counts.iter().all(|count| count.redeemed < LIMIT)
 }
 
-/// Whether a column of integers keeps the number of each session.
+/// Whether each session number fits in an INTEGER column.
 fn totals_fit(totals: &[Total]) -> bool
     ensures { IsTrue result ↔ All (λ m. m.number < 2 ^ 63) totals.now }
 {
     totals.iter().all(|total| total.number < LIMIT)
 }
 
-/// Brings the store to this version's layout with these counters. A number that no column keeps is a
-/// foreign row, as is a foreign key of another table that acts on the names of the tables that come.
+/// Migrates the database to this schema version with these counters, in one transaction. Fails with
+/// `ForeignRow` if a number does not fit in an INTEGER column, or if a foreign key of another table acts
+/// on a name of the new tables.
 fn migrate_with_counters<S: Alter>(
     conn: &mut Connection<S>,
     from: OldSchema,
@@ -93,7 +113,8 @@ fn migrate_with_counters<S: Alter>(
     totals: &[Total],
 ) -> Result<(), RowError>
     ensures done { HasCleanDisk (state S.Store conn.new)
-        → OnOk result (CommitsFrom (version_number from) false Anything (after_migration from counts.now totals.now)
+        → OnOk result (CommitsFrom (version_number from) false Anything
+        (after_migration from counts.now totals.now)
         (state S.Store conn.old) (state S.Store conn.new)) }
     ensures undone { HasCleanDisk (state S.Store conn.new) → conn.old.in_transaction ≡ false
         → OnErr result (IsUndone (state S.Store conn.old) (state S.Store conn.new)) }
@@ -115,7 +136,7 @@ fn migrate_with_counters<S: Alter>(
     Ok(())
 }
 
-/// Brings a store of layout 1 to this version's, in one transaction, with the counters that its rows come to.
+/// Migrates a database of schema version 1, in one transaction. The counters are computed from its rows.
 fn migrate_from_first<S: Alter>(conn: &mut Connection<S>) -> Result<(), RowError>
     ensures done { HasCleanDisk (state S.Store conn.new) → IsTrue (state S.Store conn.old).is_open
         → OnOk result (HasMigrated First (state S.Store conn.old) (state S.Store conn.new)) }
@@ -126,7 +147,8 @@ fn migrate_from_first<S: Alter>(conn: &mut Connection<S>) -> Result<(), RowError
     ensures crash { Survives (state S.Store conn.old) (state S.Store conn.new)
         (MayMigrate First (state S.Store conn.old)) }
     ensures foreign { OfFirst (state S.Store conn.old) (state S.Store conn.new)
-        (λ t. has_free_names (state S.Store conn.old).now.schema ≡ true → CanMigrate First t → NotForeign result) }
+        (λ t. has_free_names (state S.Store conn.old).now.schema ≡ true → CanMigrate First t
+        → NotForeign result) }
 {
     let grants = read_all_grants(conn)?;
     let counts = compute_counts(conn, grants.as_slice())?;
@@ -135,8 +157,8 @@ fn migrate_from_first<S: Alter>(conn: &mut Connection<S>) -> Result<(), RowError
     Ok(())
 }
 
-/// Brings a store of an older layout to this version's, with the index of the sessions, in one
-/// transaction: all of it, or nothing.
+/// Migrates a database of an older schema version to this version and adds the index of the sessions, in
+/// one transaction: all of it or nothing.
 pub fn migrate_schema<S: Alter>(conn: &mut Connection<S>, from: OldSchema) -> Result<(), RowError>
     ensures done { HasCleanDisk (state S.Store conn.new) → IsTrue (state S.Store conn.old).is_open
         → OnOk result (HasMigrated from (state S.Store conn.old) (state S.Store conn.new)) }

@@ -1,5 +1,5 @@
-//! The layouts of the product's tables: which one a store has, how a new store is made, and how an older
-//! one is brought to this version's.
+//! The schema of the product's tables: which schema version a database has, how the tables are created,
+//! and how a database of an older schema version is migrated.
 #![tactic(auto)]
 
 pub mod creation;

@@ -1,4 +1,4 @@
-//! One transaction from the tables of an older layout to those of this version.
+//! The transaction that takes the tables of an older schema version to those of this version.
 
 ghost use Rattle.std.specs.Prelude.{◌≡◌, ◌<◌, ◌^◌, Bool, true, false, IsTrue, All};
 ghost use Rattle.portal_tables_sql.specs.Commits.{Commits};
@@ -6,8 +6,21 @@ ghost use Rattle.portal_tables_sql.specs.Inside.{Inside};
 ghost use Rattle.portal_tables_sql.specs.States.{IsUndone};
 ghost use Rattle.portal_tables_rows.specs.Holds.{this_schema_version};
 ghost use Rattle.portal_tables_rows.specs.Steps.{Writes, with_counts};
-ghost use Rattle.portal_tables_schema.specs.Migrations.{HasFreeNames, has_free_names, MakesRowsFrom, CommitsFrom, MayCommitFrom};
-ghost use Rattle.portal_tables_schema.specs.Migrations.{version_number, without_counters, without_requests, with_empty_tables, with_totals, with_counters};
+ghost use Rattle.portal_tables_schema.specs.Migrations.{
+  HasFreeNames,
+  has_free_names,
+  MakesRowsFrom,
+  CommitsFrom,
+  MayCommitFrom,
+};
+ghost use Rattle.portal_tables_schema.specs.Migrations.{
+  version_number,
+  without_counters,
+  without_requests,
+  with_empty_tables,
+  with_totals,
+  with_counters,
+};
 ghost use Rattle.portal_tables_schema.specs.Migrations.{after_migration, counts_read, totals_read};
 
 use crate::creation::{
@@ -22,7 +35,7 @@ use portal_tables_sql::room::{has_autoincrement, has_no_action_on, has_sequence}
 use sqlite::{Alter, Connection, Error, Transaction};
 use sqlite_schema::schema::Schema;
 
-/// Makes the three tables that layout 1 lacks, with no row.
+/// Creates the three tables that schema version 1 lacks, without rows.
 fn add_tables_since_first<S: Alter>(tx: &mut Transaction<'_, S>) -> Result<(), Error>
     ensures { Inside S.Store (λ old new. HasFreeNames old.now.schema → (had : Bool) →
         MakesRowsFrom 1 had this_schema_version had (λ t. without_requests (without_counters t)) old new)
@@ -34,7 +47,7 @@ fn add_tables_since_first<S: Alter>(tx: &mut Transaction<'_, S>) -> Result<(), E
     Ok(())
 }
 
-/// Makes the table of requests that layout 2 lacks, with no row.
+/// Creates the table of requests, which schema version 2 lacks, without rows.
 fn add_tables_since_second<S: Alter>(tx: &mut Transaction<'_, S>) -> Result<(), Error>
     ensures { Inside S.Store (λ old new. HasFreeNames old.now.schema → (had : Bool) →
         MakesRowsFrom 2 had this_schema_version had without_requests old new)
@@ -44,7 +57,7 @@ fn add_tables_since_second<S: Alter>(tx: &mut Transaction<'_, S>) -> Result<(), 
     Ok(())
 }
 
-/// Makes the tables that the layout lacks, with no row.
+/// Creates the tables that the schema version `from` lacks, without rows.
 fn add_missing_tables<S: Alter>(tx: &mut Transaction<'_, S>, from: OldSchema) -> Result<(), Error>
     ensures { Inside S.Store (λ old new. HasFreeNames old.now.schema → (had : Bool) →
         MakesRowsFrom (version_number from) had this_schema_version had (with_empty_tables from) old new)
@@ -64,9 +77,10 @@ fn add_missing_tables<S: Alter>(tx: &mut Transaction<'_, S>, from: OldSchema) ->
     }
 }
 
-/// Makes the index of the sessions where it is missing.
+/// Creates the index of the sessions, unless `has_index`.
 fn add_missing_index<S: Alter>(tx: &mut Transaction<'_, S>, has_index: bool) -> Result<(), Error>
-    ensures { Inside S.Store (λ old new. MakesRowsFrom this_schema_version has_index this_schema_version true (λ t. t) old new)
+    ensures { Inside S.Store
+        (λ old new. MakesRowsFrom this_schema_version has_index this_schema_version true (λ t. t) old new)
         tx.old tx.new result }
 {
     if has_index {
@@ -76,14 +90,16 @@ fn add_missing_index<S: Alter>(tx: &mut Transaction<'_, S>, has_index: bool) -> 
     Ok(())
 }
 
-/// Makes the tables and the index that the layout lacks.
+/// Creates the tables that the schema version `from` lacks, and the index of the sessions unless
+/// `has_index`.
 fn add_tables_and_index<S: Alter>(
     tx: &mut Transaction<'_, S>,
     from: OldSchema,
     has_index: bool,
 ) -> Result<(), Error>
     ensures { Inside S.Store (λ old new. HasFreeNames old.now.schema →
-        MakesRowsFrom (version_number from) has_index this_schema_version true (with_empty_tables from) old new)
+        MakesRowsFrom (version_number from) has_index this_schema_version true
+        (with_empty_tables from) old new)
         tx.old tx.new result }
 {
     add_missing_tables(tx, from)?;
@@ -91,7 +107,7 @@ fn add_tables_and_index<S: Alter>(
     Ok(())
 }
 
-/// Adds the counts of vouchers, in order.
+/// Inserts the counts of vouchers, in this order.
 fn insert_all_counts<S: Alter>(
     tx: &mut Transaction<'_, S>,
     kept: &[CountValue],
@@ -105,7 +121,7 @@ fn insert_all_counts<S: Alter>(
     Ok(())
 }
 
-/// Adds the ends of sessions and what remains of their allowances, in order.
+/// Inserts the ends of sessions and their remaining allowances, in this order.
 fn insert_totals<S: Alter>(tx: &mut Transaction<'_, S>, totals: &[Total]) -> Result<(), Error>
     requires { All (λ m. m.number < 2 ^ 63) totals.now }
     ensures { Writes S.Store (with_totals (totals_read totals.now)) tx.old tx.new result }
@@ -116,7 +132,7 @@ fn insert_totals<S: Alter>(tx: &mut Transaction<'_, S>, totals: &[Total]) -> Res
     Ok(())
 }
 
-/// Adds these counters.
+/// Inserts these counters: the counts of vouchers, then the totals of sessions.
 fn insert_counters<S: Alter>(
     tx: &mut Transaction<'_, S>,
     kept: &[CountValue],
@@ -131,6 +147,8 @@ fn insert_counters<S: Alter>(
     Ok(())
 }
 
+/// Adds the missing tables and the index, inserts the counters and sets the schema version, inside a
+/// transaction. It does not commit.
 fn migrate_inside<S: Alter>(
     tx: &mut Transaction<'_, S>,
     from: OldSchema,
@@ -141,7 +159,8 @@ fn migrate_inside<S: Alter>(
     requires counts_fit { All (λ k. k.redeemed < 2 ^ 63) kept.now }
     requires totals_fit { All (λ m. m.number < 2 ^ 63) totals.now }
     ensures { Inside S.Store (λ old new. HasFreeNames old.now.schema →
-        MakesRowsFrom (version_number from) has_index this_schema_version true (after_migration from kept.now totals.now) old new)
+        MakesRowsFrom (version_number from) has_index this_schema_version true
+        (after_migration from kept.now totals.now) old new)
         tx.old tx.new result }
 {
     add_tables_and_index(tx, from, has_index)?;
@@ -150,8 +169,10 @@ fn migrate_inside<S: Alter>(
     Ok(())
 }
 
-/// One transaction: the tables that the layout lacks, with these counters in this order, the index where
-/// `has_index` says that it is missing, and the number of this version's layout; or nothing.
+/// Migrates to this schema version in one transaction: it adds the missing tables, inserts these
+/// counters in this order, creates the index unless `has_index`, and sets the schema version. On an
+/// error the database is as it was while the connection is open; a crash state may have the whole
+/// change.
 pub fn commit_migration<S: Alter>(
     conn: &mut Connection<S>,
     from: OldSchema,
@@ -165,7 +186,8 @@ pub fn commit_migration<S: Alter>(
     ensures { Commits S.Store
         (CommitsFrom (version_number from) has_index HasFreeNames (after_migration from kept.now totals.now))
         (λ old new. HasFreeNames old.now.schema → IsUndone old new)
-        (MayCommitFrom (version_number from) has_index HasFreeNames (after_migration from kept.now totals.now))
+        (MayCommitFrom (version_number from) has_index HasFreeNames
+        (after_migration from kept.now totals.now))
         conn.old conn.new result }
 {
     let mut tx = conn.transaction();
@@ -174,7 +196,8 @@ pub fn commit_migration<S: Alter>(
     Ok(())
 }
 
-/// Whether no foreign key acts on a table of the names that came after layout 1.
+/// Whether no foreign key acts on a name of the tables that were added after schema version 1, and a
+/// schema that uses AUTOINCREMENT has `sqlite_sequence`.
 fn has_free_names(schema: &Schema) -> bool
     ensures { result ≡ has_free_names schema.now }
 {
@@ -184,7 +207,7 @@ fn has_free_names(schema: &Schema) -> bool
         && has_no_action_on(schema, b"portal_requests")
 }
 
-/// Whether the schema has room for the tables that came after layout 1: no foreign key acts on a table of
+/// Whether the tables that were added after schema version 1 can be created: no foreign key acts on
 /// their names.
 pub fn can_add_later_tables(schema: &Schema) -> bool
     ensures test { result ≡ has_free_names schema.now }

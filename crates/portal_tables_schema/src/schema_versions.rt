@@ -1,4 +1,4 @@
-//! What stands of the product's tables in a store, by their names, and the layout that the head tells.
+//! Finds which of the product's tables a schema has, and reads the schema version from the head row.
 
 ghost use Rattle.std.specs.Prelude.{◌≡◌, ℕ, true, false, IsTrue, OnErr, IfOk, IfErr, IfSome, IfNone};
 ghost use Rattle.std.specs.List.{list_any};
@@ -8,8 +8,19 @@ ghost use Rattle.sqlite.specs.declared.error.Error.TheVariants.{SqlInputError};
 ghost use Rattle.sqlite_resolve.specs.declared.error.CompileError.{CompileError};
 ghost use Rattle.portal_tables_sql.specs.States.{IsUndone};
 ghost use Rattle.portal_tables_rows.specs.Holds.{TablePlaces, TablesExist};
-ghost use Rattle.portal_tables_schema.specs.SchemaVersions.{is_name_taken, is_any_name_taken, has_our_tables, has_no_action_on_ours};
-ghost use Rattle.portal_tables_schema.specs.SchemaVersions.{is_usable_schema, is_indexed, is_session_index, IsNoQuery, QueryAnswers};
+ghost use Rattle.portal_tables_schema.specs.SchemaVersions.{
+  is_name_taken,
+  is_any_name_taken,
+  has_our_tables,
+  has_no_action_on_ours,
+};
+ghost use Rattle.portal_tables_schema.specs.SchemaVersions.{
+  is_usable_schema,
+  is_indexed,
+  is_session_index,
+  IsNoQuery,
+  QueryAnswers,
+};
 ghost use Rattle.portal_tables_schema.specs.SchemaVersions.{IsOneRow};
 
 use portal_tables_sql::room::{has_no_action_on, has_table};
@@ -18,8 +29,8 @@ use sqlite::{Alter, Connection, Error, Row};
 use sqlite_schema::names::same_name;
 use sqlite_schema::schema::{Index, Schema};
 
-/// A layout from which a store is brought to this version's. The fourth is this version's own, which may
-/// lack the index of the sessions.
+/// A schema version from which a database is migrated. `Fourth` is this version, which may still lack
+/// the index of the sessions.
 #[derive(Clone, Copy, Debug, PartialEq, Eq)]
 pub enum OldSchema {
     First,
@@ -28,14 +39,14 @@ pub enum OldSchema {
     Fourth,
 }
 
-/// Whether a table or a view has the name.
+/// Whether a table or a view has this name.
 fn is_name_taken(schema: &Schema, name: &[u8]) -> bool
     ensures { result ≡ is_name_taken schema.now name.now }
 {
     schema.table_named(name).is_some() || schema.view_named(name).is_some()
 }
 
-/// Whether a table or a view has one of the names of the product's tables.
+/// Whether a table or a view has one of the product's table names.
 pub fn is_any_name_taken(schema: &Schema) -> bool
     ensures { result ≡ is_any_name_taken schema.now }
 {
@@ -50,7 +61,7 @@ pub fn is_any_name_taken(schema: &Schema) -> bool
         || is_name_taken(schema, b"portal_requests")
 }
 
-/// Whether no foreign key acts on a table of the product's names, whether such a table stands or not.
+/// Whether no foreign key acts on one of the product's table names, whether that table exists or not.
 pub fn has_no_action_on_ours(schema: &Schema) -> bool
     ensures { result ≡ has_no_action_on_ours schema.now }
 {
@@ -65,7 +76,7 @@ pub fn has_no_action_on_ours(schema: &Schema) -> bool
         && has_no_action_on(schema, b"portal_requests")
 }
 
-/// Whether each of the product's tables stands.
+/// Whether each of the product's tables exists.
 fn has_our_tables(schema: &Schema) -> bool
     ensures { result ≡ has_our_tables schema.now }
 {
@@ -80,15 +91,15 @@ fn has_our_tables(schema: &Schema) -> bool
         && has_table(schema, b"portal_requests")
 }
 
-/// Whether each of the product's tables stands, and no foreign key acts on one of them.
+/// Whether each of the product's tables exists and no foreign key acts on one of them.
 pub fn is_usable_schema(schema: &Schema) -> bool
     ensures { result ≡ is_usable_schema schema.now }
 {
     has_our_tables(schema) && has_no_action_on_ours(schema)
 }
 
-/// Whether the index is that by which the last session of a device is found: of its name, and on the
-/// devices and then the numbers of the sessions in this tree.
+/// Whether `index` is the index of the sessions: it has the right name and covers the columns device and
+/// number of the table with this tree.
 fn is_session_index(index: &Index, tree: u32) -> bool
     ensures { result ≡ is_session_index tree index.now }
 {
@@ -97,15 +108,14 @@ fn is_session_index(index: &Index, tree: u32) -> bool
         && index.columns.as_slice() == [2usize, 0].as_slice()
 }
 
-/// Whether one of the indexes is that of the sessions in this tree.
+/// Whether one of these indexes is the index of the sessions in the table with this tree.
 fn is_any_session_index(indexes: &[Index], tree: u32) -> bool
     ensures { result ≡ list_any (is_session_index tree) indexes.now }
 {
     indexes.iter().any(|index| is_session_index(index, tree))
 }
 
-/// Whether an index of the product's table of sessions is that by which the last session of a device is
-/// found.
+/// Whether the schema has the index of the sessions on `portal_sessions`.
 fn has_session_index(schema: &Schema) -> bool
     ensures { result ≡ is_indexed schema.now }
 {
@@ -118,18 +128,19 @@ fn has_session_index(schema: &Schema) -> bool
     }
 }
 
-/// Whether the index by which the last session of a device is found has been made.
+/// Whether the index exists by which the last session of a device is found.
 pub fn is_indexed(schema: &Schema) -> bool
     ensures test { result ≡ is_indexed schema.now }
-    ensures index { IsTrue result → (schema_version : ℕ) (places : TablePlaces) → TablesExist schema_version false schema.now places
+    ensures index { IsTrue result → (schema_version : ℕ) (places : TablePlaces)
+        → TablesExist schema_version false schema.now places
         → TablesExist schema_version true schema.now places }
 {
     let is_made = has_session_index(schema);
     is_made
 }
 
-/// The rows of the head, whatever stands there under its name. An SQL fault is told only where nothing
-/// changed.
+/// Runs the SELECT of the schema version in `portal_head`, whatever has this name. Fails with
+/// `SqlInputError` only if the query does not compile under the schema; then nothing changed.
 pub fn select_schema_version<S: Alter>(conn: &mut Connection<S>) -> Result<Vec<Row>, Error>
     ensures answers { HasCleanDisk (state S.Store conn.new)
         → IfOk result (λ rows. QueryAnswers (state S.Store conn.old).now rows.items
@@ -148,7 +159,8 @@ pub fn select_schema_version<S: Alter>(conn: &mut Connection<S>) -> Result<Vec<R
     conn.query_all("SELECT layout FROM portal_head", &[])
 }
 
-/// The layout, where the rows are one that begins with a whole number from 1 on.
+/// Returns the schema version in these rows: the integer from 1 on in the first column, if there is
+/// exactly one row, or `None`.
 pub fn schema_version_in(rows: &[Row]) -> Option<u64>
     ensures one { IfSome result (IsOneRow rows.now) }
     ensures none { IfNone result ((schema_version : ℕ) → ¬ IsOneRow rows.now schema_version) }

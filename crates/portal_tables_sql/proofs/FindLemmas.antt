@@ -1,4 +1,4 @@
--- From the answer of a query to what a reader finds.
+-- From the result of a query to what a reader finds.
 use Rattle.portal_tables_sql.proofs.Common.{◌≡◌, inl, inr, ◌&&◌, ℕ, List, [], ◌∷◌, map, filter, slice_get, Bool, true, false, Some, None, Result, Ok, Err, IfOk, refl, sym, ap, subst, ◌∙◌, arith, is_eq, is_lt, take, IsPermutation, IsSorted, IsPermutation-map, IsPermutation-sym, sorted_far, ranks_by, IsStrictWeakOrder-flip, Null, Int, Real, Text, Blob, column, is_null, Eq, Key, Binary, value_cmp-Null, value_cmp_total, Has, has_filtered, has_kept, has_got, contains_had, filter-map, along_permutation, IsSelection, by_column}
 use Rattle.sqlite.specs.declared.types.Value.{Value}
 use Rattle.sqlite.specs.Order.{Row, value_cmp}
@@ -60,7 +60,7 @@ pub not_true : (b : Bool) → (b ≡ true → ⊥) → b ≡ false
 not_true true h = absurd (h refl)
 not_true false h = refl
 
--- ---- the rows that pass are those of the table, as its columns show them
+-- ---- the rows that pass are those of the table, by its columns
 
 pub scan_rows : (passes p : Row → Bool) (f keys : Row → Row) (by : List Key) (rows out : List Row) → ((r : Row) → passes r ≡ p (f r)) → IsScan passes f keys by rows out
     → IsPermutation (filter p (map f rows)) out

@@ -1,4 +1,4 @@
--- What the test of a schema tells, and the question that asks nothing of any table.
+-- What the test of a schema means, and the query that reads no table.
 use Rattle.portal_tables_sql.proofs.Common.{◌≡◌, ◌⊎◌, inl, inr, ℕ, List, Bool, true, false, ◌&&◌, ◌||◌, not, refl, ◌∙◌, Schema, State, IsUnchanged, NoAction, Restrict, Cascade, SetNull, SetDefault, test_has, IsUnactedBy, IsUndone, IsAsBefore}
 use Rattle.sqlite_schema.specs.declared.schema.Action.{Action}
 use Rattle.portal_tables_sql.specs.Harmless.{has_no_action, is_harmless, are_harmless}

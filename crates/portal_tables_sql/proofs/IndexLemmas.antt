@@ -1,4 +1,4 @@
--- CREATE INDEX leaves the rows of each table.
+-- CREATE INDEX does not change the rows of a table.
 use Rattle.portal_tables_sql.proofs.Common.{◌≡◌, ℕ, ◌+◌, List, [], None, is_some, Ok, Err, refl, true, false, Bool, if◌then◌else◌, ap, subst, ◌∙◌, slice_range, option_or, Schema, Table, Index, Command, CreateIndex, Nothing, table_named, index_named, view_named, Statement, Compiled, Exists, Checked, and_then, returning, timed, small, index_defined_by, place_has, all_has, Tally, Database, IsDatabase, State, Executes, Writes, statement_of, runs_as, TableExists}
 use Rattle.sqlite_resolve.specs.Compile.{command}
 use Rattle.sqlite_catalog.specs.Change.{with_index, indexed, KeepsRows}
@@ -21,7 +21,7 @@ module _ (schema : Schema) (sql : List ℕ) (statement : Statement) (count : ℕ
   means false true at is x ok = absurd (refused schema sql statement count t untimed unshown Exists refl is x ok)
   means false false at is x ok = known_as schema sql statement count t untimed unshown (CreateIndex at) is
 
--- a text that makes an index on the table, wherever it stands
+-- a text that creates an index on the table, wherever it is in the schema
 pub record IsIndex (sql : List ℕ) (table : ℕ → Table) : Type 0 where
   pub statement : Statement
   pub text : IsText sql statement 0
@@ -31,7 +31,7 @@ pub record IsIndex (sql : List ℕ) (table : ℕ → Table) : Type 0 where
   pub makes : (schema : Schema) (at tree : ℕ) → TableExists schema at (table tree) → (base : ℕ) → command schema [] base statement ≡ index_in schema name at
   pub whole : slice_range sql text.parsed.start text.parsed.end ≡ sql
 
--- the statement made an index and left the rest
+-- the statement created an index and changed nothing else
 pub record HasIndexed (db : Database) (table : Table) (sql : List ℕ) (after : Database) : Type 0 where
   pub index : Index
   pub defined : index_defined_by table sql ≡ Ok index
@@ -50,7 +50,7 @@ indexes sql table at tree old new count it exists ran =
     let now : new.now ≡ all.0 = ap (λ (p : Tally × Database). p.1) (same_value all.2) in
     record { index = _; defined = made.defined; is = ap (λ (d : Database). d.schema) now ∙ made.is; rows = rw now made.rows; sound = w.sound }
 
--- an index more changes nothing of where a table stands
+-- one index more does not change where a table is
 pub still_stands_indexed : (schema : Schema) (index : Index) (at : ℕ) (table : Table) → TableExists schema at table → TableExists (with_index schema index) at table
 still_stands_indexed schema index at table h = record { named = h.named; there = h.there; low = h.low; typed = h.typed; only = h.only }
 

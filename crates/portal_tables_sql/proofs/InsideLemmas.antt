@@ -12,7 +12,7 @@ pub on_failed : {A E : Type 0} (r : Result A E) (P : Type 0) (Q : E → Type 0) 
 on_failed (Ok a) P Q h = absurd h
 on_failed (Err e) P Q h = tt
 
--- what a call does comes to more
+-- what a call does implies more
 pub inside_by : {S : Type 0} (g : Ghosts S) {First Second : State → State → Type 0} {old new : Transaction S} {result : Result (Unit {0}) Error}
     → ((a b : State) → First a b → Second a b) → Inside g First old new result → Inside g Second old new result
 inside_by g {old = old} {new = new} {result = result} leads one = record {

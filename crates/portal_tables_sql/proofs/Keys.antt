@@ -1,4 +1,4 @@
--- From the rows of an answer to the values that a table holds.
+-- From the rows of a result to the values that a table holds.
 use Rattle.portal_tables_sql.proofs.Common.{◌≡◌, inl, inr, ℕ, ◌≤◌, ℤ, pos, List, [], ◌∷◌, map, filter, slice_get, take, Bool, true, false, Option, Some, None, IsTrue, refl, sym, ap, ap₂, subst, ◌∙◌, is_eq, is_lt, Ordering, Less, Equal, Greater, true≢false, arith, bytes_eq, nat_eq, AllByRecursion, IsPermutation, nat_tests, Decides-eqb, tied_itself, ints, Int, Text, column, value_cmp-Text, value_cmp-Int, value_cmp_total, is_int, Has, number, or_null, FindsLast, columns, has_key, by_column, IsSelection}
 use Rattle.std.proofs.lemmas.Slice.Eq.{bytes_eq-Decides}
 use Rattle.std.proofs.lemmas.Map.Lookups.{exact_bytes}
@@ -48,7 +48,7 @@ number_test a b =
 pub not_above : (a b : ℕ) → is_lt (value_cmp (number a) (number b)) ≡ false → b ≤ a
 not_above a b h = let k = rw (value_cmp-Int (pos a) (pos b)) at h in grind (arith, ints, nat_tests)
 
--- ---- the rows that SELECT shows are the cells of the values
+-- ---- the rows that SELECT gives are the cells of the values
 
 module _ {P : Type 0} (cut : Row → Row) (stored shown : P → Row) (row_of : ℤ → P → Row) (opens : (r : Row) (p : P) → IsTrue (is_int (rowid r)) → cut r ≡ stored p → (n : ℤ) × (r ≡ row_of n p)) (show : Row → Row)
     (shows : (n : ℤ) (p : P) → show (row_of n p) ≡ shown p) where

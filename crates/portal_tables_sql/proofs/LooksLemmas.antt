@@ -3,7 +3,7 @@ use Rattle.portal_tables_sql.proofs.Common.{◌≡◌, false, IsTrue, Result, Ok
 use Rattle.portal_tables_sql.proofs.Frame.{survives_none}
 use Rattle.portal_tables_sql.specs.Looks.{ReadsOnly, Fails, Looks}
 
--- what a query left
+-- the state after a query
 pub looks_by : (Has : Schema → Type 0) {X E : Type 0} (r : Result X E) (old new : State) → (HasCleanDisk new → Has old.now.schema → OnOk r (IsUnchanged old new))
     → (HasCleanDisk new → Has old.now.schema → IsTrue new.is_open → old.now ≡ old.committed → KeepsNow old new) → (old.in_transaction ≡ false → new.in_transaction ≡ false)
     → Survives old new (λ _. ¬ Has old.now.schema) → Looks Has r old new
@@ -74,7 +74,7 @@ module _ (Has : Schema → Type 0) where
   looks_then (Ok x) a b c p q = reads_then a b c p q
   looks_then (Err e) a b c p q = fails_then a b c p q
 
-  -- a row that was read and is none of ours
+  -- a row that was read and that this product does not write
   pub reads_fails : (a b : State) → ReadsOnly Has a b → Fails Has a b
   reads_fails a b r = record {
     undone = λ clean was has outside settled.

@@ -1,4 +1,4 @@
--- A query that shows all columns of one table.
+-- A query of all columns of one table.
 use Rattle.portal_tables_sql.proofs.Common.{◌≡◌, ◌+◌, ◌<◌, ℕ, ℤ, pos, List, [], ◌∷◌, map, length, take, Bool, true, false, None, Ordering, refl, sym, ap, ap₂, subst, ◌∙◌, arith, cond, nat_le, zero-add, is_lt, is_eq, slice_get, unwrap_or, ◌-◌, ◌^◌, range_with_len, IsSorted, get_or-map, length-map, Key, Null, column, Table, Schema, Trees, is_null, Term, col, lit, eval, Binary, then-Equal, overlay, Query, inner, end, IsAnswer, key_cmp, Select, place_of, Has, map-map, State, reads_as, has_key, rows_in, fields, IsSelection, by_column, columns}
 use Rattle.std.proofs.lemmas.List.FromFn.{get_or-map-range_with_len}
 use Rattle.sqlite_value.specs.declared.value.Value.{Value}
@@ -89,7 +89,7 @@ pub orders_down : (table : Table) (at : ℕ) (params : Row) → at < length tabl
     → key_cmp 0 (map (λ (k : Term × Key). k.1) (by table at true)) (keys_of (by table at true) params a) (keys_of (by table at true) params b) ≡ by_column at (fields table b) (fields table a)
 orders_down table at params within a b = then-Equal _ ∙ ap₂ value_cmp (sym (field_at table at b within)) (sym (field_at table at a within))
 
--- a row of the table is its columns, which `refl` shows at a table that is written out
+-- a row of the table is its columns, which `refl` proves for a table that is written out
 pub whole : (table : Table) (db : Trees) (n : ℕ) → ((r : Row) → columns n (fields table r) ≡ fields table r) → (row : Row) → Has (rows_in table db) row → columns n row ≡ row
 whole table db n all row has =
     let it = has_image (fields table) (db table.tree) row has in

@@ -1,4 +1,4 @@
--- That no foreign key acts on a table, said by names, which a CREATE TABLE keeps.
+-- That no foreign key acts on a table, by names: a CREATE TABLE does not change it.
 use Rattle.portal_tables_sql.proofs.Common.{◌≡◌, ◌⊎◌, inl, inr, ℕ, List, [], ◌∷◌, ◌++◌, Option, Some, None, IfSome, refl, true, false, Bool, ◌==◌, ap, sym, ◌∙◌, find, cases_Bool, option_map, option_and_then, Table, Schema, Reference, NoAction, same_name, key_in, key_places, declared_order, ParentKey, Has, TableExists, IsUnacted, IsUnactedBy}
 use Rattle.sqlite_value.specs.declared.keys.Order.{Order}
 use Rattle.sqlite_catalog.specs.Change.{created}

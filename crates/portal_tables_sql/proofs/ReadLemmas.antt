@@ -1,4 +1,4 @@
--- What a query leaves of a connection.
+-- The state of a connection after a query.
 use Rattle.portal_tables_sql.proofs.Common.{◌≡◌, inl, inr, ℕ, List, Result, Ok, Err, IfOk, IfErr, OnOk, IsTrue, sym, subst, ◌∙◌, Error, State, IsUnchanged, IsRolledBack, Survives, CommitsShowing, survives_weaker, never_commits}
 use Rattle.sqlite.specs.Order.{Row}
 use Rattle.sqlite.specs.Listing.{understood}

@@ -19,7 +19,7 @@ module _ (Shows : Database → Type 0) where
     left = λ trees may. elim (survives.crash clean trees may) [ inl was ↦ at.left trees was | inr none ↦ absurd none ];
   }
 
-  -- an open connection outside a transaction: a crash leaves its last commit and nothing else, by the law `settled` of `Store`
+  -- an open connection outside a transaction: its only crash state is its last commit, by the law `settled` of `Store`
   pub at_open : (s : State) → ((db : Trees) → IsTrue s.is_open → s.may_leave db → db ≡ s.committed.trees) → IsTrue s.is_open → s.in_transaction ≡ false → s.now ≡ s.committed → IsDatabase s.now → Shows s.now
       → Represents Shows s
   at_open s law is_open autocommit same sound shown = record {
@@ -31,14 +31,14 @@ module _ (Shows : Database → Type 0) where
     left = λ trees may. subst (CrashStateHolds Shows) (sym (law trees is_open may)) (subst (λ (db : Database). CrashStateHolds Shows db.trees) same (s.now.schema, sound, shown));
   }
 
-  -- a call that undid what it did, and then one that shows that the connection works
+  -- a call that undid what it did, and then one after which the connection is known to work
   pub again_at : (old mid new : State) → ((db : Trees) → IsTrue new.is_open → new.may_leave db → db ≡ new.committed.trees) → Represents Shows old → IsUndone old mid → IsUnchanged mid new → Represents Shows new
   again_at old mid new law at undone same =
       let now : new.now ≡ old.now = same.0.now_is ∙ undone.now same.0.was_open ∙ sym at.settled in
       let both : new.now ≡ new.committed = same.0.now_is ∙ undone.now same.0.was_open ∙ sym (same.0.committed_is ∙ undone.committed same.0.was_open) in
       at_open new law same.0.is_open (same.0.mode ∙ undone.ended) both (subst IsDatabase (sym now) at.sound) (subst Shows (sym now) at.shown)
 
-  -- what is left by two calls that commit nothing
+  -- the state after two calls that commit nothing
   pub left_still : (old mid new : State) → Represents Shows old → HasCleanDisk new → Survives old mid (λ _. ⊥) → Survives mid new (λ _. ⊥) → (trees : Trees) → new.may_leave trees → CrashStateHolds Shows trees
   left_still old mid new at clean one two trees may =
       elim ((survives_then old mid new (λ _. ⊥) (λ _. ⊥) (λ _. ⊥) (λ _ db none. none) (λ _ db none. none) one two).crash clean trees may) [ inl was ↦ at.left trees was | inr none ↦ absurd none ]

@@ -106,7 +106,7 @@ module _ (meant : Row → Bool) (change : Row → Row) (keeps : (r : Row) → ro
         let none = lacks (id_in (rowid r)) (mapped (λ x. id_in (rowid x)) found r (each r h is)) in
         let some = id_of_row r h in cc)
 
-    -- a row that is not meant is left
+    -- a row that is not meant stays
     stays : (r : Row) → Has rows r → meant r ≡ false → Lacks (ids_of found) r
     stays r h other id k = false_from_ne_true _ (λ tie.
         let f = unmapped (λ x. id_in (rowid x)) found id k in

@@ -1,10 +1,10 @@
--- What a query over one table answers, by the table's rows.
+-- The result of a query over one table, by the table's rows.
 use Rattle.portal_tables_sql.proofs.Common.{◌≡◌, ◌+◌, arith, Ordering, ℕ, ℤ, pos, List, [], ◌∷◌, ◌++◌, map, filter, take, Bool, true, false, cond, refl, sym, ap, subst, ◌∙◌, list_all, IsPermutation, IsSorted, get_or-map, length-map, Key, Trees, Term, Env, eval_all, holds, inner, end, IsAnswer, Output, output, output_cmp, page, key_cmp, pull_back, map-map}
 use Rattle.std.proofs.Common.{flat_map}
 use Rattle.sqlite.specs.Order.{Row}
 use Rattle.portal_tables_sql.proofs.Queries.{simple, unlimited}
 
--- the rows that pass, in an order that the keys allow, and what is shown of each
+-- the rows that pass, in an order that the keys allow, and the terms of each
 pub record IsScan (passes : Row → Bool) (show keys : Row → Row) (by : List Key) (rows out : List Row) : Type 0 where
   pub ordered : List Row
   pub same : IsPermutation (filter passes rows) ordered

@@ -1,4 +1,4 @@
--- A table that stands goes on standing where a table is made beside it, and one that is made stands.
+-- A table still exists after another one is created, and one that is created exists.
 use Rattle.portal_tables_sql.proofs.Common.{◌≡◌, inl, inr, ℕ, zero, suc, ◌||◌, ◌+◌, ◌^◌, ◌<◌, ◌≤◌, ◌==◌, nat_le, max, List, [], ◌∷◌, ◌++◌, Option, Some, None, is_some, slice_get, find, fold, refl, true, false, Bool, ap, sym, ◌∙◌, length, arith, filter, zero-add, ne_eqb, eq-eqb, nat_tests, position_from, cases_Bool, Index, Schema, Table, Trees, table_named, same_name, Has, IsSound, IsTableRow, is_table_row, place_has, catalog_tree, TableExists}
 use Rattle.sqlite_catalog.specs.Change.{created, next_tree, past_views, is_used}
 use Rattle.sqlite_catalog.proofs.ListFacts.{most_from, most_above}

@@ -1,4 +1,4 @@
--- From a text, read once, to the command that it is under a schema that is known only at the tables of ours.
+-- From a text, read once, to the command that it is under a schema of which only the product's tables are known.
 use Rattle.portal_tables_sql.proofs.Common.{◌≡◌, ℕ, ◌+◌, List, [], ◌∷◌, Option, None, Ok, refl, true, false, length, Command, Select, Term, Schema, accepts_program, query_of, Draft, Collation, Statement, Core, out-Core, Source, out-Source, out-Select, Name, named, paging, Compiled, first, returning, timed, small, with_command, reads_listing, command_of, ◌⊎◌, inl, inr, sym, ◌∙◌, Err, Result, CompileError, misses_table, statement_of, slice_range}
 use Rattle.sqlite_schema.specs.declared.program.Program.{Program}
 use Rattle.sqlite_syntax.specs.declared.statement.Parsed.{Parsed}
@@ -24,7 +24,7 @@ pub record Means (schema : Schema) (sql : List ℕ) (c : Command) : Type 0 where
   pub plain : IsPlain (understood schema sql)
   pub unlisted : reads_listing schema sql ≡ false
 
--- a part that gave a value did not stop on the way
+-- a part that gave a value did not end on the way
 pub went : {B E R : Type 0} {b : B} {Stops : E → Type 0} → ((stop : E) × Stops stop × (Ok b ≡ Err stop)) ⊎ R → R
 went (inl stopped) = absurd (let e = stopped.2 in cc)
 went (inr on) = on

@@ -17,7 +17,7 @@ use Rattle.portal_tables_sql.proofs.RowLemmas.{changed_if, updates, inserts}
 abbrev pub simple : Table → Table
 simple t = record t { stamps = record { places = []; terms = []; formats = [] }; is_counted = false }
 
--- the statement came to one edit of one table
+-- the statement made one edit of one table
 pub record Edits (old new : State) (schema : Schema) (edit : Edit) : Type 0 where
   pub schema_is : new.now.schema ≡ schema
   pub applies : Applies schema Enforced old.now.trees edit new.now.trees
@@ -111,7 +111,7 @@ module _ (tree : ℕ) (test project : List Term) (params : Row) where
     | false ↦ staged_are rows
   ]
 
-  -- the answer shows the rows that are meant, in some order
+  -- the result has the rows that are meant, in some order
   pub answer_shows : (db : Trees) (rows : List Row) → IsAnswer (over tree test project) (overlay db []) params rows → (found : List Row) × IsPermutation (filter meant (db tree)) found × (rows ≡ map shown_as found)
   answer_shows db rows a =
       let q = over tree test project in

@@ -1,4 +1,4 @@
--- What a call on a transaction leaves.
+-- The promise of a call on a transaction.
 use Rattle.std.specs.Prelude.{◌≡◌, ℕ, List, IsTrue, Result, Ok, OnOk}
 use Rattle.sqlite.specs.Order.{Row}
 use Rattle.sqlite.specs.Store.{Ghosts}
@@ -7,8 +7,8 @@ use Rattle.sqlite.specs.State.{State, HasCleanDisk, KeepsCommit, Survives, Execu
 use Rattle.sqlite.specs.declared.error.Error.{Error}
 use Rattle.sqlite.specs.declared.transaction.Transaction.{Transaction}
 
--- A call on a transaction: it stays with its connection; where the disk is clean and the call succeeds, it leads as Does says;
--- whatever its result, it commits nothing and adds no crash state.
+-- A call on a transaction, which stays with its connection. If the disk is clean and the call succeeds, the
+-- state changes as Does says. Whatever its result, it commits nothing and adds no crash state.
 pub record Inside {S : Type 0} (g : Ghosts S) (Does : State → State → Type 0) (old new : Transaction S) (result : Result (Unit {0}) Error) : Type 0 where
   pub same_reference : new.conn.ghost_name ≡ old.conn.ghost_name
   pub steps : HasCleanDisk (state g new.conn.now) → IsTrue old.conn.now.in_transaction → OnOk result (Does (state g old.conn.now) (state g new.conn.now))

@@ -1,4 +1,4 @@
--- What creating the tables makes of a database.
+-- What creating a table makes of a database.
 use Rattle.std.specs.Prelude.{◌≡◌, false, []}
 use Rattle.sqlite.specs.Table.{Table}
 use Rattle.sqlite.specs.Schema.{Schema}
@@ -7,10 +7,11 @@ use Rattle.sqlite.specs.Change.{created, next_tree}
 use Rattle.sqlite_catalog.specs.Change.{is_used, KeepsRows}
 use Rattle.sqlite.specs.Does.{lacks_sequence}
 
--- the store has the table that counts where a table counts
+-- a schema with an AUTOINCREMENT key has the table sqlite_sequence
 abbrev pub HasItsSequence : Schema → Type 0
 HasItsSequence schema = lacks_sequence schema ≡ false
 
+-- the table was created under a free name, without rows, and the other tables keep theirs
 pub record HasMade (db : Database) (table : Table) (after : Database) : Type 0 where
   pub free : is_used db.schema table.name ≡ false
   pub is : after.schema ≡ created db.schema table

@@ -1,13 +1,13 @@
--- What a call leaves of a connection.
+-- The state of a connection after a call.
 use Rattle.std.specs.Prelude.{◌≡◌, false, IsTrue}
 use Rattle.sqlite.specs.Tree.{Trees}
 use Rattle.sqlite.specs.State.{State}
 
--- the database is that of before
+-- the database is as it was
 abbrev pub KeepsNow : State → State → Type 0
 KeepsNow old new = (new.now ≡ old.now) × (new.committed ≡ old.committed)
 
--- nothing changed, if the connection is not shut
+-- nothing changed, if the connection is still open
 pub record IsUndone (old new : State) : Type 0 where
   pub now : IsTrue new.is_open → new.now ≡ old.committed
   pub committed : IsTrue new.is_open → new.committed ≡ old.committed
@@ -20,6 +20,6 @@ pub record IsAsBefore (old new : State) : Type 0 where
   pub committed : new.committed ≡ old.committed
   pub ended : new.in_transaction ≡ false
 
--- a crash leaves what is committed and nothing else
+-- each crash state is what is committed
 abbrev pub LeavesOnly : State → Type 0
 LeavesOnly s = (trees : Trees) → s.may_leave trees → trees ≡ s.committed.trees

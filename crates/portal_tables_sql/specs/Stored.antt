@@ -9,6 +9,7 @@ use Rattle.sqlite.specs.Values.{or_null as nullable}
 use Rattle.sqlite.specs.Tree.{rowid, IsTable}
 use Rattle.sqlite.specs.View.{is_int}
 
+-- the cell of an integer
 abbrev pub number : ℕ → Value
 number n = Int (pos n)
 
@@ -21,19 +22,20 @@ pub record AreRows (rows : List Row) : Type 0 where
   pub rise : IsTable rows
   pub keyed : AllByRecursion (λ r. IsTrue (is_int (rowid r))) rows
 
--- the rows of a tree, less what `cut` leaves out, are those of the values
+-- the rows of a tree, without what `cut` removes, are those of the values
 pub record Stores {P : Type 0} (cut : Row → Row) (stored : P → Row) (rows : List Row) (values : List P) : Type 0 where
   pub are : AreRows rows
   pub is : map cut rows ≡ map stored values
 
+-- the row with its rowid
 abbrev pub whole_row : Row → Row
 whole_row r = r
 
--- less the rowid
+-- the row without its rowid
 abbrev pub less_rowid : Row → Row
 less_rowid = drop 1
 
--- in its place by number; last, where its number is the greatest
+-- the list with the value at its place by number, which it takes from a value with the same number
 abbrev pub put_by : {X : Type 0} → (X → ℕ) → X → List X → List X
 put_by key new [] = new ∷ []
 put_by key new (x ∷ xs) = match_ordering (value_cmp (number (key x)) (number (key new))) (x ∷ put_by key new xs) (new ∷ xs) (new ∷ x ∷ xs)

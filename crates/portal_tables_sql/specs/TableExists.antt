@@ -1,4 +1,4 @@
--- A table that stands in a schema among others.
+-- A table that exists in a schema among others.
 use Rattle.std.specs.Prelude.{◌≡◌, ◌⊎◌, ℕ, List, ◌^◌, true, false, Some, IfSome, slice_get, find, ◌==◌, nat_le}
 use Rattle.sqlite_schema.specs.declared.schema.Reference.{Reference}
 use Rattle.sqlite_schema.specs.declared.schema.Action.TheVariants.{NoAction}
@@ -8,7 +8,7 @@ use Rattle.sqlite.specs.Table.{Table}
 use Rattle.sqlite.specs.Schema.{Schema}
 use Rattle.sqlite_schema.specs.Names.{table_named, same_name}
 
--- The table stands at this place. Its name, its place and its tree find it, whatever other tables there are.
+-- The table exists at this place. Its name, its place and its tree each identify it among the other tables.
 pub record TableExists (schema : Schema) (at : ℕ) (table : Table) : Type 0 where
   pub named : table_named schema table.name ≡ Some at
   pub there : slice_get schema.tables at ≡ Some table

@@ -1,5 +1,5 @@
-//! Statements on a store that other tables share: a query, a write, whether a connection still answers, and
-//! whether a schema has room.
+//! SQL helpers that the other storage crates share: running a query or a write, testing whether a
+//! connection still answers, and testing whether new tables can be added to a schema.
 #![tactic(auto)]
 
 pub mod query;

@@ -1,4 +1,4 @@
-//! Queries and writes, and whether a connection still answers.
+//! Runs queries and writes, and tests whether a connection still answers.
 
 ghost use Rattle.std.specs.Prelude.{IfOk, IsTrue};
 ghost use Rattle.sqlite.specs.Held.{state};
@@ -12,7 +12,8 @@ ghost use Rattle.portal_tables_sql.specs.Looks.{Looks};
 use sqlite::types::ValueRef;
 use sqlite::{Alter, Connection, Error, Row, Transaction};
 
-/// All rows of the answer of a query. A query that only reads changes nothing.
+/// Runs a query and returns all rows of its result. It changes nothing if `sql` is a query that only
+/// reads.
 pub fn read_all<S: Alter>(
     conn: &mut Connection<S>,
     sql: &str,
@@ -26,8 +27,7 @@ pub fn read_all<S: Alter>(
     conn.query_all(sql, params)
 }
 
-/// Runs a statement that writes, inside a transaction: it changes the store as the statement means, and
-/// commits nothing.
+/// Executes a statement that writes, inside a transaction. It does not commit.
 pub fn write<S: Alter>(
     tx: &mut Transaction<'_, S>,
     sql: &str,
@@ -39,7 +39,7 @@ pub fn write<S: Alter>(
     Ok(())
 }
 
-/// Whether the connection is open and answers. It changes nothing.
+/// Whether the connection is open and can still prepare a statement. It changes nothing if so.
 pub fn is_answering<S: Alter>(conn: &mut Connection<S>) -> bool
     ensures same { HasCleanDisk (state S.Store conn.new) → IsTrue result
         → IsUnchanged (state S.Store conn.old) (state S.Store conn.new) }

@@ -1,7 +1,8 @@
 //! The order of voucher codes.
 use portal_codes::{BadCode, Code};
 
-/// Codes of either length, each less than the next: that of twelve characters comes before that of sixteen.
+/// Codes of either length, each less than the next. A code of twelve characters comes before the longer ones
+/// that begin with it.
 const ORDERED: &[&str] = &[
     "2222-2222-2222",
     "2222-2222-2222-2222",
@@ -11,10 +12,12 @@ const ORDERED: &[&str] = &[
     "3N55-WA4S-KH5V-JR49",
 ];
 
+/// Checks that the first code is less than the second.
 fn are_ordered(less: &str, greater: &str) -> Result<bool, BadCode> {
     Ok(Code::read(less)? < Code::read(greater)?)
 }
 
+/// Each code is less than the next.
 #[test]
 fn code_order(rt: HostRuntime) {
     for (less, greater) in ORDERED.iter().zip(&ORDERED[1..]) {

@@ -1,8 +1,8 @@
-//! Where and how often the program serves, by its command line.
+//! The port and the number of connections that the command line of `serve` gives.
 use portal_cli::{Order, parse_command_line};
 use std::alloc::Global;
 
-/// Words, and the port and the number of connections that they come to.
+/// Arguments, with the port and the number of connections that they give.
 const SERVED: &[(&[&str], u64, u64)] = &[
     (
         &["portal", "serve", "--db", "x", "--settings", "y"],
@@ -23,8 +23,8 @@ const SERVED: &[(&[&str], u64, u64)] = &[
     ),
 ];
 
-/// The port and the number of connections, where the words are an order to serve the database x by the
-/// settings y.
+/// Returns the port and the number of connections that the arguments give, if they are an order to serve the
+/// database `x` with the settings `y`.
 fn serve_options(alloc: Global, words: &[&str]) -> Option<(u64, u64)> {
     match parse_command_line(alloc, words) {
         Ok(
@@ -39,6 +39,7 @@ fn serve_options(alloc: Global, words: &[&str]) -> Option<(u64, u64)> {
     }
 }
 
+/// `serve` has the default port 8080 and the default count 1,000,000,000, and takes other values.
 #[test]
 fn serve_defaults(rt: HostRuntime) {
     for (words, port, count) in SERVED {

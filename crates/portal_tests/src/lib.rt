@@ -1,5 +1,5 @@
-//! What no request and no command reaches, of the crates that need no database: the greatest takings, the
-//! order of codes, and the defaults of the server's command line.
+//! Tests of crates that need no database, of what no request and no subcommand reaches: the greatest takings,
+//! the order of codes, and the defaults of `serve`.
 #![tactic(auto)]
 
 #[cfg(test)]

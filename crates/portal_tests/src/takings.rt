@@ -1,10 +1,10 @@
-//! Takings past any number of sales, and their report.
+//! Takings past 64 bits, and their report.
 use portal_core::{Day, DayRange, DayTakings, add_takings};
 use portal_files_print::takings_text;
 use std::alloc::Global;
 
-/// The days of the leap year 2020, of which two have takings: on the second two sales past 64 bits together,
-/// on the last a refund. What is before and after is not counted.
+/// Adds up the takings of the leap year 2020, of which two days have some: on the second day two sales that
+/// are past 64 bits together, on the last day a refund. Sales before and after the year are not counted.
 fn takings_of_year(alloc: Global) -> Option<Vec<DayTakings>> {
     let range = DayRange::new(Day::new(18_262)?, Day::new(18_627)?)?;
     let most = (Day::new(18_263)?, u64::MAX);
@@ -14,6 +14,7 @@ fn takings_of_year(alloc: Global) -> Option<Vec<DayTakings>> {
     add_takings(alloc, range, &[most, after, most, before], &[refund]).ok()
 }
 
+/// Returns the takings that a day of that year has to have.
 fn expected_takings(day: Day) -> DayTakings {
     let (sold, sales, refunded, refunds) = match day.get() {
         18_263 => (2, 36_893_488_147_419_103_230, 0, 0),
@@ -29,6 +30,7 @@ fn expected_takings(day: Day) -> DayTakings {
     }
 }
 
+/// The takings of a year are right, also where two sales are past 64 bits together.
 #[test]
 fn takings_past_64_bits(rt: HostRuntime) {
     let days = takings_of_year(rt.alloc()).expect(&rt, "takings");
@@ -38,7 +40,7 @@ fn takings_past_64_bits(rt: HostRuntime) {
     }
 }
 
-/// Amounts that take more than their columns.
+/// Returns takings whose amounts are wider than their columns.
 fn wide_takings(day: Day) -> DayTakings {
     DayTakings {
         day,
@@ -49,12 +51,13 @@ fn wide_takings(day: Day) -> DayTakings {
     }
 }
 
+/// Their report.
 const WIDE: &str = "day            sold             sales refunded           refunds\n\
     1970-01-01 123456789 12345678901234567.05       99              1.00\n\
     total      123456789 12345678901234567.05       99              1.00\n\
     net 12345678901234566.05\n";
 
-/// The greatest amounts, and one below a whole unit.
+/// Returns takings with the greatest amounts, and with one below a whole unit of money.
 fn widest_takings(day: Day) -> DayTakings {
     DayTakings {
         day,
@@ -65,6 +68,7 @@ fn widest_takings(day: Day) -> DayTakings {
     }
 }
 
+/// Their report.
 const WIDEST: &str = "day            sold             sales refunded           refunds\n\
     9999-12-31 18446744073709551615 3402823669209384634633746074317682114.55        2              0.99\n\
     total      18446744073709551615 3402823669209384634633746074317682114.55        2              0.99\n\
@@ -75,11 +79,12 @@ const NONE: &str = "day            sold             sales refunded           ref
     total             0              0.00        0              0.00\n\
     net 0.00\n";
 
-/// The report of one day.
+/// Returns the report of one day.
 fn report_of(alloc: Global, takings: DayTakings) -> Option<String> {
     takings_text(alloc, &[takings]).ok()
 }
 
+/// Checks that a report was made and is this text.
 fn is_report(report: Option<String>, wanted: &str) -> bool {
     match report {
         Some(text) => text.as_bytes() == wanted.as_bytes(),
@@ -87,6 +92,7 @@ fn is_report(report: Option<String>, wanted: &str) -> bool {
     }
 }
 
+/// Reports with the widest amounts, and the report of no day, are right.
 #[test]
 fn wide_sums(rt: HostRuntime) {
     let first = Day::new(0).expect(&rt, "a day");

@@ -4,7 +4,7 @@ use Rattle.portal_codes.proofs.Buffers.{zeros, zero_below, all_zeros, still_zero
 use Rattle.portal_codes.proofs.Spelling.{characters_in-character, one_more, wrong_length, strange_sign}
 use Rattle.portal_codes.proofs.read_characters.Goals as goal
 
--- a truth value is not both
+-- a boolean is not both true and false
 true_false : {b : Bool} → IsTrue b → b ≡ false → ⊥
 true_false is off = cc
 

@@ -1,4 +1,4 @@
-//! Issuing a batch of codes.
+//! The decision on issuing a batch of codes.
 ghost use Rattle.std.specs.Prelude.{◌≡◌, ◌≢◌, bytes_eq, IfOk, IfErr, Some, None};
 ghost use Rattle.std.specs.List.{list_any};
 ghost use Rattle.portal_model.specs.Verdict.{issue_verdict, has_duplicate};
@@ -15,14 +15,16 @@ use portal_model::record::Batch;
 use portal_model::refusal::Refusal;
 use std::alloc::Global;
 
+/// The seconds of a day.
 const SECONDS_PER_DAY: u64 = 86_400;
 
-/// The issue of the codes as the batch `id` of the plan that was found, where `batch` is the batch that is
-/// held under that id, and `taken` says that one of the codes is held.
+/// Decides whether the codes may be issued as the batch `id` of a plan at `t`. `plan` is the plan that was
+/// looked up, `batch` the existing batch with that id, and `taken` whether one of the codes was issued
+/// before.
 ///
-/// Refused: `UnknownPlan` where no plan was found, `BatchExists`, `MomentRange` where the vouchers would
-/// expire past the greatest moment, `CodeTaken` where a code is held or listed twice: the first of them whose
-/// condition holds. Else `NoMemory` where the list of codes could not be copied.
+/// Errors, the first that applies: `UnknownPlan` without a plan; `BatchExists`; `MomentRange` if the
+/// vouchers would expire past the maximum time; `CodeTaken` if a code was issued before or is listed twice;
+/// `NoMemory` when out of memory.
 pub fn decide_issue(
     alloc: Global,
     plan: Option<Plan>,
@@ -44,7 +46,9 @@ pub fn decide_issue(
     }))
 }
 
-/// The batch, where it may be issued.
+/// Checks whether the batch may be issued, and makes its record.
+///
+/// Errors: those of `decide_issue` but `NoMemory`.
 fn check_issue(
     plan: Option<Plan>,
     batch: Option<Batch>,
@@ -80,13 +84,14 @@ fn check_issue(
     })
 }
 
+/// Returns whether a list of codes has a code.
 fn holds_code(codes: &[Code], code: &Code) -> bool
     ensures { result ≡ list_any (bytes_eq code.now) codes.now }
 {
     codes.iter().any(|c| code.is(c))
 }
 
-/// Some code is listed twice.
+/// Returns whether a code is in the list twice.
 fn has_duplicate_code(codes: &[Code]) -> bool
     ensures { result ≡ has_duplicate codes.now }
 {

@@ -1,4 +1,4 @@
-//! Loading plans.
+//! The decision on loading plans.
 ghost use Rattle.std.specs.Prelude.{◌≡◌, IfOk, Some};
 ghost use Rattle.std.specs.List.{list_any};
 ghost use Rattle.portal_model.specs.Verdict.{load_verdict, same_terms, differs};
@@ -13,11 +13,11 @@ use portal_model::plan::Plan;
 use portal_model::refusal::Refusal;
 use std::alloc::{AllocError, Global};
 
-/// The load of a list of plans, where `held` has the plans that are held of the listed ids: those that are
-/// not held are added.
+/// Decides whether a list of plans may be loaded at `t`. `held` has the plans with the listed ids that are
+/// already loaded; the others are added.
 ///
-/// Refused: `PlanDiffers` where a listed id is held with other terms; else `NoMemory` where the list of added
-/// plans could not grow.
+/// Errors: `PlanDiffers` if a plan with a listed id is loaded with other terms; else `NoMemory` when out of
+/// memory.
 pub fn decide_plans(
     alloc: Global,
     held: &[Plan],
@@ -38,7 +38,7 @@ pub fn decide_plans(
     }))
 }
 
-/// The first of the plans with that id.
+/// Returns the first of the plans with that id.
 fn listed_plan(plans: &[Plan], id: Id) -> Option<Plan>
     ensures { result ≡ plan_among plans.now id }
 {
@@ -50,7 +50,7 @@ fn listed_plan(plans: &[Plan], id: Id) -> Option<Plan>
     None
 }
 
-/// All but the ids are equal.
+/// Returns whether two plans are equal but for their ids.
 fn same_terms(plan: &Plan, other: &Plan) -> bool
     ensures { result ≡ same_terms plan.now other.now }
 {
@@ -62,13 +62,14 @@ fn same_terms(plan: &Plan, other: &Plan) -> bool
         && plan.extend == other.extend
 }
 
-/// A plan of that id is held, with other terms.
+/// Returns whether a plan is already loaded with other terms. `held` is the loaded plan with its id.
 fn differs(held: Option<Plan>, plan: &Plan) -> bool
     ensures { result ≡ differs held plan.now }
 {
     held.is_some_and(|held| !same_terms(&held, plan))
 }
 
+/// Returns whether one of the listed plans is already loaded with other terms.
 fn any_differs(held: &[Plan], plans: &[Plan]) -> bool
     ensures { result ≡ list_any (λ p. differs (plan_among held.now p.id) p) plans.now }
 {
@@ -77,7 +78,9 @@ fn any_differs(held: &[Plan], plans: &[Plan]) -> bool
         .any(|plan| differs(listed_plan(held, plan.id), plan))
 }
 
-/// The listed plans that are not held.
+/// Collects the listed plans that are not loaded yet.
+///
+/// Error: `AllocError` when out of memory.
 fn new_plans(alloc: Global, held: &[Plan], plans: &[Plan]) -> Result<Plans, AllocError>
     ensures { IfOk result (λ new. new ≡ plans_to_add (plan_among held.now) plans.now) }
 {

@@ -1,7 +1,14 @@
-//! Redeeming a voucher.
+//! The decision on redeeming a voucher.
 ghost use Rattle.std.specs.Prelude.{◌≡◌, ◌≢◌, ◌≤◌, IfOk, IfErr, Some, None, true, false};
 ghost use Rattle.portal_model.specs.History.{is_open_at, kept_if};
-ghost use Rattle.portal_model.specs.Verdict.{redeem_verdict, voucher_verdict, voucher_refusal, place_verdict, same_limits, is_past};
+ghost use Rattle.portal_model.specs.Verdict.{
+  redeem_verdict,
+  voucher_verdict,
+  voucher_refusal,
+  place_verdict,
+  same_limits,
+  is_past,
+};
 ghost use Rattle.portal_model.specs.Change.{session_after, raised_by, redemption, redeem_change};
 
 use portal_model::change::{Changes, RedeemChange};
@@ -11,21 +18,24 @@ use portal_model::plan::Plan;
 use portal_model::record::{Head, Session, Voucher, is_open};
 use portal_model::refusal::Refusal;
 
+/// The most bytes that one session may be granted in all.
 const GREATEST_ALLOWANCE: u64 = 9_000_000_000_000_000;
 
+/// The most redemptions that there may be in all.
 const GREATEST_COUNT: u64 = 9_007_199_254_740_991;
 
-/// The redemption of the voucher that was found under the code, for a device whose last session is `last`.
-/// Where that session is open at `t` it is extended by the plan's seconds and bytes, and else a new session
-/// opens with the next number.
+/// Decides whether a voucher may be redeemed at `t` for a device whose last session is `last`. If that
+/// session is open, it is extended by the plan's seconds and bytes; else a new session opens with the next
+/// number.
 ///
-/// Refused, first for the voucher: `UnknownCode` where there is none, `NotSold`, `Refunded`, `Expired` from
-/// its expiry moment on, `UsedUp`. Then for an open session: `NoExtend` where its first plan does not extend,
-/// `ShapeDiffers` where it limits other quantities than the plan, `AllowanceFull` past 9,000,000,000,000,000
-/// bytes, `MomentRange` where it would end past the greatest moment, `NumbersFull` after
-/// 9,007,199,254,740,991 redemptions; or for a new session `MomentRange` and `NumbersFull`.
+/// Errors, the first that applies. Of the voucher: `UnknownCode` without a voucher, `NotSold`, `Refunded`,
+/// `Expired` from its expiry on, `UsedUp`. Of an open session: `NoExtend` if the plan that opened it does
+/// not allow extending, `ShapeDiffers` if it limits other quantities than the plan, `AllowanceFull` past
+/// 9,000,000,000,000,000 bytes, `MomentRange` if it would end past the maximum time, `NumbersFull` after
+/// 9,007,199,254,740,991 redemptions. Of a new session: `MomentRange` and `NumbersFull`.
 ///
-/// A store never has more sessions than redemptions; of a head that tells otherwise no change is promised.
+/// The changes are as specified if the head row has no more sessions than redemptions, as in every legal
+/// history.
 pub fn decide_redeem(
     head: &Head,
     voucher: Option<Voucher>,
@@ -44,7 +54,9 @@ pub fn decide_redeem(
     redeem_voucher(head, &voucher, &running, device, t)
 }
 
-/// The voucher, where it may be redeemed.
+/// Checks whether the voucher may be redeemed at `t`, and returns it.
+///
+/// Errors: those of the voucher in `decide_redeem`.
 fn redeemable_voucher(voucher: Option<Voucher>, t: Moment) -> Result<Voucher, Refusal>
     ensures ok { IfOk result (λ v. (voucher ≡ Some v) × (voucher_refusal v t ≡ None)) }
     ensures err { IfErr result (λ r. voucher_verdict voucher t ≡ Some r) }
@@ -68,14 +80,16 @@ fn redeemable_voucher(voucher: Option<Voucher>, t: Moment) -> Result<Voucher, Re
     Ok(voucher)
 }
 
-/// The device's last session, where it is open.
+/// Returns the device's last session if it is open at `t`.
 fn session_if_open(last: Option<Session>, t: Moment) -> Option<Session>
     ensures { result ≡ kept_if (is_open_at t) last }
 {
     last.filter(|session| is_open(session, t))
 }
 
-/// What the redemption of the voucher changes, beside the open session of the device.
+/// Makes the changes of a redemption, in the open session `running` of the device or in a new one.
+///
+/// Errors: those of the session in `decide_redeem`.
 fn redeem_voucher(
     head: &Head,
     voucher: &Voucher,
@@ -99,7 +113,9 @@ fn redeem_voucher(
     }))
 }
 
-/// The session that the redemption leaves.
+/// Returns the session after the redemption: the open one extended, or a new one.
+///
+/// Errors: those of the session in `decide_redeem`.
 fn place_in_session(
     head: &Head,
     running: Option<Session>,
@@ -119,7 +135,9 @@ fn place_in_session(
     }
 }
 
-/// The open session, extended by the plan.
+/// Extends the open session by the seconds and bytes of the plan.
+///
+/// Errors: those of an open session in `decide_redeem`.
 fn extend_session(
     head: &Head,
     session: Session,
@@ -150,13 +168,16 @@ fn extend_session(
     })
 }
 
-/// The session limits the same quantities as the plan.
+/// Returns whether the session and the plan limit the same quantities.
 fn has_same_limits(session: &Session, plan: &Plan) -> bool
     ensures { result ≡ same_limits session.now plan.now }
 {
     session.ends.is_some() == (plan.seconds > 0) && session.allowance.is_some() == (plan.bytes > 0)
 }
 
+/// Adds bytes to the allowance of a session, if it has one.
+///
+/// Error: `AllowanceFull` past 9,000,000,000,000,000 bytes.
 fn raise_allowance(allowance: Option<u64>, bytes: u64) -> Result<Option<u64>, Refusal>
     ensures ok { IfOk result (λ more. (is_past 9000000000000000 allowance bytes ≡ false)
         × (more ≡ raised_by allowance bytes)) }
@@ -172,6 +193,9 @@ fn raise_allowance(allowance: Option<u64>, bytes: u64) -> Result<Option<u64>, Re
     }
 }
 
+/// Adds seconds to the end of a session, if it has one.
+///
+/// Error: `MomentRange` past the maximum time.
 fn raise_end(ends: Option<Moment>, seconds: u32) -> Result<Option<Moment>, Refusal>
     ensures ok { IfOk result (λ more. (is_past 253370764799 ends seconds ≡ false)
         × (more ≡ raised_by ends seconds)) }
@@ -186,7 +210,10 @@ fn raise_end(ends: Option<Moment>, seconds: u32) -> Result<Option<Moment>, Refus
     }
 }
 
-/// A new session of the device, with the plan's limits.
+/// Makes a new session of the device at `t`, with the limits of the plan.
+///
+/// Errors: `MomentRange` if it would end past the maximum time, `NumbersFull` after 9,007,199,254,740,991
+/// redemptions.
 fn new_session(head: &Head, plan: Plan, device: Device, t: Moment) -> Result<Session, Refusal>
     ensures ok { IfOk result (λ _. place_verdict head.now plan t None ≡ None) }
     ensures err { IfErr result (λ r. place_verdict head.now plan t None ≡ Some r) }

@@ -1,4 +1,4 @@
--- What a writer of CSV has written.
+-- What a CSV writer has written.
 use Rattle.std.specs.Prelude.{◌≡◌, ℕ, List, [], ◌∷◌, ◌++◌, Vec, false}
 use Rattle.std.specs.declared.alloc.Global.{Global}
 use Rattle.csv.specs.Writing.{default_writer, row_text, writer_setup, fields_written, has_written, writer_under, writer_pending}
@@ -6,13 +6,13 @@ use Rattle.csv.specs.declared.writer.Writer.{Writer}
 use Rattle.portal_codes.specs.Code.{text_of}
 use Rattle.portal_files_print.specs.PrintFile.{header}
 
--- a writer between two lines
+-- A writer between two lines.
 pub record IsReady (w : Writer (Vec ℕ Global)) : Type 0 where
   pub setup : writer_setup w ≡ default_writer
   pub fields : fields_written w ≡ 0
   pub wrote : has_written w ≡ false
 
--- what the writer has taken
+-- the text that was given to the writer
 abbrev pub written_text : Writer (Vec ℕ Global) → List ℕ
 written_text w = (writer_under w).items ++ writer_pending w
 
@@ -36,6 +36,6 @@ row s first = row_text default_writer (first ∷ s.plan ∷ s.seconds ∷ s.byte
 abbrev pub code_row : Shared → List ℕ → List ℕ
 code_row s code = row s (text_of code)
 
--- the words over the columns
+-- the names of the columns
 abbrev pub header_row : List ℕ
 header_row = row_text default_writer header

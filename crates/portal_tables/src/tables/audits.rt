@@ -1,4 +1,4 @@
-//! Whether the counters agree with the rows that they count.
+//! The audit of the tables.
 
 ghost use Rattle.std.specs.Prelude.{◌≡◌, ◌↔◌, true, IfOk, IsTrue};
 ghost use Rattle.sqlite.specs.Held.{state};
@@ -13,10 +13,10 @@ use portal_tables_queries::audits::audit;
 use sqlite::Alter;
 
 impl<S: Alter> Tables<S> {
-    /// Whether the counters of the store agree with its other rows: each count is the number of the
-    /// redemptions with its code, each end and remainder is what the sums over its redemptions and its
-    /// used bytes give, each voucher and each session has its counters, and the head has the numbers of
-    /// redemptions and sessions. So it is in tables that only this product has written.
+    /// Whether the counters agree with the other rows: each count is the number of redemptions with its
+    /// code, each total is what the redemptions and the used bytes of its session give, each voucher has
+    /// its count and each session its total, and the head row has the numbers of redemptions and of
+    /// sessions. It is true in tables that only this product has written.
     pub fn audit(&mut self) -> Result<bool, StoreFault>
         ensures reads { ReadsTables S.Store self.old self.new result (λ L audited. audited ≡ true) }
         ensures exact { IsFaultFree S.Store self.new → IsTrue (state S.Store self.old.conn).is_open

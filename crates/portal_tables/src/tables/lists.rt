@@ -1,4 +1,4 @@
-//! The lists of the tables.
+//! The lists that the tables give.
 
 ghost use Rattle.std.specs.Prelude.{◌≡◌, filter};
 ghost use Rattle.portal_model.specs.Captive.{all_sessions};
@@ -19,7 +19,7 @@ use sqlite::Alter;
 use std::alloc::Global;
 
 impl<S: Alter> Tables<S> {
-    /// The codes of the batch, by place. There are none where there is no such batch.
+    /// Lists the codes of a batch, ordered by place. The list is empty if there is no such batch.
     pub fn batch_rows(&mut self, alloc: Global, id: &Id) -> Result<Vec<Code>, StoreFault>
         ensures { ReadsTables S.Store self.old self.new result
             (λ L found. found.items ≡ codes_of (history_of L) id.now) }
@@ -29,7 +29,7 @@ impl<S: Alter> Tables<S> {
         self.answer_or_stop(read)
     }
 
-    /// The sessions that are open at `t`, by number.
+    /// Lists the sessions that are open at the time `t`, ordered by number.
     pub fn open_sessions(&mut self, alloc: Global, t: Moment) -> Result<Vec<Session>, StoreFault>
         ensures { ReadsTables S.Store self.old self.new result
             (λ L found. found.items ≡ filter (is_open_at t) (all_sessions (history_of L))) }
@@ -39,8 +39,8 @@ impl<S: Alter> Tables<S> {
         self.answer_or_stop(read)
     }
 
-    /// The sales within the two moments, both included: of each the moment, and the price in hundredths.
-    /// They are ordered by moment, and at one moment by the voucher's printed code.
+    /// Lists the sales between two times, both included, each as its time and its price in hundredths.
+    /// They are ordered by time and then by the voucher's printed code.
     pub fn sales_between(
         &mut self,
         alloc: Global,
@@ -55,8 +55,8 @@ impl<S: Alter> Tables<S> {
         self.answer_or_stop(read)
     }
 
-    /// The sales within the two moments, both included: of each the moment, and the price in hundredths.
-    /// They are ordered as their vouchers were issued, which costs no sorting.
+    /// Lists the sales between two times, both included, each as its time and its price in hundredths.
+    /// They are in the order in which their vouchers were issued, which needs no sorting.
     pub fn sales_as_issued(
         &mut self,
         alloc: Global,
@@ -71,8 +71,8 @@ impl<S: Alter> Tables<S> {
         self.answer_or_stop(read)
     }
 
-    /// The refunds within the two moments, both included: of each the moment, and the amount in
-    /// hundredths. They are ordered by moment, and at one moment by the voucher's printed code.
+    /// Lists the refunds between two times, both included, each as its time and its amount in
+    /// hundredths. They are ordered by time and then by the voucher's printed code.
     pub fn refunds_between(
         &mut self,
         alloc: Global,

@@ -10,7 +10,7 @@ returns-in_err-first c = rw c.from_residual.ensures (λ range is. c.in_err-first
 pub returns-in_err-last : goal.returns-in_err-last
 returns-in_err-last c = rw c.from_residual-in_err-last.ensures (λ range is. c.in_err-last.ensures.none refl range.last is.1)
 
--- of the two days that the texts name: the range of them, or none where they are no range
+-- of the two days that the texts name: their range, or none if they are no range
 ranged : (from to : List ℕ) (first last : ℤ) (result : Option Span) → IsDayText from first → IsDayText to last
     → ((range : Span) → IsRangeText from to range → IsSpan first last) → (IsSome result ↔ IsSpan first last)
     → IfSome result (λ range. range ≡ record { first = first; last = last })
