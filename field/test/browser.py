@@ -1,4 +1,4 @@
-"""The pages in headless Chromium: both applications on loopback with nginx's content security policy, over a desk of their
+"""The pages in headless Chromium: both applications on loopback, with what nginx adds, over a desk of their
 own. Needs Debian's chromium, chromium-driver and python3-selenium."""
 
 from __future__ import annotations
@@ -34,6 +34,7 @@ except ImportError:
     HAS_DRIVER = False
 
 CAN = HAS_DRIVER and shutil.which("chromedriver") and shutil.which("chromium")
+HAS_FONT = pathlib.Path("/usr/share/fonts/truetype/dejavu/DejaVuSansCondensed.ttf").exists()    # of vouchers
 MAC = "02:00:00:00:00:01"
 VENUE: dict[str, Any] = {"house": "Sample Library", "help": "",
          "portal_url": "https://wifi.example/portal", "currency": "EUR", "wifi": "Library Guests",
@@ -41,26 +42,34 @@ VENUE: dict[str, Any] = {"house": "Sample Library", "help": "",
 LIGHT, DARK = "light", "dark"
 
 
-def policy() -> str:
-    """As set-up writes it into nginx's files."""
-    found = re.search(r'^POLICY = "(.*)"$', (FIELD / "setup").read_text(), re.M)
-    assert found
-    return found[1]
+class Nginx:
+    """What nginx does for one of the applications: it adds the page's policy and says who asks, and it serves files
+    itself, as its configuration has them."""
 
+    def __init__(self, conf: str) -> None:
+        setup, text = (FIELD / "setup").read_text(), (FIELD / conf).read_text().replace("@FIELD@", str(FIELD))
+        policy = re.search(r'^POLICY = "(.*)"$', setup, re.M)
+        field = re.search(r'add_header Content-Security-Policy "(.*)" always;', text)
+        assert policy and field
+        self.policy = field[1].replace("@POLICY@", policy[1])
+        self.files = {path: f"{root}{path}" for path, root in re.findall(r"location = (\S+) { root (\S+);", text)}
+        self.folders = dict(re.findall(r"location (/\S+/) { alias (\S+);", text))
 
-def from_nginx(app: web.Application) -> web.Application:
-    """What nginx adds: the style, the policy, and who asks."""
-    style, rule = (FIELD / "front/style.css").read_bytes(), policy()
+    def file(self, path: str) -> pathlib.Path | None:
+        folder, _, name = path.rpartition("/")
+        found = self.files.get(path) or self.folders.get(folder + "/", "/nowhere/") + name
+        return pathlib.Path(found) if pathlib.Path(found).is_file() else None
 
-    def answer(environ: dict[str, Any], start: Any) -> web.Answer:
-        if environ["PATH_INFO"] == "/style.css":
-            start("200 OK", [("Content-Type", "text/css")])
-            return [style]
-        environ |= {"HTTP_X_REAL_IP": "127.0.0.1", "HTTP_X_USER": "anna"}
-        return app(environ, lambda status, head, *more: start(
-            status, [*head, ("Content-Security-Policy", rule), ("X-Content-Type-Options", "nosniff")], *more))
+    def before(self, app: web.Application) -> web.Application:
+        def answer(environ: dict[str, Any], start: Any) -> web.Answer:
+            if file := self.file(environ["PATH_INFO"]):
+                start("200 OK", [("Content-Type", {".css": "text/css", ".ttf": "font/ttf"}[file.suffix])])
+                return [file.read_bytes()]
+            environ |= {"HTTP_X_REAL_IP": "127.0.0.1", "HTTP_X_USER": "anna"}
+            added = [("Content-Security-Policy", self.policy), ("X-Content-Type-Options", "nosniff")]
+            return app(environ, lambda status, head, *more: start(status, [*head, *added], *more))
 
-    return answer
+        return answer
 
 
 class Venue:
@@ -80,13 +89,13 @@ class Venue:
         self.front = portal_front.Front(Desk(self.desk.port), self.conf, lambda _: self.device, "a key")
         self.device: str | None = MAC
         self.servers: list[Any] = []
-        self.guests = self.serve(portal_front.pages(self.front)) + "/portal"
-        self.clerks = self.serve(portal_counter.pages(self.counter)) + "/"
+        self.guests = self.serve(portal_front.pages(self.front), "front/nginx-guests.conf") + "/portal"
+        self.clerks = self.serve(portal_counter.pages(self.counter), "counter/nginx-counter.conf") + "/"
         self.gateway_tells()
 
-    def serve(self, app: web.Application) -> str:
+    def serve(self, app: web.Application, conf: str) -> str:
         door = socket.create_server(("127.0.0.1", 0))
-        server = web.server(from_nginx(app), door, threads=4)
+        server = web.server(Nginx(conf).before(app), door, threads=4)
         threading.Thread(target=server.run, daemon=True).start()
         self.servers.append(server)
         return f"http://localhost:{door.getsockname()[1]}"

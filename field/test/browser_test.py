@@ -2,18 +2,26 @@
 
 from __future__ import annotations
 
+import collections
 import contextlib
 import io
+import itertools
 import time
 import unittest
+from collections.abc import Iterator
 from dataclasses import dataclass, field
 from typing import Any
+from unittest import mock
 
-from browser import CAN, DARK, LIGHT, MAC, Browser, Venue
+from browser import CAN, DARK, HAS_FONT, LIGHT, MAC, Browser, Venue
 from desk_process import FIELD, Routes
 
+import clerk
 from desk_client import new_number
 from journal import Act
+from languages import Language
+from sheet import Voucher, vouchers
+from venue import LANGUAGES
 
 if CAN:
     from browser import By, Keys
@@ -67,11 +75,54 @@ if (all('script, [style], [onclick]').length) faults.push('a script or an inline
 for (const id of new Set(all('[id]').map(n => n.id))) if (all(`[id="${id}"]`).length > 1) faults.push(`two of the id ${id}`);
 return faults;
 """
-# Vouchers that are larger than their place, and pictures that do not come.
-CUT_OFF = """
-return [...document.querySelectorAll('.sheet > div')].filter(n => n.scrollHeight > n.clientHeight || n.scrollWidth > n.clientWidth)
-  .map(n => `${n.scrollWidth} x ${n.scrollHeight} in ${n.clientWidth} x ${n.clientHeight}`)
-  .concat([...document.images].filter(i => !i.naturalWidth).map(i => i.src)).slice(0, 3);
+# Text that leaves its voucher or lies over a QR code, and pictures and fonts that did not come.
+CUT_OFF = r"""
+const faults = [];
+const between = (a, x, b) => a - 2 < x && x < b + 2;
+const holds = (a, b) => between(a.left, b.left, a.right) && between(a.left, b.right, a.right) &&
+  between(a.top, b.top, a.bottom) && between(a.top, b.bottom, a.bottom);
+const touch = (a, b) => Math.min(a.right, b.right) - Math.max(a.left, b.left) > 2 &&
+  Math.min(a.bottom, b.bottom) - Math.max(a.top, b.top) > 2;
+for (const voucher of document.querySelectorAll('.vouchers > div')) {
+  const box = voucher.getBoundingClientRect(), style = getComputedStyle(voucher);
+  const edge = parseFloat(style.paddingTop) + parseFloat(style.borderTopWidth);
+  const place = new DOMRect(box.x + edge, box.y + edge, box.width - 2 * edge, box.height - 2 * edge);
+  const codes = [...voucher.querySelectorAll('svg')].map(n => n.getBoundingClientRect());
+  const texts = document.createTreeWalker(voucher, NodeFilter.SHOW_TEXT), range = document.createRange();
+  while (texts.nextNode()) {
+    const text = texts.currentNode, others = text.parentElement.closest('.codes') ? [] : codes;
+    range.selectNodeContents(text);
+    for (const line of range.getClientRects())
+      if (!holds(place, line) || others.some(code => touch(code, line))) faults.push(text.data.trim());
+  }
+  if (!codes.every(code => holds(place, code) && code.width >= 45)) faults.push('a QR code');      // of 12 mm
+}
+for (const image of document.images) if (!image.naturalWidth) faults.push(image.src);
+for (const font of document.fonts)
+  if (font.status !== 'loaded') faults.push(`${font.family} ${font.weight}: ${font.status}`);
+if (!document.fonts.size) faults.push('no font comes with the page');
+return faults.slice(0, 3);
+"""
+# All text 5 % larger, as another font or another version of the browser may have it.
+LARGER = """
+const nodes = [...document.querySelectorAll('.vouchers, .vouchers *')];
+const sizes = nodes.map(node => parseFloat(getComputedStyle(node).fontSize));
+nodes.forEach((node, i) => { node.style.fontSize = `${sizes[i] * 1.05}px` });
+"""
+# Width, height and margin, in millimetres.
+PAPER = {"a4": (210, 297, 8), "label": (70, 37, 1.5), "receipt80": (80, 150, 4), "receipt58": (58, 150, 5)}
+LONG = {"house": "Stadtbibliothek am Alten Marktplatz", "wifi": "A name of a network, 32 signs ab",
+        "portal_url": "https://wlan.stadtbibliothek.example/portal",
+        "logo": str(FIELD / "docs/pictures/voucher-screen-dark.png")}
+LONG_PLAN = b"""
+[[plan]]
+id = "long"
+price = 123450
+uses = 3
+seconds = 3600
+bytes = 1500000000
+shelf_days = 180
+extend = true
 """
 FOCUSABLE = "a[href], button, input:not([type=hidden]), select"
 # Fields of a date have more than one stop.
@@ -85,12 +136,25 @@ REFUSED = ("guest, refused", "guest, refused in Japanese", "refused")
 BY_KEYBOARD = ("guest, not online", "guest, refused", "counter", "voucher to sell", "refund", "takings", "cash up")
 WIDE = """
 return Math.max(...[document.scrollingElement, ...document.querySelectorAll('main, section, nav, td, p')]
-  .filter(n => !n.closest('.sheet')).map(n => n.scrollWidth - n.clientWidth))
+  .filter(n => !n.closest('.vouchers')).map(n => n.scrollWidth - n.clientWidth))
 """
 
 
 def browser_has(browser: Browser, query: str) -> bool:
     return bool(browser.ask(f"return document.querySelectorAll('{query}').length"))
+
+
+@contextlib.contextmanager
+def in_each_language(together: int) -> Iterator[None]:
+    """The vouchers of a sheet are in one language after the other, or in one pair after the other."""
+    turns = list(itertools.combinations(LANGUAGES, together))
+
+    def in_turn(listed: list[dict[str, str]], uses: int, conf: dict[str, Any], _: object) -> list[Voucher]:
+        return [voucher for row, tags in zip(listed, itertools.cycle(turns))
+                for voucher in vouchers([row], uses, conf, [Language(tag) for tag in tags])]
+
+    with mock.patch.object(clerk, "vouchers", in_turn):
+        yield
 
 
 @dataclass
@@ -206,21 +270,44 @@ class Shown(unittest.TestCase):
             if found.stops is not None:
                 self.assertEqual((found.stops, found.hidden), (list(range(found.places)), []), name)
 
+    @unittest.skipUnless(HAS_FONT, "fonts-dejavu-extra is not installed")
     def test_sheets_fit_on_their_paper(self) -> None:
-        """Sixteen vouchers on an A4 page, or twelve in two languages; a label or a receipt for each. None is cut off."""
-        for count in (12, 16, 17):
-            self.venue.desk.issued("gigabyte", f"b{count}", count)
-        self.venue.conf.update(logo=str(FIELD / "docs/pictures/voucher-screen-dark.png"), wifi="A name of a network, 32 signs ab")
-        one, two, page = ["pl"], ["de", "pl"], (210, 297)       # which take the most lines
-        for languages, count, size, pages in (
-                (one, 16, "a4", [page]), (one, 17, "a4", [page] * 2), (two, 12, "a4", [page]), (two, 16, "a4", [page] * 2),
-                (one, 12, "label", [(70, 37)] * 12), (two, 12, "label", [(70, 37)] * 12),
-                (one, 12, "receipt80", [(80, 150)] * 12), (two, 12, "receipt58", [(58, 150)] * 12)):
-            self.venue.conf["voucher_languages"] = languages
-            self.browser.shape(733, media="print")      # of A4 without its margins
-            self.browser.open(f"{self.venue.clerks}sheet?batch=b{count}&size={size}")
-            self.assertEqual(self.browser.ask(CUT_OFF), [], (languages, size))
-            self.assertEqual(self.browser.printed(), pages, (languages, count, size))
+        """Sixteen vouchers on an A4 page, or twelve in two languages; a label or a receipt for each. None is cut off,
+        in any language or pair of languages, with long names, and with larger text."""
+        self.venue.desk.desk.tell(Routes.PLANS, body=LONG_PLAN)
+        self.venue.conf.update(LONG)
+        for count in (13, 16, 17, 72):      # 72: each pair of languages, and six full pages
+            self.venue.desk.issued("long", f"a-batch-with-a-long-name-{count}", count)
+        for together, size, count, pages in (
+                (1, "a4", 16, 1), (1, "a4", 17, 2), (2, "a4", 72, 6), (2, "a4", 13, 2),
+                (1, "label", 16, 16), (2, "label", 13, 13), (1, "receipt80", 16, 16), (2, "receipt80", 72, 72),
+                (1, "receipt58", 16, 16), (2, "receipt58", 72, 72)):
+            with self.subTest(size=size, count=count), in_each_language(together):
+                self.venue.conf["voucher_languages"] = LANGUAGES[:together]
+                self.open_on_paper(f"a-batch-with-a-long-name-{count}", size)
+                self.assertEqual(self.browser.ask(CUT_OFF), [])
+                if count < 72:      # what fits when it is larger fits as it is
+                    self.assertEqual(self.browser.printed(), [PAPER[size][:2]] * pages)
+                self.browser.ask(LARGER)
+                self.assertEqual(self.browser.ask(CUT_OFF), [], "larger")
+                self.assertLessEqual(self.browser.ask(WIDE), 0, "larger")
+                self.assertEqual(self.browser.printed(), [PAPER[size][:2]] * pages, "larger")
+
+    def open_on_paper(self, batch: str, size: str) -> None:
+        wide, _, margin = PAPER[size]
+        self.browser.shape(int((wide - 2 * margin) / 25.4 * 96), media="print")
+        self.browser.open(f"{self.venue.clerks}sheet?batch={batch}&size={size}")
+        self.browser.ask("return document.fonts.ready.then(() => true)")
+
+    @unittest.skipUnless(HAS_FONT, "fonts-dejavu-extra is not installed")
+    def test_a_voucher_that_needs_more_than_its_place_is_whole(self) -> None:
+        """On an A4 page it takes the room of others, on a label it goes on on the next."""
+        self.venue.desk.issued("hour", "b16", 16)
+        self.venue.conf["house"] = "A house of many words " * 12
+        for size, least in (("a4", 2), ("label", 17)):
+            self.open_on_paper("b16", size)
+            self.assertEqual(self.browser.ask(CUT_OFF), [], size)
+            self.assertGreaterEqual(len(self.browser.printed()), least)
 
     def test_a_day(self) -> None:
         """Sell by scan, redeem in Arabic, extend, refuse, refund, close, print, add up."""

@@ -424,7 +424,7 @@ class Pages(AtCounter):
         for query, size, there in (("", "", "a4"), ("", "receipt80", "receipt80"), ("&size=label", "receipt80", "label"),
                                    ("&size=x", "receipt80", "a4")):
             self.conf["voucher_size"] = size or "a4"
-            self.assertIn(f'<div class="sheet {there}">', self.ask(f"/sheet?batch=b1{query}")[1])
+            self.assertIn(f'<div class="vouchers {there}">', self.ask(f"/sheet?batch=b1{query}")[1])
 
     @unittest.skipUnless(HAS_SEGNO, "python3-segno is not installed")
     def test_a_sheet_has_a_qr_code_for_each_code(self) -> None:
@@ -437,7 +437,8 @@ class Pages(AtCounter):
         self.assertNotIn("style=", text)
         self.conf.update(wifi='A "net"; x', wifi_password="abcdefgh", currency="EUR", voucher_languages=["en", "ar"])
         text = self.ask("/sheet?batch=b1&size=receipt58")[1]
-        self.assertIn('<div class="sheet receipt58 two">', text)
+        self.assertIn('<div class="vouchers receipt58 two">', text)
+        self.assertIn("Twelve to an A4 page", text)
         self.assertEqual((text.count("<svg"), text.count('dir="rtl"'), text.count("€9.00")), (6, 3, 3))
         self.assertIn("Join the Wi‑Fi “A &#34;net&#34;; x”.", text)
         self.assertIn("House", text)
