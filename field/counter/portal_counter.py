@@ -248,9 +248,11 @@ class Pages:
 
 
 def is_from_our_page() -> bool:
-    """Another site's page cannot send forms in the clerk's name: browsers name the origin of every POST."""
+    """Another site's page cannot send forms in the clerk's name: browsers name the origin of every POST (RFC 6454
+    section 7), with its port where that is not 443."""
     head = flask.request.headers
-    return urllib.parse.urlsplit(head.get("Origin", "")).netloc == head.get("Host", "-")
+    site = head.get("Origin", "").partition("://")[2]
+    return site != "" and site == head.get("Host", "").removesuffix(":443")
 
 
 def pages(counter: Counter) -> web.Application:

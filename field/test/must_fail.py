@@ -71,7 +71,7 @@ UNITS = (
          "test_leases.Bound", "test_so_it_does_where_another_device_answers_in_its_place"),
     Edit("a_device_that_comes_again_is_not_looked_at", LEASES, "            if whole:\n                self.binder.look()\n",
          "", "test_leases.Served", "test_a_device_that_comes_again_gets_its_entries_again"),
-    Edit("forms_of_other_sites", COUNTER, '== head.get("Host", "-")', '!= "never"',
+    Edit("forms_of_other_sites", COUNTER, 'site == head.get("Host", "").removesuffix(":443")', "True",
          "test_counter.Pages", "test_no_other_site_sends_forms"),
     Edit("a_sale_without_its_number", CLERK, 'Routes.SELL, {"code": form.word("code")}, number)',
          'Routes.SELL, {"code": form.word("code")}, new_number())', "test_counter.Pages",

@@ -126,6 +126,19 @@ class Pages(AtCounter):
             self.assertEqual(self.ask("/sell", code=code, request=number)[0], 400, number)
         self.assertIsNone(self.desk.voucher(code)["sold"])
 
+    def test_a_site_is_its_name_and_its_port(self) -> None:
+        ours = "https://counter.example"
+        for i, (host, origin, status) in enumerate((
+                ("counter.example:8444", ours + ":8444", 200), ("counter.example:443", ours, 200),
+                ("counter.example", ours, 200), ("counter.example:8444", ours, 403),
+                ("counter.example", ours + ":8444", 403), ("counter.example:8444", ours + ":8445", 403),
+                ("other.example", ours, 403), ("counter.example:x", ours, 403), ("counter.example:99999", ours, 403),
+                ("", "null", 403), (":443", "null", 403), ("counter.example", "https://[", 403))):
+            with self.subTest(host=host, origin=origin):
+                code, = self.desk.issued("hour", f"b{i}")
+                self.assertEqual(self.ask("/sell", origin, {"Host": host}, code=code, request=f"s{i}")[0], status)
+                self.assertEqual(self.desk.voucher(code)["sold"] is not None, status == 200)
+
     def test_wrong_passwords_lock_an_address_out_and_no_other(self) -> None:
         clock = [1000.0]
         self.counter.tries.now = lambda: clock[0]
