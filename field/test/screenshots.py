@@ -2,7 +2,9 @@
 """Pictures of the pages as a guest's phone and the counter's screen show them, in light and dark. Needs chromium,
 chromium-driver, python3-selenium, fonts-noto-core and fonts-noto-cjk.
 
-    screenshots.py FOLDER
+    screenshots.py [--demo] FOLDER
+
+--demo: one picture alone, of the counter's page of the demo while a guest is online. Needs root, as the demo does.
 """
 
 from __future__ import annotations
@@ -12,16 +14,19 @@ import contextlib
 import datetime
 import io
 import pathlib
+import re
 from collections.abc import Callable
 from unittest import mock
 
 from browser import DARK, LIGHT, MAC, Browser, By, Venue
-from desk_process import Routes
+from desk_process import FIELD, Routes
 
 from clerk import Acts, Notice
 from desk_client import new_number
 from forms import Form
 from journal import Sums
+
+from e2e_demo import opened_by
 
 PHONE, SCREEN = (390, 844), (1280, 860)
 
@@ -104,10 +109,33 @@ def counter(venue: Venue, camera: Camera, codes: list[str]) -> None:
         camera.take("takings")
 
 
+def take_the_demo(browser: Browser, folder: pathlib.Path) -> None:
+    job, lines = opened_by([str(FIELD / "demo")])
+    try:
+        text = "".join(lines)
+        guests, counter = re.findall(r"https://(\S+)", text)
+        browser.driver.execute_cdp_cmd("Security.setIgnoreCertificateErrors", {"ignore": True})
+        browser.open(f"https://{guests}")
+        browser.driver.find_element(By.ID, "code").send_keys(re.findall(r"[0-9A-Z-]{19}", text)[0])
+        browser.enter()
+        browser.shape(*SCREEN)
+        browser.open(f"https://clerk:clerk@{counter}")
+        browser.shape(SCREEN[0], browser.ask("return document.documentElement.scrollHeight"))
+        browser.picture(folder / "demo-counter.png")
+    finally:
+        job.terminate()
+        job.wait(20)
+
+
 def main() -> None:
     words = argparse.ArgumentParser(description="Pictures of the pages.")
+    words.add_argument("--demo", action="store_true", help="the counter's page of the demo alone")
     words.add_argument("folder", type=pathlib.Path)
     args = words.parse_args()
+    if args.demo:
+        with contextlib.closing(Browser()) as browser:
+            take_the_demo(browser, args.folder)
+        return
     venue, browser = Venue(), Browser()
     try:
         codes = venue.desk.issued("hour", "hour-1", 3)
