@@ -12,9 +12,10 @@ import time
 
 from doctor_faults import doctor_is_content, doctor_names_faults
 from machine import (
-    COPIES, DATABASE, HERE, NAME, OUTSIDE, PARTS, SESSIONS, Gap, active, ask_for_a_lease, captive, certificate, check, check_all_active,
-    clerk, code, copies, count_outside, counter, curl, forward, install, is_bound, is_online, journal, lease, leased, neighbour, parts,
-    passes, redeem, say_the_time_is_right, serves, sh, show, told, until, versions, waits)
+    COPIES, COUNTER, DATABASE, HERE, NAME, OUTSIDE, PARTS, SESSIONS, Gap, active, ask_for_a_lease, captive, certificate,
+    check, check_all_active, clerk, code, copies, count_outside, counter, curl, forward, install, is_bound, is_online,
+    journal, lease, leased, neighbour, parts, passes, redeem, say_the_time_is_right, serves, sh, show, told, until, versions,
+    waits)
 
 SLOW = HERE / "slow"        # a folder with a `cp` that takes its time
 LOGS, RULES = pathlib.Path("/var/log/portal"), pathlib.Path("/etc/portal/rules.nft")
@@ -53,6 +54,9 @@ def install_and_set_up() -> None:
     word = say_the_time_is_right()
     check("a clerk says on the counter's page that the time is right, and the server starts",
           until(serves, 10) is not None and "starts now" in word, word)
+    font = f"https://{COUNTER}/fonts/DejaVuSansCondensed.ttf"
+    heads = [curl("clerk", font, "--head", *words)[0] for words in (("-u", "clerk:secret"), ())]
+    check("the vouchers' font comes with the package, for clerks", heads == [200, 401], heads)
     failed = sh("systemctl --failed --no-legend --plain").stdout.split()
     check("no unit failed", not failed, failed)
     check("the agent polls", until(SESSIONS.exists) is not None)
