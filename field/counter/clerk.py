@@ -14,6 +14,7 @@ from typing import Any
 
 import refusals
 import takings
+from answers import Answers
 from typed_codes import scanned_beside
 from desk_client import Desk, NoAnswer, Refused, Route, Routes, new_number
 from forms import BadForm, Form
@@ -27,6 +28,7 @@ STATE = pathlib.Path(os.environ.get("STATE_DIRECTORY", "/var/lib/portal-counter"
 OLD_LIST = 15       # seconds after which the gateway's list says that it is old
 LONGEST_BASE = 32   # signs of a request number from which others are made: -001 and so on follow
 MOST_BATCHES = 200  # that are listed
+PASSED_OVER = ("sold_already", "refunded", "expired", "used_up")     # why a code of a batch is not sold with the others
 Acts = list[Act]    # what the journal will have of a form
 
 
@@ -37,6 +39,8 @@ class Notice:
     lines: tuple[str, ...]
     code: str = ""
     batch: str = ""         # whose sheet can be printed now
+    repeats: bool = False   # nothing was done now: it is about what was done before
+    number: str = ""        # of the form that it answers, where the browser is to say that it shows the answer
 
 
 def prices(text: bytes) -> dict[str, int]:
@@ -64,6 +68,7 @@ class Counter:
     plans_notice: Notice | None = None
     since: Any = None           # the start of the server, by its note, for which the plans were loaded
     tries: Tries = field(default_factory=Tries)
+    answers: Answers = field(default_factory=Answers)
 
     def __post_init__(self) -> None:
         self.language = Language(self.conf.get("language", "en"), "counter")
@@ -179,7 +184,7 @@ class Counter:
             try:
                 told = self.sell_row(row, batch, f"{base}-{i + 1:03}", acts)
             except Refused as refused:
-                if refused.word not in ("sold_already", "refunded", "expired", "used_up"):
+                if refused.word not in PASSED_OVER:
                     raise
                 left += 1
             else:

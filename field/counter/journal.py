@@ -44,6 +44,8 @@ SELECT {{group}}, sum(act = 'sell'), sum(iif(act = 'sell', price, 0)),
 FROM acts WHERE moment >= ? AND moment < ? AND act IN ('sell', 'refund') AND {FIRST} GROUP BY {{group}} ORDER BY {{group}}"""
 ACTS = "SELECT moment, clerk, act, batch, plan, codes, price, request, answer FROM acts"
 BATCHES = f"{ACTS} WHERE act = 'issue' AND {FIRST} ORDER BY number DESC LIMIT ?"
+CARRIED_OUT = f"{ACTS} WHERE request = ? AND act = ? AND {FIRST}"
+SALES = f"{ACTS} WHERE request BETWEEN ? || '-000' AND ? || '-999' AND act = 'sell' ORDER BY number"
 DOUBT = """
 SELECT count(DISTINCT request) FROM acts WHERE moment >= ? AND moment < ? AND answer IN ('no_answer', 'stopped') AND
     NOT EXISTS (SELECT * FROM acts AS later WHERE later.request = acts.request AND later.act = acts.act
@@ -110,11 +112,11 @@ class Journal:
                              [(now, clerk, place, act.act, act.batch, act.plan, act.codes, act.price, act.request,
                                act.answer) for act in acts])
 
-    def asked(self, text: str, *values: int) -> list[tuple[object, ...]]:
+    def asked(self, text: str, *values: int | str) -> list[tuple[object, ...]]:
         with self.opened() as link:
             return link.execute(text, values).fetchall()
 
-    def entries(self, text: str, *values: int) -> list[Entry]:
+    def entries(self, text: str, *values: int | str) -> list[Entry]:
         names = ("moment", "clerk", "act", "batch", "plan", "codes", "price", "request", "answer")
         return [Entry(**dict(zip(names, row))) for row in self.asked(text, *values)]     # type: ignore[arg-type]
 
@@ -124,6 +126,14 @@ class Journal:
     def batches(self, most: int) -> list[Entry]:
         """The batches that were issued, the last one first."""
         return self.entries(BATCHES, most)
+
+    def carried_out(self, act: str, request: str) -> Entry | None:
+        """The first entry of a command that was carried out, by its idempotency key."""
+        return next(iter(self.entries(CARRIED_OUT, request, act)), None)
+
+    def sales(self, base: str) -> list[Entry]:
+        """The sales of a form that sells codes one after another, each with a key made from the form's, in their order."""
+        return self.entries(SALES, base, base)
 
     def by(self, group: str, day: datetime.date) -> list[Sums]:
         """The sums of a day by `plan` or by `clerk`."""

@@ -24,12 +24,15 @@ sys.path[:0] = [str(HERE.parent / "lib"), str(HERE)]
 import flask  # noqa: E402
 
 import refusals  # noqa: E402
+import repetition  # noqa: E402
 import takings  # noqa: E402
 import web  # noqa: E402
+from answers import PICTURE  # noqa: E402
 from clerk import Acts, Counter, Notice  # noqa: E402
 from typed_codes import scanned_beside  # noqa: E402
 from desk_client import REQUEST_NUMBER, Desk, NoAnswer, Refused, credential, new_number, settings  # noqa: E402
 from forms import BadForm, Form  # noqa: E402
+from journal import Entry  # noqa: E402
 from languages import Language  # noqa: E402
 from marks import clerk_words  # noqa: E402
 from sheet import SIZES, picture, wifi_text  # noqa: E402
@@ -50,6 +53,11 @@ def readable(text: str) -> str:
     return (text if text.isprintable() else ascii(text))[:48]
 
 
+def name_of_one() -> str:
+    """The batch of a voucher that is issued and sold by itself."""
+    return time.strftime("one-%Y%m%d-%H%M%S-") + new_number()[:6]
+
+
 class Pages:
     """Answers to the requests that nginx lets through."""
 
@@ -60,7 +68,7 @@ class Pages:
             "now": counter.sell_one_now, "sell-batch": counter.sell_batch, "time": counter.time_is_right}
         self.questions: dict[str, Callable[[Form], Reply]] = {
             "voucher": self.voucher, "sheet": self.sheet, "takings": self.takings, "takings.csv": self.takings_file,
-            "cash-up": self.cash_up, "batches": self.batches,
+            "cash-up": self.cash_up, "batches": self.batches, "next": self.next_customer, "shown": self.shown,
             **{name: self.confirm(name) for name in ("refund", "close", "sell-batch")}}
 
     def show(self, template: str, status: int = 200, notice: Notice | None = None, **values: Any) -> Reply:
@@ -76,7 +84,7 @@ class Pages:
         return self.show(
             "home.html", status, notice, plans=counter.plans, code=code, waits=waits,
             numbers=[new_number() for _ in range(2)], batch=time.strftime("b-%Y%m%d-%H%M%S"),
-            one=time.strftime("one-%Y%m%d-%H%M%S-") + new_number()[:6],
+            one=name_of_one(),
             day=time.strftime("%Y-%m-%d"), spans=takings.SPANS, sessions=counter.sessions())
 
     def first(self) -> Reply:
@@ -98,6 +106,17 @@ class Pages:
         return self.show("sheet.html", 200, notice, vouchers=self.counter.sheet(form), batch=form.word("batch"),
                          size=size if size in SIZES else SIZES[0], sizes=SIZES, logo=bool(self.counter.logo),
                          wifi=picture(wifi_text(wifi, conf.get("wifi_password", ""))) if wifi else "")
+
+    def next_customer(self, form: Form) -> Reply:
+        return self.leads_to(form.get("code", ""))
+
+    def shown(self, form: Form) -> Reply:
+        self.counter.answers.shown(form.word("request"))
+        return flask.Response(PICTURE, content_type="image/svg+xml")
+
+    def leads_to(self, code: str) -> Reply:
+        """The voucher that was typed or scanned, or else the first page."""
+        return flask.make_response(flask.redirect("/voucher?" + urllib.parse.urlencode({"code": code}) if code else "/", 303))
 
     def takings(self, form: Form) -> Reply:
         told = self.counter.takings(form)
@@ -156,7 +175,15 @@ class Pages:
         if not REQUEST_NUMBER.fullmatch(number):
             raise BadForm("request")
         if form.get("next"):        # another code was scanned where this one could have been sold
-            return flask.make_response(flask.redirect("/voucher?" + urllib.parse.urlencode({"code": form["next"]}), 303))
+            return self.leads_to(form["next"])
+        with self.counter.answers.turn(number):
+            return self.carry_out(name, form, number)
+
+    def carry_out(self, name: str, form: Form, number: str) -> Reply:
+        what = f"{name} " + ", ".join(readable(form[key]) for key in form if key not in ("request", "next"))
+        if before := self.earlier(name, form, number):
+            self.note(f"{what}: done before")
+            return self.repeated(name, form, before)
         self.counter.catch_up()
         acts: Acts = []
         try:
@@ -165,7 +192,6 @@ class Pages:
             notice = fault
         finally:
             self.keep(acts)
-        what = f"{name} " + ", ".join(readable(form[key]) for key in form if key not in ("request", "next"))
         if isinstance(notice, Notice):
             self.note(f"{what}: done")
             return self.done(form, notice, name == "now")
@@ -175,11 +201,33 @@ class Pages:
         return self.again(name, form, refusals.of_word(notice.word)) if notice.in_doubt else self.refuse(notice, form)
 
     def done(self, form: Form, notice: Notice, is_printed: bool) -> Reply:
-        """What was done is said in any case."""
+        """What was done is said in any case. A browser, and no other program, is asked to say that it shows it."""
+        if notice.good and flask.request.headers.get("Sec-Fetch-Mode") == "navigate":
+            self.counter.answers.sent(form["request"])
+            notice = replace(notice, number=form["request"])
         if is_printed:
             with contextlib.suppress(NoAnswer, Refused):
                 return self.printed(form, notice)
-        return self.home(notice=notice)
+        return self.show("answer.html", notice=notice) if notice.good else self.home(notice=notice)
+
+    def earlier(self, name: str, form: Form, number: str) -> Entry | None:
+        """What this form did before, by the journal; none where no browser showed its answer, which is then given again. A
+        journal that cannot be read hinders no sale."""
+        if self.counter.answers.is_unseen(number):
+            return None
+        try:
+            return repetition.earlier(self.counter, name, form, number)
+        except sqlite3.Error as fault:
+            self.note(f"the journal could not be read: {fault}")
+            return None
+
+    def repeated(self, name: str, form: Form, before: Entry) -> Reply:
+        """Nothing is done: the page says when the form was carried out, and has another one for a new sale."""
+        counter = self.counter
+        return self.show("repetition.html", 200, repetition.notice(counter, name, before), name=counter.say(ACTIONS[name]),
+                         facts=repetition.facts(counter, before), money_left=repetition.money_left(counter, name, before),
+                         code=form.get("code", ""), plans=counter.plans, plan=form.get("plan", "") if name == "now" else "",
+                         number=new_number(), one=name_of_one())
 
     def keep(self, acts: Acts) -> None:
         """In the journal. What was done is done without it, too."""

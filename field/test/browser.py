@@ -115,17 +115,25 @@ class Venue:
 
 
 class Browser:
-    """One headless Chromium."""
+    """One headless Chromium, with more options of its command line."""
 
-    def __init__(self) -> None:
-        self.profile = tempfile.TemporaryDirectory()
+    def __init__(self, *more: str) -> None:
+        self.profile, self.more = tempfile.TemporaryDirectory(), more
+        self.start(*more)
+
+    def start(self, *more: str) -> None:
         options = webdriver.ChromeOptions()
         options.binary_location = shutil.which("chromium") or ""
         for word in ("headless=new", "no-sandbox", "disable-gpu", "disable-dev-shm-usage", "hide-scrollbars", "no-first-run",
-                     "disable-background-networking", f"user-data-dir={self.profile.name}"):
+                     "disable-background-networking", f"user-data-dir={self.profile.name}", *more):
             options.add_argument("--" + word)
         self.driver = webdriver.Chrome(service=Service(shutil.which("chromedriver") or ""), options=options)
         self.driver.set_page_load_timeout(30)
+
+    def start_again(self) -> None:
+        """It ends, starts again, and restores its tabs."""
+        self.driver.quit()
+        self.start(*self.more, "restore-last-session")
 
     def close(self) -> None:
         self.driver.quit()

@@ -45,9 +45,9 @@ for (const node of document.querySelectorAll('body *')) {
   if (style.opacity !== '1') faults.push(`${node.tagName}: opacity ${style.opacity}`);
   if ([...node.childNodes].some(n => n.nodeType === 3 && n.data.trim()) || node.matches('input, select'))
     hold(`${node.tagName} ${node.className} ${(node.textContent || node.name).trim().slice(0, 30)}`, shade(style.color), behind(node), 4.5);
-  if (node.matches('input:not([type=hidden]), select, button, .good, .bad'))
+  if (node.matches('input:not([type=hidden]), select, button, .good, .bad, .repetition'))
     hold(`border of ${node.tagName} ${node.className} ${node.name || ''}`, shade(style.borderBlockStartColor), behind(node.parentElement), 3);
-  if (node.matches('.good, .bad')) hold('its icon', shade(getComputedStyle(node, '::before').color), behind(node), 3);
+  if (node.matches('.good, .bad, .repetition')) hold('its icon', shade(getComputedStyle(node, '::before').color), behind(node), 3);
   if (node.placeholder) hold('placeholder', shade(getComputedStyle(node, '::placeholder').color), behind(node), 4.5);
 }
 return [looked, faults];
@@ -63,7 +63,7 @@ for (const field of all('input:not([type=hidden]), select'))
   if (!field.labels.length || !field.labels[0].getBoundingClientRect().height) faults.push(`no visible label: ${field.name}`);
 for (const node of all('[aria-describedby]'))
   if (!document.getElementById(node.getAttribute('aria-describedby'))) faults.push('described by nothing');
-for (const node of all('.bad')) if (node.getAttribute('role') !== 'alert') faults.push('an error that is no alert');
+for (const node of all('.bad, .repetition')) if (node.getAttribute('role') !== 'alert') faults.push('an error that is no alert');
 for (const field of all('[aria-invalid=true]')) { const why = document.getElementById(field.getAttribute('aria-describedby'));
   if (!why || why.getAttribute('role') !== 'alert' || !why.textContent.trim()) faults.push('an error that says nothing of its field') }
 for (const node of all('*')) { const style = getComputedStyle(node);
@@ -133,7 +133,7 @@ return [at, all.length, parseFloat(style.outlineWidth) >= 2 && style.outlineStyl
 """
 USED = ("textbox", "combobox", "button", "link", "spinbutton", "Date")
 REFUSED = ("guest, refused", "guest, refused in Japanese", "refused")
-BY_KEYBOARD = ("guest, not online", "guest, refused", "counter", "voucher to sell", "refund", "takings", "cash up")
+BY_KEYBOARD = ("guest, not online", "guest, refused", "counter", "voucher to sell", "repetition", "refund", "takings", "cash up")
 WIDE = """
 return Math.max(...[document.scrollingElement, ...document.querySelectorAll('main, section, nav, td, p')]
   .filter(n => !n.closest('.vouchers')).map(n => n.scrollWidth - n.clientWidth))
@@ -198,7 +198,7 @@ class Shown(unittest.TestCase):
         """Each page, and how it is reached."""
         desk, browser, clerks = self.venue.desk, self.browser, self.venue.clerks
         sold, = desk.sold("gigabyte", "sold-1")
-        fresh = desk.issued("hour", "fresh-1", 2)
+        fresh = desk.issued("hour", "fresh-1", 3)
         desk.desk.tell(Routes.REDEEM, body={"code": sold}, device=MAC)
         self.venue.gateway_tells()
 
@@ -211,6 +211,10 @@ class Shown(unittest.TestCase):
                 then()
             return opened
 
+        def sell() -> None:
+            browser.open(f"{clerks}voucher?code={fresh[2]}")
+            browser.enter()
+
         other, day = "02:00:00:00:00:02", time.strftime("%Y-%m-%d", time.gmtime())
         for act in (Act("issue", new_number(), "done", "fresh-1", "hour", 2), Act("sell", new_number() + "-001", "done", "sold-1", "gigabyte", 1, 500)):
             self.venue.counter.journal.add("anna", "10.88.0.2", [act])
@@ -219,6 +223,7 @@ class Shown(unittest.TestCase):
                 ("guest, refused in Japanese", lambda: self.types("2222-2222-2222", "ja")),
                 ("guest without a lease", device(None, of(self.guest()))),
                 ("counter", of(clerks)), ("voucher to sell", of(f"{clerks}voucher?code={fresh[0]}")),
+                ("sold", sell), ("repetition", browser.driver.refresh),
                 ("voucher to refund", of(f"{clerks}voucher?code={sold}")), ("refused", of(f"{clerks}voucher?code=2222")),
                 ("refund", of(f"{clerks}refund?code={sold}")), ("close", of(f"{clerks}close?session=1")),
                 ("whole batch", of(f"{clerks}sell-batch?batch=fresh-1")), ("sheet", of(f"{clerks}sheet?batch=fresh-1")),
@@ -349,6 +354,7 @@ class Shown(unittest.TestCase):
         browser.open(f"{venue.clerks}close?session=1")
         browser.press("Close")
         self.assertIn("Session 1 is closed.", browser.text)
+        browser.enter()
         browser.press("Issue and sell one voucher")
         self.assertRegex(browser.text, r"(?s)Sold: .*Take €3.00.*Good until")
         browser.open(venue.clerks)

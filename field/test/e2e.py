@@ -165,8 +165,9 @@ def numbered(house: House, check: Checks) -> None:
     check("a program's numbered request acts once too", bodies[0] == bodies[1] and voucher["redeemed"] == 1, bodies[0])
     status = house.curl("guest2", REDEEM, "-H", "Portal-Request: a_1", "-d", json.dumps({"code": other}))[0]
     check("a number of other signs is refused", status == 400, status)
-    sold = [house.clerk("refund", code=other, request="counter-1")[1].partition("Give back")[2][:6] for _ in range(2)]
-    check("a refund sent twice is told twice and given once", sold[0] == sold[1] and " 3.33" in sold[0], sold)
+    pages = [house.clerk("refund", code=other, request="counter-1")[1] for _ in range(2)]
+    check("a refund sent twice is given once, and said to be no new one",
+          "Give back 3.33" in pages[0] and "It is not a new one. Give nothing back." in pages[1], pages[1][-300:])
     house.clerk("close", session=house.session_of("guest2"))
 
 

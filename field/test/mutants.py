@@ -12,6 +12,7 @@ SERVER, TIME, MACHINE_TIME = "server/portal_server.py", "server/right_time.py", 
 VENUE, CODES = "lib/venue.py", "lib/typed_codes.py"
 JOURNAL, TAKINGS, REPORT = "counter/journal.py", "counter/takings.py", "counter/portal_report.py"
 CLERK, TRIES, CARDS = "counter/clerk.py", "counter/tries.py", "counter/templates/"
+REPETITION, ANSWERS = "counter/repetition.py", "counter/answers.py"
 LEASES, NEIGHBOURS, DNSMASQ = "gateway/portal_leases.py", "lib/neighbours.py", "settings/dnsmasq.conf"
 DESCRIPTION = "../docs/openapi.yaml"    # beside the kit in the repository
 
@@ -336,4 +337,38 @@ CLOCK = (
     Edit("a_server_that_waits_is_not_told", CLERK, 'if told.get("is") != "waits":\n            return None',
          'if True:\n            return None', "test_counter.Pages",
          "test_a_server_that_waits_for_the_time_gets_a_clerks_word"),
+)
+MONEY = (
+    Edit("a_repetition_is_told_as_new", COUNTER, "        if before := self.earlier(name, form, number):", "        if before := None:",
+         "browser_history_test.History", "test_back_and_the_same_button_again"),
+    Edit("a_repetition_is_sent_to_the_server", COUNTER, "        if before := self.earlier(name, form, number):",
+         "        before = self.earlier(name, form, number)\n        self.actions[name](form, number, []) if before else None\n"
+         "        if before:", "test_repetition.Repeated", "test_what_was_done_is_said_to_be_no_new_one_and_is_not_done_again"),
+    Edit("a_repetition_looks_like_a_sale", CARDS + "counter.html", "'repetition' if notice.repeats else 'good' if notice.good",
+         "'good' if notice.good or notice.repeats", "test_repetition.Repeated",
+         "test_what_was_done_is_said_to_be_no_new_one_and_is_not_done_again"),
+    Edit("a_batch_in_doubt_is_a_repetition", REPETITION, "if not sold or sales[-1].answer not in (DONE, *PASSED_OVER):", "if not sold:",
+         "test_counter.Pages", "test_a_whole_batch_is_sold_and_goes_on_where_it_broke_off"),
+    Edit("a_sale_of_another_code_is_this_one", REPETITION, "return entry if entry and is_about(counter, action, form, entry) else None",
+         "return entry", "test_repetition.Repeated", "test_a_form_with_the_number_of_one_of_other_words_is_none"),
+    Edit("yesterdays_sale_is_of_today", REPETITION, ' if is_today else counter.language.moment(entry.moment)', "",
+         "test_repetition.Repeated", "test_it_says_when_and_the_day_where_that_was_not_today"),
+    Edit("no_sale_where_the_journal_is_not_read", COUNTER, "        except sqlite3.Error as fault:\n            self.note(f\"the journal could not be read",
+         "        except ZeroDivisionError as fault:\n            self.note(f\"the journal could not be read", "test_repetition.Repeated",
+         "test_without_its_line_in_the_journal_it_is_told_as_new"),
+    Edit("no_new_sale_beside_a_repetition", CARDS + "repetition.html", '{"batch": one, "plan": plan}', '{"batch": facts[1][1], "plan": plan}',
+         "test_repetition.Repeated", "test_a_button_beside_it_sells_a_new_one_of_the_plan_that_is_chosen_now"),
+    Edit("a_double_click_is_a_repetition", ANSWERS, "return number in self.unseen and", "return False and", "browser_history_test.History",
+         "test_a_double_click_is_one_sale_and_is_told_as_one"),
+    Edit("what_was_shown_counts_as_unseen", ANSWERS, "            self.unseen.pop(number, None)\n", "            pass\n",
+         "test_repetition.Repeated", "test_an_answer_that_no_browser_showed_is_given_again"),
+    Edit("an_answer_is_unseen_for_ever", ANSWERS, " and self.now() - self.unseen[number] < self.LONGEST", "",
+         "test_repetition.Repeated", "test_after_a_minute_it_counts_as_shown"),
+    Edit("two_presses_at_once", ANSWERS, "            self.change.wait_for(lambda: number not in self.at_work)\n", "",
+         "test_repetition.Turns", "test_forms_of_one_number_come_one_after_another_and_others_at_once"),
+    Edit("a_second_click_leaves_the_answer", "front/style.css", ".answer, .answer ~ * { animation: settle .7s; }",
+         ".answer { animation: settle .7s; }", "browser_history_test.History",
+         "test_a_second_click_does_nothing_on_the_page_that_answers_the_first"),
+    Edit("enter_leads_nowhere", CARDS + "parts.html", 'dir="ltr" autofocus><button>{{ button }}', 'dir="ltr"><button>{{ button }}',
+         "browser_history_test.History", "test_enter_leads_from_an_answer_to_the_next_customer"),
 )

@@ -1,0 +1,225 @@
+"""The counter's forms in Chromium's history: Back, Forward, reload, a restored tab and a double click; behind nginx with TLS
+where that is installed. Chromium keeps the page of a form and shows it again with the form's number, whatever `Cache-Control`
+says."""
+
+from __future__ import annotations
+
+import contextlib
+import datetime
+import io
+import pathlib
+import tempfile
+import threading
+import time
+import unittest
+from collections.abc import Callable
+from dataclasses import dataclass
+from typing import Any
+
+import counter_nginx
+from browser import CAN, Browser, Venue, policy
+from steady import wait_until
+
+import portal_counter
+import web
+
+if CAN:
+    from browser import By
+
+ONE, TAKE, TAKE_NOTHING = "Issue and sell one voucher", "Take €3.00.", "It is not a new one. Take nothing."
+NUMBER = "return document.querySelector('form[method=post] input[name=request]').value"
+DOUBLE_CLICK = "const button = arguments[0]; button.click(); setTimeout(() => button.click(), 80)"
+TARGETS = """
+return [...document.querySelectorAll('.answer button, .answer ~ * a')].map(node => getComputedStyle(node).pointerEvents);
+"""
+# As if the page had come just now.
+AS_NEW = "const top = document.querySelector('.answer'); top.className = ''; top.offsetHeight; top.className = 'answer';" + TARGETS
+KIND = "return document.getElementById('told').className.split(' ')[0]"
+TRIES = 5       # Chromium does not keep the first page of a new browser
+
+
+class Late:
+    """An application whose answers to forms leave some seconds after they were made."""
+
+    def __init__(self, app: web.Application) -> None:
+        self.app, self.seconds, self.forms = app, 0.0, 0
+
+    def __call__(self, environ: dict[str, Any], start: Any) -> web.Answer:
+        made = list(self.app(environ, start))
+        if environ["REQUEST_METHOD"] == "POST":
+            self.forms += 1
+            time.sleep(self.seconds)
+        return made
+
+
+@dataclass
+class Case:
+    """A form: how its page is reached, its button, what the first answer says, and what each later one says."""
+    path: Callable[[], str]
+    button: str
+    first: str
+    again: str
+
+
+@unittest.skipUnless(CAN, "chromium, chromium-driver or python3-selenium is not installed")
+class History(unittest.TestCase):
+    browser: Browser
+
+    @classmethod
+    def setUpClass(cls) -> None:
+        cls.browser = Browser("ignore-certificate-errors")
+        cls.addClassCleanup(cls.browser.close)
+
+    def setUp(self) -> None:
+        self.venue = Venue()
+        self.addCleanup(self.venue.close)
+        self.app = Late(portal_counter.pages(self.venue.counter))
+        self.clerks = self.behind_nginx() if counter_nginx.CAN else self.venue.serve(self.app) + "/"
+        self.enterContext(contextlib.redirect_stderr(io.StringIO()))
+        self.browser.shape(1280)
+        self.batches = 0
+
+    def behind_nginx(self) -> str:
+        nginx = counter_nginx.CounterNginx(pathlib.Path(self.enterContext(tempfile.TemporaryDirectory())), policy())
+        server = web.server(self.app, nginx.door(), threads=4)
+        threading.Thread(target=server.run, daemon=True).start()
+        self.venue.servers.append(server)
+        nginx.start()
+        self.addCleanup(nginx.close)
+        return nginx.url
+
+    def code(self, is_sold: bool = False) -> str:
+        self.batches += 1
+        code, = (self.venue.desk.sold if is_sold else self.venue.desk.issued)("hour", f"b{self.batches}")
+        return code
+
+    def cases(self) -> list[Case]:
+        return [Case(lambda: "", ONE, TAKE, TAKE_NOTHING),
+                Case(lambda: f"voucher?code={self.code()}", "Sell for €3.00", TAKE, TAKE_NOTHING),
+                Case(lambda: f"refund?code={self.code(True)}", "Refund", "Give back €3.00.", "It is not a new one. Give nothing back."),
+                Case(lambda: "", "Issue", "20 codes", "It is not a new one.")]
+
+    def takings(self) -> tuple[int, int]:
+        """What the server sold and refunded today, in hundredths."""
+        today = str(datetime.datetime.now(datetime.timezone.utc).date())
+        day, = self.venue.counter.days(today, today)
+        return day.sales, day.refunds
+
+    def told(self) -> tuple[str, str]:
+        """Which kind of notice the page has, and what it says."""
+        return self.browser.ask(KIND), self.browser.driver.find_element(By.ID, "told").text
+
+    def assert_told(self, kind: str, words: str) -> None:
+        told = self.told()
+        self.assertEqual((told[0], words in told[1]), (kind, True), told)
+
+    def goes_back(self, case: Case) -> None:
+        """The form is sent, and Back shows its page again, with the same number."""
+        for _ in range(TRIES):
+            self.browser.open(self.clerks + case.path())
+            number = self.browser.ask(NUMBER)
+            self.browser.press(case.button)
+            self.assert_told("good", case.first)
+            self.browser.driver.back()
+            if self.browser.ask(NUMBER) == number:
+                return
+        raise AssertionError("Chromium never showed the old page")
+
+    def test_back_and_the_same_button_again(self) -> None:
+        for case in self.cases():
+            self.goes_back(case)
+            before = self.takings()
+            for _ in range(2):
+                self.browser.press(case.button)
+                self.assert_told("repetition", case.again)
+                self.browser.driver.back()
+            self.assertEqual(self.takings(), before, case.button)
+
+    def test_back_and_forward_and_reload(self) -> None:
+        """Chromium does not keep the answer to a form: it asks whether to send the form again."""
+        case = self.cases()[0]
+        self.goes_back(case)
+        before = self.takings()
+        self.browser.driver.forward()
+        self.assertNotIn(case.first, self.browser.text)
+        for _ in range(2):
+            self.browser.driver.refresh()
+            self.assert_told("repetition", case.again)
+        self.assertEqual(self.takings(), before)
+
+    def test_an_answer_that_is_reloaded(self) -> None:
+        for case in self.cases():
+            self.browser.open(self.clerks + case.path())
+            self.browser.press(case.button)
+            self.assert_told("good", case.first)
+            before = self.takings()
+            self.browser.driver.refresh()
+            self.assert_told("repetition", case.again)
+            self.assertEqual(self.takings(), before)
+
+    def test_a_restored_tab(self) -> None:
+        case = self.cases()[0]
+        self.browser.open(self.clerks)
+        self.browser.press(case.button)
+        self.assert_told("good", case.first)
+        before = self.takings()
+        self.browser.start_again()
+        driver = self.browser.driver
+        for tab in driver.window_handles:
+            driver.switch_to.window(tab)
+            if driver.current_url.endswith("/now"):
+                break
+        self.assertNotIn(case.first, self.browser.text)
+        driver.refresh()
+        self.assert_told("repetition", case.again)
+        self.assertEqual(self.takings(), before)
+        driver.back()
+        self.browser.press(case.button)     # of a page that is fetched anew, and has a number of its own
+        self.assert_told("good", case.first)
+        self.assertEqual(self.takings(), (before[0] + 300, 0))
+
+    def test_a_double_click_is_one_sale_and_is_told_as_one(self) -> None:
+        """The browser shows the second answer alone."""
+        self.app.seconds = 0.4
+        for case in self.cases()[:2]:
+            self.browser.open(self.clerks + case.path())
+            before, forms, page = self.takings(), self.app.forms, self.browser.driver.find_element(By.TAG_NAME, "html")
+            button = self.browser.driver.find_element(By.XPATH, f"//button[normalize-space()='{case.button}']")
+            self.browser.driver.execute_script(DOUBLE_CLICK, button)
+            self.browser.comes(page)
+            self.assertEqual(self.app.forms, forms + 2, "it was sent twice")
+            self.assert_told("good", case.first)
+            self.assertEqual(self.takings(), (before[0] + 300, 0))
+
+    def test_a_second_click_does_nothing_on_the_page_that_answers_the_first(self) -> None:
+        self.browser.open(self.clerks)
+        self.browser.press(ONE)
+        self.browser.driver.execute_cdp_cmd("Emulation.setEmulatedMedia", {"features": [
+            {"name": "prefers-reduced-motion", "value": "no-preference"}]})
+        targets = set(self.browser.ask(AS_NEW))
+        self.assertEqual(targets, {"none"})
+        self.assertTrue(wait_until(lambda: set(self.browser.ask(TARGETS)) == {"auto"}, 3), "and then what was meant")
+
+    def test_enter_leads_from_an_answer_to_the_next_customer(self) -> None:
+        code = self.code()
+        for case in self.cases()[:2]:
+            self.browser.open(self.clerks + case.path())
+            self.browser.press(case.button)
+            self.browser.enter()
+            self.assertEqual(self.browser.title, "Counter")
+        self.browser.press(ONE)
+        self.browser.type(code)     # a scan
+        self.browser.enter()
+        self.assertEqual(self.browser.title, f"{code} – Counter")
+
+    def test_a_new_sale_from_a_repetition(self) -> None:
+        self.goes_back(self.cases()[0])
+        before = self.takings()
+        self.browser.press(ONE)
+        self.browser.press("Sell a new one: hour, €3.00")
+        self.assert_told("good", TAKE)
+        self.assertEqual(self.takings(), (before[0] + 300, 0))
+
+
+if __name__ == "__main__":
+    unittest.main()
