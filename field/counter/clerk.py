@@ -203,8 +203,12 @@ class Counter:
         told = self.desk.tell(Routes.VOUCHER, typed.replace(" ", ""))
         open_, left = told["refund"] is None, told["uses"] - told["redeemed"]
         late = told["expires"] <= time.time()
-        return {"told": told, "price": self.plans.get(told["plan"]), "sells": told["sold"] is None and not late,
+        return {"told": told, "price": self.price(told["batch"]), "sells": told["sold"] is None and not late,
                 "refunds": told["sold"] is not None and open_ and left > 0, "left": left, "late": late}
+
+    def price(self, batch: str) -> int:
+        """Of a voucher of this batch, in hundredths, by the server: the plans file may have changed since."""
+        return takings.hundredths(rows(self.desk.ask(Routes.PRINT, batch).decode())[0]["price"])
 
     def facts(self, told: dict[str, Any]) -> list[tuple[str, str]]:
         say, language = self.say, self.language

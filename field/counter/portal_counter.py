@@ -23,6 +23,7 @@ HERE = pathlib.Path(__file__).resolve().parent
 sys.path[:0] = [str(HERE.parent / "lib"), str(HERE)]
 import flask  # noqa: E402
 
+import confirmation  # noqa: E402
 import refusals  # noqa: E402
 import repetition  # noqa: E402
 import takings  # noqa: E402
@@ -146,26 +147,10 @@ class Pages:
 
     def confirm(self, action: str) -> Callable[[Form], Reply]:
         """What cannot be taken back is asked once more: the form with its number, and what it is about."""
-        def asked(form: Form) -> Reply:
-            about = self.about(action, form)
-            return self.show("confirm.html", action=action, name=self.counter.say(ACTIONS[action]), number=new_number(),
-                             **about)
-        return asked
+        return lambda form: self.asks(action, confirmation.PAGES[action](self.counter, form))
 
-    def about(self, action: str, form: Form) -> dict[str, Any]:
-        say, counter = self.counter.say, self.counter
-        if action == "refund":
-            told = counter.voucher(form)["told"]
-            return {"hidden": {"code": told["code"]}, "what": told["code"], "facts": counter.facts(told)}
-        if action == "close":
-            number = form.whole("session")
-            row = next((row for row in counter.sessions()["rows"] or () if row["number"] == number), None)
-            facts = [(say("Device"), row["device"]), (say("Used"), row["used"])] if row else [
-                (say("Device"), say("not in the gateway's list"))]
-            return {"hidden": {"session": str(number)}, "what": say("Session %(number)s", number=number), "facts": facts}
-        listed = counter.batch(form)
-        return {"hidden": {"batch": form.word("batch")}, "what": form.word("batch"),
-                "facts": [(say("Codes"), counter.language.number(len(listed))), (say("Plan"), listed[0]["plan"])]}
+    def asks(self, action: str, asked: confirmation.Confirmation, notice: Notice | None = None) -> Reply:
+        return self.show("confirm.html", 409 if notice else 200, notice, action=action, asked=asked, number=new_number())
 
     # Forms that act
 
@@ -180,14 +165,18 @@ class Pages:
             return self.carry_out(name, form, number)
 
     def carry_out(self, name: str, form: Form, number: str) -> Reply:
-        what = f"{name} " + ", ".join(readable(form[key]) for key in form if key not in ("request", "next"))
+        what = f"{name} " + ", ".join(readable(form[key]) for key in form if key not in ("request", "next", "again"))
         if before := self.earlier(name, form, number):
             self.note(f"{what}: done before")
             return self.repeated(name, form, before)
         self.counter.catch_up()
         acts: Acts = []
         try:
+            confirmation.check(self.counter, name, form, number)
             notice: Notice | NoAnswer | Refused = self.actions[name](form, number, acts)
+        except confirmation.HasChanged as fault:
+            self.note(f"{what}: not done, it has changed")
+            return self.asks(name, fault.asked, fault.notice)
         except (NoAnswer, Refused) as fault:
             notice = fault
         finally:
@@ -197,8 +186,8 @@ class Pages:
             return self.done(form, notice, name == "now")
         self.note(f"{what}: {notice.word if isinstance(notice, Refused) else 'no answer'}")
         if isinstance(notice, NoAnswer):
-            return self.again(name, form, refusals.NO_ANSWER)
-        return self.again(name, form, refusals.of_word(notice.word)) if notice.in_doubt else self.refuse(notice, form)
+            return self.again(name, form, refusals.NO_ANSWER if acts else refusals.SILENT, bool(acts))
+        return self.again(name, form, refusals.of_word(notice.word), bool(acts)) if notice.in_doubt else self.refuse(notice, form)
 
     def done(self, form: Form, notice: Notice, is_printed: bool) -> Reply:
         """What was done is said in any case. A browser, and no other program, is asked to say that it shows it."""
@@ -240,10 +229,10 @@ class Pages:
             flask.g.lost = self.counter.say("The journal could not be written: %(why)s.", why=fault)
             self.note(f"the journal could not be written: {fault}")
 
-    def again(self, name: str, form: Form, told: refusals.Refusal) -> Reply:
-        """The same form once more, number and all: sent again it acts once."""
-        hidden = {key: value for key, value in form.items() if key != "request"}
-        return self.show("again.html", told.status, self.counter.refused(told), action=name,
+    def again(self, name: str, form: Form, told: refusals.Refusal, is_in_doubt: bool) -> Reply:
+        """The same form once more, number and all: sent again it acts once. In doubt: the server got a command of it."""
+        hidden = {key: value for key, value in form.items() if key not in ("request", "again")}
+        return self.show("again.html", told.status, self.counter.refused(told), action=name, is_in_doubt=is_in_doubt,
                          name=self.counter.say(ACTIONS[name]), number=form["request"], hidden=hidden)
 
     def refuse(self, fault: Refused, form: Form) -> Reply:

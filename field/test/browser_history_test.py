@@ -88,15 +88,21 @@ class History(unittest.TestCase):
         self.addCleanup(nginx.close)
         return nginx.url
 
-    def code(self, is_sold: bool = False) -> str:
+    def codes(self, count: int = 1, is_sold: bool = False) -> list[str]:
+        """Of a new batch, which is the last one."""
         self.batches += 1
-        code, = (self.venue.desk.sold if is_sold else self.venue.desk.issued)("hour", f"b{self.batches}")
-        return code
+        return (self.venue.desk.sold if is_sold else self.venue.desk.issued)("hour", f"b{self.batches}", count)
+
+    def batch(self, count: int) -> str:
+        self.codes(count)
+        return f"b{self.batches}"
 
     def cases(self) -> list[Case]:
         return [Case(lambda: "", ONE, TAKE, TAKE_NOTHING),
-                Case(lambda: f"voucher?code={self.code()}", "Sell for €3.00", TAKE, TAKE_NOTHING),
-                Case(lambda: f"refund?code={self.code(True)}", "Refund", "Give back €3.00.", "It is not a new one. Give nothing back."),
+                Case(lambda: f"voucher?code={self.codes()[0]}", "Sell for €3.00", TAKE, TAKE_NOTHING),
+                Case(lambda: f"refund?code={self.codes(is_sold=True)[0]}", "Give back €3.00", "Give back €3.00.",
+                     "It is not a new one. Give nothing back."),
+                Case(lambda: f"sell-batch?batch={self.batch(3)}", "Sell 3 codes for €9.00", "Take €9.00.", TAKE_NOTHING),
                 Case(lambda: "", "Issue", "20 codes", "It is not a new one.")]
 
     def takings(self) -> tuple[int, int]:
@@ -201,7 +207,7 @@ class History(unittest.TestCase):
         self.assertTrue(wait_until(lambda: set(self.browser.ask(TARGETS)) == {"auto"}, 3), "and then what was meant")
 
     def test_enter_leads_from_an_answer_to_the_next_customer(self) -> None:
-        code = self.code()
+        code, = self.codes()
         for case in self.cases()[:2]:
             self.browser.open(self.clerks + case.path())
             self.browser.press(case.button)
@@ -211,6 +217,31 @@ class History(unittest.TestCase):
         self.browser.type(code)     # a scan
         self.browser.enter()
         self.assertEqual(self.browser.title, f"{code} – Counter")
+
+    def count(self, words: str) -> None:
+        """What is typed in place of what the field has."""
+        field = self.browser.driver.find_element(By.ID, "count")
+        field.clear()
+        field.send_keys(words)
+
+    def test_the_number_of_many_codes_is_typed(self) -> None:
+        code, = self.codes()
+        self.browser.open(f"{self.clerks}sell-batch?batch={self.batch(25)}")
+        self.browser.type(code + "\n")      # a scan does nothing there
+        self.assertEqual(self.browser.title, f"Sell 25 codes of b{self.batches}: take €75.00 – Counter")
+        self.count("24")
+        self.browser.enter()
+        self.assert_told("bad", "Nothing was sold.")
+        self.assertEqual(self.takings(), (0, 0))
+        self.browser.type("25")
+        self.browser.enter()
+        self.assert_told("good", "Take €75.00.")
+        self.browser.driver.back()
+        if "Sell 25 codes" in self.browser.title:       # it was kept
+            self.count("25")
+            self.browser.press("Sell 25 codes for €75.00")
+            self.assert_told("repetition", TAKE_NOTHING)
+        self.assertEqual(self.takings(), (7500, 0))
 
     def test_a_new_sale_from_a_repetition(self) -> None:
         self.goes_back(self.cases()[0])

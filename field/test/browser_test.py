@@ -132,7 +132,7 @@ const style = getComputedStyle(document.activeElement);
 return [at, all.length, parseFloat(style.outlineWidth) >= 2 && style.outlineStyle !== 'none'];
 """
 USED = ("textbox", "combobox", "button", "link", "spinbutton", "Date")
-REFUSED = ("guest, refused", "guest, refused in Japanese", "refused")
+REFUSED = ("guest, refused", "guest, refused in Japanese", "refused", "wrong number of codes")
 BY_KEYBOARD = ("guest, not online", "guest, refused", "counter", "voucher to sell", "repetition", "refund", "takings", "cash up")
 WIDE = """
 return Math.max(...[document.scrollingElement, ...document.querySelectorAll('main, section, nav, td, p')]
@@ -215,6 +215,12 @@ class Shown(unittest.TestCase):
             browser.open(f"{clerks}voucher?code={fresh[2]}")
             browser.enter()
 
+        def sell_batch() -> None:
+            browser.open(f"{clerks}sell-batch?batch=fresh-2")
+            browser.type("24")
+            browser.enter()
+
+        desk.issued("hour", "fresh-2", 25)
         other, day = "02:00:00:00:00:02", time.strftime("%Y-%m-%d", time.gmtime())
         for act in (Act("issue", new_number(), "done", "fresh-1", "hour", 2), Act("sell", new_number() + "-001", "done", "sold-1", "gigabyte", 1, 500)):
             self.venue.counter.journal.add("anna", "10.88.0.2", [act])
@@ -226,7 +232,7 @@ class Shown(unittest.TestCase):
                 ("sold", sell), ("repetition", browser.driver.refresh),
                 ("voucher to refund", of(f"{clerks}voucher?code={sold}")), ("refused", of(f"{clerks}voucher?code=2222")),
                 ("refund", of(f"{clerks}refund?code={sold}")), ("close", of(f"{clerks}close?session=1")),
-                ("whole batch", of(f"{clerks}sell-batch?batch=fresh-1")), ("sheet", of(f"{clerks}sheet?batch=fresh-1")),
+                ("whole batch", of(f"{clerks}sell-batch?batch=fresh-1")), ("wrong number of codes", sell_batch), ("sheet", of(f"{clerks}sheet?batch=fresh-1")),
                 ("takings", of(f"{clerks}takings?from={day}&to={day}")), ("cash up", of(f"{clerks}cash-up")),
                 ("batches", of(f"{clerks}batches"))]
 
@@ -349,7 +355,7 @@ class Shown(unittest.TestCase):
         self.assertEqual((venue.desk.voucher(third)["refund"], browser.title), (None, "Counter"))
         browser.open(f"{venue.clerks}refund?code={third}")
         self.assertIn("This cannot be taken back.", browser.text)
-        browser.press("Refund")
+        browser.press("Give back €3.00")
         self.assertIn("Give back €3.00.", browser.text)
         browser.open(f"{venue.clerks}close?session=1")
         browser.press("Close")

@@ -13,6 +13,7 @@ VENUE, CODES = "lib/venue.py", "lib/typed_codes.py"
 JOURNAL, TAKINGS, REPORT = "counter/journal.py", "counter/takings.py", "counter/portal_report.py"
 CLERK, TRIES, CARDS = "counter/clerk.py", "counter/tries.py", "counter/templates/"
 REPETITION, ANSWERS = "counter/repetition.py", "counter/answers.py"
+CONFIRMATION, BATCH_SALE, REFUNDS = "counter/confirmation.py", "counter/batch_sale.py", "counter/refunds.py"
 LEASES, NEIGHBOURS, DNSMASQ = "gateway/portal_leases.py", "lib/neighbours.py", "settings/dnsmasq.conf"
 DESCRIPTION = "../docs/openapi.yaml"    # beside the kit in the repository
 
@@ -371,4 +372,28 @@ MONEY = (
          "test_a_second_click_does_nothing_on_the_page_that_answers_the_first"),
     Edit("enter_leads_nowhere", CARDS + "parts.html", 'dir="ltr" autofocus><button>{{ button }}', 'dir="ltr"><button>{{ button }}',
          "browser_history_test.History", "test_enter_leads_from_an_answer_to_the_next_customer"),
+    Edit("a_refund_is_rounded_up", REFUNDS, 'return price * (voucher["uses"] - voucher["redeemed"]) // voucher["uses"]',
+         'return -(-price * (voucher["uses"] - voucher["redeemed"]) // voucher["uses"])', "test_confirmation.Rounding",
+         "test_amounts_are_the_servers"),
+    Edit("a_refund_without_its_amount", CONFIRMATION, 'say("Give back %(sum)s", sum=total)', 'say("Refund")', "test_confirmation.Refunds",
+         "test_the_amount_is_in_the_heading_and_on_the_button"),
+    Edit("another_amount_than_the_page_said", CONFIRMATION, 'if now.hidden["amount"] != form["amount"]:', "if False:",
+         "test_confirmation.Refunds", "test_a_use_between_the_page_and_the_press_is_said_and_nothing_is_refunded"),
+    Edit("the_plans_files_price", CLERK, '"price": self.price(told["batch"])', '"price": self.plans[told["plan"]]',
+         "test_confirmation.Refunds", "test_the_price_is_the_servers_whatever_the_plans_file_says"),
+    Edit("sold_codes_are_sold_again", BATCH_SALE, 'count += voucher["sold"] is None', "count += 1", "test_confirmation.Batches",
+         "test_the_codes_that_are_unsold_and_their_sum_are_said"),
+    Edit("many_codes_at_one_press", CONFIRMATION, "MOST_UNTYPED = 20 ", "MOST_UNTYPED = 500 ", "test_confirmation.Batches",
+         "test_above_twenty_codes_their_number_is_typed"),
+    Edit("any_number_sells_a_batch", CONFIRMATION, "if given.lstrip(\"0\") != str(state.count):", "if not given:",
+         "test_confirmation.Batches", "test_above_twenty_codes_their_number_is_typed"),
+    Edit("more_codes_than_the_page_said", CONFIRMATION, "if given.lstrip(\"0\") != str(state.count):",
+         "if given != str(state.codes) and given != str(state.count):", "test_confirmation.Batches",
+         "test_a_sale_between_the_page_and_the_press_is_said_and_nothing_is_sold"),
+    Edit("a_sale_in_doubt_is_counted_anew", CONFIRMATION, " and not has_begun(counter, form, number):", ":", "test_confirmation.Batches",
+         "test_a_sale_in_doubt_goes_on_though_fewer_codes_are_unsold"),
+    Edit("nothing_was_sent_and_all_is_in_doubt", COUNTER, "refusals.NO_ANSWER if acts else refusals.SILENT", "refusals.NO_ANSWER",
+         "test_confirmation.Batches", "test_a_server_that_does_not_answer_while_codes_are_counted_leaves_nothing_in_doubt"),
+    Edit("codes_are_counted_without_end", BATCH_SALE, "if time.monotonic() > end:", "if False:", "test_confirmation.Batches",
+         "test_counting_ends_where_the_server_is_slow"),
 )

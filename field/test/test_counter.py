@@ -337,11 +337,12 @@ class Pages(AtCounter):
 
     def test_refunds_closes_and_sales_of_batches_are_asked_once_more(self) -> None:
         code, = self.desk.sold("gigabyte", "b1")
+        self.desk.issued("gigabyte", "b2", 2)
         self.desk.desk.tell(Routes.REDEEM, body={"code": code}, device="02:00:00:00:00:01")
         told = {"at": int(time.time()), "sessions": [{"device": "02:00:00:00:00:01", "session": 1, "used": 5}]}
         (self.folder / "sessions.json").write_text(json.dumps(told))
         for path, action, words in ((f"/refund?code={code}", "refund", "1 of 3"), ("/close?session=1", "close", "02:00:00:00:00:01"),
-                                    ("/sell-batch?batch=b1", "sell-batch", "gigabyte"), ("/close?session=9", "close", "not in the")):
+                                    ("/sell-batch?batch=b2", "sell-batch", "gigabyte"), ("/close?session=9", "close", "not in the")):
             status, text = self.ask(path)
             self.assertIn("This cannot be taken back.", text)
             self.assertIn(words, text)
@@ -386,11 +387,11 @@ class Pages(AtCounter):
             return told
 
         with mock.patch.object(self.counter.desk, "tell", breaks):
-            status, text = self.ask("/sell-batch", batch="b1", request="w1")
+            status, text = self.ask("/sell-batch", batch="b1", count="3", request="w1")
         self.assertEqual((status, "Send it again" in text), (504, True))
         self.assertEqual([self.desk.voucher(code)["sold"] is None for code in codes], [False, False, False, True])
         for told in (("Batch b1: 3 codes sold.", "Take 9.00.", "1 code was sold before"), ("Take nothing", ">9.00<")):
-            text = self.ask("/sell-batch", batch="b1", request="w1")[1]
+            text = self.ask("/sell-batch", batch="b1", count="3", request="w1")[1]
             for words in told:
                 self.assertIn(words, text)
         day = time.strftime("%Y-%m-%d", time.gmtime())
@@ -399,7 +400,7 @@ class Pages(AtCounter):
     def test_a_number_that_leaves_no_room_for_others_is_refused(self) -> None:
         self.desk.issued("hour", "b1")
         for path in ("/now", "/sell-batch"):
-            self.assertEqual(self.ask(path, batch="b2" if path == "/now" else "b1", plan="hour", request="a" * 33)[0], 400)
+            self.assertEqual(self.ask(path, batch="b2" if path == "/now" else "b1", plan="hour", count="1", request="a" * 33)[0], 400)
 
     def test_the_counter_in_german(self) -> None:
         self.conf.update(language="de", currency="EUR")

@@ -68,7 +68,7 @@ class Kept(AtCounter):
 
     def test_a_batch_is_kept_code_by_code_with_a_key_for_each(self) -> None:
         self.desk.issued("hour", "b1", 3)
-        self.ask("/sell-batch", batch="b1", request="w1")
+        self.ask("/sell-batch", batch="b1", count="3", request="w1")
         self.ask("/now", batch="one-1", plan="day", request="n1")
         self.assertEqual([(act, batch, request) for _, _, act, batch, _, _, _, request, _ in self.acts()], [
             ("sell", "b1", "w1-001"), ("sell", "b1", "w1-002"), ("sell", "b1", "w1-003"),

@@ -1,0 +1,267 @@
+"""What is confirmed at the counter: the amount of a refund, and the codes and the sum of a batch that is sold."""
+
+from __future__ import annotations
+
+import html
+import random
+import re
+import threading
+import time
+import unittest
+from typing import Any
+from unittest import mock
+
+from desk_process import DeskProcess, NoAnswer, Refused, Routes     # which says where the parts stand
+from test_counter import AtCounter
+
+import batch_sale
+import refunds
+from batch_sale import unsold
+from desk_client import Route
+from takings import hundredths
+
+PLAN = "[[plan]]\nid = '{}'\nprice = {}\nuses = {}\nseconds = {}\nbytes = 0\nshelf_days = 90\nextend = true\n"
+
+
+class Confirmed(AtCounter):
+    def hidden(self, text: str) -> dict[str, str]:
+        return dict(re.findall(r'<input type="hidden" name="([^"]*)" value="([^"]*)">', text))
+
+    def heading(self, text: str) -> str:
+        return html.unescape(re.findall("<h2>(.*?)</h2>", text)[0])
+
+    def button(self, text: str) -> str:
+        return html.unescape(re.findall("<button>(.*?)</button>", text)[0])
+
+    def redeem(self, code: str) -> None:
+        self.desk.desk.tell(Routes.REDEEM, body={"code": code}, device="02:00:00:00:00:01")
+
+
+class Refunds(Confirmed):
+    def test_the_amount_is_in_the_heading_and_on_the_button(self) -> None:
+        code, = self.desk.sold("gigabyte", "b1")
+        self.conf.update(currency="EUR")
+        for amount in ("5.00", "3.33", "1.66"):     # of a third and two, rounded down
+            status, text = self.ask(f"/refund?code={code}")
+            self.assertEqual((status, self.heading(text), self.button(text)), (
+                200, f"Refund {code}: give back €{amount}", f"Give back €{amount}"))
+            self.assertIn(f"<title>Refund {code}: give back €{amount} ", text)
+            last = self.hidden(text)
+            self.redeem(code)
+        self.assertEqual(self.ask(f"/refund?code={code}")[0], 409, "all uses are redeemed")
+        self.assertEqual(last["code"], code)
+
+    def test_where_nothing_can_be_given_back_it_is_said_at_once(self) -> None:
+        fresh, = self.desk.issued("hour", "b1")
+        back, used = self.desk.sold("hour", "b2", 2)
+        self.desk.desk.tell(Routes.REFUND, body={"code": back})
+        self.redeem(used)
+        for code, words in ((fresh, "The voucher was not sold."), (back, "The voucher was refunded."),
+                            (used, "No use of the voucher is left")):
+            status, text = self.ask(f"/refund?code={code}")
+            self.assertEqual((status, words in text, "Give back" in text), (409, True, False), code)
+
+    def test_a_use_between_the_page_and_the_press_is_said_and_nothing_is_refunded(self) -> None:
+        code, = self.desk.sold("gigabyte", "b1")
+        form = self.hidden(self.ask(f"/refund?code={code}")[1])
+        self.redeem(code)
+        for _ in range(2):
+            status, text = self.ask("/refund", **form)
+            self.assertEqual((status, "Nothing was refunded." in text, self.button(text)), (409, True, "Give back 3.33"))
+        self.assertIsNone(self.desk.voucher(code)["refund"])
+        self.assertIn("Give back 3.33.", self.ask("/refund", **self.hidden(text))[1])
+
+    def test_a_refund_in_doubt_is_sent_again(self) -> None:
+        code, = self.desk.sold("gigabyte", "b1")
+        form = self.hidden(self.ask(f"/refund?code={code}")[1])
+        answer, tell = [NoAnswer("cut")], self.counter.desk.tell
+
+        def cut(route: Route, *part: str, **more: Any) -> Any:
+            told = tell(route, *part, **more)
+            if route is Routes.REFUND and answer:
+                raise answer.pop()
+            return told
+
+        with mock.patch.object(self.counter.desk, "tell", cut):
+            self.assertIn("Send it again", self.ask("/refund", **form)[1])
+            self.assertIn("Give back 5.00.", self.ask("/refund", **form, again="1")[1])
+
+    def test_the_price_is_the_servers_whatever_the_plans_file_says(self) -> None:
+        code, = self.desk.issued("hour", "b1")
+        self.counter.plans = {"hour": 400}
+        self.assertIn("Sell for 3.00", self.ask(f"/voucher?code={code}")[1])
+        self.desk.desk.tell(Routes.SELL, body={"code": code})
+        self.assertEqual(self.button(self.ask(f"/refund?code={code}")[1]), "Give back 3.00")
+
+
+class Rounding(unittest.TestCase):
+    def test_amounts_are_the_servers(self) -> None:
+        """Of vouchers of random plans, of which random uses were redeemed."""
+        draw, refused = random.Random(7), 0
+        terms = [(draw.choice((draw.randrange(10), draw.randrange(10**4), draw.randrange(10**8 + 1))),
+                  draw.choice((draw.randrange(1, 12), draw.randrange(1, 12), draw.randrange(1, 10**5 + 1)))) for _ in range(60)]
+        terms += [(0, 1), (1, 2), (10**8, 10**5), (10**8, 3), (99_999_999, 99_999), (10**8 - 1, 7), (5, 6)]
+        with DeskProcess() as desk:
+            desk.desk.tell(Routes.PLANS, body="".join(PLAN.format(f"p{i}", *term, 60 + i) for i, term in enumerate(terms)).encode())
+            for i, (price, uses) in enumerate(terms):
+                for code in desk.sold(f"p{i}", f"b{i}", 5):
+                    for _ in range(min(uses, draw.randrange(8))):
+                        desk.desk.tell(Routes.REDEEM, body={"code": code}, device=f"02:00:00:00:00:{i:02x}")
+                    line = desk.desk.ask(Routes.PRINT, f"b{i}").decode().splitlines()[1]
+                    voucher = desk.voucher(code)
+                    told = refunds.refusal(voucher) or refunds.amount(hundredths(line.split(",")[4]), voucher)
+                    self.assertEqual(told, self.refunded(desk, code), (price, uses, voucher))
+                    self.assertEqual(refunds.refusal(desk.voucher(code)), self.refunded(desk, code))
+                    refused += isinstance(told, str)
+        self.assertTrue(0 < refused < 100, "some were used up, most were not")
+
+    def refunded(self, desk: DeskProcess, code: str) -> int | str:
+        try:
+            return desk.desk.tell(Routes.REFUND, body={"code": code})["amount"]
+        except Refused as fault:
+            return fault.word
+
+
+class Batches(Confirmed):
+    def test_the_codes_that_are_unsold_and_their_sum_are_said(self) -> None:
+        codes = self.desk.issued("hour", "b1", 4)
+        for done, heading, button in (
+                (None, "Sell 4 codes of b1: take 12.00", "Sell 4 codes for 12.00"),
+                ((Routes.SELL, codes[2]), "Sell 3 codes of b1: take 9.00", "Sell 3 codes for 9.00"),
+                ((Routes.REFUND, codes[2]), "Sell 3 codes of b1: take 9.00", "Sell 3 codes for 9.00"),
+                ((Routes.SELL, codes[0]), "Sell 2 codes of b1: take 6.00", "Sell 2 codes for 6.00"),
+                ((Routes.SELL, codes[3]), "Sell 1 code of b1: take 3.00", "Sell 1 code for 3.00")):
+            if done:
+                self.desk.desk.tell(done[0], body={"code": done[1]})
+            status, text = self.ask("/sell-batch?batch=b1")
+            self.assertEqual((status, self.heading(text), self.button(text), 'id="count"' in text), (200, heading, button, False))
+        text = self.ask("/sell-batch", **self.hidden(text))[1]
+        for words in ("Batch b1: 1 code sold.", "Take 3.00.", "3 codes were sold before"):
+            self.assertIn(words, text)
+        text = self.ask("/sell-batch?batch=b1")[1]
+        self.assertIn("All its codes were sold.", text)
+        self.assertNotIn("<form", text)
+        self.assertEqual(self.ask("/sell-batch?batch=b2")[0], 404)
+
+    def test_above_twenty_codes_their_number_is_typed(self) -> None:
+        for batch, count in (("b20", 20), ("b21", 21)):
+            self.desk.issued("hour", batch, count)
+            text = self.ask(f"/sell-batch?batch={batch}")[1]
+            self.assertEqual(('id="count"' in text, "count" in self.hidden(text), text.count("autofocus")), (count > 20, count <= 20, 1))
+        form = self.hidden(text)
+        for typed in ("", "20", "22", "21x", "-21", "2 1", "b21", "9" * 500):
+            status, text = self.ask("/sell-batch", **form, count=typed)
+            self.assertEqual((status, "Nothing was sold." in text, self.button(text)), (409, True, "Sell 21 codes for 63.00"), typed)
+            self.assertIn('aria-invalid="true" aria-describedby="told"', text)
+        status, text = self.ask("/sell-batch", **form)
+        self.assertEqual((status, "Nothing was sold." in text), (409, True), "nothing was typed")
+        self.assertEqual(unsold(self.desk.desk, "b21").count, 21)
+        self.assertIn("Take 63.00.", self.ask("/sell-batch", **form, count=" 021 ")[1])
+        self.assertEqual(unsold(self.desk.desk, "b21").count, 0)
+
+    def test_a_sale_between_the_page_and_the_press_is_said_and_nothing_is_sold(self) -> None:
+        for count, typed in ((3, {}), (30, {"count": "30"})):
+            codes = self.desk.issued("hour", f"b{count}", count)
+            form = self.hidden(self.ask(f"/sell-batch?batch=b{count}")[1]) | typed
+            self.desk.desk.tell(Routes.SELL, body={"code": codes[1]})
+            status, text = self.ask("/sell-batch", **form)
+            self.assertEqual((status, "Nothing was sold." in text), (409, True))
+            self.assertIn(f"{count - 1} codes can be sold now, and the form says “{count}”.", text)
+            self.assertEqual(self.heading(text), f"Sell {count - 1} codes of b{count}: take {count * 3 - 3}.00")
+            self.assertEqual(unsold(self.desk.desk, f"b{count}").count, count - 1)
+            again = self.hidden(text) | ({"count": str(count - 1)} if typed else {})
+            self.assertNotEqual(again["request"], form["request"])
+            self.assertIn(f"Take {count * 3 - 3}.00.", self.ask("/sell-batch", **again)[1])
+
+    def breaks(self, after: int) -> Any:
+        """A server whose answers to the sales after so many are lost."""
+        tell, asked = self.counter.desk.tell, [0]
+
+        def told(route: Route, *part: str, **more: Any) -> Any:
+            answer = tell(route, *part, **more)
+            asked[0] += route is Routes.SELL
+            if route is Routes.SELL and asked[0] > after:
+                raise NoAnswer("cut")
+            return answer
+
+        return mock.patch.object(self.counter.desk, "tell", told)
+
+    def test_a_sale_in_doubt_goes_on_though_fewer_codes_are_unsold(self) -> None:
+        """By the journal, and where that cannot be written, by the form."""
+        for batch, is_written in (("b1", True), ("b2", False)):
+            self.desk.issued("hour", batch, 25)
+            self.journal.path = str(self.folder / ("journal.db" if is_written else "nowhere/journal.db"))
+            form = self.hidden(self.ask(f"/sell-batch?batch={batch}")[1]) | {"count": "25"}
+            with self.breaks(10):
+                status, text = self.ask("/sell-batch", **form)
+            self.assertEqual((status, "Send it again" in text), (504, True))
+            again = self.hidden(text)
+            self.assertEqual(again, form | {"again": "1"})
+            text = self.ask("/sell-batch", **(form if is_written else again))[1]
+            for words in (f"Batch {batch}: 25 codes sold.", "Take 75.00."):
+                self.assertIn(words, text)
+
+    def test_two_presses_at_once_are_one_sale_and_both_say_so(self) -> None:
+        self.desk.issued("hour", "b1", 25)
+        form, texts = self.hidden(self.ask("/sell-batch?batch=b1")[1]), []
+        presses = [threading.Thread(target=lambda: texts.append(self.ask(
+            "/sell-batch", head={"Sec-Fetch-Mode": "navigate"}, **form, count="25")[1])) for _ in range(2)]
+        for press in presses:
+            press.start()
+        for press in presses:
+            press.join()
+        self.assertEqual([("25 codes sold." in text, "Take 75.00." in text) for text in texts], [(True, True)] * 2)
+        self.assertEqual(self.desk.desk.ask(Routes.TAKINGS, query=dict.fromkeys(("from", "to"), self.today())).split()[-1], b"75.00")
+
+    def today(self) -> str:
+        return time.strftime("%Y-%m-%d", time.gmtime())
+
+    def test_a_server_that_does_not_answer_while_codes_are_counted_leaves_nothing_in_doubt(self) -> None:
+        self.desk.issued("hour", "b1", 3)
+        form = self.hidden(self.ask("/sell-batch?batch=b1")[1])
+        tell, asked = self.counter.desk.tell, [0]
+
+        def cut(route: Route, *part: str, **more: Any) -> Any:
+            asked[0] += route is Routes.VOUCHER
+            if asked[0] == 2:
+                raise NoAnswer("cut")
+            return tell(route, *part, **more)
+
+        with mock.patch.object(self.counter.desk, "tell", cut):
+            status, text = self.ask("/sell-batch?batch=b1")
+            self.assertEqual((status, "The server did not answer." in text), (504, True))
+            asked[0] = 0
+            status, text = self.ask("/sell-batch", **form)
+        self.assertEqual((status, "in doubt" in text, "Send it again" in text), (504, False, True))
+        again = self.hidden(text)
+        self.assertEqual(again, form)
+        self.assertEqual(unsold(self.desk.desk, "b1").count, 3)
+        self.assertIn("Take 9.00.", self.ask("/sell-batch", **again)[1])
+
+    def test_counting_ends_where_the_server_is_slow(self) -> None:
+        self.desk.issued("hour", "b1", 3)
+        self.enterContext(mock.patch.object(batch_sale, "LONGEST", 0.0))
+        status, text = self.ask("/sell-batch?batch=b1")
+        self.assertEqual((status, "The server did not answer." in text), (504, True))
+
+    def test_codes_past_their_date_are_not_counted(self) -> None:
+        self.desk.issued("hour", "b1", 3)
+        later = time.time() + 91 * 86400
+        with mock.patch("batch_sale.time.time", lambda: later):
+            self.assertEqual(unsold(self.desk.desk, "b1").count, 0)
+            self.assertIn("Its codes are past their date.", self.ask("/sell-batch?batch=b1")[1])
+
+    def test_the_counter_in_german(self) -> None:
+        self.conf.update(language="de", currency="EUR")
+        self.counter.__post_init__()
+        self.desk.issued("hour", "b1", 25)
+        text = self.ask("/sell-batch?batch=b1")[1]
+        self.assertEqual((self.heading(text), self.button(text)), (
+            "25 Codes aus b1 verkaufen: 75,00\xa0€ kassieren", "25 Codes für 75,00\xa0€ verkaufen"))
+        self.assertIn("Geben Sie ein, wie viele Codes Sie verkaufen", text)
+        text = self.ask("/sell-batch", **self.hidden(text), count="24")[1]
+        self.assertIn("Es wurde nichts verkauft.<br>25 Codes können jetzt verkauft werden, und im Formular steht „24“.", text)
+
+
+if __name__ == "__main__":
+    unittest.main()
