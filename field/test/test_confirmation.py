@@ -160,7 +160,8 @@ class Batches(Confirmed):
         self.assertEqual(unsold(self.desk.desk, "b21").count, 0)
 
     def test_a_sale_between_the_page_and_the_press_is_said_and_nothing_is_sold(self) -> None:
-        for count, typed in ((3, {}), (30, {"count": "30"})):
+        cases: tuple[tuple[int, dict[str, str]], ...] = ((3, {}), (30, {"count": "30"}))
+        for count, typed in cases:
             codes = self.desk.issued("hour", f"b{count}", count)
             form = self.hidden(self.ask(f"/sell-batch?batch=b{count}")[1]) | typed
             self.desk.desk.tell(Routes.SELL, body={"code": codes[1]})
