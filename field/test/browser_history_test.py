@@ -143,15 +143,15 @@ class History(unittest.TestCase):
 
     def test_back_and_forward_and_reload(self) -> None:
         """Chromium does not keep the answer to a form: it asks whether to send the form again."""
-        case = self.cases()[0]
-        self.goes_back(case)
-        before = self.takings()
-        self.browser.driver.forward()
-        self.assertNotIn(case.first, self.browser.text)
-        for _ in range(2):
-            self.browser.driver.refresh()
-            self.assert_told("repetition", case.again)
-        self.assertEqual(self.takings(), before)
+        for case in self.cases():
+            self.goes_back(case)
+            before = self.takings()
+            self.browser.driver.forward()
+            self.assertNotIn(case.first, self.browser.text)
+            for _ in range(2):
+                self.browser.driver.refresh()
+                self.assert_told("repetition", case.again)
+            self.assertEqual(self.takings(), before)
 
     def test_an_answer_that_is_reloaded(self) -> None:
         for case in self.cases():
@@ -163,27 +163,26 @@ class History(unittest.TestCase):
             self.assert_told("repetition", case.again)
             self.assertEqual(self.takings(), before)
 
-    def test_a_restored_tab(self) -> None:
-        case = self.cases()[0]
-        self.browser.open(self.clerks)
-        self.browser.press(case.button)
-        self.assert_told("good", case.first)
+    def test_restored_tabs(self) -> None:
+        """One for each form, with the answer to it."""
+        driver, tabs = self.browser.driver, {}
+        for case in self.cases():
+            driver.switch_to.new_window("tab")
+            self.browser.open(self.clerks + case.path())
+            self.browser.press(case.button)
+            self.assert_told("good", case.first)
+            tabs[driver.current_url] = case
         before = self.takings()
         self.browser.start_again()
         driver = self.browser.driver
         for tab in driver.window_handles:
             driver.switch_to.window(tab)
-            if driver.current_url.endswith("/now"):
-                break
-        self.assertNotIn(case.first, self.browser.text)
-        driver.refresh()
-        self.assert_told("repetition", case.again)
-        self.assertEqual(self.takings(), before)
-        driver.back()
-        self.browser.press(case.button)     # of a page that is fetched anew, and has a number of its own
-        self.assert_told("good", case.first)
-        self.assertEqual(self.takings(), (before[0] + 300, 0))
-
+            case = tabs.pop(driver.current_url, None)
+            if case:
+                self.assertNotIn(case.first, self.browser.text)
+                driver.refresh()
+                self.assert_told("repetition", case.again)
+        self.assertEqual((tabs, self.takings()), ({}, before))
     def test_a_double_click_is_one_sale_and_is_told_as_one(self) -> None:
         """The browser shows the second answer alone."""
         self.app.seconds = 0.4
