@@ -1,7 +1,7 @@
 """Which forms are being carried out, and which answers no browser has shown yet.
 
-A double click sends a form twice, and the browser shows the second answer alone: the first one was not seen, so the second
-one must say the same, and not that the form is a repetition.
+A double click sends a form twice, and the browser shows the second answer alone. The first one was not seen, so
+the second one must say the same, and not that the form is a repetition.
 """
 
 from __future__ import annotations
@@ -11,11 +11,9 @@ import threading
 import time
 from collections.abc import Callable, Iterator
 
-PICTURE = '<svg xmlns="http://www.w3.org/2000/svg" width="1" height="1"/>'     # by which a page says that it is shown
-
 
 class Answers:
-    """Both by the number of the form. In memory alone: after a restart of the page every answer counts as seen."""
+    """Both by the number of the form, in memory: after a restart of the page every answer counts as seen."""
 
     LONGEST = 60.0      # seconds that an answer counts as unseen
 
@@ -38,7 +36,7 @@ class Answers:
                 self.change.notify_all()
 
     def sent(self, number: str) -> None:
-        """An answer goes to a browser, which says by the picture that it shows it."""
+        """An answer goes to a browser, which will say that it shows it."""
         with self.change:
             first = self.now() - self.LONGEST
             self.unseen = {each: at for each, at in self.unseen.items() if at > first} | {number: self.now()}

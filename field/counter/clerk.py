@@ -28,7 +28,7 @@ STATE = pathlib.Path(os.environ.get("STATE_DIRECTORY", "/var/lib/portal-counter"
 OLD_LIST = 15       # seconds after which the gateway's list says that it is old
 LONGEST_BASE = 32   # signs of a request number from which others are made: -001 and so on follow
 MOST_BATCHES = 200  # that are listed
-PASSED_OVER = ("sold_already", "refunded", "expired", "used_up")     # why a code of a batch is not sold with the others
+PASSED_OVER = ("sold_already", "refunded", "expired", "used_up")     # errors of codes that a batch is sold without
 Acts = list[Act]    # what the journal will have of a form
 
 
@@ -40,7 +40,7 @@ class Notice:
     code: str = ""
     batch: str = ""         # whose sheet can be printed now
     repeats: bool = False   # nothing was done now: it is about what was done before
-    number: str = ""        # of the form that it answers, where the browser is to say that it shows the answer
+    number: str = ""        # of the form that it answers, where a browser is to say that it shows it
 
 
 def prices(text: bytes) -> dict[str, int]:

@@ -1,5 +1,5 @@
-"""What cannot be taken back is asked once more, with the sum of money that it comes to. What the page said is held against the
-server again when the form comes."""
+"""What cannot be taken back is asked once more, with the sum of money that it comes to. When the form comes, the server
+is asked whether that still holds."""
 
 from __future__ import annotations
 
@@ -42,20 +42,22 @@ def close(counter: Counter, form: Form) -> Confirmation:
     row = next((row for row in counter.sessions()["rows"] or () if row["number"] == number), None)
     facts = [(say("Device"), row["device"]), (say("Used"), row["used"])] if row else [
         (say("Device"), say("not in the gateway's list"))]
-    return Confirmation(f"{say('Close')}: {say('Session %(number)s', number=number)}", facts, say("Close"), {"session": str(number)})
+    heading = f"{say('Close')}: {say('Session %(number)s', number=number)}"
+    return Confirmation(heading, facts, say("Close"), {"session": str(number)})
 
 
 def refund(counter: Counter, form: Form) -> Confirmation:
-    """Raises what the server would answer, where it makes no refund of this voucher."""
+    """Raises the error of the server where it would make no refund of this voucher."""
     found, say = counter.voucher(form), counter.say
     voucher, price = found["told"], found["price"]
     if word := refunds.refusal(voucher):
         raise Refused(BY_WORD[word].status, word)
     amount = refunds.amount(price, voucher)
     total = counter.money(amount)
-    return Confirmation(say("Refund %(code)s: give back %(sum)s", code=voucher["code"], sum=total),
-                        [(say("Price"), counter.money(price)), *counter.facts(voucher)], say("Give back %(sum)s", sum=total),
-                        {"code": voucher["code"], "amount": str(amount)})
+    heading = say("Refund %(code)s: give back %(sum)s", code=voucher["code"], sum=total)
+    facts = [(say("Price"), counter.money(price)), *counter.facts(voucher)]
+    hidden = {"code": voucher["code"], "amount": str(amount)}
+    return Confirmation(heading, facts, say("Give back %(sum)s", sum=total), hidden)
 
 
 def sell_batch(counter: Counter, form: Form) -> Confirmation:
@@ -63,19 +65,19 @@ def sell_batch(counter: Counter, form: Form) -> Confirmation:
 
 
 def of_batch(counter: Counter, state: Unsold) -> Confirmation:
-    say, language, total = counter.say, counter.language, counter.money(state.sum)
-    facts = [(say("Plan"), state.plan), (say("Price"), counter.money(state.price)), (say("Codes"), language.number(state.codes))]
+    say, counted, number = counter.say, counter.language.counted, counter.language.number
+    facts = [(say("Plan"), state.plan), (say("Price"), counter.money(state.price)),
+             (say("Codes"), number(state.codes))]
     if not state.count:
         reason = say("Its codes are past their date.") if state.is_late else say("All its codes were sold.")
         return Confirmation(say("Sell all codes of %(batch)s", batch=state.batch), facts, reason=reason)
-    facts += [(say("Unsold"), language.number(state.count)), (say("Sum"), total)]
-    is_typed = state.count > MOST_UNTYPED
+    total, is_typed = counter.money(state.sum), state.count > MOST_UNTYPED
+    facts += [(say("Unsold"), number(state.count)), (say("Sum"), total)]
+    heading = counted("Sell %(num)s code of %(batch)s: take %(sum)s", "Sell %(num)s codes of %(batch)s: take %(sum)s",
+                      state.count, batch=state.batch, sum=total)
+    button = counted("Sell %(num)s code for %(sum)s", "Sell %(num)s codes for %(sum)s", state.count, sum=total)
     hidden = {"batch": state.batch} | ({} if is_typed else {"count": str(state.count)})
-    return Confirmation(
-        language.counted("Sell %(num)s code of %(batch)s: take %(sum)s", "Sell %(num)s codes of %(batch)s: take %(sum)s",
-                         state.count, batch=state.batch, sum=total),
-        facts, language.counted("Sell %(num)s code for %(sum)s", "Sell %(num)s codes for %(sum)s", state.count, sum=total),
-        hidden, is_typed)
+    return Confirmation(heading, facts, button, hidden, is_typed)
 
 
 PAGES = {"refund": refund, "close": close, "sell-batch": sell_batch}
@@ -92,9 +94,9 @@ def check(counter: Counter, action: str, form: Form, number: str) -> None:
 
 
 def check_refund(counter: Counter, form: Form) -> None:
-    """A voucher that the server refunds no more may be one that this form has refunded: the server says which."""
+    """A voucher that the server refunds no more may have been refunded by this form: the server answers which."""
     if "amount" not in form:
-        return      # a page of before
+        return      # a page of an earlier version
     try:
         now = refund(counter, form)
     except Refused:
@@ -105,7 +107,7 @@ def check_refund(counter: Counter, form: Form) -> None:
 
 
 def has_begun(counter: Counter, form: Form, number: str) -> bool:
-    """Whether codes were sold by this form before: then it goes on, and the codes that it sold are not counted."""
+    """Whether codes were sold by this form before. Then it goes on, and its codes are not counted again."""
     if "again" in form:
         return True
     try:
@@ -118,5 +120,6 @@ def check_batch(counter: Counter, form: Form) -> None:
     state, given = unsold(counter.desk, form.word("batch")), form.get("count", "")
     if given.lstrip("0") != str(state.count):
         raise HasChanged((counter.say("Nothing was sold."), counter.language.counted(
-            "%(num)s code can be sold now, and the form says “%(given)s”.", "%(num)s codes can be sold now, and the form says “%(given)s”.",
+            "%(num)s code can be sold now, and the form says “%(given)s”.",
+            "%(num)s codes can be sold now, and the form says “%(given)s”.",
             state.count, given=given[:8])), of_batch(counter, state))

@@ -45,8 +45,8 @@ FROM acts WHERE moment >= ? AND moment < ? AND act IN ('sell', 'refund') AND {FI
 ACTS = "SELECT moment, clerk, act, batch, plan, codes, price, request, answer FROM acts"
 BATCHES = f"{ACTS} WHERE act = 'issue' AND {FIRST} ORDER BY number DESC LIMIT ?"
 CARRIED_OUT = f"{ACTS} WHERE request = ? AND act = ? AND {FIRST}"
-SALES = f"{ACTS} WHERE request BETWEEN ?1 || '-000' AND ?1 || '-999' AND request GLOB ?1 || '-[0-9][0-9][0-9]'" \
-        " AND act = 'sell' ORDER BY number"
+SALES = f"{ACTS} WHERE act = 'sell' AND request BETWEEN ?1 || '-000' AND ?1 || '-999'" \
+        " AND request GLOB ?1 || '-[0-9][0-9][0-9]' ORDER BY number"
 DOUBT = """
 SELECT count(DISTINCT request) FROM acts WHERE moment >= ? AND moment < ? AND answer IN ('no_answer', 'stopped') AND
     NOT EXISTS (SELECT * FROM acts AS later WHERE later.request = acts.request AND later.act = acts.act
@@ -133,7 +133,7 @@ class Journal:
         return next(iter(self.entries(CARRIED_OUT, request, act)), None)
 
     def sales(self, base: str) -> list[Entry]:
-        """The sales of a form that sells codes one after another, each with a key made from the form's, in their order."""
+        """The sales of a form that sells one code after another, in their order; their keys are made from its number."""
         return self.entries(SALES, base)
 
     def by(self, group: str, day: datetime.date) -> list[Sums]:

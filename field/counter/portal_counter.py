@@ -28,7 +28,6 @@ import refusals  # noqa: E402
 import repetition  # noqa: E402
 import takings  # noqa: E402
 import web  # noqa: E402
-from answers import PICTURE  # noqa: E402
 from clerk import Acts, Counter, Notice  # noqa: E402
 from typed_codes import scanned_beside  # noqa: E402
 from desk_client import REQUEST_NUMBER, Desk, NoAnswer, Refused, credential, new_number, settings  # noqa: E402
@@ -112,12 +111,14 @@ class Pages:
         return self.leads_to(form.get("code", ""))
 
     def shown(self, form: Form) -> Reply:
+        """The page of an answer has a picture, which is none: by asking for it the browser says that it shows the page."""
         self.counter.answers.shown(form.word("request"))
-        return flask.Response(PICTURE, content_type="image/svg+xml")
+        return flask.Response(status=204)
 
     def leads_to(self, code: str) -> Reply:
-        """The voucher that was typed or scanned, or else the first page."""
-        return flask.make_response(flask.redirect("/voucher?" + urllib.parse.urlencode({"code": code}) if code else "/", 303))
+        """To the voucher that was typed or scanned, or else to the first page."""
+        place = "/voucher?" + urllib.parse.urlencode({"code": code}) if code else "/"
+        return flask.make_response(flask.redirect(place, 303))
 
     def takings(self, form: Form) -> Reply:
         told = self.counter.takings(form)
@@ -150,7 +151,8 @@ class Pages:
         return lambda form: self.asks(action, confirmation.PAGES[action](self.counter, form))
 
     def asks(self, action: str, asked: confirmation.Confirmation, notice: Notice | None = None) -> Reply:
-        return self.show("confirm.html", 409 if notice else 200, notice, action=action, asked=asked, number=new_number())
+        return self.show("confirm.html", 409 if notice else 200, notice, action=action, asked=asked,
+                         number=new_number())
 
     # Forms that act
 
@@ -165,7 +167,8 @@ class Pages:
             return self.carry_out(name, form, number)
 
     def carry_out(self, name: str, form: Form, number: str) -> Reply:
-        what = f"{name} " + ", ".join(readable(form[key]) for key in form if key not in ("request", "next", "again"))
+        words = (readable(form[key]) for key in form if key not in ("request", "next", "again"))
+        what = f"{name} " + ", ".join(words)
         if before := self.earlier(name, form, number):
             self.note(f"{what}: done before")
             return self.repeated(name, form, before)
@@ -187,10 +190,12 @@ class Pages:
         self.note(f"{what}: {notice.word if isinstance(notice, Refused) else 'no answer'}")
         if isinstance(notice, NoAnswer):
             return self.again(name, form, refusals.NO_ANSWER if acts else refusals.SILENT, bool(acts))
-        return self.again(name, form, refusals.of_word(notice.word), bool(acts)) if notice.in_doubt else self.refuse(notice, form)
+        if notice.in_doubt:
+            return self.again(name, form, refusals.of_word(notice.word), bool(acts))
+        return self.refuse(notice, form)
 
     def done(self, form: Form, notice: Notice, is_printed: bool) -> Reply:
-        """What was done is said in any case. A browser, and no other program, is asked to say that it shows it."""
+        """What was done is said in any case. A browser, and no other program, is to say that it shows it."""
         if notice.good and flask.request.headers.get("Sec-Fetch-Mode") == "navigate":
             self.counter.answers.sent(form["request"])
             notice = replace(notice, number=form["request"])
@@ -200,8 +205,8 @@ class Pages:
         return self.show("answer.html", notice=notice) if notice.good else self.home(notice=notice)
 
     def earlier(self, name: str, form: Form, number: str) -> Entry | None:
-        """What this form did before, by the journal; none where no browser showed its answer, which is then given again. A
-        journal that cannot be read hinders no sale."""
+        """What this form did before, by the journal. None where no browser showed its answer, which then comes again.
+        A journal that cannot be read hinders no sale."""
         if self.counter.answers.is_unseen(number):
             return None
         try:
@@ -211,12 +216,12 @@ class Pages:
             return None
 
     def repeated(self, name: str, form: Form, before: Entry) -> Reply:
-        """Nothing is done: the page says when the form was carried out, and has another one for a new sale."""
-        counter = self.counter
-        return self.show("repetition.html", 200, repetition.notice(counter, name, before), name=counter.say(ACTIONS[name]),
-                         facts=repetition.facts(counter, before), money_left=repetition.money_left(counter, name, before),
-                         code=form.get("code", ""), plans=counter.plans, plan=form.get("plan", "") if name == "now" else "",
-                         number=new_number(), one=name_of_one())
+        """Nothing is done: the page says when the form was carried out, and has a form for a new sale."""
+        counter, plan = self.counter, form.get("plan", "") if name == "now" else ""
+        return self.show(
+            "repetition.html", 200, repetition.notice(counter, name, before), name=counter.say(ACTIONS[name]),
+            facts=repetition.facts(counter, before), money_left=repetition.money_left(counter, name, before),
+            code=form.get("code", ""), plans=counter.plans, plan=plan, number=new_number(), one=name_of_one())
 
     def keep(self, acts: Acts) -> None:
         """In the journal. What was done is done without it, too."""
@@ -230,7 +235,7 @@ class Pages:
             self.note(f"the journal could not be written: {fault}")
 
     def again(self, name: str, form: Form, told: refusals.Refusal, is_in_doubt: bool) -> Reply:
-        """The same form once more, number and all: sent again it acts once. In doubt: the server got a command of it."""
+        """The same form once more, number and all: sent again it acts once. In doubt: a command of it was sent."""
         hidden = {key: value for key, value in form.items() if key not in ("request", "again")}
         return self.show("again.html", told.status, self.counter.refused(told), action=name, is_in_doubt=is_in_doubt,
                          name=self.counter.say(ACTIONS[name]), number=form["request"], hidden=hidden)

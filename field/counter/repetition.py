@@ -1,4 +1,4 @@
-"""Forms that were carried out before. The browser's Back and Reload send a form again, with the same idempotency key."""
+"""Forms that were carried out before: the browser's Back and Reload send a form again, with its idempotency key."""
 
 from __future__ import annotations
 
@@ -14,7 +14,8 @@ from marks import clerk_words
 SALE = (clerk_words("This sale was made at %(time)s."), clerk_words("It is not a new one. Take nothing."))
 WORDS = {   # by action
     "sell": SALE, "now": SALE, "sell-batch": SALE,
-    "refund": (clerk_words("This refund was made at %(time)s."), clerk_words("It is not a new one. Give nothing back.")),
+    "refund": (clerk_words("This refund was made at %(time)s."),
+               clerk_words("It is not a new one. Give nothing back.")),
     "issue": (clerk_words("This batch was issued at %(time)s."), clerk_words("It is not a new one.")),
     "close": (clerk_words("This session was closed at %(time)s."), clerk_words("Nothing was done now."))}
 TAKE = clerk_words("Only if no page told you so before, as after a lost connection: take %(sum)s.")
@@ -22,8 +23,8 @@ GIVE_BACK = clerk_words("Only if no page told you so before, as after a lost con
 
 
 def entry_of(journal: Journal, action: str, number: str) -> Entry | None:
-    """What the journal has of a form that was carried out. A form that sells one code after another was carried out once its
-    last sale has an answer: before, it is in doubt."""
+    """What the journal has of a form that was carried out. A form that sells one code after another is in doubt until
+    its last sale has an answer."""
     if action not in ("now", "sell-batch"):
         return journal.carried_out(action, number)
     sales = journal.sales(number)
@@ -34,7 +35,7 @@ def entry_of(journal: Journal, action: str, number: str) -> Entry | None:
 
 
 def is_about(counter: Counter, action: str, form: Form, entry: Entry) -> bool:
-    """Whether the form names what the entry is about: its batch, or a code of its batch that was sold or refunded."""
+    """Whether the form names what the entry is about: its batch, or a code of it that was sold or refunded."""
     if "batch" in form:
         return form["batch"] == entry.batch
     if "code" not in form:
@@ -45,12 +46,13 @@ def is_about(counter: Counter, action: str, form: Form, entry: Entry) -> bool:
         return True
     except Refused:
         return False
-    return voucher["refund" if action == "refund" else "sold"] is not None and entry.batch in ("", voucher["batch"])
+    is_done = voucher["refund" if action == "refund" else "sold"] is not None
+    return is_done and entry.batch in ("", voucher["batch"])
 
 
 def earlier(counter: Counter, action: str, form: Form, number: str) -> Entry | None:
-    """The entry of a form that was carried out before. None for a form that is new, that is in doubt, that the journal does not
-    have, or that has the idempotency key of a form with other words."""
+    """The entry of a form that was carried out before. None for a form that is new, that is in doubt, that the journal
+    does not have, or whose idempotency key is that of a form with other words."""
     entry = entry_of(counter.journal, action, number) if action in WORDS else None
     return entry if entry and is_about(counter, action, form, entry) else None
 
@@ -63,8 +65,8 @@ def time_of(counter: Counter, entry: Entry) -> str:
 
 def notice(counter: Counter, action: str, entry: Entry) -> Notice:
     made, is_not_new = WORDS[action]
-    return Notice(False, (counter.say(made, time=time_of(counter, entry)), counter.say(is_not_new)), repeats=True,
-                  batch=entry.batch if action in ("now", "issue") else "")
+    lines = (counter.say(made, time=time_of(counter, entry)), counter.say(is_not_new))
+    return Notice(False, lines, repeats=True, batch=entry.batch if action in ("now", "issue") else "")
 
 
 def facts(counter: Counter, entry: Entry) -> list[tuple[str, str]]:

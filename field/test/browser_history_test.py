@@ -1,6 +1,6 @@
-"""The counter's forms in Chromium's history: Back, Forward, reload, a restored tab and a double click; behind nginx with TLS
-where that is installed. Chromium keeps the page of a form and shows it again with the form's number, whatever `Cache-Control`
-says."""
+"""The counter's forms in Chromium's history: Back, Forward, reload, a restored tab and a double click; behind nginx with
+TLS where that is installed. Chromium keeps the page of a form and shows it again with the form's number, whatever
+`Cache-Control` says."""
 
 from __future__ import annotations
 
@@ -30,10 +30,16 @@ ONE, TAKE, TAKE_NOTHING = "Issue and sell one voucher", "Take €3.00.", "It is 
 NUMBER = "return document.querySelector('form[method=post] input[name=request]').value"
 DOUBLE_CLICK = "const button = arguments[0]; button.click(); setTimeout(() => button.click(), 80)"
 TARGETS = """
-return [...document.querySelectorAll('.answer button, .answer ~ * a')].map(node => getComputedStyle(node).pointerEvents);
+return [...document.querySelectorAll('.answer button, .answer ~ * a')]
+  .map(node => getComputedStyle(node).pointerEvents);
 """
 # As if the page had come just now.
-AS_NEW = "const top = document.querySelector('.answer'); top.className = ''; top.offsetHeight; top.className = 'answer';" + TARGETS
+AS_NEW = """
+const box = document.querySelector('.answer');
+box.className = '';
+box.offsetHeight;
+box.className = 'answer';
+""" + TARGETS
 KIND = "return document.getElementById('told').className.split(' ')[0]"
 TRIES = 5       # Chromium does not keep the first page of a new browser
 
@@ -80,7 +86,8 @@ class History(unittest.TestCase):
         self.batches = 0
 
     def behind_nginx(self) -> str:
-        nginx = counter_nginx.CounterNginx(pathlib.Path(self.enterContext(tempfile.TemporaryDirectory())), policy())
+        folder = pathlib.Path(self.enterContext(tempfile.TemporaryDirectory()))
+        nginx = counter_nginx.CounterNginx(folder, policy())
         server = web.server(self.app, nginx.door(), threads=4)
         threading.Thread(target=server.run, daemon=True).start()
         self.venue.servers.append(server)
@@ -177,8 +184,8 @@ class History(unittest.TestCase):
         driver = self.browser.driver
         for tab in driver.window_handles:
             driver.switch_to.window(tab)
-            case = tabs.pop(driver.current_url, None)
-            if case:
+            if driver.current_url in tabs:
+                case = tabs.pop(driver.current_url)
                 self.assertNotIn(case.first, self.browser.text)
                 driver.refresh()
                 self.assert_told("repetition", case.again)
@@ -188,7 +195,8 @@ class History(unittest.TestCase):
         self.app.seconds = 0.4
         for case in self.cases()[:2]:
             self.browser.open(self.clerks + case.path())
-            before, forms, page = self.takings(), self.app.forms, self.browser.driver.find_element(By.TAG_NAME, "html")
+            before, forms = self.takings(), self.app.forms
+            page = self.browser.driver.find_element(By.TAG_NAME, "html")
             button = self.browser.driver.find_element(By.XPATH, f"//button[normalize-space()='{case.button}']")
             self.browser.driver.execute_script(DOUBLE_CLICK, button)
             self.browser.comes(page)
