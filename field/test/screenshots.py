@@ -100,10 +100,15 @@ def counter(venue: Venue, camera: Camera, codes: list[str]) -> None:
     fresh = clerks_work(venue)
     for name, page in (("counter", ""), ("voucher", f"voucher?code={fresh[0]}"), ("counter-refused", "voucher?code=2222"),
                        ("sheet", "sheet?batch=gigabyte-1"), ("refund", f"refund?code={codes[2]}"), ("cash-up", "cash-up"),
-                       ("batches", "batches")):
+                       ("batches", "batches"), ("sell-batch", "sell-batch?batch=gigabyte-1")):
         venue.gateway_tells()
         browser.open(clerks + page)
         camera.take(name)
+    browser.open(f"{clerks}voucher?code={fresh[4]}")
+    browser.enter()
+    camera.take("sold")
+    browser.driver.refresh()
+    camera.take("repetition")
     with mock.patch.object(venue.counter, "days", a_month):
         browser.open(clerks + "takings?from=2026-01-01&to=2026-01-31")
         camera.take("takings")
