@@ -25,20 +25,21 @@ OLD_COPY = 36 * 3600            # the timer makes one each night
 LARGE = 256 * MIB               # a database that is not copied to be looked at
 OLDEST_KERNEL = (5, 16)         # the first with nftables at a device's egress
 KIT = pathlib.Path(__file__).resolve().parent.parent
+REQUEST = "GET /captive HTTP/1.1\r\nHost: portal\r\nPortal-Device: 02:00:00:00:00:00\r\n\r\n"    # which changes nothing
 LIBRARIES = {"python3-nftables": "gateway/kernel_gate.py", "python3-segno": "counter/sheet.py",
              "python3-pyroute2": "gateway/portal_leases.py", "python3-flask": "front/portal_front.py",
              "python3-babel": "lib/languages.py", "python3-waitress": "lib/web.py"}     # and the part of the kit that needs it
 
 
 def answer_to(portal: str, zone: str, url: str) -> str:
-    """What the program says against settings, or nothing: it checks a new file in a scratch folder."""
+    """What the program says against settings, or nothing: with them it answers a request over a database in memory."""
     with tempfile.TemporaryDirectory() as folder:
         path = pathlib.Path(folder) / "portal.toml"
         path.write_text(toml({"zone": zone, "portal_url": url, "desk_token": secrets.token_urlsafe(32),
                               "gateway_token": secrets.token_urlsafe(32)}))
-        words = [*shlex.split(portal), "check", "--db", f"{folder}/new.db", "--settings", str(path)]
-        done = subprocess.run(words, capture_output=True, text=True, timeout=60)
-    return "" if done.returncode == 0 else done.stderr.strip() or f"status {done.returncode}"
+        words = [*shlex.split(portal), "answer", "--settings", str(path), "--now", "0", "--seed", "0" * 64]
+        done = subprocess.run(words, input=REQUEST, capture_output=True, text=True, timeout=60)
+    return "" if done.returncode == 0 else " ".join(done.stderr.split()) or f"status {done.returncode}"
 
 
 def faults_of_settings(field: Field, portal: str) -> Iterator[Finding]:

@@ -253,7 +253,7 @@ class Certificate(Case):
 class Base(Case):
     def program(self, takes: str) -> None:
         path = self.folder / "portal"
-        path.write_text(f'#!/bin/sh\ngrep -q \'{takes}\' "$5" || {{ echo "portal: settings" >&2; exit 3; }}\n')
+        path.write_text(f'#!/bin/sh\ngrep -q \'{takes}\' "$3" || {{ echo "portal: settings" >&2; exit 3; }}\n')
         path.chmod(0o755)
         self.machine.portal = str(path)
 

@@ -156,7 +156,7 @@ class Looked(unittest.TestCase):
     def test_a_zone_that_the_program_does_not_take(self) -> None:
         """The program is asked; here it is a script that takes UTC0 alone, and then the one under test."""
         asked = self.folder / "portal"
-        asked.write_text('#!/bin/sh\n[ "$1 $2 $4" = "check --db --settings" ] && grep -q \'zone = "UTC0"\' "$5" || '
+        asked.write_text('#!/bin/sh\n[ "$1 $2 $4 $6 $#" = "answer --settings --now --seed 7" ] && grep -q \'zone = "UTC0"\' "$3" || '
                          '{ echo "portal: settings" >&2; exit 3; }\n')
         asked.chmod(0o755)
         for portal in (str(asked), *([PORTAL] if "FIELD_PORTAL" in os.environ else [])):
