@@ -11,6 +11,8 @@ from collections.abc import Callable
 from dataclasses import dataclass
 from typing import Any
 
+from zones import ZONES, rule_in, rule_of
+
 Lines = dict[str, Any]      # keys of field.toml and their values
 VALUE = r'"(?:[^"\\]|\\.)*"|\[[^\]]*\]|[^#\s][^#\n]*?'
 LOCAL_TIME = pathlib.Path("/etc/localtime")
@@ -64,12 +66,12 @@ class Here:
 
     @staticmethod
     def zone() -> str:
-        """The POSIX rule in the last line of the machine's own time zone."""
+        """The name of the machine's own time zone, or its rule where it is no link to a file with a name."""
         try:
-            rule = LOCAL_TIME.read_bytes().rstrip(b"\n").rpartition(b"\n")[2].decode()
-        except (OSError, UnicodeDecodeError):
+            name = str(LOCAL_TIME.readlink()).partition(f"{ZONES}/")[2] if LOCAL_TIME.is_symlink() else ""
+            return name or rule_in(LOCAL_TIME) or "UTC0"
+        except OSError:
             return "UTC0"
-        return rule if re.fullmatch(r"[!-~]{1,64}", rule) else "UTC0"
 
 
 @dataclass(frozen=True)
@@ -81,7 +83,7 @@ class Question:
 
 QUESTIONS = (
     Question("house", "The venue's name, as guests read it", lambda here, so_far: str(so_far["house"])),
-    Question("zone", "The venue's time, as a POSIX rule", lambda here, so_far: here.zone()),
+    Question("zone", "The venue's time zone, such as Europe/Berlin, or its POSIX rule", lambda here, so_far: here.zone()),
     Question("clock", "Who says that its clock is right: kernel (a time service), host (of a virtual machine), clerk",
              lambda here, so_far: here.clock()),
     Question("wan", "The network device to the outside ({devices})", lambda here, so_far: here.way_out or so_far["wan"]),
@@ -97,6 +99,15 @@ QUESTIONS = (
     Question("counter_name", "The name of the counter's page", lambda here, so_far: so_far["counter_name"]))
 
 
+def lines_of(key: str, answer: str) -> Lines:
+    """The lines of field.toml that an answer makes. ValueError: it is not what it must be."""
+    if not answer:
+        raise ValueError("it cannot be empty")
+    if key == "zone":
+        return {key: rule_of(answer)}
+    return {key: answer, "leases": leases_in(answer)} if key == "guests" else {key: answer}
+
+
 def ask_all(text: str, read: Callable[[str], object], so_far: Lines, here: Here,
             say: Callable[[str], None] = print, hear: Callable[[str], str] = input) -> str:
     """The text with the answers in it. `read` raises ValueError where a line is not what it must be."""
@@ -107,10 +118,8 @@ def ask_all(text: str, read: Callable[[str], object], so_far: Lines, here: Here,
         default = question.default(here, so_far)
         while True:
             answer = hear(f"{words} [{default}]: ").strip() or default
-            lines: Lines = {question.key: answer}
             try:
-                if question.key == "guests":
-                    lines["leases"] = leases_in(answer)
+                lines = lines_of(question.key, answer)
                 read(with_lines(text, lines))
                 break
             except ValueError as fault:

@@ -300,14 +300,16 @@ def set_up_by_questions() -> None:
         pathlib.Path("/etc/portal", name).unlink()
     before = firewall()
     status, said = on_a_terminal(["portal-setup"], [
-        ("venue's name", "Café \"Eck\""), ("POSIX rule", "Europe"), ("POSIX rule", ""), ("clock is right", "clerk"),
+        ("venue's name", "Café \"Eck\""), ("POSIX rule", "Europe"), ("POSIX rule", "Europe/Berlin"), ("clock is right", "clerk"),
         ("to the outside", "nothing here"), ("to the outside", "wan0"), ("guests' network device", "lan0"),
         ("address on it", ""), ("counter's network", ""), ("portal's name", ""), ("counter's page", ""),
-        ("clerk's name", "clerk"), ("Password of", "secret"), ("Once more", "secret"), ("first look", "")])
+        ("clerk's name", ""), ("clerk's name", "a:b"), ("clerk's name", "clerk"), ("Password of", "secret"),
+        ("Once more", "secret"), ("first look", "")])
     text = path.read_text()
     AUTHORITY.append(pathlib.Path("/etc/portal/tls/cert.pem"))
     check("on a terminal set-up asks, says no to what cannot be, and writes the answers into field.toml", status == 0
           and 'house = "Café \\"Eck\\""    ' in text and 'wan = "wan0"' in text and 'clock = "clerk"' in text
+          and 'zone = "CET-1CEST,M3.5.0,M10.5.0/3"' in text and "no time zone of this name" in said
           and "  no: " in said and "# the venue's name" in text, said[-900:].replace("\r\n", "; "))
     check("beside the shop, and says so", until(all_run, 20) is not None and SHOP_NAMES.name in said)
     ask_for_a_lease()

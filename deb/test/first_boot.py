@@ -37,7 +37,7 @@ def install_and_set_up() -> None:
     text = path.read_text().replace('house = "Sample Library"', 'house = "Test Library"')
     path.write_text(text.replace('clock = "kernel"', 'clock = "clerk"'))     # whatever this machine's kernel says
     good = path.read_text()
-    path.write_text(good.replace('zone = "UTC0"', 'zone = "Europe/Berlin"'))
+    path.write_text(good.replace('zone = "UTC0"', 'zone = "CET-1CEST,M13.5.0"'))
     done = sh("portal-setup", "--clerk", "clerk", input="secret\n")
     check("set-up refuses a zone that the program does not take", done.returncode == 1 and "POSIX rule" in done.stderr,
           told(done))

@@ -77,7 +77,7 @@ def clock(machine: Machine) -> Iterator[Finding]:
     else:
         yield wrong(f"it is not synchronised: {now}. Each command at a wrong time stays in the database for good",
                     "`timedatectl timesync-status`; is there a time service (`apt install systemd-timesyncd`), and does "
-                    "it reach its servers? Where there is none: `clock` in field.toml")
+                    "it reach its servers? Where there is none: clock = \"clerk\" in field.toml")
 
 
 def moment(time_of: float) -> str:

@@ -11,6 +11,7 @@ from dataclasses import field as listing
 from typing import Any
 
 from radius_settings import BadRadius, Radius
+from zones import NoZone, rule_of
 
 HOST = re.compile(r"(?=.{1,253}\Z)([a-z0-9]([a-z0-9-]{0,61}[a-z0-9])?\.)+[a-z]{2,63}")
 DEVICE = re.compile(r"[A-Za-z0-9][A-Za-z0-9._-]{0,14}")
@@ -28,6 +29,16 @@ CLOCKS = ("kernel", "host", "clerk")     # as server/right_time.py has them
 
 class BadSettings(Exception):
     """A line of field.toml is missing, unknown, or not what it must be."""
+
+
+def rule(zone: Any) -> str:
+    """The POSIX rule of the line `zone`, which may also name a time zone."""
+    if not (isinstance(zone, str) and ZONE.fullmatch(zone)):
+        raise BadSettings(f"zone = {zone!r}")
+    try:
+        return rule_of(zone)
+    except NoZone as fault:
+        raise BadSettings(f"zone = {zone!r}: {fault}") from fault
 
 
 @dataclass(frozen=True)
@@ -78,7 +89,7 @@ class Field:
         for what, names in (("unknown", unknown), ("missing", missing)):
             if names:
                 raise BadSettings(f"{what}: {', '.join(sorted(names))}")
-        field = cls(**given)
+        field = cls(**{**given, "zone": rule(given["zone"])})
         field.check()
         return field
 
@@ -88,8 +99,7 @@ class Field:
 
     def check(self) -> None:
         """These words go into other programs' files, so each is of its own shape."""
-        shapes = {"name": HOST, "counter_name": HOST, "lan": DEVICE, "wan": DEVICE,
-                  "cert": PATH, "key": PATH, "zone": ZONE}
+        shapes = {"name": HOST, "counter_name": HOST, "lan": DEVICE, "wan": DEVICE, "cert": PATH, "key": PATH}
         for key, shape in shapes.items():
             value = getattr(self, key)
             if not (isinstance(value, str) and shape.fullmatch(value)):

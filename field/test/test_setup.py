@@ -3,6 +3,7 @@
 from __future__ import annotations
 
 import configparser
+import datetime
 import importlib.machinery
 import os
 import pathlib
@@ -11,10 +12,13 @@ import shutil
 import subprocess
 import sys
 import tempfile
+import time
 import tomllib
 import types
 import unittest
+import zoneinfo
 from typing import Any
+from unittest import mock
 
 from desk_process import FIELD, PORTAL
 from fake_machine import LISTENERS, NETWORKS, Certificates, FakeMachine, as_ip_tells
@@ -84,6 +88,44 @@ class Lines(unittest.TestCase):
                 self.assertEqual(setup.Field.read(old), setup.Field.read(SAMPLE))
             except setup.BadSettings as fault:
                 self.fail(str(fault))
+
+
+class Zones(unittest.TestCase):
+    """A zone by name; Python's own reader of these files says what each one's local times are."""
+    DAYS = [datetime.datetime(year, month, 15, 12, tzinfo=datetime.UTC) for year in (2030, 2035) for month in range(1, 13)]
+
+    def setUp(self) -> None:
+        self.addCleanup(time.tzset)
+        self.enterContext(mock.patch.dict(os.environ))
+
+    def test_a_name_is_taken_as_its_rule(self) -> None:
+        for name in ("Europe/Berlin", "Europe/Dublin", "America/St_Johns", "Asia/Kathmandu", "Etc/GMT+5", "UTC", "EST5EDT",
+                     "America/Argentina/Ushuaia", "Australia/Lord_Howe"):
+            os.environ["TZ"] = zone = setup.Field.read(SAMPLE.replace("UTC0", name)).zone
+            time.tzset()
+            self.assertNotEqual(zone, name)
+            for day in self.DAYS:
+                there = day.astimezone(zoneinfo.ZoneInfo(name)).strftime("%F %T")
+                self.assertEqual(time.strftime("%F %T", time.localtime(day.timestamp())), there, (name, zone))
+
+    def test_the_programs_settings_have_the_rule(self) -> None:
+        with tempfile.TemporaryDirectory() as folder:
+            setup.Maker(setup.Field.read(SAMPLE.replace("UTC0", "Europe/Berlin")), pathlib.Path(folder), "/kit").settings()
+            for name in ("portal", "counter", "server"):
+                made = tomllib.loads(pathlib.Path(folder, f"etc/portal/{name}.toml").read_text())
+                self.assertEqual(made["zone"], "CET-1CEST,M3.5.0,M10.5.0/3", name)
+
+    def test_a_rule_stays_as_it_is(self) -> None:
+        for rule in ("UTC0", "CET-1CEST,M3.5.0,M10.5.0/3", "<+0545>-5:45", "CET-1CEST,M13.5.0"):
+            self.assertEqual(setup.Field.read(SAMPLE.replace("UTC0", rule)).zone, rule)
+
+    def test_what_is_no_zone_is_said(self) -> None:
+        for zone, told in (("Europe/Berln", "no time zone of this name in /usr/share/zoneinfo"), ("Europe", "no time zone"),
+                           ("../../../etc/passwd", "no time zone"), ("/etc/localtime", "no time zone"),
+                           ("tzdata.zi", "no time zone"), ("leapseconds", "is no time zone with a rule"),
+                           ("Europe/Berlin ", "zone = 'Europe/Berlin '"), ("", "zone = ''")):
+            with self.assertRaisesRegex(setup.BadSettings, told, msg=zone):
+                setup.Field.read(SAMPLE.replace("UTC0", zone))
 
 
 class Looked(unittest.TestCase):
@@ -161,9 +203,9 @@ class Looked(unittest.TestCase):
         asked.chmod(0o755)
         for portal in (str(asked), *([PORTAL] if "FIELD_PORTAL" in os.environ else [])):
             self.assertEqual(self.run_setup(SAMPLE, "--portal", portal), (0, ""))
-            status, told = self.run_setup(SAMPLE.replace("UTC0", "Europe/Berlin"), "--portal", portal)
+            status, told = self.run_setup(SAMPLE.replace("UTC0", "CET-1CEST,M13.5.0"), "--portal", portal)
             self.assertEqual(status, 1)
-            self.assertIn("zone = 'Europe/Berlin': the program takes a POSIX rule, such as UTC0", told)
+            self.assertIn("zone = 'CET-1CEST,M13.5.0': the program takes a POSIX rule, such as UTC0", told)
 
     def test_a_program_that_is_not_there_is_told(self) -> None:
         status, told = self.run_setup(SAMPLE, "--portal", "/no/such/portal")
