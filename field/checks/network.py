@@ -15,6 +15,10 @@ UP_AT_BOOT = "and have it so after a boot, too (/etc/network/interfaces)"
 LEASES = "/var/lib/misc/dnsmasq.leases"
 NEIGHBOURS = "/proc/sys/net/ipv4/neigh/default/gc_thresh3"
 EVERY = ("0.0.0.0", "*")        # as `ss` writes a socket for all addresses
+LOOPBACK = "127.0.0.1"          # where the server listens
+OF_THE_VENUE = {53: "dnsmasq", 80: "nginx", 443: "nginx"}       # TCP ports, and which part of the venue has each
+CHOOSE = "choose another in field.toml, from {} on, that nothing on this machine has: 8080 is the usual one"
+UNPRIVILEGED = "/proc/sys/net/ipv4/ip_unprivileged_port_start"
 LISTENER = re.compile(r"(tcp|udp)\s+\S+\s+\d+\s+\d+\s+(\S+):(\d+)\s+\S+\s*(.*)")
 
 
@@ -181,13 +185,30 @@ def listeners(machine: Machine) -> list[Listener]:
     return found
 
 
+def desk_port(machine: Machine) -> Iterator[Finding]:
+    """A port that the server cannot have, since a part of the venue has it, or since the server does not run as root."""
+    field, port = machine.field, machine.field.desk_port
+    address, _, metrics_port = field.metrics.rpartition(":")
+    is_of_metrics = address in (LOOPBACK, *EVERY) and int(metrics_port) == port
+    owner = OF_THE_VENUE.get(port) or ("the metrics (`metrics` in field.toml)" if is_of_metrics else "")
+    least = int(machine.read(UNPRIVILEGED)) if machine.path(UNPRIVILEGED).exists() else 1024
+    if owner:
+        yield wrong(f"desk_port = {port}: this is the port of {owner}", CHOOSE.format(least))
+    elif port < least:
+        yield wrong(f"desk_port = {port}: only root may listen on a port below {least}, and the server is not root",
+                    CHOOSE.format(least))
+
+
 def ports(machine: Machine) -> Iterator[Finding]:
     field = machine.field
     guests, counter = (str(ipaddress.IPv4Interface(text).ip) for text in (field.guests, field.counter))
     doors = (Door("udp", guests, 53, "dnsmasq"), Door("tcp", guests, 53, "dnsmasq"), Door("udp", guests, 67, "dnsmasq"),
-             Door("tcp", guests, 80, "nginx"), Door("tcp", guests, 443, "nginx"), Door("tcp", counter, 443, "nginx"),
-             Door("tcp", "127.0.0.1", field.desk_port, "portal"))
-    found, unseen, faults = listeners(machine), False, 0
+             Door("tcp", guests, 80, "nginx"), Door("tcp", guests, 443, "nginx"), Door("tcp", counter, 443, "nginx"))
+    cannot_be = list(desk_port(machine))
+    yield from cannot_be
+    if not cannot_be:
+        doors += (Door("tcp", LOOPBACK, field.desk_port, "portal"),)
+    found, unseen, faults = listeners(machine), False, len(cannot_be)
     for door in doors:
         here = [one for one in found if one.stands_in(door, field.lan)]
         unseen = unseen or any(not one.programs for one in here)

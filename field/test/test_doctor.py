@@ -168,6 +168,27 @@ class Ports(Case):
             for self.machine.installed in (True, False):
                 self.told(network.ports, WRONG, told, "process 7")
 
+    def test_a_port_of_another_part_is_refused_by_its_name(self) -> None:
+        """Before an installation nobody listens yet, so that no listener is the reason."""
+        metrics = 'metrics = "{}:9808"'
+        for port, more, told in ((80, "", "this is the port of nginx"), (443, "", "this is the port of nginx"),
+                                 (53, "", "this is the port of dnsmasq"), (900, "", "only root may listen on a port below 1024"),
+                                 (9808, metrics.format("127.0.0.1"), "this is the port of the metrics"),
+                                 (9808, metrics.format("0.0.0.0"), "this is the port of the metrics"),
+                                 (9808, metrics.format("10.88.0.1"), ""), (1024, "", "")):
+            text = SAMPLE.replace("desk_port = 8080", f"desk_port = {port}")
+            self.machine.given = doctor.Field.read(text.replace('metrics = ""', more or 'metrics = ""'))
+            for self.machine.installed, heard in ((False, ""), (True, LISTENERS.replace("127.0.0.1:8080", f"127.0.0.1:{port}"))):
+                self.machine.says["ss "] = heard
+                if told:
+                    found = self.told(network.ports, WRONG, f"desk_port = {port}: {told}")
+                    self.assertIn("choose another in field.toml, from 1024 on", found.do)
+                else:
+                    self.all_good(network.ports)
+        self.machine.put("/proc/sys/net/ipv4/ip_unprivileged_port_start", "0\n")
+        self.machine.given, self.machine.installed = doctor.Field.read(SAMPLE.replace("8080", "900")), False
+        self.all_good(network.ports)
+
     def test_what_is_not_in_the_way(self) -> None:
         """systemd-resolved on an address of its own, a program on another device, on another port."""
         for row in ('udp UNCONN 0 0 127.0.0.53%lo:53 0.0.0.0:* users:(("systemd-resolve",pid=7,fd=3))',
