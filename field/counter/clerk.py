@@ -309,13 +309,24 @@ class Counter:
         return self.say("%(count)s, %(span)s ago", count=self.language.volume(session["reported"]),
                         span=self.language.span(age))
 
+    @property
+    def is_starting(self) -> bool:
+        """Whether the server waits, does not start, or started just now: the gateway has no list then, or an old one."""
+        told = self.notes.read("state")
+        since = told.get("since")
+        is_new = isinstance(since, int) and time.time_ns() - since < OLD_LIST * 10**9
+        return is_new or told.get("is") in ("waits", "failed")
+
     def sessions(self) -> dict[str, Any]:
-        """The gateway agent's list, with its age where it is old."""
+        """The gateway agent's list, with its age where it is old; neither list nor fault while the server starts."""
         try:
             told = json.loads(pathlib.Path(self.conf["snapshot"]).read_text())
         except (OSError, ValueError):
-            return {"rows": None, "fault": self.say("There is no list from the gateway. Is portal-gateway.service running?")}
+            fault = self.say("There is no list from the gateway. Is portal-gateway.service running?")
+            return {"rows": None, "fault": "" if self.is_starting else fault}
         age = int(time.time()) - told["at"]
+        if age > OLD_LIST and self.is_starting:
+            return {"rows": None, "fault": ""}
         old = self.say("This list is %(span)s old: the gateway gets no answer, and nobody passes.",
                        span=self.language.span(age))
         amounts = (("seconds-remaining", self.language.span), ("bytes-remaining", self.language.volume))

@@ -184,6 +184,22 @@ class Pages(AtCounter):
             for word in words:
                 self.assertIn(word, self.ask("/")[1])
 
+    def test_without_a_server_the_list_is_no_fault_of_the_gateway(self) -> None:
+        alarm, later = "There is no list from the gateway", "The list comes once the server runs."
+        row = {"device": "02:00:00:00:00:01", "session": 7, "used": 5}
+        old = json.dumps({"at": int(time.time()) - 600, "sessions": [row]})
+        now = time.time_ns()
+        for state, starts in (({"is": "waits", "why": "x", "last": None}, True), ({"is": "failed", "why": "x"}, True),
+                              ({"is": "serves", "since": now}, True), ({"is": "serves", "since": now - 20 * 10**9}, False)):
+            self.notes.write("state", **state)
+            for told, fault in (("", alarm), (old, "This list is 10 minutes old")):
+                (self.folder / "sessions.json").write_text(told)
+                text = self.ask("/")[1]
+                self.assertEqual((later in text, fault in text), (starts, not starts), (state, told))
+        self.notes.write("state", **{"is": "serves", "since": now})
+        (self.folder / "sessions.json").write_text(json.dumps({"at": int(time.time()), "sessions": [row]}))
+        self.assertIn("02:00:00:00:00:01", self.ask("/")[1], "a list that is there is shown")
+
     def test_open_sessions_say_how_old_a_count_is(self) -> None:
         now = int(time.time())
         row = {"device": "02:00:00:00:00:01", "session": 7, "used": 12345}
@@ -423,6 +439,20 @@ class Pages(AtCounter):
         self.assertNotIn(500, [status for status, _ in answers])
         titles = [re.findall("<title>(.*)</title>", text)[0] for _, text in answers]
         self.assertEqual(len(set(titles)), len(titles), titles)
+
+    def test_a_title_is_a_few_words(self) -> None:
+        """What a screen reader says first: that it did not go well, and of which voucher; the sentences are on the page."""
+        code, = self.desk.issued("hour", "b1")
+        sold = {"code": code, "request": "s1"}
+        cases: tuple[tuple[dict[str, Any], str, dict[str, Any], str], ...] = (
+            ({}, "/", {}, "Counter"), ({}, "/nothing", {}, "Error – Counter"), ({}, "/voucher", {}, "Error – Counter"),
+            ({}, "/voucher?code=2222", {}, "Error: 2222 – Counter"), ({}, "/sell", sold, f"Sold: {code}. Take 3.00. – Counter"),
+            ({}, "/sell", {**sold, "request": "s2"}, f"Error: {code} – Counter"),
+            ({"is": "failed", "why": "its settings are not valid"}, "/", {}, "Error – Counter"),
+            ({"is": "waits", "why": "x", "last": None}, "/", {}, "Is the time right? – Counter"))
+        for state, page, form, title in cases:
+            self.notes.write("state", **state)
+            self.assertEqual(re.findall("<title>(.*)</title>", self.ask(page, **form)[1]), [title], page)
 
     @unittest.skipUnless(HAS_SEGNO, "python3-segno is not installed")
     def test_a_sheet_has_the_venues_logo(self) -> None:
