@@ -36,7 +36,7 @@ _portal_command() {
     if [[ $cur == -* ]]; then
         local options=--help
         case ${words[0]##*/} in
-            portal-setup) options+=' --ask --clerk --first-look --renew' ;;
+            portal-setup) options+=' --ask --clerk --first-look --prices-as-shipped --renew' ;;
             portal-doctor) options+=' --all --json' ;;
             portal-backup) options+=' --pid --still --check --keep --name' ;;
             portal-restore) options+=' --drill --folder --settings' ;;

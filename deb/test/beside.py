@@ -13,6 +13,7 @@ import select
 import signal
 import sqlite3
 import time
+import tomllib
 
 from machine import (
     AUTHORITY, COPIES, COUNTER, DATABASE, GUEST, OUTSIDE, PARTS, PATIENCE, Gap, active, all_run, apt, arrived, ask_for_a_lease,
@@ -26,6 +27,7 @@ MOST_GAP = 10.0             # seconds without packets at an upgrade over that ma
 SHOP = pathlib.Path("/etc/nginx/sites-available/shop")
 SHOP_NAMES = pathlib.Path("/etc/dnsmasq.d/shop.conf")
 FIREWALL = pathlib.Path("/etc/nftables.conf")
+PLANS = pathlib.Path("/etc/portal/plans.toml")
 SITE = "server { listen 80; server_name shop.example; location / { return 200 'the shop'; } }\n"
 IN_THE_WAY = "server { listen 10.77.0.1:80 default_server; return 200 'in the way'; }\n"
 NAMES = "interface=ctr0\n%s\ndhcp-range=10.88.0.50,10.88.0.99,1h\naddress=/till.example/10.88.0.5\n"
@@ -47,7 +49,7 @@ def quick_way() -> None:
     done = install(versions()[0])
     count_outside()
     edit_settings(house="Quick Library")
-    made = sh("portal-setup", "--clerk", "clerk", "--first-look", input="secret\n")
+    made = sh("portal-setup", "--clerk", "clerk", "--first-look", "--prices-as-shipped", input="secret\n")
     AUTHORITY.append(pathlib.Path("/etc/portal/tls/cert.pem"))
     good = done.returncode == made.returncode == 0 and ask_for_a_lease() and begin_to_serve()
     text = code()
@@ -256,9 +258,9 @@ def set_up_is_refused() -> None:
     SHOP.write_text(SITE + IN_THE_WAY)
     sh("systemctl restart dnsmasq nftables")
     before = firewall()
-    done = sh("portal-setup")
+    done = sh("portal-setup", "--prices-as-shipped")
     check("what nginx refuses is said in its words, and all files are put back", done.returncode == 1
-          and "nginx refuses" in done.stderr and "duplicate default server" in done.stderr
+          and "nginx refuses" in done.stderr and "duplicate default server" in done.stderr and "A sample" in PLANS.read_text()
           and not os.path.exists("/etc/nginx/conf.d/portal-guests.conf") and sh("nginx -t").returncode == 0, told(done, 300))
     check("the shop goes on", shop() and till() and firewall() == before)
     SHOP.write_text(SITE)
@@ -303,6 +305,7 @@ def set_up_by_questions() -> None:
         ("venue's name", "Café \"Eck\""), ("POSIX rule", "Europe"), ("POSIX rule", "Europe/Berlin"), ("clock is right", "clerk"),
         ("to the outside", "nothing here"), ("to the outside", "wan0"), ("guests' network device", "lan0"),
         ("address on it", ""), ("counter's network", ""), ("portal's name", ""), ("counter's page", ""),
+        ("price of hour", "2,5"), ("price of day", "nothing"), ("price of day", ""), ("price of gigabyte", "-"),
         ("clerk's name", ""), ("clerk's name", "a:b"), ("clerk's name", "clerk"), ("Password of", "secret"),
         ("Once more", "secret"), ("first look", "")])
     text = path.read_text()
@@ -311,6 +314,9 @@ def set_up_by_questions() -> None:
           and 'house = "Café \\"Eck\\""    ' in text and 'wan = "wan0"' in text and 'clock = "clerk"' in text
           and 'zone = "CET-1CEST,M3.5.0,M10.5.0/3"' in text and "no time zone of this name" in said
           and "  no: " in said and "# the venue's name" in text, said[-900:].replace("\r\n", "; "))
+    plans = tomllib.loads(PLANS.read_text())["plan"]
+    check("it asks for the prices before the first start, and writes them into plans.toml",
+          [(plan["id"], plan["price"]) for plan in plans] == [("hour", 250), ("day", 900)], plans)
     check("beside the shop, and says so", until(all_run, 20) is not None and SHOP_NAMES.name in said)
     ask_for_a_lease()
     begin_to_serve()

@@ -11,6 +11,7 @@ import subprocess
 import time
 
 from doctor_faults import doctor_is_content, doctor_names_faults
+from refused_plans import plans_of_another_price, plans_that_do_not_read
 from machine import (
     COPIES, COUNTER, DATABASE, HERE, NAME, OUTSIDE, PARTS, SESSIONS, Gap, active, ask_for_a_lease, captive, certificate,
     check, check_all_active, clerk, code, copies, count_outside, counter, curl, forward, install, is_bound, is_online,
@@ -32,24 +33,35 @@ def install_and_set_up() -> None:
           set(states) == {"inactive"} and forward() == "0", states)
     done = sh("portal-setup")
     check("set-up says what is missing", done.returncode == 1 and "clerk" in done.stderr and "cert" in done.stderr, told(done))
+    check("and that nobody has chosen the prices", "are a sample's: hour 3.00" in done.stderr
+          and "--prices-as-shipped" in done.stderr, told(done, 500))
     certificate()
     path = pathlib.Path("/etc/portal/field.toml")
     text = path.read_text().replace('house = "Sample Library"', 'house = "Test Library"')
     path.write_text(text.replace('clock = "kernel"', 'clock = "clerk"'))     # whatever this machine's kernel says
     good = path.read_text()
     path.write_text(good.replace('zone = "UTC0"', 'zone = "CET-1CEST,M13.5.0"'))
-    done = sh("portal-setup", "--clerk", "clerk", input="secret\n")
+    done = sh("portal-setup", "--clerk", "clerk", "--prices-as-shipped", input="secret\n")
     check("set-up refuses a zone that the program does not take", done.returncode == 1 and "POSIX rule" in done.stderr,
           told(done))
+    path.write_text(good.replace("desk_port = 8080", "desk_port = 443"))
+    done = sh("portal-setup", "--prices-as-shipped")
+    check("set-up refuses a port of the server that nginx has, by its name, before anything is changed", done.returncode == 1
+          and "desk_port = 443: this is the port of nginx" in done.stderr and not os.path.exists("/etc/portal/gateway.toml"), told(done))
     path.write_text(good)
+    done = sh("portal-setup")
+    check("set-up refuses prices that nobody chose, and changes nothing", done.returncode == 1 and "are a sample's" in done.stderr
+          and not os.path.exists("/etc/portal/gateway.toml"), told(done))
     start = time.monotonic()
-    done = sh("portal-setup", "--clerk", "clerk", input="secret\n")
+    done = sh("portal-setup", "--prices-as-shipped")
     check("one settings file and one command open the venue", done.returncode == 0,
           f"{time.monotonic() - start:.1f} s; {told(done)}")
     check_all_active("every unit is active")
     shown = until(lambda: waits() and "The server waits" in counter("")[1], 10)
     check("a new database waits for the time: set-up, journal and counter's page say so", "the server waits" in done.stderr
           and shown is not None and any("waits, as the time" in line for line in journal("portal")), told(done))
+    plans_that_do_not_read()
+    check("while it waits the counter raises no alarm about the gateway", "portal-gateway" not in counter("")[1])
     ask_for_a_lease()
     word = say_the_time_is_right()
     check("a clerk says on the counter's page that the time is right, and the server starts",
@@ -345,6 +357,6 @@ def before_the_reboot() -> None:
 
 
 STEPS = (install_and_set_up, parts_are_apart, first_guest, device_is_bound, parts_are_killed, agent_hangs_and_stops, rules_go, lan_goes,
-         nightly_copy, drill, doctor_is_content, doctor_names_faults, sell_after_the_copy, copy_is_stopped_in_the_middle,
+         nightly_copy, drill, doctor_is_content, doctor_names_faults, plans_of_another_price, sell_after_the_copy, copy_is_stopped_in_the_middle,
          copy_is_killed_in_the_middle, restore_is_refused,
          copies_without_a_server, disk_is_full, restore, logs_rotate, before_the_reboot)

@@ -318,7 +318,7 @@ def open_venue() -> None:
     count_outside()
     certificate()
     edit_settings()
-    done = sh("portal-setup", "--clerk", "clerk", input="secret\n")
+    done = sh("portal-setup", "--clerk", "clerk", "--prices-as-shipped", input="secret\n")
     good = done.returncode == 0 and ask_for_a_lease() and begin_to_serve() and redeem(code()) == 303
     check("a venue is opened, and a guest has a session", good and until(passes, 10) is not None, told(done, 100))
 

@@ -109,7 +109,7 @@ def by_hand() -> None:
     certificate()
     text = (kit / "settings/field.toml").read_text()
     pathlib.Path("/root/my-field.toml").write_text(text.replace('clock = "kernel"', 'clock = "clerk"'))
-    made = sh(kit / "setup", "/root/my-field.toml")
+    made = sh(kit / "setup", "--prices-as-shipped", "/root/my-field.toml")
     sh("printf 'clerk:%s\\n' \"$(echo secret | openssl passwd -6 -stdin)\" > /etc/portal/counter.passwords; "
        "chown root:www-data /etc/portal/counter.passwords; chmod 0640 /etc/portal/counter.passwords")
     begun = sh("systemd-sysusers && systemd-tmpfiles --create portal.conf && systemctl daemon-reload && systemctl enable --now "

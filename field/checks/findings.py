@@ -46,12 +46,14 @@ def wrong(what: str, do: str) -> Finding:
 
 
 class Machine:
-    """Files below a root, commands, the time, the settings. `installed`: the venue should already run."""
+    """Files below a root, commands, the time, the settings. `installed`: the venue should already run. `prices_as_shipped`:
+    whoever sets it up takes the prices as they are."""
     DATABASE, COPIES = "/var/lib/portal/book.db", "/var/backups/portal"
 
     def __init__(self, root: pathlib.Path = pathlib.Path("/"), field: Field | None = None,
-                 portal: str = "/usr/bin/portal", installed: bool = True) -> None:
+                 portal: str = "/usr/bin/portal", installed: bool = True, prices_as_shipped: bool = False) -> None:
         self.root, self.given, self.portal, self.installed = root, field, portal, installed
+        self.prices_as_shipped = prices_as_shipped
         self.now = time.time()
 
     @property

@@ -202,13 +202,13 @@ def desk_port(machine: Machine) -> Iterator[Finding]:
 def ports(machine: Machine) -> Iterator[Finding]:
     field = machine.field
     guests, counter = (str(ipaddress.IPv4Interface(text).ip) for text in (field.guests, field.counter))
-    doors = (Door("udp", guests, 53, "dnsmasq"), Door("tcp", guests, 53, "dnsmasq"), Door("udp", guests, 67, "dnsmasq"),
-             Door("tcp", guests, 80, "nginx"), Door("tcp", guests, 443, "nginx"), Door("tcp", counter, 443, "nginx"))
-    cannot_be = list(desk_port(machine))
-    yield from cannot_be
-    if not cannot_be:
-        doors += (Door("tcp", LOOPBACK, field.desk_port, "portal"),)
-    found, unseen, faults = listeners(machine), False, len(cannot_be)
+    doors = [Door("udp", guests, 53, "dnsmasq"), Door("tcp", guests, 53, "dnsmasq"), Door("udp", guests, 67, "dnsmasq"),
+             Door("tcp", guests, 80, "nginx"), Door("tcp", guests, 443, "nginx"), Door("tcp", counter, 443, "nginx")]
+    impossible = list(desk_port(machine))
+    yield from impossible
+    if not impossible:
+        doors.append(Door("tcp", LOOPBACK, field.desk_port, "portal"))
+    found, unseen, faults = listeners(machine), False, len(impossible)
     for door in doors:
         here = [one for one in found if one.stands_in(door, field.lan)]
         unseen = unseen or any(not one.programs for one in here)

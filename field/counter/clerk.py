@@ -3,14 +3,13 @@
 from __future__ import annotations
 
 import datetime
-import hashlib
+import functools
 import json
 import os
 import pathlib
 import time
-import tomllib
 from dataclasses import dataclass, field
-from typing import Any
+from typing import Any, NoReturn
 
 import refusals
 import takings
@@ -21,6 +20,7 @@ from forms import BadForm, Form
 from journal import DONE, NO_ANSWER, Act, Entry, Journal, Sums
 from languages import Language
 from machine_time import Notes, origin, was_set
+from offers import Offers
 from sheet import Voucher, rows, vouchers
 from tries import Tries
 
@@ -29,6 +29,7 @@ OLD_LIST = 15       # seconds after which the gateway's list says that it is old
 LONGEST_BASE = 32   # signs of a request number from which others are made: -001 and so on follow
 MOST_BATCHES = 200  # that are listed
 PASSED_OVER = ("sold_already", "refunded", "expired", "used_up")     # errors of codes that a batch is sold without
+FOLLOWS = 1.0       # seconds between two looks at what the server does
 Acts = list[Act]    # what the journal will have of a form
 
 
@@ -41,14 +42,6 @@ class Notice:
     batch: str = ""         # whose sheet can be printed now
     repeats: bool = False   # nothing was done now: it is about what was done before
     number: str = ""        # of the form that it answers, where a browser is to say that it shows it
-
-
-def prices(text: bytes) -> dict[str, int]:
-    """Each plan's id and price in a plans file; none where the file does not read, which the desk will say."""
-    try:
-        return {str(plan["id"]): int(plan["price"]) for plan in tomllib.loads(text.decode())["plan"]}
-    except (ValueError, KeyError, TypeError):
-        return {}
 
 
 def base_of(number: str) -> str:
@@ -88,25 +81,31 @@ class Counter:
         words = tuple(self.say(text, word=repr(refusal.word)) for text in (refusal.cause, refusal.advice))
         return Notice(False, (code + ":", *words) if code else words, code)
 
+    @functools.cached_property
+    def offers(self) -> Offers:
+        return Offers(self.desk, self.conf, self.journal)
+
     def load_plans(self, since: Any = None) -> None:
-        """At each start, with a number made from the file: a database that took this file before does nothing with it,
+        """At each start of this page and of the server: a database that took the plans file before does nothing with it,
         and one that did not, as after a restore, takes it."""
-        text = pathlib.Path(self.conf["plans"]).read_bytes()
-        self.plans, self.plans_notice = prices(text), None
-        try:
-            self.desk.tell(Routes.PLANS, body=text, number="plans-" + hashlib.sha256(text).hexdigest()[:30])
-        except (Refused, NoAnswer) as fault:
-            told = self.refused(refusals.of_word(fault.word) if isinstance(fault, Refused) else refusals.SILENT)
-            self.plans_notice = Notice(False, (self.say("The plans file was not loaded."), *told.lines))
-            if isinstance(fault, NoAnswer):
-                return
-        self.since = since
+        self.offers.load(since)
+        lines = self.offers.notice(self.say)
+        self.plans, self.since = self.offers.prices, self.offers.since
+        self.plans_notice = Notice(False, lines) if lines else None
 
     def catch_up(self) -> None:
         """A server that was started since may have another database."""
         since = self.notes.read("state").get("since")
         if since != self.since:
             self.load_plans(since)
+
+    def follow(self) -> NoReturn:
+        """Loads the plans once the server serves, and for each start of it, without anybody who asks for a page."""
+        while True:
+            time.sleep(FOLLOWS)
+            told = self.notes.read("state")
+            if told.get("is") == "serves" and told.get("since") != self.since:
+                self.load_plans(told["since"])
 
     # Forms that act
 

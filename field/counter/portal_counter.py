@@ -13,6 +13,7 @@ import math
 import pathlib
 import sqlite3
 import sys
+import threading
 import time
 import urllib.parse
 from collections.abc import Callable
@@ -82,7 +83,7 @@ class Pages:
     def home(self, status: int = 200, notice: Notice | None = None, code: str = "", waits: Any = None) -> Reply:
         counter = self.counter
         return self.show(
-            "home.html", status, notice, plans=counter.plans, code=code, waits=waits,
+            "home.html", status, notice, plans=counter.offers.offered_prices, code=code, waits=waits,
             numbers=[new_number() for _ in range(2)], batch=time.strftime("b-%Y%m%d-%H%M%S"),
             one=name_of_one(),
             day=time.strftime("%Y-%m-%d"), spans=takings.SPANS, sessions=counter.sessions())
@@ -336,7 +337,8 @@ def main() -> None:
     use_zone(conf["zone"])
     door = web.listening(conf["socket"])
     counter = Counter(Desk(conf["desk_port"], credential("desk_token")), conf, {})
-    counter.load_plans()
+    counter.load_plans(counter.notes.read("state").get("since"))
+    threading.Thread(target=counter.follow, daemon=True).start()
     web.serve(pages(counter), door, threads=8)
 
 

@@ -89,7 +89,8 @@ class Field:
         for what, names in (("unknown", unknown), ("missing", missing)):
             if names:
                 raise BadSettings(f"{what}: {', '.join(sorted(names))}")
-        field = cls(**{**given, "zone": rule(given["zone"])})
+        given["zone"] = rule(given["zone"])
+        field = cls(**given)
         field.check()
         return field
 

@@ -24,8 +24,8 @@ def rule_in(path: pathlib.Path) -> str:
 
 
 def rule_of(zone: str) -> str:
-    """The rule of a time zone that is given by its name; a text that begins as a rule stays as it is, for the program
-    to judge. NoZone: it is neither."""
+    """The rule of the time zone of that name; a text that begins as a rule stays as it is, for the program to
+    judge. NoZone: it is neither."""
     path = ZONES / zone
     if NAME.fullmatch(zone) and path.is_file():
         rule = rule_in(path)
@@ -34,5 +34,5 @@ def rule_of(zone: str) -> str:
         raise NoZone(f"{path} is no time zone with a rule")
     if BEGINS_AS_RULE.match(zone):
         return zone
-    raise NoZone(f"there is no time zone of this name in {ZONES}; a name is such as Europe/Berlin, a POSIX rule such as "
-                 "UTC0 or CET-1CEST,M3.5.0,M10.5.0/3")
+    raise NoZone(f"there is no time zone of this name in {ZONES}; a name is such as Europe/Berlin, a POSIX "
+                 "rule such as UTC0 or CET-1CEST,M3.5.0,M10.5.0/3")

@@ -26,7 +26,8 @@ from typing import Any
 
 from mutants import (
     AGENT, BACKUPS, CARDS, CLERK, CLIENT, CLOCK, CODES, COUNTER, DESCRIPTION, DEVICES, Edit, FRONT,
-    GATEWAY, GUESTS, JOURNAL, KERNEL, LEASES, MONEY, NEIGHBOURS, PACKETS, REPORT, TAKINGS, TRIES, VENUE)
+    GATEWAY, GUESTS, JOURNAL, KERNEL, LEASES, MONEY, NEIGHBOURS, PACKETS, PLANS, REPORT, TAKINGS,
+    TRIES, VENUE)
 from steady import BUSY, Span
 
 FIELD = pathlib.Path(__file__).resolve().parent.parent
@@ -35,6 +36,7 @@ UNITS = (
     *BACKUPS,
     *CLOCK,
     *MONEY,
+    *PLANS,
     Edit("a_number_for_each_sending", FRONT, "device=device, number=number)", "device=device, number=new_number())",
          "test_front.Pages", "test_a_form_sent_twice_acts_once"),
     Edit("doubt_gets_a_new_number", FRONT, "self.refuse(504, refusals.NO_ANSWER, number=form, sent=number)",

@@ -189,8 +189,10 @@ class Pages(AtCounter):
         row = {"device": "02:00:00:00:00:01", "session": 7, "used": 5}
         old = json.dumps({"at": int(time.time()) - 600, "sessions": [row]})
         now = time.time_ns()
-        for state, starts in (({"is": "waits", "why": "x", "last": None}, True), ({"is": "failed", "why": "x"}, True),
-                              ({"is": "serves", "since": now}, True), ({"is": "serves", "since": now - 20 * 10**9}, False)):
+        states: tuple[tuple[dict[str, Any], bool], ...] = (
+            ({"is": "waits", "why": "x", "last": None}, True), ({"is": "failed", "why": "x"}, True),
+            ({"is": "serves", "since": now}, True), ({"is": "serves", "since": now - 20 * 10**9}, False))
+        for state, starts in states:
             self.notes.write("state", **state)
             for told, fault in (("", alarm), (old, "This list is 10 minutes old")):
                 (self.folder / "sessions.json").write_text(told)

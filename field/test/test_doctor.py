@@ -3,6 +3,7 @@
 from __future__ import annotations
 
 import contextlib
+import hashlib
 import http.server
 import importlib.machinery
 import json
@@ -28,6 +29,7 @@ from fake_machine import (
 import base
 import certificates
 import network
+import prices
 import running
 from findings import Finding, Look, Machine, State, examined, good
 
@@ -483,6 +485,96 @@ class Running(Case):
         self.told(running.clerks, WRONG, "no clerk has a password")
 
 
+class Prices(Case):
+    PLANS, OFFERS, STATE = "/etc/portal/plans.toml", "/etc/portal/offers.toml", "/var/lib/portal-counter/"
+    SAMPLE = (FIELD / "settings/plans.toml").read_text()
+
+    def note(self, plans: str, since: int = 1, **more: Any) -> None:
+        """As the counter writes it."""
+        sum_of = hashlib.sha256(plans.encode()).hexdigest()
+        self.machine.put(self.STATE + "plans.json", json.dumps({
+            "since": since, "plans": sum_of, "answer": "done", "reasons": [], "count": 3, "is_offered": {}, "unknown_plans": [], **more}))
+
+    def serves(self, since: int = 1) -> None:
+        self.machine.put("/run/portal-clock/state", json.dumps({"is": "serves", "since": since}))
+
+    def test_before_an_installation_somebody_has_chosen_them(self) -> None:
+        self.machine.installed = False
+        for _ in range(2):      # without the file, and with the sample
+            found = self.told(prices.plans, WRONG, "are a sample's: hour 3.00, day 9.00, gigabyte 5.00", self.PLANS)
+            self.assertIn("--prices-as-shipped", found.do)
+            self.machine.put(self.PLANS, self.SAMPLE)
+        self.machine.prices_as_shipped = True
+        self.all_good(prices.plans)
+        self.machine.prices_as_shipped = False
+        self.machine.put(Machine.DATABASE, "x")         # a venue that runs
+        self.all_good(prices.plans)
+        self.machine.path(Machine.DATABASE).unlink()
+        self.machine.put(self.PLANS, self.SAMPLE.replace("300", "200"))
+        self.all_good(prices.plans)
+
+    def test_a_file_that_was_accepted(self) -> None:
+        self.machine.put(self.PLANS, self.SAMPLE)
+        self.note(self.SAMPLE)
+        self.serves()
+        self.all_good(prices.plans)
+        self.machine.root_user = False
+        self.told(prices.plans, OVER, "only root")
+
+    def test_a_file_that_was_refused(self) -> None:
+        self.machine.put(self.PLANS, self.SAMPLE)
+        self.serves()
+        self.note(self.SAMPLE, answer="plan_differs", reasons=["plan 'hour': price = 200 in the file, and loaded with 300"])
+        found = self.told(prices.plans, WRONG, "the server did not accept /etc/portal/plans.toml (plan_differs): plan 'hour': price")
+        self.assertEqual(found.do, "a loaded plan never changes: give it a new id, then `systemctl restart portal-counter`")
+        self.note(self.SAMPLE, answer="bad_plans", reasons=["plan 'hour': missing: price"])
+        self.assertIn("correct the file, then", self.told(prices.plans, WRONG, "missing: price").do)
+
+    def test_a_counter_that_has_not_asked_this_server(self) -> None:
+        self.machine.put(self.PLANS, self.SAMPLE)
+        self.serves(since=2)
+        self.told(prices.plans, WRONG, "has not sent /etc/portal/plans.toml to the server")
+        self.note(self.SAMPLE)
+        self.told(prices.plans, WRONG, "has not sent /etc/portal/plans.toml to the server")
+        self.machine.put("/run/portal-clock/state", json.dumps({"is": "waits"}))
+        self.all_good(prices.plans)
+        self.note(self.SAMPLE, answer="no_answer")
+        self.told(prices.plans, WARNING, "the server has not been asked about /etc/portal/plans.toml yet")
+
+    def test_a_file_that_was_changed_since(self) -> None:
+        """What the server will say is foreseen, before it is asked: what it takes stays for good."""
+        self.serves()
+        self.note(self.SAMPLE)
+        self.machine.put(self.STATE + "accepted-plans.toml", self.SAMPLE)
+        self.machine.put(Machine.DATABASE, "x")
+        self.machine.put(self.PLANS, self.SAMPLE + "# more\n")
+        self.told(prices.plans, WARNING, "was changed after it was loaded")
+        for old, new, told in (("300", "200", "plan 'hour': price = 200 in the file, and loaded with 300"),
+                               ("price = 300", "prize = 300", "plan 'hour': missing: price"), ("[[plan]]", "[[plan]", "not TOML")):
+            self.machine.put(self.PLANS, self.SAMPLE.replace(old, new, 1))
+            self.told(prices.plans, WRONG, "the server will not accept /etc/portal/plans.toml: ", told)
+        self.machine.put(self.PLANS, self.SAMPLE.replace("300", "200"))
+        self.machine.path(Machine.DATABASE).unlink()    # its owner begins anew
+        self.told(prices.plans, WARNING, "was changed after it was loaded")
+        self.machine.path(self.PLANS).unlink()
+        self.assertIn("accepted-plans.toml", self.told(prices.plans, WRONG, "there is no /etc/portal/plans.toml").do)
+
+    def test_what_is_offered(self) -> None:
+        self.machine.put(self.PLANS, self.SAMPLE)
+        self.serves()
+        cases: tuple[tuple[str, dict[str, Any], State, str], ...] = (
+                ("[day]\noffered = false\n", {"is_offered": {"day": False}}, GOOD, "each accepted plan is offered but day"),
+                ("[day]\noffered = false\n", {}, WARNING, "/etc/portal/offers.toml was changed after it was loaded"),
+                ("[huor]\noffered = true\n", {"is_offered": {"huor": True}, "unknown_plans": ["huor"]}, WARNING, "names huor, which is no plan"),
+                ("[day]\noffered = 0\n", {}, WRONG, "/etc/portal/offers.toml: [day] has one line"))
+        for text, more, state, told in cases:
+            self.machine.put(self.OFFERS, text)
+            self.note(self.SAMPLE, **more)
+            found = self.found(prices.plans)
+            self.assertEqual([finding.state for finding in found], [GOOD, state], text)
+            self.assertIn(told, found[1].what)
+
+
 class Command(Case):
     """`doctor` itself, with the commands of a good machine on its path."""
 
@@ -515,7 +607,7 @@ class Command(Case):
     def test_each_check_has_its_name(self) -> None:
         names = list(dict.fromkeys(row["check"] for row in self.findings()))
         self.assertEqual(names, ["settings", "devices", "addresses", "limits", "certificate", "zone", "clock", "ports",
-                                 "others", "rules", "services", "server", "clerks", "logo", "backup", "disk", "versions"])
+                                 "others", "rules", "services", "server", "clerks", "plans", "logo", "backup", "disk", "versions"])
 
     def test_what_is_wrong_is_in_words_and_the_exit_code_is_1(self) -> None:
         self.machine.says["timedatectl "] = "no\n"

@@ -30,7 +30,7 @@ sys.modules["field_setup"] = setup
 sys.dont_write_bytecode = True
 loader.exec_module(setup)
 
-SAMPLE = (FIELD / "settings/field.toml").read_text()
+SAMPLE, PLANS = ((FIELD / f"settings/{name}.toml").read_text() for name in ("field", "plans"))
 LATER = ("desk_port", "poll_seconds", "grace_seconds", "quiet_seconds", "time_quiet_seconds",
          "without_browser", "clock", "on_failure", "currency", "wifi", "wifi_password", "logo", "voucher_size",
          "daily_report", "counter_language", "voucher_languages",
@@ -158,6 +158,7 @@ class Looked(unittest.TestCase):
         tls = machine.path("/etc/portal/tls")
         tls.mkdir(parents=True)
         Certificates(self.folder).sign(tls / "cert.pem", tls / "key.pem")
+        machine.put("/etc/portal/plans.toml", PLANS.replace("price = 300", "price = 200"))
         return machine
 
     @unittest.skipUnless(shutil.which("openssl"), "openssl is not installed")
@@ -195,6 +196,22 @@ class Looked(unittest.TestCase):
         self.assertEqual(status, 0, told)
         self.assertRegex(told, r"\Asetup: warning: addresses: there is no default route.*\n\Z")
 
+    @unittest.skipUnless(shutil.which("openssl"), "openssl is not installed")
+    def test_prices_that_nobody_chose(self) -> None:
+        """Nothing is made, unless they are taken as they are."""
+        machine = self.good_machine()
+        plans, database = machine.path("/etc/portal/plans.toml"), machine.path("/var/lib/portal/book.db")
+        words = ("--machine", machine.root, "--portal", "/bin/true")
+        path = machine.on_path(self.folder)
+        plans.write_text(PLANS)
+        self.assertIn("are a sample's: hour 3.00", self.wrong(machine))
+        self.assertEqual(self.run_setup(SAMPLE, *words, "--prices-as-shipped", path=path), (0, ""))
+        machine.put("/var/lib/portal/book.db", "x")
+        self.assertEqual(self.run_setup(SAMPLE, *words, path=path), (0, ""), "a venue that runs goes on")
+        database.unlink()
+        plans.unlink()
+        self.assertIn("the prices that would be put into /etc/portal/plans.toml", self.wrong(machine))
+
     def test_a_zone_that_the_program_does_not_take(self) -> None:
         """The program is asked; here it is a script that takes UTC0 alone, and then the one under test."""
         asked = self.folder / "portal"
@@ -217,8 +234,8 @@ class Made(unittest.TestCase):
         self.root = pathlib.Path(self.enterContext(tempfile.TemporaryDirectory()))
         self.make()
 
-    def make(self) -> None:
-        words = [sys.executable, FIELD / "setup", "--root", self.root, "--field", "/usr/share/portal/field",
+    def make(self, *more: str) -> None:
+        words = [sys.executable, FIELD / "setup", "--root", self.root, "--field", "/usr/share/portal/field", *more,
                  FIELD / "settings/field.toml"]
         subprocess.run([str(word) for word in words], check=True, capture_output=True)
 
@@ -229,6 +246,27 @@ class Made(unittest.TestCase):
         before = self.files()
         self.make()
         self.assertEqual(self.files(), before)
+
+    def test_prices_that_were_taken_are_no_sample_any_more(self) -> None:
+        """So that a set-up after this one asks no more, and finds the same plans."""
+        plans = self.root / "etc/portal/plans.toml"
+        self.assertTrue(setup.is_sample(plans))
+        self.make("--prices-as-shipped")
+        taken = plans.read_text()
+        self.assertFalse(setup.is_sample(plans))
+        self.assertEqual(tomllib.loads(taken), tomllib.loads(PLANS))
+        self.make("--prices-as-shipped")
+        self.assertEqual(plans.read_text(), taken)
+
+    def test_a_database_gets_no_plans_of_a_sample(self) -> None:
+        """Where the venue's own file is lost; the counter and the doctor say that it is."""
+        plans, database = self.root / "etc/portal/plans.toml", self.root / "var/lib/portal/book.db"
+        self.assertEqual(plans.read_text(), PLANS)
+        plans.unlink()
+        database.parent.mkdir(parents=True)
+        database.touch()
+        self.make()
+        self.assertFalse(plans.exists())
 
     def test_a_write_that_ends_early_leaves_what_was_there(self) -> None:
         """As on a full disk: the text's end cannot be written."""
