@@ -25,11 +25,11 @@ from sheet import Voucher, rows, vouchers
 from tries import Tries
 
 STATE = pathlib.Path(os.environ.get("STATE_DIRECTORY", "/var/lib/portal-counter"))
+FOLLOWS = 1.0       # seconds between two looks at what the server does
 OLD_LIST = 15       # seconds after which the gateway's list says that it is old
 LONGEST_BASE = 32   # signs of a request number from which others are made: -001 and so on follow
 MOST_BATCHES = 200  # that are listed
 PASSED_OVER = ("sold_already", "refunded", "expired", "used_up")     # errors of codes that a batch is sold without
-FOLLOWS = 1.0       # seconds between two looks at what the server does
 Acts = list[Act]    # what the journal will have of a form
 
 

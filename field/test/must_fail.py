@@ -33,10 +33,10 @@ from steady import BUSY, Span
 FIELD = pathlib.Path(__file__).resolve().parent.parent
 PYTHON = "/usr/bin/python3"
 UNITS = (
+    *PLANS,
     *BACKUPS,
     *CLOCK,
     *MONEY,
-    *PLANS,
     Edit("a_number_for_each_sending", FRONT, "device=device, number=number)", "device=device, number=new_number())",
          "test_front.Pages", "test_a_form_sent_twice_acts_once"),
     Edit("doubt_gets_a_new_number", FRONT, "self.refuse(504, refusals.NO_ANSWER, number=form, sent=number)",
