@@ -44,6 +44,10 @@ class Server:
                 for name, lines in conf["nas"].items()]
 
 
+def server_at(servers: list[Server], address: str) -> Server | None:
+    return next((server for server in servers if ipaddress.IPv4Address(address) in server.network), None)
+
+
 def plain(text: str) -> str:
     """A value as it came in the packet: rlm_sql writes signs that are not safe as =XX."""
     return QUOTED.sub(lambda found: chr(int(found[1], 16)), str(text))
@@ -72,7 +76,7 @@ class Requests:
         self.unknown: set[str] = set()
 
     def server_at(self, address: str) -> Server | None:
-        found = next((s for s in self.servers if ipaddress.IPv4Address(address) in s.network), None)
+        found = server_at(self.servers, address)
         if found is None and address not in self.unknown:
             self.unknown.add(address)
             complain(f"no access server of the settings has the address {address}: its sessions cannot be ended")

@@ -7,20 +7,23 @@ decides, not the code.
 3. A User-Name that is the device's own address (MAC authentication) asks and never redeems.
 4. Without an answer, a device or a code the login is rejected, in words that a guest can read.
 
-Nothing is stored here: the server's database has what was done, radacct what was counted.
+No answer that is asked for at each login costs more where more sessions are open: what is left is the device's state, and
+the session's number that of the redemption's answer or of a list that serves for half a second (`open_sessions`).
 """
 
 from __future__ import annotations
 
-import re
 import time
+from collections.abc import Callable
 from dataclasses import dataclass
 from typing import Any
 
+from classes import device_of
 from counts import Counts
 from desk_client import Desk, NoAnswer, Refused, Routes
 from languages import Language
 from one_use import numbers
+from open_sessions import OpenSessions
 from refusals import NO_ANSWER, Refusal, of_word
 from marks import guest_words
 from typed_codes import plain_code
@@ -36,68 +39,64 @@ LONGEST_WORDS = 253         # bytes of an attribute (RFC 2865 section 5)
 SLOW, PAUSE = 1.0, 2.0      # seconds: an answer that did not come so long, and how long nobody asks then
 
 
-def device_of(text: str | None) -> str | None:
-    """Six octets in the usual spellings: 00-11-.., 00:11:.., 0011.2233.4455, 001122334455."""
-    digits = re.sub(r"[-:. ]", "", text or "").lower()
-    if not re.fullmatch(r"[0-9a-f]{12}", digits):
-        return None
-    return ":".join(digits[i:i + 2] for i in range(0, 12, 2))
-
-
-def class_of(row: Row) -> str:
-    """What the NAS gives back with each accounting packet: the session and its device. After a restore of an older copy,
-    where numbers are given anew, nobody's bytes are counted on another device's session."""
-    return f"portal-{row['session']}-{row['device'].replace(':', '')}"
-
-
-def limits(row: Row, interim: int) -> Pairs:
+def limits(left: Row, interim: int) -> Pairs:
     """What the NAS is told. A count that does not fit is told as the greatest that fits: the NAS then asks again."""
-    reply = [("Class", class_of(row)), ("Acct-Interim-Interval", str(interim))]
-    if "seconds-remaining" in row:
-        reply.append(("Session-Timeout", str(min(row["seconds-remaining"], LONGEST_TIME))))
-    if "bytes-remaining" in row:
-        left = row["bytes-remaining"]
-        reply += [("Mikrotik-Total-Limit", str(left & WORD_32)), ("Mikrotik-Total-Limit-Gigawords", str(left >> 32)),
-                  ("ChilliSpot-Max-Total-Octets", str(min(left, WORD_32))),
-                  ("pfSense-Max-Total-Octets", str(min(left, WORD_32)))]
+    reply = [("Acct-Interim-Interval", str(interim))]
+    if "seconds-remaining" in left:
+        reply.append(("Session-Timeout", str(min(left["seconds-remaining"], LONGEST_TIME))))
+    if "bytes-remaining" in left:
+        count = left["bytes-remaining"]
+        reply += [("Mikrotik-Total-Limit", str(count & WORD_32)), ("Mikrotik-Total-Limit-Gigawords", str(count >> 32)),
+                  ("ChilliSpot-Max-Total-Octets", str(min(count, WORD_32))),
+                  ("pfSense-Max-Total-Octets", str(min(count, WORD_32)))]
     return reply
+
+
+@dataclass(frozen=True)
+class Open:
+    """A device's open session. `left`: the answer of `GET /captive`."""
+    session: int
+    left: Row
+
+
+Answer = tuple[Open | None, Refusal | None]
 
 
 @dataclass
 class Logins:
-    """`guests` asks as a guest, `gateway` with the gateway's token."""
+    """`guests` asks as a guest. `given` makes the Class of a session, a device and an access server's name."""
     guests: Desk
-    gateway: Desk
+    sessions: OpenSessions
+    given: Callable[[int, str, str], str]
     interim: int
     language: Language
     counts: Counts
     silent_until: float = 0.0
 
-    def open_session(self, device: str) -> Row | None:
-        """The device's open session: the gateway's list is the one route that names its number."""
-        rows = self.gateway.tell(Routes.SESSIONS)["sessions"]
-        return next((row for row in rows if row["device"] == device), None)
+    def open_session(self, device: str, answered: int = 0) -> Open | None:
+        """`answered`: the session in the answer to a redemption by the device; it may be over."""
+        left = self.sessions.left(device)
+        session = self.sessions.number(device, answered) if left else 0
+        return Open(session, left) if left and session else None
 
-    def known(self, device: str) -> tuple[Row | None, Refusal | None]:
+    def known(self, device: str) -> Answer:
         """MAC authentication."""
-        captive = self.guests.tell(Routes.CAPTIVE, device=device)["captive"]
-        row = None if captive else self.open_session(device)
-        return (row, None) if row else (None, TYPE_A_CODE)
+        found = self.open_session(device)
+        return (found, None) if found else (None, TYPE_A_CODE)
 
-    def redeem(self, device: str, code: str) -> tuple[Row | None, Refusal | None]:
+    def redeem(self, device: str, code: str) -> Answer:
         """The open session, and a refusal that the guest reads; no session where the device is not let in."""
         for number in numbers(device, code):
             try:
-                self.guests.tell(Routes.REDEEM, body={"code": code}, device=device, number=number)
+                told = self.guests.tell(Routes.REDEEM, body={"code": code}, device=device, number=number)
             except Refused as fault:
-                row = self.open_session(device) if fault.word in MAY_BE_ITS_OWN else None
-                return row, of_word(fault.word)
-            row = self.open_session(device)
-            if row:
-                return row, None
+                return self.open_session(device) if fault.word in MAY_BE_ITS_OWN else None, of_word(fault.word)
+            found = self.open_session(device, told["session"])
+            if found:
+                return found, None
         return None, of_word("used_up")
 
-    def asked(self, name: str, device: str) -> tuple[Row | None, Refusal | None]:
+    def asked(self, name: str, device: str) -> Answer:
         """FreeRADIUS's Python makes one call at a time. So behind a silent server one login waits for the time limit, and
         for a moment the others are rejected at once."""
         start = time.monotonic()
@@ -114,15 +113,16 @@ class Logins:
                 self.silent_until = time.monotonic() + PAUSE
             return None, NO_ANSWER
 
-    def decide(self, name: str, calling: str | None) -> tuple[bool, Pairs]:
-        """Whether the login is accepted, and the attributes of the reply."""
-        device = device_of(calling)
-        row, refusal = self.asked(name, device) if device else (None, of_word("bad_device"))
-        reply = limits(row, self.interim) if row else []
+    def decide(self, name: str, calling: str | None, server: str) -> tuple[bool, Pairs]:
+        """Whether the login at the access server of this name is accepted, and the attributes of the reply."""
+        device, reply = device_of(calling), Pairs()
+        found, refusal = self.asked(name, device) if device else (None, of_word("bad_device"))
+        if device and found:
+            reply = [("Class", self.given(found.session, device, server)), *limits(found.left, self.interim)]
         if refusal:
             self.counts.add(refusal.word)
             reply.append(("Reply-Message", self.in_words(refusal)))
-        return row is not None, reply
+        return found is not None, reply
 
     def in_words(self, refusal: Refusal) -> str:
         words = self.language.say(refusal.for_guest, word=refusal.word)

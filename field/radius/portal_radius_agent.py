@@ -1,9 +1,10 @@
 #!/usr/bin/python3
 """Follows the server's list of open sessions and FreeRADIUS's radacct: reports bytes, and ends what the server has ended.
 
-Bytes. A session may have several accounting sessions (re-association, roaming, an access server that started again): its
-total is their sum, in both directions, plus what the server held before radacct knew it (a lost radacct.db). The server
-keeps the greatest report, so reports carry no request number and may be sent twice.
+Bytes. A session may have several accounting sessions (re-association, roaming, an access server that started again), and
+a Class for each access server that logged it in: its total is their sum, in both directions, plus what the server held
+before radacct knew it (a lost radacct.db). A row has a Class only where `counting` found it good. The server keeps the
+greatest report, so reports carry no request number and may be sent twice.
 
 Ends. A live accounting session whose session is not in the list (closed, out of time or bytes), or is there for another
 device (a restore of an older copy), gets a Disconnect-Request. While the server is silent nobody is cut off: the access
@@ -23,9 +24,9 @@ from typing import Any
 sys.dont_write_bytecode = True
 HERE = pathlib.Path(__file__).resolve().parent
 sys.path[:0] = [str(HERE.parent / "lib"), str(HERE)]
+from classes import SessionClass, in_radacct  # noqa: E402
 from desk_client import Desk, NoAnswer, Refused, Routes, credential, settings  # noqa: E402
 from disconnects import Pairs, Requests, Row, Server, complain  # noqa: E402
-from logins import device_of  # noqa: E402
 from notify import tell_systemd  # noqa: E402
 
 NEAR_END = 8            # a report is due when this part of what is left was used
@@ -34,19 +35,17 @@ LATE = 5                # seconds by which an end has to move so that the access
 MOST_PURGED = 500       # rows at a time: a purge holds up accounting for a moment at most
 ROWS = """SELECT acctuniqueid AS uid, acctsessionid, username, nasipaddress, callingstationid, framedipaddress, class,
   acctstoptime IS NULL AS live FROM radacct WHERE class LIKE '0x%' AND (acctstoptime IS NULL OR acctstoptime >= ?)"""
-SUM = "SELECT sum(coalesce(acctinputoctets, 0) + coalesce(acctoutputoctets, 0)) FROM radacct WHERE class = ?"
+SUM = """SELECT sum(coalesce(acctinputoctets, 0) + coalesce(acctoutputoctets, 0)) FROM radacct
+  WHERE class >= ? AND class < ?"""
 OLD = """SELECT radacctid, class FROM radacct
   WHERE coalesce(acctstoptime, acctupdatetime, acctstarttime, 0) < ? ORDER BY radacctid"""
 Session = dict[str, Any]
 
 
-def session_of(text: str | None) -> tuple[int | None, str | None]:
-    """The number and the device in a Class as rlm_sql writes it: the hexadecimal of `portal-N-MAC`."""
-    try:
-        name, number, device = bytes.fromhex((text or "")[2:]).decode("ascii").split("-")
-    except ValueError:
-        return None, None
-    return (int(number), device_of(device)) if name == "portal" and number.isdecimal() else (None, None)
+def session_of(text: str | None) -> tuple[int, str]:
+    """The number and the device in a Class; 0 where it is another program's."""
+    found = SessionClass.read(text)
+    return (found.session, found.device) if found else (0, "")
 
 
 class Agent:
@@ -71,9 +70,14 @@ class Agent:
         self.told[session] = (max(total, used), time.monotonic())
         return used
 
-    def count(self, session: int, klass: str, row: Session | None, live: bool) -> bool:
+    def counted(self, session: int, device: str) -> int:
+        """What radacct has of a session, under all its Classes."""
+        total: int | None = self.book.execute(SUM, in_radacct(session, device)).fetchone()[0]
+        return total or 0
+
+    def count(self, session: int, device: str, row: Session | None, live: bool) -> bool:
         """Reports the session's bytes where that is due; whether that was the last byte."""
-        counted = self.book.execute(SUM, (klass,)).fetchone()[0] or 0
+        counted = self.counted(session, device)
         if session not in self.base:
             self.base[session] = max(0, self.report(session, 0) - counted)
         total = self.base[session] + counted
@@ -85,24 +89,23 @@ class Agent:
             return left is not None and fresh >= left
         return False
 
-    def over(self, rows: list[Row], listed: dict[int, Session]) -> set[str]:
-        """The classes whose session is over, once the bytes of all are reported."""
-        live: dict[str, bool] = {}
+    def over(self, rows: list[Row], listed: dict[int, Session]) -> set[tuple[int, str]]:
+        """The sessions and devices whose session is over, once the bytes of all are reported."""
+        live: dict[tuple[int, str], bool] = {}
         for row in rows:
-            live[row["class"]] = live.get(row["class"], False) or bool(row["live"])
+            key = session_of(row["class"])
+            live[key] = live.get(key, False) or bool(row["live"])
+        live.pop((0, ""), None)
         ended = set()
-        for klass, is_live in live.items():
-            session, device = session_of(klass)
-            if session is None:
-                continue            # of another program
+        for (session, device), is_live in live.items():
             known = listed.get(session)
             foreign = known is not None and known["device"] != device       # of the database before a restore
-            if foreign or self.count(session, klass, known, is_live) or known is None:
-                ended.add(klass)
-        self.forget({session_of(klass)[0] for klass in live})
+            if foreign or self.count(session, device, known, is_live) or known is None:
+                ended.add((session, device))
+        self.forget({session for session, _ in live})
         return ended
 
-    def forget(self, kept: set[int | None]) -> None:
+    def forget(self, kept: set[int]) -> None:
         for session in set(self.base) - kept:
             del self.base[session]
         for session in set(self.told) - kept:
@@ -112,7 +115,7 @@ class Agent:
         listed = {row["session"]: row for row in self.desk.tell(Routes.SESSIONS)["sessions"]}
         rows = self.book.execute(ROWS, (int(time.time()) - HOUR,)).fetchall()
         over = self.over(rows, listed)
-        self.requests.end([row for row in rows if row["live"] and row["class"] in over])
+        self.requests.end([row for row in rows if row["live"] and session_of(row["class"]) in over])
         self.requests.send("coa", list(self.extended([row for row in rows if row["live"]], listed)))
         if time.monotonic() >= self.purge_at:
             self.purge(listed)
@@ -122,7 +125,7 @@ class Agent:
         it is one that takes that."""
         self.ends = {uid: end for uid, end in self.ends.items() if uid in {row["uid"] for row in rows}}
         for row in rows:
-            known = listed.get(session_of(row["class"])[0] or 0)
+            known = listed.get(session_of(row["class"])[0])
             if known is None or "seconds-remaining" not in known:
                 continue
             end = time.time() + known["seconds-remaining"]

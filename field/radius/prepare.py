@@ -4,7 +4,8 @@
     prepare.py FOLDER RADACCT       the folder for queries.conf, and the database of accounting
 
 The stock queries keep the column `class` once three lines of them are taken out of comments. The database gets the stock
-tables, and beside them two indexes, and a trigger: a late packet with a lower count takes nothing away.
+tables, and beside them two indexes, and a trigger: a late packet with a lower count takes nothing away. Beside it stands
+logins.db: which access server logged which session in.
 """
 
 from __future__ import annotations
@@ -14,6 +15,11 @@ import pathlib
 import re
 import sqlite3
 import sys
+
+sys.dont_write_bytecode = True
+HERE = pathlib.Path(__file__).resolve().parent
+sys.path.insert(0, str(HERE))
+import session_servers  # noqa: E402
 
 STOCK = pathlib.Path("/etc/freeradius/3.0/mods-config/sql/main/sqlite")
 CLASS = re.compile(r"(?m)^(\t(?:column_name|packet_xlat|reply_xlat) =\t)# ")
@@ -53,7 +59,9 @@ def make_database(path: pathlib.Path) -> None:
 def main() -> None:
     folder, database = (pathlib.Path(word) for word in sys.argv[1:])
     (folder / "queries.conf").write_text(queries((STOCK / "queries.conf").read_text()))
+    is_new = not database.exists()
     make_database(database)
+    session_servers.make(str(database), is_new)
 
 
 if __name__ == "__main__":

@@ -58,6 +58,7 @@ def make(field: Field, etc: pathlib.Path, kit: str, run: str, state: str, write:
     folder.chmod(0o700)
     clients = [client(server.name, str(server.network), secret_of(folder, server.name, write),
                       server.message_authenticator) for server in radius.nas]
+    secret_of(etc / "credentials", "class_key", write)      # with it every Class that access servers hold stays good
     write(paths[2], "".join(clients), 0o600)
     write(paths[1], environment(radius, etc, kit, run, state), 0o644)
     write(paths[0], settings(field, radius, run, state), 0o644)

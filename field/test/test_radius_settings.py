@@ -14,10 +14,12 @@ import unittest
 from desk_process import FIELD, DeskProcess
 
 sys.path += [str(FIELD / "checks"), str(FIELD / "radius")]
+from classes import device_of  # noqa: E402
 from counts import Counts  # noqa: E402
 from findings import Machine  # noqa: E402
 from languages import Language  # noqa: E402
-from logins import Logins, device_of  # noqa: E402
+from logins import Logins  # noqa: E402
+from open_sessions import OpenSessions  # noqa: E402
 from optional import optional  # noqa: E402
 from venue import BadSettings, Field  # noqa: E402
 
@@ -95,13 +97,14 @@ class Words(unittest.TestCase):
     def test_a_refusal_is_in_the_language_of_the_settings_and_fits_into_an_attribute(self) -> None:
         with DeskProcess() as desk:
             for tag, words in (("en", "That is no code of ours"), ("de", "kein Code von uns"), ("uk", ""), ("ja", "")):
-                rules = Logins(desk.gateway, desk.gateway, 60, Language(tag), Counts())
-                accepted, reply = rules.decide("x", "02-00-00-00-00-01")
+                sessions = OpenSessions(desk.gateway, desk.gateway, lambda rows: None)
+                rules = Logins(desk.gateway, sessions, lambda *words: "", 60, Language(tag), Counts())
+                accepted, reply = rules.decide("x", "02-00-00-00-00-01", "lobby")
                 text = dict(reply)["Reply-Message"]
                 self.assertFalse(accepted)
                 self.assertIn(words, text)
                 self.assertLessEqual(len(text.encode()), 253)
-                self.assertEqual(dict(rules.decide("x", "none")[1]).keys(), {"Reply-Message"})
+                self.assertEqual(dict(rules.decide("x", "none", "lobby")[1]).keys(), {"Reply-Message"})
 
     def test_a_device_in_its_usual_spellings_and_nothing_else(self) -> None:
         for text in ("02-00-00-00-00-0A", "02:00:00:00:00:0a", "0200.0000.000a", "02000000000A"):
@@ -150,6 +153,21 @@ class Made(unittest.TestCase):
                                                ("bar", "10.88.0.21/32", second.strip(), "no")])
         conf = tomllib.loads((self.etc / "radius.toml").read_text())
         self.assertEqual(conf["nas"]["lobby"], {"address": "10.88.0.20/32", "disconnect_port": 3799, "extend_by_coa": False})
+
+    def test_the_key_of_class_is_drawn_once_and_the_radius_server_alone_has_it(self) -> None:
+        path = self.etc / "credentials/class_key"
+        self.make(SAMPLE)
+        self.assertFalse(path.exists())
+        self.make(SAMPLE + TABLE)
+        first = path.read_text()
+        self.assertRegex(first, r"\A[0-9a-f]{32}\n\Z")
+        self.assertNotEqual(first, (self.secrets / "lobby").read_text())
+        self.assertEqual(stat.S_IMODE(path.stat().st_mode), 0o600)
+        for text in (SAMPLE, SAMPLE + TABLE):
+            self.make(text)
+            self.assertEqual(path.read_text(), first)
+        units = [unit.name for unit in (self.root / "etc/systemd/system").glob("*.service") if "/class_key" in unit.read_text()]
+        self.assertEqual(units, ["portal-radius.service"])
 
     def test_the_services_may_ask_the_server_and_are_users_of_their_own(self) -> None:
         self.make(SAMPLE)

@@ -1,7 +1,9 @@
 #!/usr/bin/python3
 """Measures the RADIUS part on loopback; the machine's load stands beside each figure.
 
-    radius_measure.py [--portal "CMD .."] [--count N] [logins|ends|rest ..]
+    radius_measure.py [--portal "CMD .."] [--count N] [logins|crowd|ends|rest ..]
+
+`crowd`: two venues in one run, one with 100 sessions open and one with so many more; they take turns.
 """
 
 from __future__ import annotations
@@ -11,43 +13,50 @@ import os
 import pathlib
 import statistics
 import sys
-import threading
 import time
+from collections.abc import Callable, Iterable
+from concurrent import futures
+from typing import TypeVar
 
 sys.dont_write_bytecode = True
-from scripted_nas import DISCONNECT  # noqa: E402
+from scripted_nas import ACCEPT, DISCONNECT  # noqa: E402
 from steps_login import PLANS  # noqa: E402
 from venue_lab import STAND_IN, Lab, plan  # noqa: E402
 
+from desk_client import Routes  # noqa: E402
+
+Item = TypeVar("Item")
+ALL_PLANS = (*PLANS, plan("day", seconds=86_400), plan("crowd", uses=100_000, seconds=86_400))
 AT_ONCE = 8
+FEW, MANY, TURNS, EACH = 100, 10_000, 7, 150    # open sessions of the two venues; turns of so many logins each
 
 
 def told(what: str, figure: str) -> None:
     print(f"{what}: {figure}, load {os.getloadavg()[0]:.0f}", flush=True)
 
 
-def logins(lab: Lab, what: str, pairs: list[tuple[str, str]]) -> None:
-    """So many logins, AT_ONCE at a time."""
-    nas, waits, codes, todo, lock = lab.nas(), [], set(), iter(pairs), threading.Lock()
+def for_each(items: Iterable[Item], call: Callable[[Item], object]) -> None:
+    """AT_ONCE at a time."""
+    with futures.ThreadPoolExecutor(AT_ONCE) as pool:
+        list(pool.map(call, items))
 
-    def go() -> None:
-        while True:
-            with lock:
-                pair = next(todo, None)
-            if pair is None:
-                return
-            start = time.monotonic()
-            reply = nas.login(*pair)
-            waits.append(time.monotonic() - start)
-            codes.add(reply.code)
+
+def logins(lab: Lab, pairs: list[tuple[str, str]]) -> tuple[float, list[float], set[int]]:
+    """So many logins: how many a second, the time of each, the codes of the replies."""
+    nas, waits, codes = lab.nas(), [], set()
+
+    def go(pair: tuple[str, str]) -> None:
+        start = time.monotonic()
+        codes.add(nas.login(*pair).code)
+        waits.append(time.monotonic() - start)
 
     start = time.monotonic()
-    threads = [threading.Thread(target=go) for _ in range(AT_ONCE)]
-    for thread in threads:
-        thread.start()
-    for thread in threads:
-        thread.join()
-    rate = len(pairs) / (time.monotonic() - start)
+    for_each(pairs, go)
+    return len(pairs) / (time.monotonic() - start), waits, codes
+
+
+def tell_logins(lab: Lab, what: str, pairs: list[tuple[str, str]]) -> None:
+    rate, waits, codes = logins(lab, pairs)
     late = sorted(waits)[len(waits) * 99 // 100]
     told(what, f"{rate:.0f} a second, {len(pairs)} times, median {statistics.median(waits) * 1000:.0f} ms, 99 % below "
                f"{late * 1000:.0f} ms, replies {sorted(codes)}")
@@ -55,11 +64,47 @@ def logins(lab: Lab, what: str, pairs: list[tuple[str, str]]) -> None:
 
 def measure_logins(lab: Lab, count: int) -> None:
     pairs = [(code, lab.device()) for at in range(0, count, 500) for code in lab.codes("hour", min(500, count - at))]
-    logins(lab, "first logins", pairs)
-    logins(lab, f"the same codes again, {count} sessions open", pairs)
-    logins(lab, "MAC authentication of the same devices", [(device, device) for _, device in pairs])
+    tell_logins(lab, "first logins", pairs)
+    tell_logins(lab, f"the same codes again, {count} sessions open", pairs)
+    tell_logins(lab, "MAC authentication of the same devices", [(device, device) for _, device in pairs])
     strangers = [lab.device() for _ in range(count)]
-    logins(lab, "MAC authentication of strangers", [(device, device) for device in strangers])
+    tell_logins(lab, "MAC authentication of strangers", [(device, device) for device in strangers])
+
+
+def opened(lab: Lab, count: int) -> None:
+    """So many open sessions, of one voucher."""
+    code, = lab.codes("crowd", 1)
+    for_each([lab.device() for _ in range(count)], lambda device: lab.redeem(code, device))
+
+
+def turn_of(lab: Lab, rates: dict[str, list[float]]) -> None:
+    """First logins, the same codes again, and the same devices by their addresses; all are accepted. Then they are closed."""
+    pairs = [(code, lab.device()) for code in lab.codes("day", EACH)]
+    for what, asked in (("first logins", pairs), ("the same codes again", pairs),
+                        ("MAC authentication", [(device, device) for _, device in pairs])):
+        rate, _, codes = logins(lab, asked)
+        assert codes == {ACCEPT}, codes
+        rates.setdefault(what, []).append(rate)
+    numbers = lab.sessions()
+    for_each(pairs, lambda pair: lab.counter.ask(Routes.CLOSE, body={"session": numbers[pair[1]]["session"]}))
+
+
+def measure_crowd(few: Lab, _: int) -> None:
+    many = Lab(few.command)
+    rates: tuple[dict[str, list[float]], dict[str, list[float]]] = {}, {}
+    try:
+        many.start_all()
+        many.load(*ALL_PLANS)
+        opened(few, FEW)
+        opened(many, MANY)
+        for _ in range(TURNS):
+            turn_of(few, rates[0])
+            turn_of(many, rates[1])
+    finally:
+        many.close()
+    for what in rates[0]:
+        one, other = (statistics.median(found[what]) for found in rates)
+        told(f"{what}, eight at a time", f"{one:.0f} a second with {FEW} open, {other:.0f} with {MANY:,}: {other / one:.2f} of it")
 
 
 def measure_ends(lab: Lab, _: int) -> None:
@@ -98,7 +143,7 @@ def measure_rest(lab: Lab, _: int) -> None:
     told("200 sessions at rest, part of one core", str(parts))
 
 
-MEASURES = {"logins": measure_logins, "ends": measure_ends, "rest": measure_rest}
+MEASURES = {"logins": measure_logins, "crowd": measure_crowd, "ends": measure_ends, "rest": measure_rest}
 
 
 def main() -> None:
@@ -111,7 +156,7 @@ def main() -> None:
         lab = Lab(args.portal)
         try:
             lab.start_all()
-            lab.load(*PLANS, plan("day", seconds=86_400))
+            lab.load(*ALL_PLANS)
             MEASURES[name](lab, args.count)
         finally:
             lab.close()

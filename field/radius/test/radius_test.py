@@ -17,6 +17,7 @@ import traceback
 from concurrent import futures
 
 sys.dont_write_bytecode = True
+import steps_attack  # noqa: E402
 import steps_counting  # noqa: E402
 import steps_ends  # noqa: E402
 import steps_login  # noqa: E402
@@ -25,7 +26,8 @@ import steps_one_use  # noqa: E402
 from steps_login import PLANS, Checks, Reached, Step  # noqa: E402
 from venue_lab import STAND_IN, Lab  # noqa: E402
 
-KINDS = (steps_login.STEPS, steps_counting.STEPS, steps_ends.STEPS, steps_one_use.STEPS, steps_metrics.STEPS)
+KINDS = (steps_login.STEPS, steps_counting.STEPS, steps_ends.STEPS, steps_one_use.STEPS, steps_attack.STEPS,
+         steps_metrics.STEPS)
 STEPS = [step.__name__ for steps in KINDS for step in steps]
 FAULTS = ("Traceback", "Segmentation", "ASSERT", "Error: ")
 

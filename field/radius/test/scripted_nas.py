@@ -184,12 +184,19 @@ class Nas:
 
     def access_request(self, ident: int, values: Values, word: bytes, sign: bool) -> bytes:
         authenticator = secrets.token_bytes(16)
-        body = encoded(values) + self.password(word, authenticator)
+        return self.access_packet(ident, encoded(values) + self.password(word, authenticator), authenticator, sign)
+
+    def access_packet(self, ident: int, body: bytes, authenticator: bytes, sign: bool) -> bytes:
         head = struct.pack("!BBH", ACCESS_REQUEST, ident, 20 + len(body) + 18 * sign) + authenticator
         if not sign:
             return head + body
         blank = head + body + pair(SIGNATURE, bytes(16))
         return blank[:-16] + hmac.new(self.secret, blank, hashlib.md5).digest()
+
+    def accounting_packet(self, ident: int, body: bytes) -> bytes:
+        """Its authenticator is made of the packet and the secret (RFC 2866 section 3)."""
+        head = struct.pack("!BBH", ACCOUNTING, ident, 20 + len(body))
+        return head + hashlib.md5(head + bytes(16) + body + self.secret).digest() + body
 
     def next_ident(self) -> int:
         with self.lock:
@@ -225,8 +232,8 @@ class Nas:
         return self.exchange(packet, self.auth_port, wait) or Reply(0, {}, False)
 
     def account(self, status: str, session: str, code: str, device: str, klass: object = None,
-                octets: tuple[int, int] = (0, 0)) -> bool:
-        """Whether an accounting packet is answered."""
+                octets: tuple[int, int] = (0, 0), more: Values | None = None, after: bytes = b"") -> bool:
+        """Whether an accounting packet is answered. `after`: attributes as they go over the wire, behind all others."""
         values: Values = {"Acct-Status-Type": STATUS[status], "Acct-Session-Id": session, "NAS-IP-Address": self.address,
                           "NAS-Port": 1, "Called-Station-Id": self.maker.called, **self.maker.more}
         if device:
@@ -237,9 +244,7 @@ class Nas:
                 values |= {"Acct-Input-Gigawords": octets[0] >> 32, "Acct-Output-Gigawords": octets[1] >> 32}
             if klass and self.maker.gives_class:
                 values["Class"] = klass
-        body = encoded(values)
-        head = struct.pack("!BBH", ACCOUNTING, self.next_ident(), 20 + len(body))
-        packet = head + hashlib.md5(head + bytes(16) + body + self.secret).digest() + body
+        packet = self.accounting_packet(self.next_ident(), encoded({**values, **(more or {})}) + after)
         reply = self.exchange(packet, self.acct_port, 5.0)
         return reply is not None and reply.code == RESPONSE
 

@@ -127,8 +127,23 @@ def purged(lab: Lab, check: Checks) -> None:
         lambda: not lab.sessions_of("h3", "h5")), lab.sessions_of("h3", "h5"))
     check("later ones stay, and all of a session that is open", lab.sessions_of("h1", "h2", "h4") == {"h1", "h2", "h4"},
           lab.sessions_of("h1", "h2", "h4"))
+    logins_purged(lab, check, device, over)
     nas.account("Interim-Update", "h2", gig, device, klass, (400, 0))
     check("and its bytes are still their sum", lab.comes(lambda: lab.left(device) == GIG - 1100), lab.left(device))
+
+
+def logins_purged(lab: Lab, check: Checks, device: str, over: str) -> None:
+    """What is kept of logins of yesterday, once a list of the open sessions was seen: one device's session is open."""
+    lab.stop("radius")
+    book = sqlite3.connect(lab.state / "logins.db")
+    book.execute("UPDATE portal_logins SET at = at - ?", (DAY + 1,))
+    book.commit()
+    lab.start_radius()
+    lab.nas().login(lab.nas().maker.device(device), device)
+    kept = {name for name, in book.execute("SELECT device FROM portal_logins")}
+    book.close()
+    check("and logins of sessions that are over", over not in kept, kept)
+    check("but not of one that is open", device in kept, kept)
 
 
 def secrets_are_drawn(lab: Lab, check: Checks) -> None:
@@ -139,13 +154,18 @@ def secrets_are_drawn(lab: Lab, check: Checks) -> None:
           and len(set(drawn.values())) == len(drawn) and all(len(word) >= 22 for word in drawn.values()), drawn.keys())
     modes = {path.name: stat.S_IMODE(os.stat(path).st_mode) for path in folder.iterdir()}
     check("only root reads them", set(modes.values()) == {0o600} and stat.S_IMODE(folder.stat().st_mode) == 0o700, modes)
-    modes = {path.name: stat.S_IMODE(os.stat(path).st_mode) for path in lab.state.glob("radacct.db")}
-    check("and the server's user alone the database of accounting", modes == {"radacct.db": 0o600}, modes)
+    modes = {path.name: stat.S_IMODE(os.stat(path).st_mode) for path in lab.state.glob("*.db")}
+    check("and the server's user alone the databases of accounting and of logins", modes == {"radacct.db": 0o600,
+                                                                                           "logins.db": 0o600}, modes)
     texts = "".join((lab.etc / name).read_text() for name in ("radius.toml", "radius.env"))
     check("no secret stands in a file that others read", not any(word in texts for word in drawn.values()))
+    key = lab.etc / "credentials/class_key"
+    drawn_key = key.read_text()
+    check("the key of Class is another one, which root alone reads", stat.S_IMODE(os.stat(key).st_mode) == 0o600 and len(drawn_key.strip()) >= 22
+          and drawn_key.strip() not in texts + "".join(drawn.values()))
     lab.settings()
     again = {path.name: path.read_text().strip() for path in folder.iterdir() if path.name != "clients.conf"}
-    check("set-up once more leaves them as they are", again == drawn)
+    check("set-up once more leaves them as they are", again == drawn and key.read_text() == drawn_key)
     code, = lab.codes("hour", 1)
     replies = [lab.nas().login(name, lab.device()).code for name in (code, code, "2222-2222-223N")]
     check("of three logins one is accepted", replies == [ACCEPT, REJECT, REJECT], replies)

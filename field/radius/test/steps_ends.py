@@ -107,7 +107,7 @@ def restored(lab: Lab, check: Checks) -> None:
     nas.account("Start", "g1", code, device, klass)
     time.sleep(1.2)
     was, number = lab.left(device) or 0, lab.sessions()[device]["session"]
-    nas.account("Interim-Update", "g2", "X", other, f"portal-{number}-{other.replace(':', '')}", (10**9, 0))
+    nas.account("Interim-Update", "g2", "X", other, lab.class_of(number, other, nas), (10**9, 0))
     check("a Class of before a restore, now another device's session: cut off", lab.comes(
         lambda: nas.asked(DISCONNECT, "g2")), nas.heard)
     time.sleep(1.2)

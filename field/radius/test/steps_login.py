@@ -7,10 +7,16 @@ import signal
 import sys
 import time
 from collections.abc import Callable
+from typing import Any
 
-from scripted_nas import ACCEPT, REJECT, at_once
+from scripted_nas import ACCEPT, REJECT, Reply, at_once
 from venue_lab import Lab, plan     # which says where the parts stand
 
+from counts import Counts
+from desk_client import Desk, Route, Routes
+from languages import Language
+from logins import Logins
+from open_sessions import OpenSessions
 from steady import Span, measured
 
 PLANS = (plan("hour"), plan("three", uses=3), plan("stiff", extend=False), plan("both", octets=10_000_000),
@@ -46,8 +52,8 @@ def accepted(lab: Lab, check: Checks) -> None:
     check("a sold code is accepted", reply.code == ACCEPT, reply)
     check("Session-Timeout is what is left", 3590 <= lab.number(reply, "Session-Timeout") <= 3600, reply)
     number = lab.sessions()[device]["session"]
-    klass = f"portal-{number}-{device.replace(':', '')}".encode()
-    check("Class names the session and its device", reply.values.get("Class") == klass, reply)
+    check("Class names the session and its device, under an HMAC of the access server's name",
+          reply.values.get("Class") == lab.class_of(number, device, nas), reply)
     check("an interim interval is told", reply.values.get("Acct-Interim-Interval") == 60, reply)
     check("the answer is signed", reply.signed, reply)
     reply = nas.login(lab.codes("gig", 1)[0], lab.device())
@@ -106,6 +112,56 @@ def same_again(lab: Lab, check: Checks) -> None:
     stranger = lab.device()
     reply = nas.login(stranger.replace(":", ""), stranger)
     check("MAC authentication of a stranger: rejected", reply.code == REJECT and "Type the code" in reply.words, reply)
+
+
+def numbered(lab: Lab, check: Checks) -> None:
+    """Which session a login is on, just after it was opened, and where another one of the device is over."""
+    nas, device, other = lab.nas(), lab.device(), lab.device()
+    three, = lab.codes("three", 1)
+    hour, more = lab.codes("hour", 2)
+
+    def is_named(reply: Reply, device: str) -> bool:
+        number = lab.sessions()[device]["session"]
+        return reply.code == ACCEPT and reply.values.get("Class") == lab.class_of(number, device, nas)
+
+    nas.login(three, device)
+    nas.login(nas.maker.device(device), device)
+    lab.redeem(more, other)
+    reply = nas.login(nas.maker.device(other), other)
+    check("MAC authentication on what was opened a moment ago elsewhere", is_named(reply, other), reply)
+    lab.close_session(device)
+    reply = nas.login(three, device)
+    check("the next use a moment after an end is on the new session", is_named(reply, device), reply)
+    lab.close_session(device)
+    time.sleep(0.7)
+    nas.login(nas.maker.device(other), other)
+    lab.redeem(hour, device)
+    reply = nas.login(three, device)
+    check("a code whose session is over, another one open: on that, and nothing is used", is_named(reply, device)
+          and lab.used(three) == 2, (reply, lab.used(three)))
+
+
+class CountedDesk(Desk):
+    """Counts the lists that are asked for."""
+    lists = 0
+
+    def ask(self, route: Route, *part: str, **more: Any) -> bytes:
+        self.lists += route is Routes.SESSIONS
+        return super().ask(route, *part, **more)
+
+
+def list_for_all(lab: Lab, check: Checks) -> None:
+    """First logins, the same codes again, MAC authentication; the rules alone, beside FreeRADIUS."""
+    gateway = CountedDesk(lab.desk_port, lab.gateway.token)
+    sessions = OpenSessions(Desk(lab.desk_port), gateway, lambda rows: None)
+    rules = Logins(Desk(lab.desk_port), sessions, lambda session, *names: str(session), 60, Language("en"), Counts())
+    pairs, start = [(code, lab.device()) for code in lab.codes("hour", 40)], time.monotonic()
+    told = [dict(rules.decide(name or device, device, "plain")[1]).get("Class")
+            for name, device in [*pairs, *pairs, *(("", device) for _, device in pairs)]]
+    took, numbers = time.monotonic() - start, [str(lab.sessions()[device]["session"]) for _, device in pairs]
+    check("each login is on its device's session", told == numbers * 3, told)
+    check("a list of the open sessions serves for half a second, and not for one login", gateway.lists <= took / 0.5 + 3,
+          (gateway.lists, took))
 
 
 def next_use(lab: Lab, check: Checks) -> None:
@@ -221,4 +277,5 @@ def desk_down(lab: Lab, check: Checks) -> None:
     check("and the login that was rejected works, one use", reply.code == ACCEPT and lab.used(hour) == 1, reply)
 
 
-STEPS: tuple[Step, ...] = (accepted, refused, same_again, next_use, extended, signed, silent, killed_radius, desk_down)
+STEPS: tuple[Step, ...] = (accepted, refused, same_again, numbered, list_for_all, next_use, extended, signed, silent,
+                           killed_radius, desk_down)

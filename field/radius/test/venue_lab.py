@@ -7,6 +7,7 @@ are made by the kit's `setup` from a field.toml, and each part is started with w
 from __future__ import annotations
 
 import contextlib
+import hmac
 import http.client
 import os
 import pathlib
@@ -28,7 +29,7 @@ from typing import Any
 
 HERE = pathlib.Path(__file__).resolve().parent
 KIT = HERE.parent.parent
-for part in ("lib", "test"):
+for part in ("lib", "test", "radius"):
     sys.path.insert(0, str(KIT / part))
 from desk_client import Desk, NoAnswer, Routes, new_number  # noqa: E402
 from scripted_nas import MAKERS, PLAIN, Maker, Nas, Reply  # noqa: E402
@@ -309,6 +310,12 @@ class Lab:
     def sessions_of(self, *names: str) -> set[str]:
         """Those of these accounting sessions that have rows."""
         return {name for name, in self.rows("SELECT acctsessionid FROM radacct") if name in names}
+
+    def class_of(self, session: int, device: str, nas: Nas) -> bytes:
+        """What the access server is given with a login: an HMAC-SHA256 (RFC 2104), of which 128 bits are kept."""
+        key = (self.etc / "credentials/class_key").read_bytes().strip()
+        tag = hmac.digest(key, f"{session} {device} {nas.maker.name}".encode(), "sha256").hex()[:32]
+        return f"portal-{session}-{device.replace(':', '')}-{tag}".encode()
 
     # Guests
 

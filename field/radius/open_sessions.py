@@ -1,0 +1,56 @@
+"""A device's open session: its number, and what is left of it.
+
+The number is in the server's list of all open sessions. That costs by what is open, so it is not asked for at each login:
+one list serves for half a second. The numbers of all sessions only rise. So a redemption's answer that is greater than all
+known numbers is that of the open session; of a smaller one, which may be over, and of the list's, the greater one is. Where
+that does not tell, a new list is asked for. What ended less than half a second ago may be taken for what was opened since:
+its Class is of a session that is over, so the access server gets a Disconnect-Request, and the device logs in anew.
+"""
+
+from __future__ import annotations
+
+import threading
+import time
+from collections.abc import Callable
+from typing import Any
+
+from desk_client import Desk, Routes
+
+OLDEST = 0.5        # seconds
+Row = dict[str, Any]
+
+
+class OpenSessions:
+    """`guests` asks as a guest, `gateway` with the gateway's token. `seen` is told each list that comes."""
+
+    def __init__(self, guests: Desk, gateway: Desk, seen: Callable[[list[Row]], None]) -> None:
+        self.guests, self.gateway, self.seen = guests, gateway, seen
+        self.numbers: dict[str, int] = {}
+        self.newest = 0
+        self.asked_at = float("-inf")
+        self.lock = threading.Lock()
+
+    def left(self, device: str) -> Row | None:
+        """The answer of `GET /captive` for a device that has an open session, or None. It costs the same however many are
+        open."""
+        told = self.guests.tell(Routes.CAPTIVE, device=device)
+        return None if told["captive"] else told
+
+    def listed(self, device: str, oldest: float = OLDEST) -> int:
+        """The number in a list that is at most so many seconds old, or 0."""
+        now = time.monotonic()
+        if now - self.asked_at > oldest:
+            rows = self.gateway.tell(Routes.SESSIONS)["sessions"]
+            self.numbers, self.asked_at = {row["device"]: row["session"] for row in rows}, now
+            self.newest = max([self.newest, *self.numbers.values()])
+            self.seen(rows)
+        return self.numbers.get(device, 0)
+
+    def number(self, device: str, answered: int = 0) -> int:
+        """The number of the open session of a device that has one; 0 if it ended meanwhile. `answered`: the number in the
+        answer to a redemption."""
+        with self.lock:
+            number = self.listed(device)
+            if number == 0 and answered > self.newest:
+                self.newest = self.numbers[device] = number = answered
+            return max(number, answered) if number else self.listed(device, 0.0)
