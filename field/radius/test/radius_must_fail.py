@@ -113,7 +113,7 @@ RADIUS = (
          "  WHERE class = (SELECT min(class) FROM radacct WHERE class >= ? AND class < ?)",
          "forged", "a guest who roams is logged in there too, and both count"),
     Edit("an_upgrade_forgets_who_counted", SERVERS, "self.book.executemany(NOTE, found)", "pass",
-         "upgraded", "a Class of version 1.0.0 counts on, for accounting sessions of before and for new ones"),
+         "upgraded", "also in a new accounting session"),
     Edit("an_upgrade_forgets_who_had_not_counted", SERVERS, "for name in names or {WHOEVER}]", "for name in names]",
          "upgraded", "and who had not counted yet"),
     Edit("after_an_upgrade_anybody_counts", SERVERS, "if known == {WHOEVER}:", "if not known or WHOEVER in known:",

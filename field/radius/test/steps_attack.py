@@ -6,7 +6,7 @@ import json
 import random
 import sqlite3
 import threading
-import time
+from collections import Counter
 from collections.abc import Iterator
 
 from scripted_nas import ACCEPT, DISCONNECT, MAKERS, REJECT, Nas, Values, encoded, pair
@@ -51,48 +51,52 @@ def of_before(session: int, device: str) -> bytes:
     return f"portal-{session}-{device.replace(':', '')}".encode()
 
 
+class Guest:
+    """Whom an access server logged in, on a plan of 10 MB. It counts honestly."""
+
+    def __init__(self, lab: Lab, nas: Nas) -> None:
+        self.lab, self.nas = lab, nas
+        self.code, self.device, self.klass, self.number = logged_in(lab, nas)
+        self.octets: Counter[str] = Counter()
+
+    def counts(self, session: str, octets: int) -> bool:
+        """So many more in this accounting session; whether that and what was counted before is all that the server then
+        holds. What others sent before this would be held too."""
+        self.octets[session] += octets
+        self.nas.account("Interim-Update", session, self.code, self.device, self.klass, (self.octets[session], 0))
+        return self.lab.comes(lambda: self.lab.left(self.device) == MOST - self.octets.total())
+
+
 def forged(lab: Lab, check: Checks) -> None:
     """Accounting of another access server, which has a secret of its own."""
     nas, bar, none = lab.nas(), lab.nas(BAR), lab.nas(NO_CLASS)
-    code, device, klass, number = logged_in(lab, nas)
-    nas.account("Start", "h1", code, device, klass)
-    nas.account("Interim-Update", "h1", code, device, klass, (1_000_000, 0))
-    lab.until(lambda: lab.left(device) == MOST - 1_000_000, "the first bytes arrive")
+    guest = Guest(lab, nas)
+    check("what the access server counts arrives", guest.counts("h1", 1_000_000), lab.left(guest.device))
     own = logged_in(lab, bar, "gig")[2]
-    twenty, plain = (15_000_000, 5_000_000), of_before(number, device)
+    twenty, plain, klass = (15_000_000, 5_000_000), of_before(guest.number, guest.device), guest.klass
     for what, by, given in (
             ("with a Class that can be guessed", bar, plain), ("without a Class", none, None),
             ("with the Class of the access server that logged in", bar, klass),
             ("with that Class and a tag of its own session's", bar, plain + own[own.rindex(b"-"):]),
             ("with a made-up tag", bar, plain + b"-" + b"0" * 32), ("with an empty one", bar, plain + b"-")):
         for status in ("Start", "Interim-Update", "Stop"):
-            answered = by.account(status, f"f{what}", code, device, given, twenty)
-        time.sleep(1.5)
-        check(f"forged accounting {what} ends no session, and counts nothing", answered
-              and lab.left(device) == MOST - 1_000_000, (answered, lab.left(device)))
+            answered = by.account(status, f"f{what}", guest.code, guest.device, given, twenty)
+        check(f"forged accounting {what} ends no session, and counts nothing", answered and guest.counts("h1", 1000),
+              (answered, lab.left(guest.device)))
     for first, second in ((klass, own), (own, klass)):
-        bar.account("Interim-Update", f"two-{first[-4:]!r}", code, device, first, twenty, after=pair(25, second))
-    time.sleep(1.5)
-    check("nor does it with two Classes of which one is its own", lab.left(device) == MOST - 1_000_000, lab.left(device))
+        bar.account("Interim-Update", f"two-{first[-4:]!r}", guest.code, guest.device, first, twenty, after=pair(25, second))
+    check("nor does it with two Classes of which one is its own", guest.counts("h1", 1000), lab.left(guest.device))
     check("and nobody is sent a Disconnect-Request", not nas.asked(DISCONNECT, "h1"), nas.heard)
     log = (lab.root / "radius.log").read_text()
     check("the log names the access server, once", log.count(f"portal-radius: {BAR.name} counts for a session") == 1, log[-900:])
-    nas.account("Interim-Update", "h1", code, device, klass, (1_500_000, 500_000))
-    check("the access server that logged in counts on", lab.comes(lambda: lab.left(device) == MOST - 2_000_000),
-          lab.left(device))
-    roamed = bar.login(bar.maker.device(device), device).values["Class"]
-    bar.account("Start", "h2", code, device, roamed)
-    bar.account("Interim-Update", "h2", code, device, roamed, (700_000, 300_000))
-    check("a guest who roams is logged in there too, and both count", lab.comes(
-        lambda: lab.left(device) == MOST - 3_000_000), lab.left(device))
+    roamed = bar.login(bar.maker.device(guest.device), guest.device).values["Class"]
+    bar.account("Interim-Update", "h2", guest.code, guest.device, roamed, (700_000, 300_000))
+    guest.octets["h2"] = 1_000_000
+    check("a guest who roams is logged in there too, and both count", guest.counts("h1", 1000), lab.left(guest.device))
+    guest = Guest(lab, none)
     lab.stop("radius")
     lab.start_radius()
-    code, device, klass, _ = logged_in(lab, none)
-    lab.stop("radius")
-    lab.start_radius()
-    none.account("Interim-Update", "h3", code, device, None, (500, 500))
-    check("who gives no Class is known after a restart of FreeRADIUS", lab.comes(lambda: lab.left(device) == MOST - 1000),
-          lab.left(device))
+    check("who gives no Class is known after a restart of FreeRADIUS", guest.counts("h3", 1000), lab.left(guest.device))
 
 
 def as_of_before(lab: Lab) -> None:
@@ -112,35 +116,25 @@ def as_of_before(lab: Lab) -> None:
 def upgraded(lab: Lab, check: Checks) -> None:
     """What access servers hold of version 1.0.0 is good at those that counted with it."""
     nas, bar, none = lab.nas(), lab.nas(BAR), lab.nas(NO_CLASS)
-    known, silent, late = logged_in(lab, nas), logged_in(lab, none), lab.device()
-    nas.account("Start", "u1", known[0], known[1], known[2])
-    nas.account("Interim-Update", "u1", known[0], known[1], known[2], (1000, 0))
-    none.account("Interim-Update", "u2", silent[0], silent[1], None, (1000, 0))
-    lab.until(lambda: lab.left(known[1]) == lab.left(silent[1]) == MOST - 1000, "the first bytes arrive")
-    lab.redeem(lab.codes("both", 1)[0], late)       # logged in a moment before the upgrade, and not counted yet
-    last = lab.sessions()[late]["session"]
+    known, silent, late = Guest(lab, nas), Guest(lab, none), Guest(lab, nas)
+    check("before the upgrade all count", known.counts("u1", 1000) and silent.counts("u2", 1000))
     as_of_before(lab)
     lab.start_radius()
     lab.start_agent()
-    held = of_before(known[3], known[1])
-    nas.account("Interim-Update", "u1", known[0], known[1], held, (2000, 0))
-    nas.account("Interim-Update", "u3", known[0], known[1], held, (500, 500))
-    check("a Class of version 1.0.0 counts on, for accounting sessions of before and for new ones", lab.comes(
-        lambda: lab.left(known[1]) == MOST - 3000), lab.left(known[1]))
-    none.account("Interim-Update", "u4", silent[0], silent[1], None, (500, 500))
-    check("so does who gave none", lab.comes(lambda: lab.left(silent[1]) == MOST - 2000), lab.left(silent[1]))
-    nas.account("Interim-Update", "u5", "X", late, of_before(last, late), (1000, 0))
-    check("and who had not counted yet", lab.comes(lambda: lab.left(late) == MOST - 1000), lab.left(late))
-    bar.account("Interim-Update", "u6", "X", known[1], held, (20_000_000, 0))
-    bar.account("Interim-Update", "u7", "X", late, of_before(last, late), (20_000_000, 0))
+    for guest in (known, silent, late):
+        guest.klass = of_before(guest.number, guest.device)
+    check("a Class of version 1.0.0 counts on", known.counts("u1", 1000), lab.left(known.device))
+    check("also in a new accounting session", known.counts("u3", 500), lab.left(known.device))
+    check("so does who gives none", silent.counts("u4", 500), lab.left(silent.device))
+    check("and who had not counted yet", late.counts("u5", 1000), lab.left(late.device))
     after = lab.device()
     lab.redeem(lab.codes("both", 1)[0], after)
-    bar.account("Interim-Update", "u8", "X", after, of_before(lab.sessions()[after]["session"], after), (20_000_000, 0))
-    time.sleep(1.5)
-    told = [lab.left(device) for device in (known[1], late, after)]
-    check("at another access server it does not, nor for a session of after the upgrade", told
-          == [MOST - 3000, MOST - 1000, MOST], told)
-    lab.close_session(known[1])
+    held = of_before(lab.sessions()[after]["session"], after)
+    for device, klass in ((known.device, known.klass), (late.device, late.klass), (after, held)):
+        bar.account("Interim-Update", f"x{device}", "X", device, klass, (20_000_000, 0))
+    check("at another access server it does not, nor for a session of after the upgrade", known.counts("u1", 1000)
+          and late.counts("u5", 1000) and lab.left(after) == MOST, (known.octets, late.octets, lab.sessions()))
+    lab.close_session(known.device)
     check("a session of before that is closed: a Disconnect-Request", lab.comes(lambda: nas.asked(DISCONNECT, "u3")), nas.heard)
 
 
@@ -160,10 +154,10 @@ def changed(chance: random.Random, text: bytes) -> bytes:
     return bytes(found)
 
 
-def packets(chance: random.Random, nas: Nas, victim: tuple[str, str, bytes, int], count: int) -> Iterator[tuple[bytes, int]]:
+def packets(chance: random.Random, nas: Nas, victim: Guest, count: int) -> Iterator[tuple[bytes, int]]:
     """Packets and their ports, of an access server that has its secret: names that are no code, foreign Classes, attributes
     that are none."""
-    code, device, klass, number = victim
+    code, device, klass, number = victim.code, victim.device, victim.klass, victim.number
     names = (MADE_UP.encode(), b"", b"\xff\xfe", b"%{exec:/bin/touch /tmp/x}", b"'; DROP TABLE radacct; --", b"\x00",
              changed(chance, b"2222" + code.encode()[4:]), b"A" * 253, "\u00fc\u202e".encode())
     classes = (klass, of_before(number, device), of_before(number, device) + b"-" + b"f" * 32, b"", changed(chance, klass))
@@ -181,7 +175,7 @@ def packets(chance: random.Random, nas: Nas, victim: tuple[str, str, bytes, int]
         yield packet if chance.random() < 0.8 else changed(chance, packet), nas.auth_port if login else nas.acct_port
 
 
-def sent_all(lab: Lab, nas: Nas, victim: tuple[str, str, bytes, int], good: list[tuple[str, str]]) -> list[int]:
+def sent_all(lab: Lab, nas: Nas, victim: Guest, good: list[tuple[str, str]]) -> list[int]:
     """Sends the packets, a good login among so many; the codes of the replies to the good ones."""
     replies: list[int] = []
 
@@ -202,26 +196,23 @@ def sent_all(lab: Lab, nas: Nas, victim: tuple[str, str, bytes, int], good: list
 def fuzzed(lab: Lab, check: Checks) -> None:
     """3,000 packets from a seed, of another access server than the one that logged the guest in."""
     nas, bar = lab.nas(), lab.nas(BAR)
-    victim = logged_in(lab, nas)
-    nas.account("Start", "v1", victim[0], victim[1], victim[2])
-    nas.account("Interim-Update", "v1", victim[0], victim[1], victim[2], (1_000_000, 0))
-    lab.until(lambda: lab.left(victim[1]) == MOST - 1_000_000, "the first bytes arrive")
+    victim, was = Guest(lab, nas), len(bar.heard)
+    check("what the access server counts arrives", victim.counts("v1", 1_000_000), lab.left(victim.device))
     kept, good = lab.codes("hour", 20), [(code, lab.device()) for code in lab.codes("hour", 5 * AT_ONCE)]
     before = set(lab.sessions())
     replies = sent_all(lab, bar, victim, good)
     check(f"{PACKETS} packets from the seed {SEED}: each good login among them is accepted", replies == [ACCEPT] * len(good),
           replies)
-    time.sleep(1.5)
     refused = json.loads((lab.run / "refusals.json").read_text())
     rows = lab.rows("SELECT count(*) FROM radacct WHERE acctsessionid LIKE 'z%'")[0][0]
     check("names reached the server, and accounting the database", refused.get("bad_code", 0) > 100 and rows > 50, (refused, rows))
+    check("nothing is counted that the access server of the session did not count", victim.counts("v1", 1000),
+          lab.left(victim.device))
     check("FreeRADIUS, the agent and the server live", all(lab.jobs[name].poll() is None for name in ("radius", "agent", "desk")))
     check("no session is open that was not asked for, and none has ended", set(lab.sessions()) == before | {
         device for _, device in good}, set(lab.sessions()) ^ before)
     check("no code is used that was not asked for", not any(lab.used(code) for code in kept))
-    check("nothing is counted that the access server of the session did not count", lab.left(victim[1]) == MOST - 1_000_000,
-          lab.left(victim[1]))
-    check("nobody is sent a request", not nas.asked(DISCONNECT, "v1") and not bar.heard, (nas.heard, bar.heard))
+    check("nobody is sent a request", not nas.asked(DISCONNECT, "v1") and len(bar.heard) == was, (nas.heard, bar.heard))
 
 
 STEPS: tuple[Step, ...] = (not_text, forged, upgraded, fuzzed)

@@ -9,7 +9,7 @@ import time
 from collections.abc import Callable
 from typing import Any
 
-from scripted_nas import ACCEPT, REJECT, Reply, at_once
+from scripted_nas import ACCEPT, REJECT, at_once
 from venue_lab import Lab, plan     # which says where the parts stand
 
 from counts import Counts
@@ -114,33 +114,6 @@ def same_again(lab: Lab, check: Checks) -> None:
     check("MAC authentication of a stranger: rejected", reply.code == REJECT and "Type the code" in reply.words, reply)
 
 
-def numbered(lab: Lab, check: Checks) -> None:
-    """Which session a login is on, just after it was opened, and where another one of the device is over."""
-    nas, device, other = lab.nas(), lab.device(), lab.device()
-    three, = lab.codes("three", 1)
-    hour, more = lab.codes("hour", 2)
-
-    def is_named(reply: Reply, device: str) -> bool:
-        number = lab.sessions()[device]["session"]
-        return reply.code == ACCEPT and reply.values.get("Class") == lab.class_of(number, device, nas)
-
-    nas.login(three, device)
-    nas.login(nas.maker.device(device), device)
-    lab.redeem(more, other)
-    reply = nas.login(nas.maker.device(other), other)
-    check("MAC authentication on what was opened a moment ago elsewhere", is_named(reply, other), reply)
-    lab.close_session(device)
-    reply = nas.login(three, device)
-    check("the next use a moment after an end is on the new session", is_named(reply, device), reply)
-    lab.close_session(device)
-    time.sleep(0.7)
-    nas.login(nas.maker.device(other), other)
-    lab.redeem(hour, device)
-    reply = nas.login(three, device)
-    check("a code whose session is over, another one open: on that, and nothing is used", is_named(reply, device)
-          and lab.used(three) == 2, (reply, lab.used(three)))
-
-
 class CountedDesk(Desk):
     """Counts the lists that are asked for."""
     lists = 0
@@ -150,18 +123,58 @@ class CountedDesk(Desk):
         return super().ask(route, *part, **more)
 
 
+class Rules:
+    """The rules alone, beside FreeRADIUS."""
+
+    def __init__(self, lab: Lab) -> None:
+        self.gateway = CountedDesk(lab.desk_port, lab.gateway.token)
+        self.sessions = OpenSessions(Desk(lab.desk_port), self.gateway, lambda rows: None)
+        self.logins = Logins(Desk(lab.desk_port), self.sessions, lambda session, *names: str(session), 60, Language("en"), Counts())
+
+    def session(self, name: str, device: str) -> int:
+        """The number of the session that a login is on."""
+        return int(dict(self.logins.decide(name, device, "plain")[1]).get("Class", 0))
+
+    def session_by_old_list(self, name: str, device: str) -> int:
+        """The same, as if the last list had just come."""
+        self.sessions.asked_at = time.monotonic()
+        return self.session(name, device)
+
+
+def numbered(lab: Lab, check: Checks) -> None:
+    """Which session a login is on just after it was opened, and where another one of the device is over."""
+    rules, device, other = Rules(lab), lab.device(), lab.device()
+    three, = lab.codes("three", 1)
+    hour, more = lab.codes("hour", 2)
+
+    def is_open(session: int, device: str) -> bool:
+        return session == lab.sessions()[device]["session"]
+
+    first = rules.session(three, device)
+    check("a first login is on what it opened", is_open(first, device), first)
+    lab.redeem(more, other)
+    session = rules.session_by_old_list(other, other)
+    check("MAC authentication on what was opened a moment ago elsewhere", is_open(session, other), session)
+    lab.close_session(device)
+    session = rules.session_by_old_list(three, device)
+    check("the next use a moment after an end is on the new session", is_open(session, device), session)
+    lab.close_session(device)
+    rules.sessions.asked_at = float("-inf")
+    rules.session(other, other)
+    lab.redeem(hour, device)
+    session = rules.session_by_old_list(three, device)
+    check("a code whose session is over, another one open: on that, and nothing is used", is_open(session, device)
+          and lab.used(three) == 2, (session, lab.used(three)))
+
+
 def list_for_all(lab: Lab, check: Checks) -> None:
-    """First logins, the same codes again, MAC authentication; the rules alone, beside FreeRADIUS."""
-    gateway = CountedDesk(lab.desk_port, lab.gateway.token)
-    sessions = OpenSessions(Desk(lab.desk_port), gateway, lambda rows: None)
-    rules = Logins(Desk(lab.desk_port), sessions, lambda session, *names: str(session), 60, Language("en"), Counts())
-    pairs, start = [(code, lab.device()) for code in lab.codes("hour", 40)], time.monotonic()
-    told = [dict(rules.decide(name or device, device, "plain")[1]).get("Class")
-            for name, device in [*pairs, *pairs, *(("", device) for _, device in pairs)]]
-    took, numbers = time.monotonic() - start, [str(lab.sessions()[device]["session"]) for _, device in pairs]
+    """First logins, the same codes again, MAC authentication."""
+    rules, pairs, start = Rules(lab), [(code, lab.device()) for code in lab.codes("hour", 40)], time.monotonic()
+    told = [rules.session(*pair) for pair in (*pairs, *pairs, *((device, device) for _, device in pairs))]
+    took, numbers = time.monotonic() - start, [lab.sessions()[device]["session"] for _, device in pairs]
     check("each login is on its device's session", told == numbers * 3, told)
-    check("a list of the open sessions serves for half a second, and not for one login", gateway.lists <= took / 0.5 + 3,
-          (gateway.lists, took))
+    check("a list of the open sessions serves for half a second, and not for one login", rules.gateway.lists <= took / 0.5 + 3,
+          (rules.gateway.lists, took))
 
 
 def next_use(lab: Lab, check: Checks) -> None:
