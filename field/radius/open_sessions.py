@@ -1,10 +1,13 @@
 """A device's open session: its number, and what is left of it.
 
-The number is in the server's list of all open sessions. That costs by what is open, so it is not asked for at each login:
-one list serves for half a second. The numbers of all sessions only rise. So a redemption's answer that is greater than all
-known numbers is that of the open session; of a smaller one, which may be over, and of the list's, the greater one is. Where
-that does not tell, a new list is asked for. What ended less than half a second ago may be taken for what was opened since:
-its Class is of a session that is over, so the access server gets a Disconnect-Request, and the device logs in anew.
+The number is in the server's list of all open sessions. That costs by what is open, so it is not asked for at each login.
+The numbers of all sessions only rise: a redemption's answer that is greater than all known numbers is that of the open
+session. Of a smaller one, which may be over, and that of a list which serves for half a second, the greater one is. A device
+that has an open session, and none in the list, needs a new list.
+
+What ended less than half a second ago may be taken for what was opened since: its Class is of a session that is over, so the
+access server gets a Disconnect-Request, and the device logs in anew. The same happens to who redeems a code at the venue's
+page, and within ten seconds logs in with one of before whose session is over, where nobody else has opened one in between.
 """
 
 from __future__ import annotations
@@ -16,7 +19,8 @@ from typing import Any
 
 from desk_client import Desk, Routes
 
-OLDEST = 0.5        # seconds
+OLDEST = 0.5                # seconds
+OLDEST_WITH_ANSWER = 10.0   # for an answer that is greater than all known numbers
 Row = dict[str, Any]
 
 
@@ -36,7 +40,7 @@ class OpenSessions:
         told = self.guests.tell(Routes.CAPTIVE, device=device)
         return None if told["captive"] else told
 
-    def listed(self, device: str, oldest: float = OLDEST) -> int:
+    def listed(self, device: str, oldest: float) -> int:
         """The number in a list that is at most so many seconds old, or 0."""
         now = time.monotonic()
         if now - self.asked_at > oldest:
@@ -50,7 +54,8 @@ class OpenSessions:
         """The number of the open session of a device that has one; 0 if it ended meanwhile. `answered`: the number in the
         answer to a redemption."""
         with self.lock:
-            number = self.listed(device)
-            if number == 0 and answered > self.newest:
-                self.newest = self.numbers[device] = number = answered
+            number = self.listed(device, OLDEST if answered <= self.newest else OLDEST_WITH_ANSWER)
+            if answered > self.newest:
+                self.newest = self.numbers[device] = answered
+                return answered
             return max(number, answered) if number else self.listed(device, 0.0)

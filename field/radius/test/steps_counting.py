@@ -133,13 +133,13 @@ def purged(lab: Lab, check: Checks) -> None:
 
 
 def logins_purged(lab: Lab, check: Checks, device: str, over: str) -> None:
-    """What is kept of logins of yesterday, once a list of the open sessions was seen: one device's session is open."""
+    """What is kept of logins of yesterday, once another one needed a list of the open sessions."""
     lab.stop("radius")
     book = sqlite3.connect(lab.state / "logins.db")
     book.execute("UPDATE portal_logins SET at = at - ?", (DAY + 1,))
     book.commit()
     lab.start_radius()
-    lab.nas().login(lab.nas().maker.device(device), device)
+    lab.nas().login(lab.codes("hour", 1)[0], lab.device())
     kept = {name for name, in book.execute("SELECT device FROM portal_logins")}
     book.close()
     check("and logins of sessions that are over", over not in kept, kept)

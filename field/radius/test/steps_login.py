@@ -143,9 +143,9 @@ class Rules:
 
 def numbered(lab: Lab, check: Checks) -> None:
     """Which session a login is on just after it was opened, and where another one of the device is over."""
-    rules, device, other = Rules(lab), lab.device(), lab.device()
+    rules, second, device, other = Rules(lab), Rules(lab), lab.device(), lab.device()
     three, = lab.codes("three", 1)
-    hour, more = lab.codes("hour", 2)
+    hour, more, third = lab.codes("hour", 3)
 
     def is_open(session: int, device: str) -> bool:
         return session == lab.sessions()[device]["session"]
@@ -159,10 +159,12 @@ def numbered(lab: Lab, check: Checks) -> None:
     session = rules.session_by_old_list(three, device)
     check("the next use a moment after an end is on the new session", is_open(session, device), session)
     lab.close_session(device)
+    second.session(hour, device)
+    rules.session(third, lab.device())
+    session = rules.session_by_old_list(hour, device)
+    check("what another RADIUS server redeemed a moment ago is on its session", is_open(session, device), session)
     rules.sessions.asked_at = float("-inf")
-    rules.session(other, other)
-    lab.redeem(hour, device)
-    session = rules.session_by_old_list(three, device)
+    session = rules.session(three, device)
     check("a code whose session is over, another one open: on that, and nothing is used", is_open(session, device)
           and lab.used(three) == 2, (session, lab.used(three)))
 
