@@ -78,10 +78,10 @@ def opened(lab: Lab, count: int) -> None:
 
 
 def turn_of(lab: Lab, rates: dict[str, list[float]]) -> None:
-    """First logins, the same codes again, and the same devices by their addresses; all are accepted. Then they are closed."""
+    """First logins; the same codes again, and the same devices by their addresses, for a second or so. Then all are closed."""
     pairs = [(code, lab.device()) for code in lab.codes("day", EACH)]
-    for what, asked in (("first logins", pairs), ("the same codes again", pairs),
-                        ("MAC authentication", [(device, device) for _, device in pairs])):
+    for what, asked in (("first logins", pairs), ("the same codes again", pairs * 4),
+                        ("MAC authentication", [(device, device) for _, device in pairs] * 6)):
         rate, _, codes = logins(lab, asked)
         assert codes == {ACCEPT}, codes
         rates.setdefault(what, []).append(rate)
