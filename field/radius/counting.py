@@ -34,27 +34,26 @@ class Counting:
         return str(self.key.made(session, device, server))
 
     def checked(self, classes: Iterable[str], device: str | None, server: str) -> str | None:
-        """The Class under which a packet of this access server is kept."""
+        """The Class under which a packet of this access server is kept: the good one in it, or that of the session which is
+        open for the device now."""
         found = [told for told in map(SessionClass.read, classes) if told]
-        good = next((told for told in found if self.is_its_own(told, server)), None) or self.completed(device, server)
-        if good is None and found and server not in self.told:
+        good = next((told for told in found if self.is_its_own(told, server)), None)
+        if good:
+            return str(good)
+        number = self.open_number(device) if device else 0
+        if device and number and self.servers.may_count(number, device, server):
+            return str(self.key.made(number, device, server))
+        if (found or number) and server not in self.told:
             self.told.add(server)
             self.warn(f"{server} counts for a session that it did not log in: that is not counted. If it logs in from one "
                       "address and counts from another, give it one table [radius.nas] with a network")
-        return str(good) if good else None
+        return None
 
     def is_its_own(self, told: SessionClass, server: str) -> bool:
         if told.tag:
             return self.key.is_good(told, server)
         self.open_number(told.device)       # its list takes over what version 1.0.0 logged in
         return self.servers.may_count(told.session, told.device, server)
-
-    def completed(self, device: str | None, server: str) -> SessionClass | None:
-        """That of the session which is open for the device now."""
-        number = self.open_number(device) if device else 0
-        if device and number and self.servers.may_count(number, device, server):
-            return self.key.made(number, device, server)
-        return None
 
     def open_number(self, device: str) -> int:
         try:

@@ -9,7 +9,7 @@ import threading
 from collections import Counter
 from collections.abc import Iterator
 
-from scripted_nas import ACCEPT, DISCONNECT, MAKERS, REJECT, Nas, Values, encoded, pair
+from scripted_nas import ACCEPT, DISCONNECT, MAKERS, PLAIN, REJECT, Nas, Values, encoded, pair
 from steps_login import MADE_UP, Checks, Step
 from venue_lab import Lab
 
@@ -88,7 +88,8 @@ def forged(lab: Lab, check: Checks) -> None:
     check("nor does it with two Classes of which one is its own", guest.counts("h1", 1000), lab.left(guest.device))
     check("and nobody is sent a Disconnect-Request", not nas.asked(DISCONNECT, "h1"), nas.heard)
     log = (lab.root / "radius.log").read_text()
-    check("the log names the access server, once", log.count(f"portal-radius: {BAR.name} counts for a session") == 1, log[-900:])
+    named = [log.count(f"portal-radius: {maker.name} counts for a session") for maker in (BAR, NO_CLASS, PLAIN)]
+    check("the log names the access server, once", named == [1, 1, 0], (named, log[-900:]))
     roamed = bar.login(bar.maker.device(guest.device), guest.device).values["Class"]
     bar.account("Interim-Update", "h2", guest.code, guest.device, roamed, (700_000, 300_000))
     guest.octets["h2"] = 1_000_000
