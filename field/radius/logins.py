@@ -7,7 +7,7 @@ decides, not the code.
 3. A User-Name that is the device's own address (MAC authentication) asks and never redeems.
 4. Without an answer, a device or a code the login is rejected, in words that a guest can read.
 
-No answer that is asked for at each login costs more where more sessions are open: what is left is the device's state, and
+Nothing that is asked for at each login costs more where more sessions are open: what is left is the device's state, and
 the session's number that of the redemption's answer or of a list that serves for half a second (`open_sessions`).
 """
 
