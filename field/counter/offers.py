@@ -182,6 +182,8 @@ class Offers:
         try:
             self.desk.tell(Routes.CLOSE, body={"session": 0}, number=key_of(data))
         except Refused as refusal:
+            if refusal.word in TRANSIENT:
+                raise NoAnswer(refusal.word) from refusal
             return refusal.word == "id_reused"
         return False
 

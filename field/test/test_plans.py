@@ -180,6 +180,21 @@ class Offered(AtCounter):
         self.relay.drops = False
         self.assertEqual(self.menus(), [*self.ALL, "week, 40.00"])
 
+    def test_a_server_that_is_short_of_memory_is_asked_again(self) -> None:
+        """Also where it is by the second question, whether this is the database that took the kept file."""
+        self.file.write_text(SHIPPED.replace("price = 300", "price = 200"))
+        tell = Desk.tell
+
+        def short(desk: Desk, route: Any, *part: str, **more: Any) -> Any:
+            if route is Routes.CLOSE:
+                raise Refused(503, "no_memory")
+            return tell(desk, route, *part, **more)
+
+        with mock.patch.object(Desk, "tell", short):
+            self.starts()
+            self.assertEqual((self.menus(), self.counter.offers.outcome.answer), (self.ALL, "no_answer"))
+        self.assertEqual((self.menus(), self.counter.offers.outcome.answer), (self.ALL, "plan_differs"))
+
     def test_the_first_start_after_an_upgrade_with_a_file_that_differs(self) -> None:
         """No file was kept yet. What was sold goes on at the price that the server prints; what it says nothing of does not."""
         self.issue("hour", "b1")
