@@ -42,16 +42,22 @@ VENUE: dict[str, Any] = {"house": "Sample Library", "help": "",
 LIGHT, DARK = "light", "dark"
 
 
+def policy() -> str:
+    """What set-up writes in place of @POLICY@ into nginx's files."""
+    found = re.search(r'^POLICY = "(.*)"$', (FIELD / "setup").read_text(), re.M)
+    assert found
+    return found[1]
+
+
 class Nginx:
     """What nginx does for one of the applications: it adds the page's policy and says who asks, and it serves files
     itself, as its configuration has them."""
 
     def __init__(self, conf: str) -> None:
-        setup, text = (FIELD / "setup").read_text(), (FIELD / conf).read_text().replace("@FIELD@", str(FIELD))
-        policy = re.search(r'^POLICY = "(.*)"$', setup, re.M)
+        text = (FIELD / conf).read_text().replace("@FIELD@", str(FIELD))
         field = re.search(r'add_header Content-Security-Policy "(.*)" always;', text)
-        assert policy and field
-        self.policy = field[1].replace("@POLICY@", policy[1])
+        assert field
+        self.policy = field[1].replace("@POLICY@", policy())
         self.files = {path: f"{root}{path}" for path, root in re.findall(r"location = (\S+) { root (\S+);", text)}
         self.folders = dict(re.findall(r"location (/\S+/) { alias (\S+);", text))
 
