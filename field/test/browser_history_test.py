@@ -80,10 +80,13 @@ class History(unittest.TestCase):
         self.venue = Venue()
         self.addCleanup(self.venue.close)
         self.app = Late(portal_counter.pages(self.venue.counter))
-        self.clerks = self.behind_nginx() if counter_nginx.CAN else self.venue.serve(self.app) + "/"
+        self.clerks = self.behind_nginx() if counter_nginx.CAN else self.on_loopback()
         self.enterContext(contextlib.redirect_stderr(io.StringIO()))
         self.browser.shape(1280)
         self.batches = 0
+
+    def on_loopback(self) -> str:
+        return self.venue.serve(self.app, "counter/nginx-counter.conf") + "/"
 
     def behind_nginx(self) -> str:
         folder = pathlib.Path(self.enterContext(tempfile.TemporaryDirectory()))
