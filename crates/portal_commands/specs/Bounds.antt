@@ -33,4 +33,4 @@ place_of place desk at = record {
 -- A network, and the hosts at its ports.
 abbrev pub network_of : {N Bound Reader Writer : Type 0}
     → NetworkOf N Bound Reader Writer → HostOf Bound Reader Writer → ReadOf Reader → WriteOf Writer → N → NetworkValue
-network_of network host reader writer at = record { host = host_of host reader writer; listens = network.listens at }
+network_of network host reader writer at = record { host = host_of host reader writer; listens = network.listens at; refuses = network.refuses at }

@@ -23,16 +23,17 @@ IsServed at o status =
     × PrintsAll at.port at.count o ended)
     ⊎ ((error : ProgramError) × ((error ≡ Network) ⊎ (error ≡ NoMemory)) × EndsWith (Err error) o status)
 
--- What is assumed of a network: which hosts may be bound at a port.
+-- What is assumed of a network: which hosts may be bound at a port, and at which ports none may be bound.
 pub record NetworkValue : Type 1 where
   pub host : HostValue
   pub listens : ℕ → host.Host → Type 0
+  pub refuses : ℕ → Type 0
 
--- The port is bound, and connections of the host there are served in turn; or it is not bound, and the desk
--- is as it was.
+-- The port is bound, and connections of the host there are served in turn; or the network refuses it, or
+-- there is no memory, and the desk is as it was.
 abbrev pub ServesAt : NetworkValue → ServeOptions → SettingsValue → Outlets → ℕ → State → State → Type 0
 ServesAt network at settings o status old new =
-    ((error : ProgramError) × ((error ≡ Network) ⊎ (error ≡ NoMemory)) × EndsWith (Err error) o status
+    ((error : ProgramError) × (((error ≡ Network) × network.refuses at.port) ⊎ (error ≡ NoMemory)) × EndsWith (Err error) o status
     × (new ≡ old))
     ⊎ ((before : network.host.Host) × (after : network.host.Host) × (ended : Result (Unit {0}) ProgramError)
     × network.listens at.port before × (status ≡ exit_code_at ended) × PrintsTurns network.host settings at.port at.count o before old ended after new)

@@ -1,5 +1,5 @@
 //! Where the program accepts connections.
-ghost use Rattle.std.specs.Prelude.{◌≡◌, ℕ, IfOk, IfErr};
+ghost use Rattle.std.specs.Prelude.{◌≡◌, ℕ, IfOk, IfErr, OnErr};
 ghost use Rattle.portal_exit.specs.declared.error.ProgramError.TheVariants.{Network as OfNetwork};
 
 use portal_exit::ProgramError;
@@ -13,9 +13,13 @@ pub trait Network: Drop {
     /// Which hosts may be bound at a port.
     ghost listens: { Self → ℕ → Self.Bound → Type 0 };
 
+    /// At which ports none may be bound.
+    ghost refuses: { Self → ℕ → Type 0 };
+
     /// Binds a port of the loopback address; connections wait from then on. Error: `Network`, if the port
-    /// cannot be bound.
-    fn listen(&self, port: u16) -> Result<Self::Bound, ProgramError>
+    /// cannot be bound. The network is consumed, so no second port can be bound.
+    fn listen(self, port: u16) -> Result<Self::Bound, ProgramError>
         ensures why { IfErr result (λ error. error ≡ OfNetwork) }
-        ensures bound { IfOk result (listens self.now port) };
+        ensures fails { OnErr result (refuses self port) }
+        ensures bound { IfOk result (listens self port) };
 }

@@ -45,7 +45,7 @@ fn report_usage<E: Write>(text: &[u8], errors: &mut E) -> u8
 fn run_serve<P: Place, N: Network, W: Write, E: Write>(
     alloc: Global,
     place: P,
-    network: &N,
+    network: N,
     files: Files<'_>,
     port: u64,
     count: u64,
@@ -53,7 +53,7 @@ fn run_serve<P: Place, N: Network, W: Write, E: Write>(
     errors: &mut E,
 ) -> u8
     ensures { EndsServing (place_of P.Place P.Stored.Desk place) files.entry
-        (network_of N.Network N.Bound.Host N.Bound.Reader.Read N.Bound.Writer.Write network.now) port count
+        (network_of N.Network N.Bound.Host N.Bound.Reader.Read N.Bound.Writer.Write network) port count
         (outlets W.Write E.Write output.old output.new errors.old errors.new) result }
 {
     if port > 65_535 {
@@ -70,14 +70,14 @@ fn run_serve<P: Place, N: Network, W: Write, E: Write>(
 fn run_order<P: Place, N: Network, R: Read, W: Write, E: Write>(
     alloc: Global,
     place: P,
-    network: &N,
+    network: N,
     order: Order<'_>,
     input: &mut R,
     output: &mut W,
     errors: &mut E,
 ) -> u8
     ensures { EndsOrder (place_of P.Place P.Stored.Desk place)
-        (network_of N.Network N.Bound.Host N.Bound.Reader.Read N.Bound.Writer.Write network.now)
+        (network_of N.Network N.Bound.Host N.Bound.Reader.Read N.Bound.Writer.Write network)
         (wire_of R.Read W.Write input.old input.new output.old output.new)
         (E.contents errors.old) (E.contents errors.new) order.entry result }
 {
@@ -149,14 +149,14 @@ fn run_order<P: Place, N: Network, R: Read, W: Write, E: Write>(
 pub fn run_program<P: Place, N: Network, S: AsStr, R: Read, W: Write, E: Write>(
     alloc: Global,
     place: P,
-    network: &N,
+    network: N,
     words: &[S],
     input: &mut R,
     output: &mut W,
     errors: &mut E,
 ) -> u8
     ensures { EndsProgram (place_of P.Place P.Stored.Desk place)
-        (network_of N.Network N.Bound.Host N.Bound.Reader.Read N.Bound.Writer.Write network.now)
+        (network_of N.Network N.Bound.Host N.Bound.Reader.Read N.Bound.Writer.Write network)
         (wire_of R.Read W.Write input.old input.new output.old output.new)
         (E.contents errors.old) (E.contents errors.new) (map S.text words.now) result }
 {

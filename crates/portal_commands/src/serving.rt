@@ -30,7 +30,7 @@ pub struct ServeOptions {
 pub fn serve_at<D: Desk, N: Network, W: Write, E: Write>(
     alloc: Global,
     desk: &mut D,
-    network: &N,
+    network: N,
     at: ServeOptions,
     output: &mut W,
     errors: &mut E,
@@ -40,7 +40,7 @@ pub fn serve_at<D: Desk, N: Network, W: Write, E: Write>(
         (outlets W.Write E.Write output.old output.new errors.old errors.new) result }
     ensures serves { LeadsDesk D.Desk desk.old desk.new (ServesRun (D.settings desk.old) at.count) }
     ensures turns { LeadsDesk D.Desk desk.old desk.new (λ old new.
-        ServesAt (network_of N.Network N.Bound.Host N.Bound.Reader.Read N.Bound.Writer.Write network.now)
+        ServesAt (network_of N.Network N.Bound.Host N.Bound.Reader.Read N.Bound.Writer.Write network)
         at (D.settings desk.old)
         (outlets W.Write E.Write output.old output.new errors.old errors.new) result old new) }
 {
@@ -65,14 +65,14 @@ pub fn serve_at<D: Desk, N: Network, W: Write, E: Write>(
 pub fn serve<P: Place, N: Network, W: Write, E: Write>(
     alloc: Global,
     place: P,
-    network: &N,
+    network: N,
     files: Files<'_>,
     at: ServeOptions,
     output: &mut W,
     errors: &mut E,
 ) -> u8
     ensures { ServesOver (place_of P.Place P.Stored.Desk place) files.entry
-        (network_of N.Network N.Bound.Host N.Bound.Reader.Read N.Bound.Writer.Write network.now) at
+        (network_of N.Network N.Bound.Host N.Bound.Reader.Read N.Bound.Writer.Write network) at
         (outlets W.Write E.Write output.old output.new errors.old errors.new) result }
 {
     match open_desk(alloc, place, files, true) {

@@ -56,9 +56,9 @@ module _ {D : Type 0} (g : Ghosts D) where
 -- A database was not attached: the error has a cause in the database, or is out of memory or a fault of the
 -- database. Only the last two are given for a database that holds a ledger. This holds as long as the
 -- connection that is left has been fault-free.
-abbrev pub RefusesStore : {S : Type 0} → (g : stores.Ghosts S) → Held S → ProgramError → Type 0
-RefusesStore g conn error =
-    (cause : OpenFault) × (error ≡ error_of_open cause) × (left : Held _)
+abbrev pub RefusesStore : {S : Type 0} → (g : stores.Ghosts S) → Held S → Held S → ProgramError → Type 0
+RefusesStore g conn left error =
+    (cause : OpenFault) × (error ≡ error_of_open cause)
     × (ConnIsFaultFree g left → ConnIsFaultFree g conn × IsCause g conn cause × ((L : Ledger) → ConnRepresents g conn L → (cause ≡ Memory) ⊎ (cause ≡ Store)))
 
 module _ {D : Type 0} (g : Ghosts D) where

@@ -9,6 +9,9 @@ use Rattle.portal_desk.specs.declared.Desk.{Ghosts as DeskOf}
 use Rattle.portal_desk_store.specs.declared.desks.StoreDesk.{StoreDesk}
 use Rattle.portal_tables.specs.Images.{ImageHoldsLedger}
 use Rattle.portal_server.specs.declared.host.Host.{Ghosts as HostOf}
+use Rattle.portal_server.specs.declared.loopback.Loopback.{Loopback}
+use Rattle.portal_server.specs.declared.loopback.Socket.{Ghosts as SocketOf}
+use Rattle.portal_server.specs.Loopback.{BindsLoopback}
 use Rattle.portal_server.specs.Turns.{host_of}
 use Rattle.portal_commands.specs.Places.{IsFileError, PlaceValue}
 use Rattle.portal_commands.specs.Serving.{NetworkValue}
@@ -36,6 +39,11 @@ host_place g image desk = record {
   fails_to_make = IsFileError;
 }
 
--- The hosts at the ports of the loopback address, any of which may be bound.
-abbrev pub host_network : {H Reader Writer : Type 0} → HostOf H Reader Writer → ReadOf Reader → WriteOf Writer → NetworkValue
-host_network host reader writer = record { host = host_of host reader writer; listens = λ port bound. ⊤ }
+-- The hosts at the ports of the loopback address, any of which may be bound or not. Which listener may be
+-- bound at an address is what is assumed of the socket.
+abbrev pub host_network : {H Reader Writer B : Type 0} → HostOf (Loopback H) Reader Writer → ReadOf Reader → WriteOf Writer → SocketOf B → B → NetworkValue
+host_network host reader writer socket at = record {
+  host = host_of host reader writer;
+  listens = λ port bound. BindsLoopback (socket.binds at) port bound.listener;
+  refuses = λ port. ⊤;
+}

@@ -108,7 +108,7 @@ impl<'h, S: Start> Place for HostFiles<'h, S> {
         match open_store(self.host, path, self.start, copies) {
             Ok((conn, is_new)) => match attach_store(conn, settings) {
                 Ok(desk) => Ok(Opened { desk, is_new }),
-                Err(error) => Err(Trouble::plain(error)),
+                Err((error, _left)) => Err(Trouble::plain(error)),
             },
             Err(unopened) => Err(trouble_at(alloc, path, unopened.program_error(), &unopened)),
         }

@@ -1,5 +1,5 @@
 //! Opens database files, and attaches desks to them.
-ghost use Rattle.std.specs.Prelude.{◌≡◌, [], true, false, IsTrue, IfErr, IfOk};
+ghost use Rattle.std.specs.Prelude.{◌≡◌, ◌≢◌, [], true, false, IsTrue, IfErr, IfOk};
 ghost use Rattle.sqlite_std_file.specs.File.{file_is_usable, IsFresh};
 ghost use Rattle.sqlite_wal.specs.Files.{image_at};
 ghost use Rattle.sqlite_wal.specs.Reads.{AreClean};
@@ -9,6 +9,7 @@ ghost use Rattle.sqlite.specs.Steps.{over_memory};
 ghost use Rattle.portal_ledger.specs.Ledger.{Ledger};
 ghost use Rattle.portal_ledger.specs.States.{running};
 ghost use Rattle.portal_commands.specs.Places.{IsFileError, IsDatabaseError};
+ghost use Rattle.portal_desk_store.specs.Attaching.{IsAsItWas, IsConnOpen, IsSpared, MayBeAttached};
 ghost use Rattle.portal_desk_store.specs.DeskRepresents.{DeskRepresents, DeskIsFaultFree, settings_of};
 ghost use Rattle.portal_tables.specs.Attaching.{AttachesOthers};
 ghost use Rattle.portal_tables.specs.Images.{ImageHoldsLedger};
@@ -28,23 +29,28 @@ use std::alloc::Global;
 use std::hash::{BuildHasher, RandomState};
 
 /// Attaches the database of a connection and returns the desk over it, which represents the same ledger.
-/// Errors: `NotOurs`, `Newer`, `NoMemory`, `File`.
+///
+/// Errors, with the connection: `NotOurs`, `Newer`, `NoMemory`, `File`. A database that is not to be attached
+/// gets no crash state. After all but `File` the database is unchanged.
 pub fn attach_store<S: Alter + Drop>(
     conn: Connection<S>,
     settings: Settings,
-) -> Result<StoreDesk<S>, ProgramError>
-    ensures why { IfErr result IsDatabaseError }
+) -> Result<StoreDesk<S>, (ProgramError, Connection<S>)>
+    ensures why { IfErr result (λ e. IsDatabaseError e.0) }
     ensures same_settings { IfOk result (λ desk. settings_of desk ≡ settings) }
     ensures fault_free { IfOk result (λ desk. DeskIsFaultFree S.Store desk → ConnIsFaultFree S.Store conn) }
     ensures attaches { (L : Ledger) → ConnRepresents S.Store conn L
         → IfOk result (λ desk. DeskIsFaultFree S.Store desk → DeskRepresents S.Store desk (running L)) }
     ensures others { (L : Ledger) → ConnRepresents S.Store conn L
         → IfOk result (λ desk. DeskIsFaultFree S.Store desk → AttachesOthers S.Store conn desk.tables) }
-    ensures fails { IfErr result (RefusesStore S.Store conn) }
+    ensures fails { IfErr result (λ e. RefusesStore S.Store conn e.1 e.0) }
+    ensures kept { IfErr result (λ e. ConnIsFaultFree S.Store e.1
+        → IsConnOpen S.Store conn → e.0 ≢ ProgramError.File → IsAsItWas S.Store conn e.1) }
+    ensures spares { IfErr result (λ e. ¬ MayBeAttached S.Store conn → IsSpared S.Store conn e.1) }
 {
     match StoreDesk::adopt(conn, settings) {
         Ok(desk) => Ok(desk),
-        Err(refused) => Err(error_of_open(refused.fault)),
+        Err(refused) => Err((error_of_open(refused.fault), refused.connection)),
     }
 }
 

@@ -10,7 +10,7 @@ use crate::network::HostNetwork;
 use portal_commands::program::run_program;
 use portal_desk::Desk;
 use portal_desk_store::StoreDesk;
-use portal_server::{Host, Loopback};
+use portal_server::{Host, Loopback, Socket};
 use sqlite::{FileFrom, FileStore, Start};
 use sqlite_disk::Disk;
 use std::convert::AsStr;
@@ -30,11 +30,11 @@ pub fn run_on_host<S: Start, T: AsStr, R: Read, W: Write, E: Write>(
     ensures { EndsProgram
         (host_place ⟦<FileFrom<S> as Disk>⟧ (image_at S.Start) ⟦<StoreDesk<FileStore<FileFrom<S>>> as Desk>⟧)
         (host_network ⟦<Loopback<'static, HostRuntime> as Host>⟧
-        ⟦<TcpStream as Read>⟧ ⟦<TcpStream as Write>⟧)
+        ⟦<TcpStream as Read>⟧ ⟦<TcpStream as Write>⟧ ⟦<&'static HostRuntime as Socket>⟧ host.entry)
         (wire_of R.Read W.Write input.old input.new output.old output.new)
         (E.contents errors.old) (E.contents errors.new) (map T.text words.now) result }
 {
     let files = HostFiles { host, start };
-    let network = HostNetwork { host };
-    run_program(host.alloc(), files, &network, words, input, output, errors)
+    let network = HostNetwork { host, socket: host };
+    run_program(host.alloc(), files, network, words, input, output, errors)
 }

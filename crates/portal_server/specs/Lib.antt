@@ -2,3 +2,4 @@ pub mod Serving
 pub mod Asks
 pub mod Command
 pub mod Turns
+pub mod Loopback

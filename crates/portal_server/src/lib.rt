@@ -12,7 +12,7 @@ mod serving;
 pub use clock::{WallClock, moment_now};
 pub use command::serve;
 pub use host::Host;
-pub use loopback::{Loopback, bind_loopback, loopback_address};
+pub use loopback::{Loopback, Socket, bind_loopback, loopback_address};
 pub use peers::serve_peer;
 pub use seeds::{SeedSource, fresh_seed};
 pub use serving::serve_connections;

@@ -5,6 +5,9 @@ ghost use Rattle.std.specs.declared.io.Error.{Error as Why};
 ghost use Rattle.std.specs.declared.time.Duration.{Duration as Since};
 ghost use Rattle.portal_server.specs.Turns.{IsMomentOf};
 ghost use Rattle.std.specs.Net.Addr.{ipv4_octets};
+ghost use Rattle.std.specs.declared.net.socket_addr.SocketAddrV4.{SocketAddrV4 as Address};
+ghost use Rattle.std.specs.declared.net.tcp.TcpListener.{TcpListener as Listener};
+ghost use Rattle.portal_server.specs.Loopback.{BindsLoopback};
 ghost use Rattle.std.specs.Net.Socket.{v4_ip, v4_port};
 ghost use Rattle.portal_exit.specs.declared.error.ProgramError.TheVariants.{Network};
 
@@ -13,7 +16,7 @@ use crate::host::Host;
 use crate::seeds::{SeedSource, fresh_seed};
 use portal_exit::ProgramError;
 use portal_model::moment::Moment;
-use std::io::Read;
+use std::io::{self, Read};
 use std::net::{Ipv4Addr, Net, Shutdown, SocketAddr, SocketAddrV4, TcpListener, TcpStream};
 
 /// Returns the address of a port of 127.0.0.1, which no other machine can reach.
@@ -24,16 +27,34 @@ pub fn loopback_address(port: u16) -> SocketAddrV4
     SocketAddrV4::new(Ipv4Addr::new(127, 0, 0, 1), port)
 }
 
+/// A socket that can be bound once, since it is consumed. The ghost names what was bound at an address; no
+/// contract says more about a socket.
+pub trait Socket: Drop {
+    /// Which listener was bound at an address.
+    ghost binds: { Self → Address → Listener → Type 0 };
+
+    /// Binds an address; connections wait from then on.
+    fn bind_at(self, address: SocketAddrV4) -> io::Result<TcpListener>
+        ensures { IfOk result (λ listener. binds self address listener) };
+}
+
+impl<'n, N: Net<Listener = TcpListener, Stream = TcpStream>> Socket for &'n N {
+    ghost binds = { λ _ _ _. ⊤ };
+
+    fn bind_at(self, address: SocketAddrV4) -> io::Result<TcpListener> {
+        self.bind(SocketAddr::V4(address))
+    }
+}
+
 /// Binds a port of the loopback address; connections wait from then on.
 ///
 /// Error: `Network`, if the port cannot be bound.
-pub fn bind_loopback<N: Net<Listener = TcpListener, Stream = TcpStream>>(
-    net: &N,
-    port: u16,
-) -> Result<TcpListener, ProgramError>
-    ensures { IfErr result (λ error. error ≡ Network) }
+pub fn bind_loopback<B: Socket>(socket: B, port: u16) -> Result<TcpListener, ProgramError>
+    ensures why { IfErr result (λ error. error ≡ Network) }
+    ensures bound { IfOk result (BindsLoopback (B.binds socket) port) }
 {
-    net.bind(SocketAddr::V4(loopback_address(port)))
+    socket
+        .bind_at(loopback_address(port))
         .map_err(|_| ProgramError::Network)
 }
 

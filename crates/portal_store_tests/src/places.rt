@@ -215,7 +215,9 @@ impl Network for TestNetwork {
 
     ghost listens = { λ _ _ _. ⊤ };
 
-    fn listen(&self, _port: u16) -> Result<Broken, ProgramError> {
+    ghost refuses = { λ _ _. ⊤ };
+
+    fn listen(self, _port: u16) -> Result<Broken, ProgramError> {
         if self.is_free {
             Ok(Broken)
         } else {

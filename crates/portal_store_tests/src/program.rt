@@ -140,7 +140,7 @@ fn run_for_exit_code<P: Place>(
     run_program(
         alloc,
         good_shelf(alloc).place::<P>(),
-        &TestNetwork { is_free: true },
+        TestNetwork { is_free: true },
         words,
         &mut input,
         output,

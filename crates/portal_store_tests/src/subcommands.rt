@@ -101,7 +101,7 @@ fn run_for_exit_code<P: Place>(
         Subcommand::Serve(is_free) => {
             let at = ServeOptions { port: 80, count: 1 };
             let network = TestNetwork { is_free: *is_free };
-            serve(alloc, place, &network, FILES, at, output, errors)
+            serve(alloc, place, network, FILES, at, output, errors)
         }
     }
 }

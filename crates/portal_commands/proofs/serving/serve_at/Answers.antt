@@ -26,7 +26,7 @@ returns-in_default-clause-turns g c = λ honest old represents.
 
 pub returns-in-Err-clause-turns : goal.returns-in-Err-clause-turns
 returns-in-Err-clause-turns g c = λ honest old represents.
-    (old, represents, inl (c.in-Err.error, inl c.in-Err.ensures.why, (c.report-in-Err.ensures.status, Keeps-refl _, c.report-in-Err.ensures.prints), refl))
+    (old, represents, inl (c.in-Err.error, inl (c.in-Err.ensures.why, c.in-Err.ensures.fails), (c.report-in-Err.ensures.status, Keeps-refl _, c.report-in-Err.ensures.prints), refl))
 
 pub returns-clause-turns : goal.returns-clause-turns
 returns-clause-turns g c = λ honest old represents.

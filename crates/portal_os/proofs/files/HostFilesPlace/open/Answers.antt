@@ -28,9 +28,9 @@ returns-in-Err-attach_store-clause-fails g c =
       it.0,
       c.plain.ensures.error ∙ it.1,
       c.in-Ok.conn,
-      it.2,
+      c.in-Err-attach_store._left,
       λ honest.
-          let refused = it.3 honest in
+          let refused = it.2 honest in
           let clean = clean_by c.in-Ok.conn refused.0 in
           ((c.in-Ok.ensures.from clean).0, refused.1, λ L shown. refused.2 L (c.in-Ok.ensures.opened L shown clean)),
     )
