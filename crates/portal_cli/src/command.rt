@@ -27,6 +27,11 @@ use crate::version::version_line;
 use clap::{Arg, Command};
 use std::alloc::{AllocError, Global};
 
+/// The help of `--db` of a subcommand that makes a missing database, and of one that does not.
+const MADE_DB: &str = "The database file, created if it is missing";
+
+const ASKED_DB: &str = "The database file";
+
 /// Adds two options to a subcommand. They are its own, and not global ones.
 fn with_two_options<'a>(
     command: Command<'a>,
@@ -43,13 +48,17 @@ fn with_two_options<'a>(
     command.arg(first)?.arg(second)
 }
 
-/// Adds `--db PATH` and `--settings PATH`, both required, to a subcommand.
-fn with_files<'a>(alloc: Global, command: Command<'a>) -> Result<Command<'a>, AllocError>
+/// Adds `--db PATH`, with this help, and `--settings PATH`, both required, to a subcommand.
+fn with_files<'a>(
+    alloc: Global,
+    command: Command<'a>,
+    db_help: &'a str,
+) -> Result<Command<'a>, AllocError>
     requires { (fields_of command).has_globals ≡ false }
     ensures subcommand { IfOk result (λ c. app_of c ≡ with_files (app_of command.entry)) }
     ensures here { IfOk result (λ c. (fields_of c).has_globals ≡ false) }
 {
-    with_two_options(command, db_option(alloc), settings_option(alloc))
+    with_two_options(command, db_option(alloc, db_help), settings_option(alloc))
 }
 
 /// Adds `--db PATH` and `--settings PATH`, both optional, to a subcommand.
@@ -73,7 +82,7 @@ fn serve_subcommand<'a>(alloc: Global) -> Result<Command<'a>, AllocError>
     let command = Command::new(alloc, "serve")
         .about("Serves connections on 127.0.0.1, one after another")
         .after_help(serve_examples());
-    let command = with_files(alloc, command)?;
+    let command = with_files(alloc, command, MADE_DB)?;
     with_two_options(command, port_option(alloc), count_option(alloc))
 }
 
@@ -97,7 +106,7 @@ fn print_subcommand<'a>(alloc: Global) -> Result<Command<'a>, AllocError>
     let command = Command::new(alloc, "print")
         .about("Prints the print file of a batch, as CSV")
         .after_help(print_examples());
-    with_files(alloc, command)?.arg(batch_argument(alloc))
+    with_files(alloc, command, ASKED_DB)?.arg(batch_argument(alloc))
 }
 
 /// Returns the subcommand `takings FROM TO --db PATH --settings PATH`.
@@ -108,7 +117,7 @@ fn takings_subcommand<'a>(alloc: Global) -> Result<Command<'a>, AllocError>
     let command = Command::new(alloc, "takings")
         .about("Prints the takings of the days from FROM to TO")
         .after_help(takings_examples());
-    let command = with_files(alloc, command)?;
+    let command = with_files(alloc, command, ASKED_DB)?;
     with_two_options(command, from_argument(alloc), to_argument(alloc))
 }
 
@@ -120,7 +129,7 @@ fn check_subcommand<'a>(alloc: Global) -> Result<Command<'a>, AllocError>
     let command = Command::new(alloc, "check")
         .about("Checks the counters of the database file against its rows")
         .after_help(check_examples());
-    with_files(alloc, command)
+    with_files(alloc, command, ASKED_DB)
 }
 
 /// Returns the command line of the program without its subcommands. A subcommand is required.

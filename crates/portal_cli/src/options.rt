@@ -19,15 +19,15 @@ use clap::Arg;
 use clap::builder::ValueParser;
 use std::alloc::Global;
 
-/// Returns the required option `--db PATH`: the database file.
-pub(crate) fn db_option<'a>(alloc: Global) -> Arg<'a>
+/// Returns the required option `--db PATH`: the database file, with this help.
+pub(crate) fn db_option<'a>(alloc: Global, help: &'a str) -> Arg<'a>
     ensures option { rule_of result ≡ db_option }
     ensures here { result.global ≡ false }
 {
     Arg::new(alloc, "db")
         .long("db")
         .value_name("PATH")
-        .help("The database file, created if it is missing")
+        .help(help)
         .required(true)
 }
 

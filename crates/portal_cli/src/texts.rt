@@ -64,8 +64,9 @@ pub(crate) fn print_examples() -> &'static str {
 Example:
   portal print b1 --db portal.db --settings portal.toml > b1.csv
 
-Exit code 1 if there is no such batch (`portal: unknown_batch`). While `portal serve` runs, the database
-is locked (`portal: file`, exit code 3): use `GET /desk/batches/b1/print` then."
+Exit code 1 if there is no such batch (`portal: unknown_batch`); 3 if there is no database at PATH: none
+is created (`portal: file`). While `portal serve` runs, the database is locked (`portal: file`, exit
+code 3): use `GET /desk/batches/b1/print` then."
 }
 
 /// Returns the text below the help of `takings`.
@@ -75,8 +76,9 @@ Example:
   portal takings 2020-03-01 2020-03-31 --db portal.db --settings portal.toml
 
 The report includes both days, in the time zone of the settings. A range has at most 366 days, in the
-years 1969 to 9999 (otherwise `portal: usage`, exit code 2). While `portal serve` runs, the database is
-locked (`portal: file`, exit code 3): use `GET /desk/takings` then."
+years 1969 to 9999 (otherwise `portal: usage`, exit code 2). If there is no database at PATH, none is
+created (`portal: file`, exit code 3). While `portal serve` runs, the database is locked (`portal: file`,
+exit code 3): use `GET /desk/takings` then."
 }
 
 /// Returns the text below the help of `check`.
@@ -85,6 +87,7 @@ pub(crate) fn check_examples() -> &'static str {
 Example:
   portal check --db portal.db --settings portal.toml
 
-Prints `ok` (exit code 0) or `differs` (exit code 1). While `portal serve` runs, the database is locked
-(`portal: file`, exit code 3)."
+Prints `ok` (exit code 0) or `differs` (exit code 1). If there is no database at PATH, none is created
+(`portal: file`, exit code 3). While `portal serve` runs, the database is locked (`portal: file`, exit
+code 3)."
 }

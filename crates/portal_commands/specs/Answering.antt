@@ -1,5 +1,5 @@
 -- How the subcommand `answer` ends.
-use Rattle.std.specs.Prelude.{◌≡◌, ◌⊎◌, ◌≤◌, ℕ, List, [], length, Bool, false, ◌==◌, ◌&&◌, if◌then◌else◌, Option, None, Some, Result, Ok, Err, ⊤}
+use Rattle.std.specs.Prelude.{◌≡◌, ◌⊎◌, ◌≤◌, ℕ, List, [], length, Bool, ◌==◌, ◌&&◌, if◌then◌else◌, Option, None, Some, Result, Ok, Err, ⊤}
 use Rattle.std.specs.List.{AllPass}
 use Rattle.std.specs.Borrow.{Bor}
 use Rattle.std.specs.Io.KnownBytes.{Keeps}
@@ -18,6 +18,7 @@ use Rattle.portal_exit.specs.declared.error.ProgramError.TheVariants.{Usage, Cut
 use Rattle.portal_exit.specs.Errors.{line_of, exit_code_of}
 use Rattle.portal_exit.specs.Streams.{Prints}
 use Rattle.portal_commands.specs.declared.answering.AnswerOptions.{AnswerOptions}
+use Rattle.portal_commands.specs.declared.place.Purpose.TheVariants.{Answer}
 use Rattle.portal_commands.specs.declared.trouble.Trouble.{Trouble}
 use Rattle.portal_commands.specs.Places.{IsFileError, IsDatabaseError, IsForMemory, PlaceValue, AreReadSettings, IsNotRead, ByDesk}
 use Rattle.portal_commands.specs.Troubles.{NamesPath, Reports}
@@ -67,13 +68,13 @@ AnswersFresh fails wire errors errors_after moment seed settings status =
 -- the file holds; or the file cannot be used.
 abbrev pub AnswersStored : PlaceValue → List ℕ → Wire → Option (List ℕ) → Option (List ℕ) → ℕ → List ℕ → SettingsValue → ℕ → Type 0
 AnswersStored place path wire errors errors_after moment seed settings status =
-    ((is_new : Bool) × ByDesk place path false is_new errors_after
+    ByDesk place path Answer errors_after
     (λ printed. (is_stopped : Bool) × (answered : Result ℕ ProgramError) × EndsAnswering wire moment seed (λ arrivals responses. ⊤) is_stopped answered
     × EndsStatus answered errors printed status)
     (λ printed old new. (answered : Result ℕ ProgramError)
     × EndsAnswering wire moment seed (λ arrivals responses. ServesInOrder settings old arrivals responses new) (is_stopped_state new) answered
-    × EndsStatus answered errors printed status))
-    ⊎ ((trouble : Trouble) × (IsDatabaseError trouble.error × NamesPath path trouble) × (IsForMemory trouble ⊎ place.refuses path trouble)
+    × EndsStatus answered errors printed status)
+    ⊎ ((trouble : Trouble) × (IsDatabaseError trouble.error × NamesPath path trouble) × (IsForMemory trouble ⊎ place.refuses path Answer trouble)
     × EndsBeforeReading wire errors errors_after trouble status)
 
 -- With a database file or without one.

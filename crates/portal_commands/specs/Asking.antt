@@ -22,11 +22,12 @@ use Rattle.portal_exit.specs.Streams.{Outlets}
 use Rattle.portal_exit.specs.Ends.{EndsWith}
 use Rattle.portal_files.specs.SettingsFile.{SettingsValue}
 use Rattle.portal_commands.specs.declared.place.Files.{Files}
+use Rattle.portal_commands.specs.declared.place.Purpose.TheVariants.{Ask}
 use Rattle.portal_commands.specs.declared.asking.Question.{Question}
 use Rattle.portal_commands.specs.declared.asking.Question.TheVariants.{Batch, Takings, Counters}
 use Rattle.portal_commands.specs.declared.trouble.Trouble.{Trouble}
 use Rattle.portal_commands.specs.Places.{PlaceValue, AreReadSettings, ByDesk, Closes, FailsBeforeDesk}
-use Rattle.portal_commands.specs.Troubles.{Announces, EndsTrouble}
+use Rattle.portal_commands.specs.Troubles.{EndsTrouble}
 
 -- The output of a desk, or a refusal as the error.
 abbrev pub IsDeskResult : Result Output ProgramError → Type 0
@@ -38,18 +39,17 @@ IsDeskResult (Err _) = ⊥
 abbrev pub PrintsOutput : (Result Output ProgramError → Type 0) → Outlets → ℕ → Type 0
 PrintsOutput Is o status = (printout : Result Output ProgramError) × Is printout × EndsWith printout o status
 
--- The desk over the files of a place is asked: a file cannot be used; or the desk gives the output, with the
--- settings that were read, from the ledger that the file holds. A line about a new database is printed before
--- it, and the error of a failed close after it.
+-- The desk over the files of a place is asked: a file cannot be used, or there is no database; or the desk
+-- gives the output, with the settings that were read, from the ledger that the file holds. The error of a
+-- failed close is printed after it.
 abbrev pub AsksOver : PlaceValue → Files → (SettingsValue → State → Result Output ProgramError → State → Type 0) → Outlets → ℕ → Type 0
 AsksOver place files Tells o status =
-    ((trouble : Trouble) × FailsBeforeDesk place.reads place.fails_to_read place.refuses files trouble × EndsTrouble trouble o status)
+    ((trouble : Trouble) × FailsBeforeDesk place.reads place.fails_to_read place.refuses files Ask trouble × EndsTrouble trouble o status)
     ⊎ ((settings : SettingsValue) × AreReadSettings (place.reads files.settings.now) settings
-    × (is_new : Bool) × (begun : Option (List ℕ)) × Announces files.db.now is_new o.errors begun
-    × ByDesk place files.db.now false is_new o.errors_after
-    (λ printed. (printout : Result Output ProgramError) × IsDeskResult printout × EndsWith printout (record o { errors = begun; errors_after = printed }) status)
+    × ByDesk place files.db.now Ask o.errors_after
+    (λ printed. (printout : Result Output ProgramError) × IsDeskResult printout × EndsWith printout (record o { errors_after = printed }) status)
     (λ printed old new. (printout : Result Output ProgramError) × Tells settings old printout new
-    × EndsWith printout (record o { errors = begun; errors_after = printed }) status))
+    × EndsWith printout (record o { errors_after = printed }) status))
 
 -- ---- print
 
@@ -118,14 +118,15 @@ IsRight (Batch id) audits printout = ⊤
 IsRight (Takings range) audits printout = ⊤
 IsRight Counters audits printout = AuditIsRight audits printout
 
--- Whatever the file at the path holds: a file cannot be used; or the output is right about the desk as it was
--- opened. That desk represents the ledger that the file holds, if it holds one. The desk is closed then.
+-- Whatever the file at the path holds: a file cannot be used, or there is no database; or the output is right
+-- about the desk as it was opened. That desk represents the ledger that the file holds, if it holds one. The
+-- desk is closed then.
 abbrev pub AsksRightly : PlaceValue → Files → Question → Outlets → ℕ → Type 0
 AsksRightly place files question o status =
-    ((trouble : Trouble) × FailsBeforeDesk place.reads place.fails_to_read place.refuses files trouble × EndsTrouble trouble o status)
-    ⊎ ((before after : place.Desk) × (is_new : Bool) × (begun printed : Option (List ℕ)) × place.opens files.db.now false before
-    × Announces files.db.now is_new o.errors begun × Closes place.closes place.fails_to_close after files.db.now printed o.errors_after
+    ((trouble : Trouble) × FailsBeforeDesk place.reads place.fails_to_read place.refuses files Ask trouble × EndsTrouble trouble o status)
+    ⊎ ((before after : place.Desk) × (printed : Option (List ℕ)) × place.opens files.db.now Ask before
+    × Closes place.closes place.fails_to_close after files.db.now printed o.errors_after
     × ((printout : Result Output ProgramError)
-    × EndsWith printout (record o { errors = begun; errors_after = printed }) status
-    × (place.is_fault_free after → place.is_fault_free before × ((L : Ledger) → place.holds_ledger files.db.now L → place.represents before (running L))
+    × EndsWith printout (record o { errors_after = printed }) status
+    × (place.is_fault_free after → place.is_fault_free before × place.finds files.db.now Ask × ((L : Ledger) → place.holds_ledger files.db.now L → place.represents before (running L))
     × IsRight question (place.audits before) printout)))

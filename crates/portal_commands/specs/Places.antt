@@ -7,6 +7,7 @@ use Rattle.portal_ledger.specs.States.{State, MayBeFound, running}
 use Rattle.portal_exit.specs.declared.error.ProgramError.{ProgramError}
 use Rattle.portal_exit.specs.declared.error.ProgramError.TheVariants.{File, NoMemory, NotOurs, Newer, Settings}
 use Rattle.portal_commands.specs.declared.place.Files.{Files}
+use Rattle.portal_commands.specs.declared.place.Purpose.{Purpose}
 use Rattle.portal_commands.specs.declared.trouble.Trouble.{Trouble}
 use Rattle.portal_commands.specs.Troubles.{NamesPath, Reports}
 
@@ -33,7 +34,7 @@ abbrev pub AreNone : (List ℕ → Type 0) → Type 0
 AreNone reads = (bytes : List ℕ) × reads bytes × ((settings : SettingsValue) → ¬ IsSettingsFile bytes settings)
 
 -- What is assumed of a place. Of its files: which bytes may be read at a path, which ledger the file at a
--- path holds, whether it holds no database, which desk was opened over it, with its log copied before or not,
+-- path holds, what is found there by an opening for a purpose, which desk was opened over it for that purpose,
 -- and with which errors a read or an open fails. Of its desks: whether a desk has been fault-free, what it
 -- represents, which answer of an audit is right, which tables are its crash states, which ledger those hold,
 -- what holds after a close, and with which errors a close fails. And with which errors the making of a
@@ -48,11 +49,11 @@ pub record PlaceValue : Type 1 where
   pub tables_hold_ledger : Tables → Ledger → Type 0
   pub reads : List ℕ → List ℕ → Type 0
   pub holds_ledger : List ℕ → Ledger → Type 0
-  pub finds : List ℕ → Bool → Type 0
-  pub opens : List ℕ → Bool → Desk → Type 0
+  pub finds : List ℕ → Purpose → Type 0
+  pub opens : List ℕ → Purpose → Desk → Type 0
   pub closes : Desk → Type 0
   pub fails_to_read : List ℕ → Trouble → Type 0
-  pub refuses : List ℕ → Trouble → Type 0
+  pub refuses : List ℕ → Purpose → Trouble → Type 0
   pub fails_to_close : Desk → List ℕ → Trouble → Type 0
   pub fails_to_make : ProgramError → Type 0
 
@@ -67,15 +68,15 @@ abbrev pub CrashStatesAllowedBy : (place : PlaceValue) → place.Desk → State 
 CrashStatesAllowedBy place desk new =
     (tables : place.Tables) → place.is_crash_state desk tables → (found : Ledger) × MayBeFound new found × place.tables_hold_ledger tables found × IsSound found
 
--- Done by the desk that was opened over the file at a path, with the log copied before or not, and that is
--- closed then. It ends in one of the ways that `Ends` allows. As long as it has been fault-free, `Does` leads
--- from the ledger that the file holds to the state that the desk then represents, which the crash states
--- hold. Both speak of standard error before the close.
-abbrev pub ByDesk : PlaceValue → List ℕ → Bool → Bool → Option (List ℕ) → (Option (List ℕ) → Type 0) → (Option (List ℕ) → State → State → Type 0) → Type 0
-ByDesk place path copies is_new printed_after Ends Does =
-    (opened desk : place.Desk) × (printed : Option (List ℕ)) × place.opens path copies opened
+-- Done by the desk that was opened over the file at a path for a purpose, and that is closed then. It ends in
+-- one of the ways that `Ends` allows. As long as it has been fault-free, the file was found as the purpose
+-- requires, and `Does` leads from the ledger that the file holds to the state that the desk then represents,
+-- which the crash states hold. Both speak of standard error before the close.
+abbrev pub ByDesk : PlaceValue → List ℕ → Purpose → Option (List ℕ) → (Option (List ℕ) → Type 0) → (Option (List ℕ) → State → State → Type 0) → Type 0
+ByDesk place path purpose printed_after Ends Does =
+    (opened desk : place.Desk) × (printed : Option (List ℕ)) × place.opens path purpose opened
     × Closes place.closes place.fails_to_close desk path printed printed_after × Ends printed
-    × (place.is_fault_free desk → place.is_fault_free opened × place.finds path is_new
+    × (place.is_fault_free desk → place.is_fault_free opened × place.finds path purpose
     × ((L : Ledger) → place.holds_ledger path L → place.represents opened (running L)
     × ((new : State) × place.represents desk new × CrashStatesAllowedBy place desk new
     × Does printed (running L) new)))
@@ -88,11 +89,11 @@ IsNotRead reads fails trouble =
     ⊎ (((trouble.error ≡ Settings) × AreNone reads) ⊎ ((trouble.error ≡ NoMemory) × ((bytes : List ℕ) × reads bytes)))
 
 -- The settings file or the database file cannot be used: there are no settings; or there are, and the place
--- does not open the database.
-abbrev pub FailsBeforeDesk : (List ℕ → List ℕ → Type 0) → (List ℕ → Trouble → Type 0) → (List ℕ → Trouble → Type 0) → Files → Trouble → Type 0
-FailsBeforeDesk reads fails_to_read refuses files trouble =
+-- does not open the database for this purpose.
+abbrev pub FailsBeforeDesk : (List ℕ → List ℕ → Type 0) → (List ℕ → Trouble → Type 0) → (List ℕ → Purpose → Trouble → Type 0) → Files → Purpose → Trouble → Type 0
+FailsBeforeDesk reads fails_to_read refuses files purpose trouble =
     (NamesPath files.settings.now trouble × IsNotRead (reads files.settings.now) (fails_to_read files.settings.now) trouble)
-    ⊎ (NamesPath files.db.now trouble × IsDatabaseError trouble.error × refuses files.db.now trouble
+    ⊎ (NamesPath files.db.now trouble × IsDatabaseError trouble.error × refuses files.db.now purpose trouble
     × ((settings : SettingsValue) × AreReadSettings (reads files.settings.now) settings))
 
 -- Out of memory, before the place was asked for a file.

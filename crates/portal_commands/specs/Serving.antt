@@ -1,5 +1,5 @@
 -- How the subcommand `serve` ends.
-use Rattle.std.specs.Prelude.{◌≡◌, ◌⊎◌, ℕ, Bool, true, Result, Err}
+use Rattle.std.specs.Prelude.{◌≡◌, ◌⊎◌, ℕ, Result, Err}
 use Rattle.portal_exit.specs.declared.error.ProgramError.{ProgramError}
 use Rattle.portal_exit.specs.declared.error.ProgramError.TheVariants.{Network, NoMemory}
 use Rattle.portal_exit.specs.Ends.{EndsWith}
@@ -12,6 +12,7 @@ use Rattle.portal_ledger.specs.States.{State}
 use Rattle.portal_server.specs.Serving.{ServesAtMost}
 use Rattle.portal_server.specs.Turns.{HostValue}
 use Rattle.portal_commands.specs.declared.place.Files.{Files}
+use Rattle.portal_commands.specs.declared.place.Purpose.TheVariants.{Serve}
 use Rattle.portal_commands.specs.declared.trouble.Trouble.{Trouble}
 use Rattle.portal_commands.specs.Places.{PlaceValue, AreReadSettings, ByDesk, FailsBeforeDesk}
 use Rattle.portal_commands.specs.Troubles.{EndsTrouble}
@@ -43,10 +44,9 @@ ServesAt network at settings o status old new =
 -- copied into the file.
 abbrev pub ServesOver : PlaceValue → Files → NetworkValue → ServeOptions → Outlets → ℕ → Type 0
 ServesOver place files network at o status =
-    ((trouble : Trouble) × FailsBeforeDesk place.reads place.fails_to_read place.refuses files trouble × EndsTrouble trouble o status)
+    ((trouble : Trouble) × FailsBeforeDesk place.reads place.fails_to_read place.refuses files Serve trouble × EndsTrouble trouble o status)
     ⊎ ((settings : SettingsValue) × AreReadSettings (place.reads files.settings.now) settings
-    × (is_new : Bool)
-    × ByDesk place files.db.now true is_new o.errors_after (λ printed. IsServed at (record o { errors_after = printed }) status)
+    × ByDesk place files.db.now Serve o.errors_after (λ printed. IsServed at (record o { errors_after = printed }) status)
     (λ printed old new. ServesAtMost at.count (λ arrivals responses. Run settings old arrivals responses new))
-    × ByDesk place files.db.now true is_new o.errors_after (λ printed. IsServed at (record o { errors_after = printed }) status)
+    × ByDesk place files.db.now Serve o.errors_after (λ printed. IsServed at (record o { errors_after = printed }) status)
     (λ printed old new. ServesAt network at settings (record o { errors_after = printed }) status old new))

@@ -1,5 +1,5 @@
--- What is printed about a file that cannot be used, and about a new database.
-use Rattle.std.specs.Prelude.{◌≡◌, ◌≢◌, ℕ, List, ◌++◌, codes, All, Option, MatchOption, Bool, true, false, ⊤, string_bytes}
+-- What is printed about a file that cannot be used.
+use Rattle.std.specs.Prelude.{◌≡◌, ◌≢◌, ℕ, List, ◌++◌, codes, All, Option, MatchOption, ⊤, string_bytes}
 use Rattle.std.specs.Io.KnownBytes.{Keeps}
 use Rattle.portal_exit.specs.declared.error.ProgramError.TheVariants.{File}
 use Rattle.portal_exit.specs.Errors.{line_of, exit_code_of}
@@ -29,12 +29,3 @@ Reports trouble printed printed_after =
 abbrev pub EndsTrouble : Trouble → Outlets → ℕ → Type 0
 EndsTrouble trouble o status =
     (status ≡ exit_code_of trouble.error) × Keeps o.output o.output_after × Reports trouble o.errors o.errors_after
-
--- The line about a new database.
-unfoldable pub new_database_line : List ℕ → List ℕ
-new_database_line path = codes "portal: new database " ++ (path ++ codes "\n")
-
--- The line is printed if the database is new.
-abbrev pub Announces : List ℕ → Bool → Option (List ℕ) → Option (List ℕ) → Type 0
-Announces path true printed printed_after = Prints printed printed_after (new_database_line path)
-Announces path false printed printed_after = Keeps printed printed_after

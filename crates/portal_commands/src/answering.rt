@@ -38,7 +38,7 @@ ghost use Rattle.portal_commands.specs.Answering.{
   EndsAnswer,
 };
 
-use crate::place::{Opened, Place, close_opened_desk, read_settings_at};
+use crate::place::{Place, Purpose, close_opened_desk, read_settings_at};
 use crate::seed::read_seed;
 use crate::trouble::Trouble;
 use portal_desk::Desk;
@@ -200,13 +200,9 @@ fn answer_from_file<P: Place, R: Read, W: Write, E: Write>(
         (wire_of R.Read W.Write input.old input.new output.old output.new)
         (E.contents errors.old) (E.contents errors.new) moment seed settings result }
 {
-    match place.open(alloc, path, settings, false) {
+    match place.open(alloc, path, settings, Purpose::Answer) {
         Err(trouble) => trouble.report(errors),
-        Ok(opened) => {
-            let Opened {
-                mut desk,
-                is_new: _,
-            } = opened;
+        Ok(mut desk) => {
             let answered = answer_at(alloc, &mut desk, routes, moment, seed, input, output);
             let status = exit_code_of_answer(answered, errors);
             close_opened_desk::<P, E>(alloc, path, desk, errors);

@@ -12,10 +12,9 @@ ghost use Rattle.portal_commands.specs.Asking.{
 ghost use Rattle.portal_commands.specs.Bounds.{place_of};
 
 use crate::checking::check_at;
-use crate::place::{Files, Opened, Place, close_opened_desk, open_desk};
+use crate::place::{Files, Place, Purpose, close_opened_desk, open_desk};
 use crate::printing::print_at;
 use crate::takings::takings_at;
-use crate::trouble::announce_if_new;
 use portal_days::DayRange;
 use portal_desk::Desk;
 use std::alloc::Global;
@@ -58,13 +57,13 @@ pub fn ask_desk<D: Desk, W: Write, E: Write>(
     }
 }
 
-/// Opens a database file, asks the desk over it a question, prints the result, closes the file, and returns
-/// the exit code.
+/// Opens a database file that was made before, asks the desk over it a question, prints the result, closes the
+/// file, and returns the exit code. Nothing is made at a path where there is no database.
 ///
 /// The first of these errors that applies is printed: those of the settings file (`file`, `no_memory`,
-/// `settings`); those of the database file (`file`, `no_memory`, `not_ours`, `newer`), each with exit code 3;
-/// those of `ask_desk`. If a new database is made, a line on `errors` says so first. An error of the close is
-/// printed last and does not change the exit code.
+/// `settings`); those of the database file (`file`, also if there is no database; `no_memory`, `not_ours`,
+/// `newer`), each with exit code 3; those of `ask_desk`. An error of the close is printed last and does not
+/// change the exit code.
 pub fn ask_database<P: Place, W: Write, E: Write>(
     alloc: Global,
     place: P,
@@ -78,11 +77,9 @@ pub fn ask_database<P: Place, W: Write, E: Write>(
     ensures exact { AsksRightly (place_of P.Place P.Stored.Desk place) files.entry question.entry.now
         (outlets W.Write E.Write output.old output.new errors.old errors.new) result }
 {
-    match open_desk(alloc, place, files, false) {
+    match open_desk(alloc, place, files, Purpose::Ask) {
         Err(trouble) => trouble.report(errors),
-        Ok(opened) => {
-            let Opened { mut desk, is_new } = opened;
-            announce_if_new(alloc, files.db, is_new, errors);
+        Ok(mut desk) => {
             let status = ask_desk(alloc, &mut desk, question, output, errors);
             close_opened_desk::<P, E>(alloc, files.db, desk, errors);
             status

@@ -1,9 +1,10 @@
 //! Where the program's files are.
-ghost use Rattle.std.specs.Prelude.{◌≡◌, ℕ, List, [], Bool, IfOk, IfErr, OnOk};
+ghost use Rattle.std.specs.Prelude.{◌≡◌, ℕ, List, [], IfOk, IfErr, OnOk};
 ghost use Rattle.portal_ledger.specs.Ledger.{Ledger};
 ghost use Rattle.portal_ledger.specs.States.{running};
 ghost use Rattle.portal_exit.specs.declared.error.ProgramError.{ProgramError as Failure};
 ghost use Rattle.portal_commands.specs.declared.trouble.Trouble.{Trouble as Why};
+ghost use Rattle.portal_commands.specs.declared.place.Purpose.{Purpose as For};
 ghost use Rattle.portal_commands.specs.Places.{
   IsFileError,
   IsSettingsError,
@@ -23,12 +24,15 @@ use portal_files::{FileFault, Settings, read_settings};
 use std::alloc::Global;
 use std::io::Write;
 
-/// A desk over a file that was opened.
-pub struct Opened<D> {
-    /// The desk.
-    pub desk: D,
-    /// Whether the database was made: the file held none.
-    pub is_new: bool,
+/// What a subcommand opens a database for.
+#[derive(Clone, Copy, Debug)]
+pub enum Purpose {
+    /// To serve: the database is made if there is none, and its log is copied into its file first.
+    Serve,
+    /// To answer one request: the database is made if there is none.
+    Answer,
+    /// To ask one question: nothing is made.
+    Ask,
 }
 
 /// A place that holds files: the machine, or a test's stand-in. No contract says what its files hold.
@@ -45,12 +49,12 @@ pub trait Place: Drop {
     /// Which ledger the file at a path is assumed to hold.
     ghost holds_ledger: { Self → List ℕ → Ledger → Type 0 };
 
-    /// Whether the file at a path is assumed to hold no database.
-    ghost finds: { Self → List ℕ → Bool → Type 0 };
+    /// What is assumed of the file at a path that was opened for a purpose: to ask, that a database was made.
+    ghost finds: { Self → List ℕ → For → Type 0 };
 
-    /// Which desk was opened over the file at a path. If the flag is true, the log was copied into the file
-    /// before.
-    ghost opens: { Self → List ℕ → Bool → Self.Stored → Type 0 };
+    /// Which desk was opened over the file at a path for a purpose: to serve, after the log was copied into the
+    /// file.
+    ghost opens: { Self → List ℕ → For → Self.Stored → Type 0 };
 
     /// What holds after a desk over a file was closed.
     ghost closes: { Self.Stored → Type 0 };
@@ -58,8 +62,8 @@ pub trait Place: Drop {
     /// Which errors a read of the file at a path gives.
     ghost fails_to_read: { Self → List ℕ → Why → Type 0 };
 
-    /// Which errors an open of the file at a path gives.
-    ghost refuses: { Self → List ℕ → Why → Type 0 };
+    /// Which errors an open of the file at a path for a purpose gives.
+    ghost refuses: { Self → List ℕ → For → Why → Type 0 };
 
     /// Which errors a close of a desk over the file at a path gives.
     ghost fails_to_close: { Self.Stored → List ℕ → Why → Type 0 };
@@ -73,25 +77,24 @@ pub trait Place: Drop {
         ensures fails { IfErr result (λ trouble. fails_to_read self.now path.now trouble) }
         ensures bytes { IfOk result (λ bytes. reads self.now path.now bytes.items) };
 
-    /// Opens a desk over the database file at a path, which is made if it is missing. If `copies` is true,
-    /// its log is then copied into the file. Errors: `File`; `NoMemory`; `NotOurs`, if it holds tables of
-    /// another program; `Newer`, if a later version wrote it.
+    /// Opens a desk over the database file at a path. To serve or to answer, the database is made if there is
+    /// none; to serve, its log is then copied into the file. Errors: `File`, also to ask where there is no
+    /// database, and then nothing is made; `NoMemory`; `NotOurs`, if it holds tables of another program;
+    /// `Newer`, if a later version wrote it.
     fn open(
         self,
         alloc: Global,
         path: &str,
         settings: Settings,
-        copies: bool,
-    ) -> Result<Opened<Self::Stored>, Trouble>
+        purpose: Purpose,
+    ) -> Result<Self::Stored, Trouble>
         ensures why { IfErr result (λ trouble. IsDatabaseError trouble.error × NamesPath path.now trouble) }
-        ensures fails { IfErr result (λ trouble. refuses self path.now trouble) }
-        ensures same_settings { IfOk result (λ opened. Self.Stored.settings opened.desk ≡ settings) }
-        ensures opened { IfOk result (λ opened. opens self path.now copies opened.desk) }
+        ensures fails { IfErr result (λ trouble. refuses self path.now purpose trouble) }
+        ensures same_settings { IfOk result (λ desk. Self.Stored.settings desk ≡ settings) }
+        ensures opened { IfOk result (λ desk. opens self path.now purpose desk) }
         ensures represents { (L : Ledger) → holds_ledger self path.now L
-            → IfOk result (λ opened.
-            Self.Stored.is_fault_free opened.desk → Self.Stored.represents opened.desk (running L)) }
-        ensures found { IfOk result (λ opened.
-            Self.Stored.is_fault_free opened.desk → finds self path.now opened.is_new) };
+            → IfOk result (λ desk. Self.Stored.is_fault_free desk → Self.Stored.represents desk (running L)) }
+        ensures found { IfOk result (λ desk. Self.Stored.is_fault_free desk → finds self path.now purpose) };
 
     /// Closes a desk over the database file at a path: its log is copied into the file, which then holds
     /// everything. Errors: `File`, `NoMemory`; then the file and its log together hold everything.
@@ -146,21 +149,20 @@ pub fn open_desk<P: Place>(
     alloc: Global,
     place: P,
     files: Files<'_>,
-    copies: bool,
-) -> Result<Opened<P::Stored>, Trouble>
+    purpose: Purpose,
+) -> Result<P::Stored, Trouble>
     ensures why { IfErr result
-        (FailsBeforeDesk (P.reads place) (P.fails_to_read place) (P.refuses place) files.entry) }
-    ensures same_settings { IfOk result (λ opened.
-        AreReadSettings (P.reads place files.entry.settings.now) (P.Stored.settings opened.desk)) }
-    ensures opened { IfOk result (λ opened. P.opens place files.entry.db.now copies opened.desk) }
+        (FailsBeforeDesk (P.reads place) (P.fails_to_read place) (P.refuses place) files.entry purpose) }
+    ensures same_settings { IfOk result (λ desk.
+        AreReadSettings (P.reads place files.entry.settings.now) (P.Stored.settings desk)) }
+    ensures opened { IfOk result (λ desk. P.opens place files.entry.db.now purpose desk) }
     ensures represents { (L : Ledger) → P.holds_ledger place files.entry.db.now L
-        → IfOk result (λ opened.
-        P.Stored.is_fault_free opened.desk → P.Stored.represents opened.desk (running L)) }
-    ensures found { IfOk result (λ opened.
-        P.Stored.is_fault_free opened.desk → P.finds place files.entry.db.now opened.is_new) }
+        → IfOk result (λ desk. P.Stored.is_fault_free desk → P.Stored.represents desk (running L)) }
+    ensures found { IfOk result (λ desk.
+        P.Stored.is_fault_free desk → P.finds place files.entry.db.now purpose) }
 {
     let settings = read_settings_at(alloc, &place, files.settings)?;
-    place.open(alloc, files.db, settings, copies)
+    place.open(alloc, files.db, settings, purpose)
 }
 
 /// Closes a desk over the file at a path. If the close fails, prints its error on `errors`.

@@ -5,7 +5,7 @@ ghost use Rattle.portal_commands.specs.Serving.{IsServed, ServesAt, ServesOver};
 ghost use Rattle.portal_commands.specs.Bounds.{network_of, place_of};
 
 pub use crate::network::Network;
-use crate::place::{Files, Opened, Place, close_opened_desk, open_desk};
+use crate::place::{Files, Place, Purpose, close_opened_desk, open_desk};
 use portal_desk::Desk;
 use portal_exit::ProgramError;
 use portal_http_routes::Routes;
@@ -75,13 +75,9 @@ pub fn serve<P: Place, N: Network, W: Write, E: Write>(
         (network_of N.Network N.Bound.Host N.Bound.Reader.Read N.Bound.Writer.Write network) at
         (outlets W.Write E.Write output.old output.new errors.old errors.new) result }
 {
-    match open_desk(alloc, place, files, true) {
+    match open_desk(alloc, place, files, Purpose::Serve) {
         Err(trouble) => trouble.report(errors),
-        Ok(opened) => {
-            let Opened {
-                mut desk,
-                is_new: _,
-            } = opened;
+        Ok(mut desk) => {
             let status = serve_at(alloc, &mut desk, network, at, output, errors);
             close_opened_desk::<P, E>(alloc, files.db, desk, errors);
             status

@@ -6,10 +6,8 @@ ghost use Rattle.portal_exit.specs.Errors.{exit_code_of};
 ghost use Rattle.portal_exit.specs.Streams.{Prints};
 ghost use Rattle.portal_commands.specs.Troubles.{
   second_line,
-  new_database_line,
   IsOneLine,
   NamesPath,
-  Announces,
   Reports,
 };
 
@@ -85,31 +83,5 @@ fn print_second_line<E: Write>(line: &Option<String>, errors: &mut E)
     match line {
         Some(line) => print_best_effort(line.as_bytes(), errors),
         None => {}
-    }
-}
-
-/// Makes the line that says that the database at a path is new.
-fn new_database_line(alloc: Global, path: &str) -> Result<String, AllocError>
-    ensures { IfOk result (λ line. string_bytes line ≡ new_database_line path.now) }
-{
-    format!(in alloc; "portal: new database {path}\n")
-}
-
-/// Prints that the database at a path is new, if `is_new` is true. Prints nothing if out of memory.
-pub fn announce_if_new<E: Write>(alloc: Global, path: &str, is_new: bool, errors: &mut E)
-    ensures { Announces path.now is_new (E.contents errors.old) (E.contents errors.new) }
-{
-    if is_new {
-        announce_new(alloc, path, errors);
-    }
-}
-
-/// Prints that the database at a path is new, as far as it can be written. Prints nothing if out of memory.
-fn announce_new<E: Write>(alloc: Global, path: &str, errors: &mut E)
-    ensures { Prints (E.contents errors.old) (E.contents errors.new) (new_database_line path.now) }
-{
-    match new_database_line(alloc, path) {
-        Ok(line) => print_best_effort(line.as_bytes(), errors),
-        Err(_) => {}
     }
 }

@@ -1,5 +1,5 @@
 -- The words of other crates that the proofs cite, passed on from one place.
-pub use Rattle.std.proofs.Common.{List, None, Option, Some, [], ap, ap₂, arith, false, inl, inr, length, rules, subst, suc, sym, true, true≢false, zero, ℕ, ◌<◌, ◌∙◌, ◌∷◌, ◌≡◌}
+pub use Rattle.std.proofs.Common.{List, None, Option, Some, [], ap, ap₂, arith, false, inl, inr, length, rules, subst, subst₂, suc, sym, true, true≢false, zero, ℕ, ◌<◌, ◌∙◌, ◌∷◌, ◌≡◌}
 pub use Rattle.std.specs.Prelude.{Bool, Err, IfErr, IfOk, IsErrAnd, IsTrue, Ok, Result}
 pub use Rattle.portal_os.specs.Opening.{AreCommitted, AreCopied, AreWhole, ComesFrom, HoldsCommits, IsReopened, OpensFiles}
 pub use Rattle.portal_ledger.specs.Ledger.{Ledger}

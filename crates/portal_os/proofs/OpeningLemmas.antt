@@ -4,6 +4,7 @@ use Rattle.sqlite_store.specs.declared.store.FileStore.{FileStore}
 use Rattle.sqlite.specs.State.{HasCleanDisk}
 use Rattle.sqlite.specs.Start.{FindsIn}
 use Rattle.sqlite_trees.specs.Tree.{Trees}
+use Rattle.portal_commands.specs.declared.place.Purpose.{Purpose}
 use Rattle.portal_tables.specs.TablesRepresent.{ConnIsFaultFree}
 
 module _ {D : Type 0} {g : Ghosts D} (conn : Held (FileStore D g)) where
@@ -43,7 +44,7 @@ module _ {D : Type 0} {g : Ghosts D} where
   from_on (Err e) image copies first honest same reopened found = tt
 
   -- two files that were not opened
-  pub opens_not : {E : Type 0} (image : Image) (copies : Bool) (result : Result (Held (FileStore D g) × Bool) E) (Q : E → Type 0) → IsErrAnd result Q
-      → OpensFiles image copies result
-  opens_not image copies (Ok opened) Q failed = absurd failed
-  opens_not image copies (Err e) Q failed = record { opened = λ L shown. tt; found = tt; from = tt }
+  pub opens_not : {E : Type 0} (image : Image) (purpose : Purpose) (result : Result (Held (FileStore D g)) E) (Q : E → Type 0) → IsErrAnd result Q
+      → OpensFiles image purpose result
+  opens_not image purpose (Ok conn) Q failed = absurd failed
+  opens_not image purpose (Err e) Q failed = record { opened = λ L shown. tt; found = tt; from = tt }

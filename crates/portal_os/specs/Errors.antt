@@ -35,6 +35,7 @@ abbrev pub error_of_unopened : Unopened → ProgramError
 error_of_unopened (unopened.Path error) = error_of_path error
 error_of_unopened (unopened.Store error) = error_of_store error
 error_of_unopened unopened.Lost = said.File
+error_of_unopened unopened.NoDatabase = said.File
 
 -- A database that could not be attached.
 abbrev pub error_of_open : OpenFault → ProgramError

@@ -1,5 +1,5 @@
 -- What is inspected before a database file is opened, what opening it leads to, and what a close leaves.
-use Rattle.std.specs.Prelude.{◌≡◌, ◌⊎◌, ◌↔◌, ℕ, ◌<◌, List, [], length, Bool, IsTrue, Result, IfOk}
+use Rattle.std.specs.Prelude.{◌≡◌, ◌≢◌, ◌⊎◌, ◌↔◌, ℕ, ◌<◌, List, [], length, Bool, true, false, IsTrue, Result, IfOk}
 use Rattle.sqlite_disk.specs.declared.Disk.{Ghosts}
 use Rattle.sqlite_disk.specs.declared.Files.{Files as Pair}
 use Rattle.sqlite_wal.specs.Recovery.{Image, IsCommitted}
@@ -15,6 +15,8 @@ use Rattle.sqlite.specs.Start.{FindsIn}
 use Rattle.sqlite.specs.State.{HasCleanDisk}
 use Rattle.portal_ledger.specs.Ledger.{Ledger}
 use Rattle.portal_ledger.specs.States.{running}
+use Rattle.portal_commands.specs.declared.place.Purpose.{Purpose}
+use Rattle.portal_commands.specs.declared.place.Purpose.TheVariants.{Serve, Answer, Ask}
 use Rattle.portal_exit.specs.declared.error.ProgramError.{ProgramError}
 use Rattle.portal_tables.specs.Attaching.{AttachesOthers}
 use Rattle.portal_tables.specs.Images.{ImageHoldsLedger, IsCrashStateOfStore}
@@ -43,6 +45,16 @@ IsLost image = (length image.db ≡ 0) × HoldsCommits image.log
 abbrev pub IsFoundNew : Image → Bool → Type 0
 IsFoundNew image is_new = (IsTrue is_new ↔ (length image.db ≡ 0)) × ¬ IsLost image
 
+-- A database may be opened for this purpose: it is not lost; and to ask, it was made, so its file is not empty.
+abbrev pub IsFoundFor : Image → Purpose → Type 0
+IsFoundFor image purpose = (¬ IsLost image) × (purpose ≡ Ask → length image.db ≢ 0)
+
+-- To serve, the log is copied into the database file first.
+abbrev pub copies_for : Purpose → Bool
+copies_for Serve = true
+copies_for Answer = false
+copies_for Ask = false
+
 module _ {D : Type 0} (g : Ghosts D) where
   -- In every crash state at this moment the two files hold the ledger, and so does the database file with an
   -- empty log.
@@ -62,13 +74,14 @@ RefusesStore g conn left error =
     × (ConnIsFaultFree g left → ConnIsFaultFree g conn × IsCause g conn cause × ((L : Ledger) → ConnRepresents g conn L → (cause ≡ Memory) ⊎ (cause ≡ Store)))
 
 module _ {D : Type 0} (g : Ghosts D) where
-  -- Two files that held this image were not opened, or their database was not attached; the error is the one
-  -- that belongs to that. A database that holds a ledger is never called foreign or newer.
-  abbrev pub RefusesFiles : Image → ProgramError → Type 0
-  RefusesFiles image error =
+  -- Two files that held this image were not opened, or their database was not attached, which is tried only
+  -- if it may be opened for this purpose; the error is the one that belongs to that. A database that holds a
+  -- ledger is never called foreign or newer.
+  abbrev pub RefusesFiles : Image → Purpose → ProgramError → Type 0
+  RefusesFiles image purpose error =
       ((unopened : Unopened) × (error ≡ error_of_unopened unopened))
       ⊎ ((cause : OpenFault) × (error ≡ error_of_open cause) × (conn left : Held (FileStore D g))
-      × (ConnIsFaultFree over_files left → FindsIn image (file_state conn) × IsCause over_files conn cause
+      × (ConnIsFaultFree over_files left → IsFoundFor image purpose × FindsIn image (file_state conn) × IsCause over_files conn cause
       × ((L : Ledger) → ImageHoldsLedger image L → (cause ≡ Memory) ⊎ (cause ≡ Store))))
 
 module _ {D : Type 0} {g : Ghosts D} where
@@ -84,13 +97,13 @@ module _ {D : Type 0} {g : Ghosts D} where
       FindsIn image (file_state conn)
       × (IsTrue copies → (first : Held (FileStore D g)) × FindsIn image (file_state first) × IsReopened first conn)
 
-  -- Two files that held this image were opened. As long as the disk of the connection is clean: it represents
-  -- the ledger that they hold; the flag says whether the database is new; and the connection finds all tables
-  -- that they held.
-  pub record OpensFiles {E : Type 0} (image : Image) (copies : Bool) (result : Result (Held (FileStore D g) × Bool) E) : Type 0 where
-    pub opened : (L : Ledger) → ImageHoldsLedger image L → IfOk result (λ opened. HasCleanDisk (file_state opened.0) → ConnRepresents over_files opened.0 L)
-    pub found : IfOk result (λ opened. HasCleanDisk (file_state opened.0) → IsFoundNew image opened.1)
-    pub from : IfOk result (λ opened. HasCleanDisk (file_state opened.0) → ComesFrom image copies opened.0)
+  -- Two files that held this image were opened for a purpose. As long as the disk of the connection is clean:
+  -- it represents the ledger that they hold; the database may be opened for this purpose; and the connection
+  -- finds all tables that they held.
+  pub record OpensFiles {E : Type 0} (image : Image) (purpose : Purpose) (result : Result (Held (FileStore D g)) E) : Type 0 where
+    pub opened : (L : Ledger) → ImageHoldsLedger image L → IfOk result (λ conn. HasCleanDisk (file_state conn) → ConnRepresents over_files conn L)
+    pub found : IfOk result (λ conn. HasCleanDisk (file_state conn) → IsFoundFor image purpose)
+    pub from : IfOk result (λ conn. HasCleanDisk (file_state conn) → ComesFrom image (copies_for purpose) conn)
 
   -- The files of a connection were closed and opened again, if that was asked for. As long as the disk of the
   -- new connection is clean: so was that of the old one; it represents the same ledger, and finds the same
@@ -107,10 +120,11 @@ module _ {D : Type 0} {g : Ghosts D} where
   AttachesAll image conn desk =
       (L : Ledger) → ImageHoldsLedger image L → ConnRepresents over_files conn L × DeskRepresents over_files desk (running L) × AttachesOthers over_files conn desk.tables
 
-  -- A desk over two files that held this image, as long as it has been fault-free.
-  abbrev pub OpensTo : Image → Bool → StoreDesk (FileStore D g) → Type 0
-  OpensTo image copies desk =
-      DeskIsFaultFree over_files desk → (conn : Held (FileStore D g)) × ComesFrom image copies conn × AttachesAll image conn desk
+  -- A desk over two files that held this image and were opened for a purpose, as long as it has been
+  -- fault-free.
+  abbrev pub OpensTo : Image → Purpose → StoreDesk (FileStore D g) → Type 0
+  OpensTo image purpose desk =
+      DeskIsFaultFree over_files desk → (conn : Held (FileStore D g)) × ComesFrom image (copies_for purpose) conn × AttachesAll image conn desk
 
 -- ---- what a close leaves
 

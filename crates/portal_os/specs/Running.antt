@@ -15,7 +15,7 @@ use Rattle.portal_server.specs.Loopback.{BindsLoopback}
 use Rattle.portal_server.specs.Turns.{host_of}
 use Rattle.portal_commands.specs.Places.{IsFileError, PlaceValue}
 use Rattle.portal_commands.specs.Serving.{NetworkValue}
-use Rattle.portal_os.specs.Opening.{IsClosed, IsFoundNew, IsUnclosed, OpensTo, RefusesFiles}
+use Rattle.portal_os.specs.Opening.{IsClosed, IsFoundFor, IsUnclosed, OpensTo, RefusesFiles}
 
 -- Files that hold this image, and the desks over them. Nothing more is assumed of a settings file: any bytes
 -- may be read, and a read may fail with any error.
@@ -30,11 +30,11 @@ host_place g image desk = record {
   tables_hold_ledger = desk.holds_ledger;
   reads = λ path bytes. ⊤;
   holds_ledger = λ path. ImageHoldsLedger image;
-  finds = λ path. IsFoundNew image;
+  finds = λ path. IsFoundFor image;
   opens = λ path. OpensTo image;
   closes = λ closed. IsClosed closed;
   fails_to_read = λ path trouble. ⊤;
-  refuses = λ path trouble. RefusesFiles g image trouble.error;
+  refuses = λ path purpose trouble. RefusesFiles g image purpose trouble.error;
   fails_to_close = λ unclosed path trouble. IsUnclosed unclosed;
   fails_to_make = IsFileError;
 }

@@ -2,7 +2,7 @@
 ghost use Rattle.std.specs.Prelude.{◌≡◌, [], IfErr, IfOk, OnOk, ⊤};
 ghost use Rattle.portal_exit.specs.declared.error.ProgramError.{ProgramError as Failure};
 ghost use Rattle.portal_os.specs.Laws.{memory_desk_is_fault_free};
-ghost use Rattle.portal_os.specs.Opening.{IsClosed, IsFoundNew, IsUnclosed, OpensTo, RefusesFiles};
+ghost use Rattle.portal_os.specs.Opening.{IsClosed, IsFoundFor, IsUnclosed, OpensTo, RefusesFiles};
 ghost use Rattle.sqlite_wal.specs.Files.{image_at};
 ghost use Rattle.sqlite.specs.Files.{over_files};
 ghost use Rattle.sqlite.specs.Steps.{over_memory};
@@ -16,7 +16,7 @@ ghost use Rattle.portal_tables.specs.Images.{ImageHoldsLedger};
 use crate::closing::close_desk;
 use crate::errors::{error_of_file, error_of_store};
 use crate::opening::{attach_store, open_memory_desk, open_store};
-use portal_commands::place::{Opened, Place};
+use portal_commands::place::{Place, Purpose};
 use portal_commands::trouble::Trouble;
 use portal_desk_store::StoreDesk;
 use portal_exit::ProgramError;
@@ -58,16 +58,16 @@ impl<'h, S: Start> Place for HostFiles<'h, S> {
 
     ghost holds_ledger = { λ place path L. ImageHoldsLedger (image_at S.Start) L };
 
-    ghost finds = { λ place path is_new. IsFoundNew (image_at S.Start) is_new };
+    ghost finds = { λ place path purpose. IsFoundFor (image_at S.Start) purpose };
 
-    ghost opens = { λ place path copies desk. OpensTo (image_at S.Start) copies desk };
+    ghost opens = { λ place path purpose desk. OpensTo (image_at S.Start) purpose desk };
 
     ghost closes = { λ desk. IsClosed desk };
 
     ghost fails_to_read = { λ _ _ _. ⊤ };
 
-    ghost refuses = { λ place path trouble.
-        RefusesFiles ⟦<FileFrom<S> as Disk>⟧ (image_at S.Start) trouble.error };
+    ghost refuses = { λ place path purpose trouble.
+        RefusesFiles ⟦<FileFrom<S> as Disk>⟧ (image_at S.Start) purpose trouble.error };
 
     ghost fails_to_close = { λ desk path trouble. IsUnclosed desk };
 
@@ -92,22 +92,21 @@ impl<'h, S: Start> Place for HostFiles<'h, S> {
         alloc: Global,
         path: &str,
         settings: Settings,
-        copies: bool,
-    ) -> Result<Opened<StoreDesk<FileStore<FileFrom<S>>>>, Trouble>
+        purpose: Purpose,
+    ) -> Result<StoreDesk<FileStore<FileFrom<S>>>, Trouble>
         ensures why { IfErr result (λ trouble. IsDatabaseError trouble.error × NamesPath path.now trouble) }
         ensures fails { IfErr result (λ trouble.
-            RefusesFiles ⟦<FileFrom<S> as Disk>⟧ (image_at S.Start) trouble.error) }
-        ensures same_settings { IfOk result (λ opened. settings_of opened.desk ≡ settings) }
+            RefusesFiles ⟦<FileFrom<S> as Disk>⟧ (image_at S.Start) purpose trouble.error) }
+        ensures same_settings { IfOk result (λ desk. settings_of desk ≡ settings) }
         ensures represents { (L : Ledger) → ImageHoldsLedger (image_at S.Start) L
-            → IfOk result (λ opened.
-            DeskIsFaultFree over_files opened.desk → DeskRepresents over_files opened.desk (running L)) }
-        ensures found { IfOk result (λ opened.
-            DeskIsFaultFree over_files opened.desk → IsFoundNew (image_at S.Start) opened.is_new) }
-        ensures opened { IfOk result (λ opened. OpensTo (image_at S.Start) copies opened.desk) }
+            → IfOk result (λ desk. DeskIsFaultFree over_files desk → DeskRepresents over_files desk (running L)) }
+        ensures found { IfOk result (λ desk.
+            DeskIsFaultFree over_files desk → IsFoundFor (image_at S.Start) purpose) }
+        ensures opened { IfOk result (λ desk. OpensTo (image_at S.Start) purpose desk) }
     {
-        match open_store(self.host, path, self.start, copies) {
-            Ok((conn, is_new)) => match attach_store(conn, settings) {
-                Ok(desk) => Ok(Opened { desk, is_new }),
+        match open_store(self.host, path, self.start, purpose) {
+            Ok(conn) => match attach_store(conn, settings) {
+                Ok(desk) => Ok(desk),
                 Err((error, _left)) => Err(Trouble::plain(error)),
             },
             Err(unopened) => Err(trouble_at(alloc, path, unopened.program_error(), &unopened)),

@@ -5,6 +5,7 @@
 mod closing;
 mod errors;
 mod files;
+mod finding;
 mod looking;
 mod network;
 mod opening;

@@ -1,11 +1,12 @@
 //! Inspects a database file and its log before they are opened. Nothing is written.
-ghost use Rattle.std.specs.Prelude.{◌≡◌, ◌↔◌, length, IsTrue, IfOk};
+ghost use Rattle.std.specs.Prelude.{◌≡◌, ◌↔◌, false, length, IsTrue, IfOk, OnOk};
 ghost use Rattle.sqlite_wal.specs.Reads.{AreClean, IsClean, OnlyReads};
 ghost use Rattle.sqlite.specs.Files.{image_of};
 ghost use Rattle.sqlite_wal.specs.PageSize.{bytes_of};
-ghost use Rattle.portal_os.specs.Opening.{AreCommitted, HoldsCommits, IsFoundNew};
+ghost use Rattle.portal_os.specs.Opening.{AreCommitted, HoldsCommits, IsFoundFor, IsFoundNew};
 
 use crate::unopened::Unopened;
+use portal_commands::place::Purpose;
 use sqlite_disk::{Disk, Files};
 use sqlite_wal::{Error, PageSize, probe_frames, probe_page_size};
 use std::alloc::Global;
@@ -54,7 +55,7 @@ fn holds_commits<D: Disk>(alloc: Global, files: &mut Files<D>) -> Result<bool, E
 
 /// Checks whether the database has yet to be made: its file is empty. Error: `Lost`, if the file is empty but
 /// its log holds commits.
-pub fn is_database_new<D: Disk>(alloc: Global, files: &mut Files<D>) -> Result<bool, Unopened>
+fn is_database_new<D: Disk>(alloc: Global, files: &mut Files<D>) -> Result<bool, Unopened>
     requires log { IsTrue (D.Disk.is_usable files.old.log) }
     requires db { IsTrue (D.Disk.is_usable files.old.db) }
     ensures found { IfOk result (λ is_new.
@@ -70,5 +71,41 @@ pub fn is_database_new<D: Disk>(alloc: Global, files: &mut Files<D>) -> Result<b
             Err(error) => Err(Unopened::of_log(error)),
         },
         Err(error) => Err(Unopened::of_io(error)),
+    }
+}
+
+/// Checks that a database may be opened for a purpose. Errors: `Lost`, if its file is empty but its log holds
+/// commits; `NoDatabase`, to ask of a database that has yet to be made.
+pub fn check_database<D: Disk>(
+    alloc: Global,
+    files: &mut Files<D>,
+    purpose: Purpose,
+) -> Result<(), Unopened>
+    requires log { IsTrue (D.Disk.is_usable files.old.log) }
+    requires db { IsTrue (D.Disk.is_usable files.old.db) }
+    ensures found { OnOk result (
+        AreClean D.Disk files.new.log files.new.db → IsFoundFor (image_of D.Disk files.old) purpose) }
+    ensures log { OnlyReads D.Disk files.old.log files.new.log }
+    ensures db { OnlyReads D.Disk files.old.db files.new.db }
+{
+    match is_database_new(alloc, files) {
+        Ok(is_new) => check_made(is_new, purpose),
+        Err(unopened) => Err(unopened),
+    }
+}
+
+/// Checks that a database was made before one is asked.
+fn check_made(is_new: bool, purpose: Purpose) -> Result<(), Unopened>
+    ensures { OnOk result (purpose ≡ Purpose.Ask → is_new ≡ false) }
+{
+    match purpose {
+        Purpose::Ask => {
+            if is_new {
+                Err(Unopened::NoDatabase)
+            } else {
+                Ok(())
+            }
+        }
+        Purpose::Serve | Purpose::Answer => Ok(()),
     }
 }

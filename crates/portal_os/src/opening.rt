@@ -14,11 +14,13 @@ ghost use Rattle.portal_desk_store.specs.DeskRepresents.{DeskRepresents, DeskIsF
 ghost use Rattle.portal_tables.specs.Attaching.{AttachesOthers};
 ghost use Rattle.portal_tables.specs.Images.{ImageHoldsLedger};
 ghost use Rattle.portal_tables.specs.TablesRepresent.{ConnRepresents, ConnIsFaultFree};
-ghost use Rattle.portal_os.specs.Opening.{ComesFrom, OpensAgain, OpensFiles, RefusesStore};
+ghost use Rattle.portal_os.specs.Opening.{ComesFrom, OpensAgain, OpensFiles, RefusesStore, copies_for};
 
 use crate::errors::error_of_open;
-use crate::looking::is_database_new;
+use crate::finding::find_database;
+use crate::looking::check_database;
 use crate::unopened::Unopened;
+use portal_commands::place::Purpose;
 use portal_desk_store::StoreDesk;
 use portal_exit::ProgramError;
 use portal_files::Settings;
@@ -108,22 +110,31 @@ fn copy_log<D: Disk + Drop>(
     }
 }
 
-/// Opens a connection to a database file and its log, and returns whether the database is new. If `copies` is
-/// true, the log is then copied into the file. Error: `Lost`, if the file is empty but its log holds commits:
-/// it is never taken for a new database.
+/// Returns whether the log is copied into the database file for this purpose.
+fn copies_for(purpose: Purpose) -> bool
+    ensures { result ≡ copies_for purpose }
+{
+    match purpose {
+        Purpose::Serve => true,
+        Purpose::Answer | Purpose::Ask => false,
+    }
+}
+
+/// Opens a connection to a database file and its log; to serve, the log is then copied into the file. Errors
+/// among others: `Lost`, if the file is empty but its log holds commits: it is never taken for a new database;
+/// `NoDatabase`, to ask of a database that has yet to be made: then nothing is written.
 pub fn open_database_files<D: Disk + Drop>(
     alloc: Global,
     mut files: Files<D>,
     options: Options,
-    copies: bool,
-) -> Result<(Connection<FileStore<D>>, bool), Unopened>
+    purpose: Purpose,
+) -> Result<Connection<FileStore<D>>, Unopened>
     requires log { IsTrue (D.Disk.is_usable files.log) }
     requires db { IsTrue (D.Disk.is_usable files.db) }
-    ensures { OpensFiles (image_of D.Disk files) copies result }
+    ensures { OpensFiles (image_of D.Disk files) purpose result }
 {
-    let is_new = is_database_new(alloc, &mut files)?;
-    let conn = open_connection(alloc, files, options, copies)?;
-    Ok((conn, is_new))
+    check_database(alloc, &mut files, purpose)?;
+    open_connection(alloc, files, options, copies_for(purpose))
 }
 
 /// Opens a connection to a database file and its log, and copies the log into the file if `copies` is true.
@@ -148,12 +159,13 @@ fn open_connection<D: Disk + Drop>(
     }
 }
 
-/// Opens and locks the database file at a path and its log, and makes them if they are missing. They stay
-/// locked until they are released.
+/// Opens and locks the database file at a path and its log. To serve or to answer, makes them if they are
+/// missing; to ask, makes no database. They stay locked until they are released.
 fn open_file_pair<S: Start>(
     host: &HostRuntime,
     path: &str,
     start: S,
+    purpose: Purpose,
 ) -> Result<Files<FileFrom<S>>, Unopened>
     ensures log { IfOk result (λ files. IsTrue (file_is_usable S.Start files.log)) }
     ensures db { IfOk result (λ files. IsTrue (file_is_usable S.Start files.db)) }
@@ -163,6 +175,7 @@ fn open_file_pair<S: Start>(
     if path == ":memory:" || path.starts_with("file:") {
         return Err(Unopened::Store(Error::SqliteFailure(ErrorCode::CannotOpen)));
     }
+    find_database(host, path, purpose)?;
     match sqlite_std_file::open(host, path, start) {
         Ok(files) => Ok(files),
         Err(error) => Err(Unopened::Path(error)),
@@ -175,37 +188,38 @@ fn random_options(host: &HostRuntime) -> Result<Options, Unopened> {
     Ok(Options::new(state.hash_one(&0u8)))
 }
 
-/// Opens a connection to two files, with the machine's clock, and returns whether the database is new.
+/// Opens a connection to two files, with the machine's clock.
 fn open_with_clock<D: Disk + Drop>(
     host: &HostRuntime,
     files: Files<D>,
-    copies: bool,
-) -> Result<(Connection<FileStore<D>>, bool), Unopened>
+    purpose: Purpose,
+) -> Result<Connection<FileStore<D>>, Unopened>
     requires log { IsTrue (D.Disk.is_usable files.log) }
     requires db { IsTrue (D.Disk.is_usable files.db) }
-    ensures { OpensFiles (image_of D.Disk files) copies result }
+    ensures { OpensFiles (image_of D.Disk files) purpose result }
 {
     let options = random_options(host)?;
-    let (mut conn, is_new) = open_database_files(host.alloc(), files, options, copies)?;
+    let mut conn = open_database_files(host.alloc(), files, options, purpose)?;
     conn.set_clock(host);
-    Ok((conn, is_new))
+    Ok(conn)
 }
 
-/// Opens a connection to the database file at a path, which is made if it is missing, and returns whether the
-/// database is new. The connection finds all tables that the file and its log held, ours and those of others,
-/// and holds the file's lock until it is released. If `copies` is true, the files are opened, closed, so that
-/// the log is copied into the file, and opened again.
+/// Opens a connection to the database file at a path. To serve or to answer, the file is made if it is
+/// missing. To serve, the files are opened, closed, so that the log is copied into the file, and opened again.
+/// The connection finds all tables that the file and its log held, ours and those of others, and holds the
+/// file's lock until it is released.
 ///
 /// No contract ties a path to what its file holds: `S` stands for that. If `S` holds a ledger, the connection
-/// represents it. Error among others: `Lost`, if the file is empty but its log holds commits.
+/// represents it. Errors among others: `Lost`, if the file is empty but its log holds commits; `NoDatabase`, to
+/// ask where no database was made: then nothing is made or written.
 pub fn open_store<S: Start>(
     host: &HostRuntime,
     path: &str,
     start: S,
-    copies: bool,
-) -> Result<(Connection<FileStore<FileFrom<S>>>, bool), Unopened>
-    ensures { OpensFiles (image_at S.Start) copies result }
+    purpose: Purpose,
+) -> Result<Connection<FileStore<FileFrom<S>>>, Unopened>
+    ensures { OpensFiles (image_at S.Start) purpose result }
 {
-    let files = open_file_pair(host, path, start)?;
-    open_with_clock(host, files, copies)
+    let files = open_file_pair(host, path, start, purpose)?;
+    open_with_clock(host, files, purpose)
 }

@@ -15,8 +15,10 @@ pub enum Unopened {
     Path(OpenError),
     /// The database in them could not be opened.
     Store(Error),
-    /// The file is empty, but its log holds commits.
+    /// The file is empty or missing, but its log holds commits.
     Lost,
+    /// There is no database, and none is made.
+    NoDatabase,
 }
 
 impl Unopened {
@@ -43,6 +45,7 @@ impl Unopened {
             Unopened::Path(error) => error_of_path(error),
             Unopened::Store(error) => error_of_store(error),
             Unopened::Lost => ProgramError::File,
+            Unopened::NoDatabase => ProgramError::File,
         }
     }
 }
@@ -54,6 +57,9 @@ impl fmt::Display for Unopened {
             Unopened::Store(error) => write!(f, "{error}"),
             Unopened::Lost => f.write_str(
                 "the database is empty or missing, and its log holds commits",
+            ),
+            Unopened::NoDatabase => f.write_str(
+                "there is no database here: only serve and answer create one",
             ),
         }
     }

@@ -9,7 +9,7 @@ use crate::day::{PLANS, build_questions};
 use crate::exchanges::{ExchangeResult, Peer, exchange_with_peer, exchange_with_peers, whole_peer};
 use crate::requests::{MOMENT, NO_ROUTE, REQUEST, STOPPED, UNROUTED};
 use crate::{serving, subcommands};
-use portal_commands::place::{Opened, Place};
+use portal_commands::place::{Place, Purpose};
 use portal_commands::trouble::Trouble;
 use portal_desk::Desk;
 use portal_desk::prepared::Prepared;
@@ -48,7 +48,7 @@ impl Place for InMemory {
 
     ghost fails_to_read = { λ _ _ _. ⊤ };
 
-    ghost refuses = { λ _ _ _. ⊤ };
+    ghost refuses = { λ _ _ _ _. ⊤ };
 
     ghost fails_to_close = { λ _ _ _. ⊤ };
 
@@ -65,8 +65,8 @@ impl Place for InMemory {
         _alloc: Global,
         _path: &str,
         _settings: Settings,
-        _copies: bool,
-    ) -> Result<Opened<StoreDesk<MemStore>>, Trouble> {
+        _purpose: Purpose,
+    ) -> Result<StoreDesk<MemStore>, Trouble> {
         Err(Trouble::plain(ProgramError::File))
     }
 

@@ -1,4 +1,6 @@
 //! A database file of the machine, by its path.
+use portal_commands::place::Purpose;
+use portal_os::{Unopened, open_store};
 use portal_tables::opening::open_path;
 use sqlite::Unknown;
 use std::fs;
@@ -37,5 +39,46 @@ fn opens_file_at_path(rt: HostRuntime) -> Result<(), Fail> {
     let _ = fs::remove_file(&rt, LOG);
     assert!(rt; !is_made_nowhere && is_made_there);
     assert!(rt; bytes?.as_slice().starts_with(b"SQLite format 3\0"));
+    Ok(())
+}
+
+/// Paths that the second test alone uses, and those of the logs beside them.
+const MISSING: &str = "asked_where_nothing_is.db";
+
+const MISSING_LOG: &str = "asked_where_nothing_is.db-wal";
+
+const EMPTY: &str = "asked_of_an_empty_file.db";
+
+const EMPTY_LOG: &str = "asked_of_an_empty_file.db-wal";
+
+/// Opens the database at a path to ask, and returns whether it was refused since there is none.
+fn has_no_database(rt: &HostRuntime, path: &str) -> bool {
+    match open_store(rt, path, Unknown, Purpose::Ask) {
+        Err(unopened) => matches!(unopened, Unopened::NoDatabase),
+        Ok(conn) => {
+            drop(conn);
+            false
+        }
+    }
+}
+
+/// To ask, nothing is made at a path where there is no file, an empty file, or an empty file and an empty log.
+#[test]
+fn asking_makes_nothing(rt: HostRuntime) -> Result<(), Fail> {
+    let is_refused = has_no_database(&rt, MISSING) && has_no_database(&rt, NOWHERE);
+    assert!(rt; is_refused && !fs::exists(&rt, MISSING)? && !fs::exists(&rt, MISSING_LOG)?);
+    fs::write(&rt, EMPTY, b"".as_slice())?;
+    let is_refused = has_no_database(&rt, EMPTY);
+    let has_log = fs::exists(&rt, EMPTY_LOG)?;
+    fs::write(&rt, EMPTY_LOG, b"".as_slice())?;
+    let is_refused_again = has_no_database(&rt, EMPTY);
+    let (db, log) = (
+        fs::metadata(&rt, EMPTY)?.len(),
+        fs::metadata(&rt, EMPTY_LOG)?.len(),
+    );
+    fs::remove_file(&rt, EMPTY)?;
+    fs::remove_file(&rt, EMPTY_LOG)?;
+    assert!(rt; is_refused && !has_log);
+    assert!(rt; is_refused_again && db == 0 && log == 0);
     Ok(())
 }

@@ -1,7 +1,7 @@
 //! A place of one settings file, with the errors that it has to give, and a network.
 ghost use Rattle.std.specs.Prelude.{⊤};
 
-use portal_commands::place::{Files, Opened, Place};
+use portal_commands::place::{Files, Place, Purpose};
 use portal_commands::serving::Network;
 use portal_commands::trouble::Trouble;
 use portal_exit::ProgramError;
@@ -24,7 +24,7 @@ pub const FILES: Files<'static> = Files {
     settings: "portal.toml",
 };
 
-/// The same with a database that is new.
+/// The same with a database that has yet to be made.
 pub const NEW: Files<'static> = Files {
     db: "new.db",
     settings: "portal.toml",
@@ -90,7 +90,7 @@ impl<P: Place> Place for GivenPlace<P> {
 
     ghost fails_to_read = { λ _ _ _. ⊤ };
 
-    ghost refuses = { λ _ _ _. ⊤ };
+    ghost refuses = { λ _ _ _ _. ⊤ };
 
     ghost fails_to_close = { λ _ _ _. ⊤ };
 
@@ -118,15 +118,18 @@ impl<P: Place> Place for GivenPlace<P> {
         alloc: Global,
         path: &str,
         settings: Settings,
-        _copies: bool,
-    ) -> Result<Opened<P::Fresh>, Trouble> {
-        let is_new = path == NEW.db;
-        if path != FILES.db && path != STUCK.db && !is_new {
+        purpose: Purpose,
+    ) -> Result<P::Fresh, Trouble> {
+        if path == NEW.db {
+            if let Purpose::Ask = purpose {
+                return Err(Trouble::of_file(alloc, path, "no database"));
+            }
+        } else if path != FILES.db && path != STUCK.db {
             return Err(Trouble::plain(ProgramError::File));
         }
         match self.shelf.opening {
             None => match P::open_desk_in_memory(alloc, settings) {
-                Ok(desk) => Ok(Opened { desk, is_new }),
+                Ok(desk) => Ok(desk),
                 Err(ProgramError::NoMemory) => Err(Trouble::plain(ProgramError::NoMemory)),
                 Err(_) => Err(Trouble::plain(ProgramError::File)),
             },

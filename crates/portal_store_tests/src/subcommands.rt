@@ -69,11 +69,16 @@ fn answer_guest<P: Place>(
 }
 
 /// Makes the options of `answer`, over files or without.
-fn answer_options(now: u64, seed: &str, has_files: bool) -> AnswerOptions<'_> {
+fn answer_options<'a>(
+    now: u64,
+    seed: &'a str,
+    has_files: bool,
+    files: Files<'a>,
+) -> AnswerOptions<'a> {
     AnswerOptions {
-        db: if has_files { Some(FILES.db) } else { None },
+        db: if has_files { Some(files.db) } else { None },
         settings: if has_files {
-            Some(FILES.settings)
+            Some(files.settings)
         } else {
             None
         },
@@ -82,38 +87,44 @@ fn answer_options(now: u64, seed: &str, has_files: bool) -> AnswerOptions<'_> {
     }
 }
 
-/// Runs the subcommand over the files of the place, and returns its exit code.
+/// Runs the subcommand over these files of the place, and returns its exit code.
 fn run_for_exit_code<P: Place>(
     alloc: Global,
     place: P,
     asked: &Subcommand<'_>,
+    files: Files<'_>,
     output: &mut Vec<u8>,
     errors: &mut Vec<u8>,
 ) -> u8 {
     match asked {
         Subcommand::Answer(now, seed, has_files) => {
-            let request = answer_options(*now, seed, *has_files);
+            let request = answer_options(*now, seed, *has_files, files);
             answer_guest(alloc, place, &request, output, errors)
         }
-        Subcommand::Print(batch) => print(alloc, place, FILES, batch, output, errors),
-        Subcommand::Takings(from, to) => takings(alloc, place, FILES, from, to, output, errors),
-        Subcommand::Check => check(alloc, place, FILES, output, errors),
+        Subcommand::Print(batch) => print(alloc, place, files, batch, output, errors),
+        Subcommand::Takings(from, to) => takings(alloc, place, files, from, to, output, errors),
+        Subcommand::Check => check(alloc, place, files, output, errors),
         Subcommand::Serve(is_free) => {
             let at = ServeOptions { port: 80, count: 1 };
             let network = TestNetwork { is_free: *is_free };
-            serve(alloc, place, network, FILES, at, output, errors)
+            serve(alloc, place, network, files, at, output, errors)
         }
     }
 }
 
-/// Runs the subcommand over the files, and returns what it printed and its exit code.
-fn run_and_collect<P: Place>(shelf: &Shelf, asked: &Subcommand<'_>) -> ExitResult {
+/// Runs the subcommand over these files, and returns what it printed and its exit code.
+fn run_and_collect<P: Place>(
+    shelf: &Shelf,
+    asked: &Subcommand<'_>,
+    files: Files<'_>,
+) -> ExitResult {
     let mut output = Vec::new(shelf.alloc);
     let mut errors = Vec::new(shelf.alloc);
     let status = run_for_exit_code(
         shelf.alloc,
         shelf.place::<P>(),
         asked,
+        files,
         &mut output,
         &mut errors,
     );
@@ -132,7 +143,7 @@ fn exits_with(
     output: &str,
     errors: &str,
 ) -> bool {
-    run_and_collect::<InMemory>(shelf, asked).is(status, output, errors)
+    run_and_collect::<InMemory>(shelf, asked, FILES).is(status, output, errors)
 }
 
 /// A settings file, the errors of reading it and of opening the database, and the one that is printed.
@@ -274,13 +285,38 @@ fn check_succeeds<P: Place>(alloc: Global, files: Files<'_>, said: &str) -> bool
     ended.is(0, "ok\n", said)
 }
 
-/// A database that is new, and one that cannot be closed: the output and the exit code stay the same.
+/// A database that cannot be closed: the output and the exit code stay the same.
 #[test]
-fn new_and_not_closed(rt: HostRuntime) {
+fn not_closed(rt: HostRuntime) {
     let alloc = rt.alloc();
     assert!(rt; check_succeeds::<InMemory>(alloc, FILES, ""));
-    assert!(rt; check_succeeds::<InMemory>(alloc, NEW, "portal: new database new.db\n"));
     assert!(rt; check_succeeds::<InMemory>(alloc, STUCK, "portal: file\n  stuck.db: no room\n"));
+}
+
+/// Subcommands that ask one question, and those that make a database if there is none.
+const ASKING: &[Subcommand<'static>] = &[
+    Subcommand::Print("b1"),
+    Subcommand::Takings("1970-01-02", "1970-01-02"),
+    Subcommand::Check,
+];
+
+const MAKING: &[(Subcommand<'static>, u8, &str)] = &[
+    (Subcommand::Answer(MOMENT, SEED, true), 0, ""),
+    (Subcommand::Serve(true), 0, "portal: network\n"),
+];
+
+/// A database that has yet to be made is not opened to ask. It is opened to serve and to answer.
+#[test]
+fn made_to_serve_and_to_answer(rt: HostRuntime) {
+    let alloc = rt.alloc();
+    for asked in ASKING {
+        let ended = run_and_collect::<InMemory>(&good_shelf(alloc), asked, NEW);
+        assert!(rt; ended.is(3, "", "portal: file\n  new.db: no database\n"));
+    }
+    for (asked, status, errors) in MAKING {
+        let ended = run_and_collect::<InMemory>(&good_shelf(alloc), asked, NEW);
+        assert!(rt; ended.status == *status && ended.errors.as_slice() == errors.as_bytes());
+    }
 }
 
 /// Checks that only the line of a stopped desk was printed, with exit code 3.

@@ -10,11 +10,8 @@ returns-in-Ok-clause-over g c =
     inr (
       _,
       c.in-Ok.ensures.same_settings,
-      c.in-Ok.opened.is_new,
-      g.E.Write.contents c.announce_if_new.new.errors,
-      c.announce_if_new.ensures,
       (
-        c.in-Ok.opened.desk,
+        c.in-Ok.desk,
         call.new.desk,
         g.E.Write.contents call.new.errors,
         c.in-Ok.ensures.opened,
@@ -39,19 +36,16 @@ pub returns-in-Ok-clause-exact : goal.returns-in-Ok-clause-exact
 returns-in-Ok-clause-exact g c =
     let call = c.ask_desk-status in
     inr (
-      c.in-Ok.opened.desk,
+      c.in-Ok.desk,
       call.new.desk,
-      c.in-Ok.opened.is_new,
-      g.E.Write.contents c.announce_if_new.new.errors,
       g.E.Write.contents call.new.errors,
       c.in-Ok.ensures.opened,
-      c.announce_if_new.ensures,
       c.close_opened_desk.ensures,
       (
         call.ensures.exact.0,
         call.ensures.exact.2,
         λ honest.
             let was = call.ensures.settings.fault_free honest in
-            (was, λ L holds_ledger. c.in-Ok.ensures.represents L holds_ledger was, call.ensures.exact.1 honest),
+            (was, c.in-Ok.ensures.found was, λ L holds_ledger. c.in-Ok.ensures.represents L holds_ledger was, call.ensures.exact.1 honest),
       ),
     )

@@ -10,9 +10,8 @@ returns-in-Ok g c =
     inr (
       _,
       c.in-Ok.ensures.same_settings,
-      c.in-Ok.opened.is_new,
       (
-        c.in-Ok.opened.desk,
+        c.in-Ok.desk,
         call.new.desk,
         g.E.Write.contents call.new.errors,
         c.in-Ok.ensures.opened,
@@ -29,7 +28,7 @@ returns-in-Ok g c =
             ),
       ),
       (
-        c.in-Ok.opened.desk,
+        c.in-Ok.desk,
         call.new.desk,
         g.E.Write.contents call.new.errors,
         c.in-Ok.ensures.opened,

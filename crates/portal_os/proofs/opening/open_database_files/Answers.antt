@@ -1,17 +1,17 @@
-use Rattle.portal_os.proofs.Common.{sym, ap₂, subst, Image, ImageHoldsLedger, image, ComesFrom}
-use Rattle.portal_os.proofs.OpeningLemmas.{opens_not}
+use Rattle.portal_os.proofs.Common.{sym, ap₂, subst, subst₂, Bool, IfOk, Image, ImageHoldsLedger, image, file_state, ComesFrom}
+use Rattle.sqlite.specs.State.{HasCleanDisk}
+use Rattle.portal_os.proofs.OpeningLemmas.{honest_on, opens_not}
 use Rattle.portal_os.proofs.opening.open_database_files.Goals as goal
 
-pub returns-in_err-is_new : goal.returns-in_err-is_new
-returns-in_err-is_new g c = opens_not _ _ c.from_residual.result _ c.from_residual.ensures.1
-
-pub returns-in_err-conn : goal.returns-in_err-conn
-returns-in_err-conn g c = opens_not _ _ c.from_residual-in_err-conn.result _ c.from_residual-in_err-conn.ensures.1
+pub returns-in_err-check_database : goal.returns-in_err-check_database
+returns-in_err-check_database g c = opens_not _ _ c.from_residual.result _ c.from_residual.ensures.1
 
 pub returns : goal.returns
 returns g c =
-    let same = ap₂ image c.is_database_new.ensures.log.seen c.is_database_new.ensures.db.seen in record {
-      opened = λ L shown clean. c.in_ok-conn.ensures.opened L (subst (λ (i : Image). ImageHoldsLedger i L) (sym same) shown) clean;
-      found = λ clean. c.in_ok-is_new.ensures.found (c.in_ok-conn.ensures.fault_free clean);
-      from = λ clean. subst (λ (i : Image). ComesFrom i c.args.copies c.in_ok-conn.conn) same (c.in_ok-conn.ensures.from clean);
+    let same = ap₂ image c.check_database.ensures.log.seen c.check_database.ensures.db.seen in
+    let opened = c.open_connection.result in record {
+      opened = λ L shown. c.open_connection.ensures.opened L (subst (λ (i : Image). ImageHoldsLedger i L) (sym same) shown);
+      found = honest_on opened _ _ _ c.open_connection.ensures.fault_free c.in_ok-check_database.ensures.found;
+      from = subst₂ (λ (i : Image) (b : Bool). IfOk opened (λ conn. HasCleanDisk (file_state conn) → ComesFrom i b conn))
+          same c.copies_for.ensures c.open_connection.ensures.from;
     }

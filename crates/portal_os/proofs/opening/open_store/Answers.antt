@@ -13,4 +13,4 @@ returns g c =
     let of_log = start_of files.log.is_log true start.log start.db log.0 in
     let of_db = start_of files.db.is_log false start.log start.db db.0 in
     let same = ap₂ image (reads_still start.is_mixing _ start.log files.log.key _ of_log log.1) (reads_still start.is_mixing _ start.db files.db.key _ of_db db.1) in
-    subst (λ (i : Image). OpensFiles i c.args.copies c.open_with_clock.result) same c.open_with_clock.ensures
+    subst (λ (i : Image). OpensFiles i c.args.purpose c.open_with_clock.result) same c.open_with_clock.ensures

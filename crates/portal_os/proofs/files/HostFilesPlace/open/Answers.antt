@@ -32,7 +32,7 @@ returns-in-Err-attach_store-clause-fails g c =
       λ honest.
           let refused = it.2 honest in
           let clean = clean_by c.in-Ok.conn refused.0 in
-          ((c.in-Ok.ensures.from clean).0, refused.1, λ L shown. refused.2 L (c.in-Ok.ensures.opened L shown clean)),
+          (c.in-Ok.ensures.found clean, (c.in-Ok.ensures.from clean).0, refused.1, λ L shown. refused.2 L (c.in-Ok.ensures.opened L shown clean)),
     )
 
 pub returns-in-Err-clause-fails : goal.returns-in-Err-clause-fails
