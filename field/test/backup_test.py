@@ -22,6 +22,7 @@ from collections.abc import Callable
 from unittest import mock
 
 from desk_process import FIELD, PORTAL, Desk, DeskProcess, Refused, Routes
+from needs import LOOP_DEVICES, ROOT, needs
 from steady import wait_until
 
 COPIES = 3
@@ -75,6 +76,7 @@ class Case(unittest.TestCase):
             return False
 
 
+@needs("procps")
 class Copies(Case):
     def sells(self, desk: DeskProcess, told: list[str], stop: threading.Event) -> None:
         patient = Desk(desk.port, "desk-token", timeout=60)
@@ -225,8 +227,8 @@ class Copies(Case):
             self.assertIn("its log is missing", done.stderr)
 
 
+@needs("procps", "rsync")
 class CarriedOff(Case):
-    @unittest.skipUnless(shutil.which("rsync"), "rsync is not installed")
     def test_copies_are_carried_off_as_the_readme_says(self) -> None:
         """By its line, to a folder of this machine. A copy that was damaged here since stays good there."""
         line = re.search(r"`(rsync [^`]*)`", (FIELD / "README.md").read_text())
@@ -246,10 +248,7 @@ class CarriedOff(Case):
             self.assertEqual(self.restore(desk, far / copy.name, desk.book, folder=desk.folder).returncode, 0)
 
 
-CAN_MOUNT = os.geteuid() == 0 and shutil.which("mkfs.btrfs") and os.path.exists("/dev/loop-control")
-
-
-@unittest.skipUnless(CAN_MOUNT, "btrfs-progs is not installed, or this is not root, or there are no loop devices")
+@needs("btrfs-progs", "procps", ROOT, LOOP_DEVICES)
 class Snapshots(Case):
     """A database in a btrfs subvolume, in a file system in a file."""
 
@@ -298,6 +297,7 @@ class Snapshots(Case):
             Copies().holds(pathlib.Path(done.stdout.strip()), ["b1"])
 
 
+@needs("procps")
 class Restores(Case):
     def test_a_copy_is_restored_and_the_gateways_counts_dropped(self) -> None:
         """With an `nft` and a `systemctl` that only say what they were asked."""

@@ -21,6 +21,7 @@ import portal_front
 import web
 from clerk import Counter
 from journal import Journal
+from needs import lacks
 from steady import wait_until
 from words import use_zone
 
@@ -29,12 +30,11 @@ try:
     from selenium.webdriver.chrome.service import Service
     from selenium.webdriver.common.by import By
     from selenium.webdriver.common.keys import Keys
-    HAS_DRIVER = True
 except ImportError:
-    HAS_DRIVER = False
+    pass
 
-CAN = HAS_DRIVER and shutil.which("chromedriver") and shutil.which("chromium")
-HAS_FONT = pathlib.Path("/usr/share/fonts/truetype/dejavu/DejaVuSansCondensed.ttf").exists()    # of vouchers
+BROWSER = ("chromium", "chromium-driver", "python3-selenium")
+CAN = not lacks(*BROWSER)
 MAC = "02:00:00:00:00:01"
 VENUE: dict[str, Any] = {"house": "Sample Library", "help": "",
          "portal_url": "https://wifi.example/portal", "currency": "EUR", "wifi": "Library Guests",

@@ -17,7 +17,8 @@ from dataclasses import dataclass
 from typing import Any
 
 import counter_nginx
-from browser import CAN, Browser, Venue, policy
+from browser import BROWSER, CAN, Browser, Venue, policy
+from needs import needs
 from steady import wait_until
 
 import portal_counter
@@ -67,7 +68,7 @@ class Case:
     again: str
 
 
-@unittest.skipUnless(CAN, "chromium, chromium-driver or python3-selenium is not installed")
+@needs(*BROWSER)
 class History(unittest.TestCase):
     browser: Browser
 

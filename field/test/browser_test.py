@@ -13,8 +13,9 @@ from dataclasses import dataclass, field
 from typing import Any
 from unittest import mock
 
-from browser import CAN, DARK, HAS_FONT, LIGHT, MAC, Browser, Venue
+from browser import BROWSER, CAN, DARK, LIGHT, MAC, Browser, Venue
 from desk_process import FIELD, Routes
+from needs import needs
 
 import clerk
 from desk_client import new_number
@@ -170,7 +171,7 @@ class Look:
     hidden: list[int] = field(default_factory=list)         # stops at which the focus does not show
 
 
-@unittest.skipUnless(CAN, "chromium, chromium-driver or python3-selenium is not installed")
+@needs(*BROWSER)
 class Shown(unittest.TestCase):
     browser: Browser
 
@@ -281,7 +282,7 @@ class Shown(unittest.TestCase):
             if found.stops is not None:
                 self.assertEqual((found.stops, found.hidden), (list(range(found.places)), []), name)
 
-    @unittest.skipUnless(HAS_FONT, "fonts-dejavu-extra is not installed")
+    @needs("fonts-dejavu-extra")
     def test_sheets_fit_on_their_paper(self) -> None:
         """Sixteen vouchers on an A4 page, or twelve in two languages; a label or a receipt for each. None is cut off,
         in any language or pair of languages, with long names, and with larger text."""
@@ -310,7 +311,7 @@ class Shown(unittest.TestCase):
         self.browser.open(f"{self.venue.clerks}sheet?batch={batch}&size={size}")
         self.browser.ask("return document.fonts.ready.then(() => true)")
 
-    @unittest.skipUnless(HAS_FONT, "fonts-dejavu-extra is not installed")
+    @needs("fonts-dejavu-extra")
     def test_a_voucher_that_needs_more_than_its_place_is_whole(self) -> None:
         """On an A4 page it takes the room of others, on a label it goes on on the next."""
         self.venue.desk.issued("hour", "b16", 16)

@@ -32,6 +32,7 @@ from steady import BUSY, Span
 
 FIELD = pathlib.Path(__file__).resolve().parent.parent
 PYTHON = "/usr/bin/python3"
+OVER = "passed over: "       # begins what was not tried
 UNITS = (
     *PLANS,
     *BACKUPS,
@@ -469,7 +470,7 @@ def tried(edit: Edit, portal: str, before: Told | None) -> str:
             (kit / file).write_text(text.replace(old, new))
         told = told_at_last(kit, edit, portal, lambda told: edit.check in told.failed | told.passed)
     if told.skipped:
-        return "passed over: " + told.skipped
+        return OVER + told.skipped
     return "refused" if edit.check in told.failed else "SURVIVED " + told.more
 
 
@@ -503,13 +504,14 @@ def main() -> int:
     signal.signal(signal.SIGTERM, end_all)
     every = [*UNITS, *(edit for edits in LABS.values() for edit in edits if not args.rootless)]
     edits = [edit for edit in every if not args.names or edit.name in args.names]
-    bad = over = 0
+    bad, over = 0, list[str]()
     for edit, told in side_by_side(edits, args.portal, args.labs):
-        over += told.startswith("passed over")
-        bad += told != "refused" and not told.startswith("passed over")
-        word = "ok  " if told == "refused" else "note" if told.startswith("passed over") else "FAIL"
-        print(f"{word} {edit.name}: {told}" + ("" if word == "note" else f" by `{edit.check}`"), flush=True)
-    print(f"{len(edits) - bad - over} passed, {bad} failed")
+        if told.startswith(OVER):
+            over.append(f"{OVER}{edit.name}: {told.removeprefix(OVER)}")
+            continue
+        bad += told != "refused"
+        print(f"{'ok  ' if told == 'refused' else 'FAIL'} {edit.name}: {told} by `{edit.check}`", flush=True)
+    print(*over, f"{len(edits) - bad - len(over)} passed, {bad} failed", sep="\n")
     return int(bad > 0)
 
 

@@ -5,7 +5,6 @@ Run by itself it takes FIELD_PORTAL for the desk; else the stand-in answers.
 
 from __future__ import annotations
 
-import importlib.util
 import json
 import time
 import unittest
@@ -13,11 +12,10 @@ from collections.abc import Iterator
 from typing import Any
 
 from desk_process import FIELD, PLANS, DeskProcess, Refused, Routes
+from needs import needs
 
 from refusals import BY_WORD, TABLE
 
-NEEDED = ("yaml", "jsonschema")
-MISSING = [name for name in NEEDED if importlib.util.find_spec(name) is None]
 DESCRIPTION = FIELD.parent / "docs/openapi.yaml"        # of the repository; a kit that is installed alone has none
 ANYWHERE = {"no_route", "bad_method"}       # answers to what is no route of the table
 ONE, TWO, THREE = ("02:00:00:00:00:01", "02:00:00:00:00:02", "02:00:00:00:00:03")
@@ -32,7 +30,7 @@ def walk(node: Any, path: tuple[Any, ...] = ()) -> Iterator[tuple[tuple[Any, ...
 
 
 @unittest.skipUnless(DESCRIPTION.is_file(), "docs/openapi.yaml is not here: the kit stands outside its repository")
-@unittest.skipIf(MISSING, f"not installed: {', '.join(MISSING)}")
+@needs("python3-yaml", "python3-jsonschema")
 class Described(unittest.TestCase):
     api: dict[str, Any]
     seen: dict[tuple[Routes, int], int]

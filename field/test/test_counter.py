@@ -3,7 +3,6 @@
 from __future__ import annotations
 
 import contextlib
-import importlib.util
 import io
 import json
 import os
@@ -28,8 +27,6 @@ from portal_counter import pages
 from test_front import UnixLink, served
 from tries import Tries
 from sheet import wifi_text
-
-HAS_SEGNO = importlib.util.find_spec("segno") is not None
 
 
 class AtCounter(unittest.TestCase):
@@ -456,7 +453,6 @@ class Pages(AtCounter):
             self.notes.write("state", **state)
             self.assertEqual(re.findall("<title>(.*)</title>", self.ask(page, **form)[1]), [title], page)
 
-    @unittest.skipUnless(HAS_SEGNO, "python3-segno is not installed")
     def test_a_sheet_has_the_venues_logo(self) -> None:
         self.desk.issued("day", "b1", 2)
         self.assertEqual((self.ask("/sheet?batch=b1")[1].count("<img"), self.ask("/logo")[0]), (0, 404))
@@ -474,7 +470,6 @@ class Pages(AtCounter):
             self.conf["voucher_size"] = size or "a4"
             self.assertIn(f'<div class="vouchers {there}">', self.ask(f"/sheet?batch=b1{query}")[1])
 
-    @unittest.skipUnless(HAS_SEGNO, "python3-segno is not installed")
     def test_a_sheet_has_a_qr_code_for_each_code(self) -> None:
         codes = self.desk.issued("day", "b1", 3)
         status, text = self.ask("/sheet?batch=b1")

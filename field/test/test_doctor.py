@@ -25,6 +25,7 @@ from unittest import mock
 from desk_process import FIELD, DeskProcess, free_port
 from fake_machine import (
     LISTENERS, NETWORKS, SAMPLE, Certificates, FakeMachine, as_ip_tells, as_nft_tells, as_systemd_tells, in_days)
+from needs import NAMESPACES, ROOT, needs
 
 import base
 import certificates
@@ -206,7 +207,7 @@ class Ports(Case):
         self.told(network.ports, OVER, "only root")
 
 
-@unittest.skipUnless(shutil.which("openssl"), "openssl is not installed")
+@needs("openssl")
 class Certificate(Case):
     def setUp(self) -> None:
         super().setUp()
@@ -652,77 +653,72 @@ class Command(Case):
         self.assertTrue({("devices", "passed over"), ("addresses", "passed over"), ("ports", "good")} <= found, found)
 
 
-def namespaces() -> bool:
-    done = subprocess.run(["unshare", "-n", "ip", "link", "add", "a", "type", "veth", "peer", "name", "b"], capture_output=True)
-    return os.geteuid() == 0 and done.returncode == 0 and all(map(shutil.which, ("ip", "nft", "ss")))
+@needs("iproute2", "nftables", "procps", ROOT, NAMESPACES)
+class InANamespace(unittest.TestCase):
+    """The programs that are really there, in a network namespace of the test's own."""
 
+    def setUp(self) -> None:
+        self.name = f"doctor{os.getpid()}"
+        self.folder = pathlib.Path(self.enterContext(tempfile.TemporaryDirectory()))
+        subprocess.run(["ip", "netns", "add", self.name], check=True)
+        self.addCleanup(lambda: subprocess.run(["ip", "netns", "del", self.name], check=True))
+        for device, address in (("lan0", "10.77.0.1/22"), ("wan0", "203.0.113.1/24"), ("ctr0", "10.88.0.1/24")):
+            self.sh("ip", "link", "add", device, "type", "veth", "peer", "name", f"{device}-far")
+            self.sh("ip", "address", "add", address, "dev", device)
+            for end in (device, f"{device}-far"):
+                self.sh("ip", "link", "set", end, "up")
+        self.sh("ip", "route", "add", "default", "via", "203.0.113.2")
 
-if namespaces():
-    class InANamespace(unittest.TestCase):
-        """The programs that are really there, in a network namespace of the test's own."""
+    def sh(self, *words: object) -> str:
+        line = ["ip", "netns", "exec", self.name, *map(str, words)]
+        return subprocess.run(line, check=True, capture_output=True, text=True).stdout
 
-        def setUp(self) -> None:
-            self.name = f"doctor{os.getpid()}"
-            self.folder = pathlib.Path(self.enterContext(tempfile.TemporaryDirectory()))
-            subprocess.run(["ip", "netns", "add", self.name], check=True)
-            self.addCleanup(lambda: subprocess.run(["ip", "netns", "del", self.name], check=True))
-            for device, address in (("lan0", "10.77.0.1/22"), ("wan0", "203.0.113.1/24"), ("ctr0", "10.88.0.1/24")):
-                self.sh("ip", "link", "add", device, "type", "veth", "peer", "name", f"{device}-far")
-                self.sh("ip", "address", "add", address, "dev", device)
-                for end in (device, f"{device}-far"):
-                    self.sh("ip", "link", "set", end, "up")
-            self.sh("ip", "route", "add", "default", "via", "203.0.113.2")
+    def found(self, check: str) -> list[tuple[str, str]]:
+        line = ["ip", "netns", "exec", self.name, sys.executable, str(FIELD / "doctor"), "--json", "--portal",
+                "/bin/true", str(FIELD / "settings/field.toml")]
+        rows = json.loads(subprocess.run(line, capture_output=True, text=True).stdout)["findings"]
+        return [(row["state"], row["what"]) for row in rows if row["check"] == check]
 
-        def sh(self, *words: object) -> str:
-            line = ["ip", "netns", "exec", self.name, *map(str, words)]
-            return subprocess.run(line, check=True, capture_output=True, text=True).stdout
+    def wrong(self, check: str) -> str:
+        return "; ".join(what for state, what in self.found(check) if state == "wrong")
 
-        def found(self, check: str) -> list[tuple[str, str]]:
-            line = ["ip", "netns", "exec", self.name, sys.executable, str(FIELD / "doctor"), "--json", "--portal",
-                    "/bin/true", str(FIELD / "settings/field.toml")]
-            rows = json.loads(subprocess.run(line, capture_output=True, text=True).stdout)["findings"]
-            return [(row["state"], row["what"]) for row in rows if row["check"] == check]
+    def test_devices_and_addresses(self) -> None:
+        self.assertEqual({state for state, _ in self.found("devices") + self.found("addresses")}, {"good"})
+        self.sh("ip", "link", "set", "lan0-far", "down")
+        self.assertEqual(self.wrong("devices"), "lan: lan0 has no link")
+        self.sh("ip", "link", "set", "lan0", "down")
+        self.assertEqual(self.wrong("devices"), "lan: lan0 is down")
+        self.sh("ip", "address", "del", "10.88.0.1/24", "dev", "ctr0")
+        self.assertEqual(self.wrong("addresses"), 'counter = "10.88.0.1/24": no network device has this address')
+        self.sh("ip", "link", "del", "wan0")
+        self.assertIn("wan = 'wan0': this machine has no such network device", self.wrong("devices"))
 
-        def wrong(self, check: str) -> str:
-            return "; ".join(what for state, what in self.found(check) if state == "wrong")
+    def test_another_program_on_port_80(self) -> None:
+        line = ["ip", "netns", "exec", self.name, sys.executable, "-c", "import socket\ns = socket.create_server(('', 80))\n"
+                "print(flush=True)\ns.accept()"]
+        job = subprocess.Popen(line, stdout=subprocess.PIPE)
+        self.addCleanup(job.wait)
+        self.addCleanup(job.kill)
+        assert job.stdout
+        job.stdout.readline()
+        self.addCleanup(job.stdout.close)
+        self.assertRegex(self.wrong("ports"), r"tcp port 80 of 10\.77\.0\.1: python3[^;]* listens there \(process [0-9]+\)")
 
-        def test_devices_and_addresses(self) -> None:
-            self.assertEqual({state for state, _ in self.found("devices") + self.found("addresses")}, {"good"})
-            self.sh("ip", "link", "set", "lan0-far", "down")
-            self.assertEqual(self.wrong("devices"), "lan: lan0 has no link")
-            self.sh("ip", "link", "set", "lan0", "down")
-            self.assertEqual(self.wrong("devices"), "lan: lan0 is down")
-            self.sh("ip", "address", "del", "10.88.0.1/24", "dev", "ctr0")
-            self.assertEqual(self.wrong("addresses"), 'counter = "10.88.0.1/24": no network device has this address')
-            self.sh("ip", "link", "del", "wan0")
-            self.assertIn("wan = 'wan0': this machine has no such network device", self.wrong("devices"))
-
-        def test_another_program_on_port_80(self) -> None:
-            line = ["ip", "netns", "exec", self.name, sys.executable, "-c", "import socket\ns = socket.create_server(('', 80))\n"
-                    "print(flush=True)\ns.accept()"]
-            job = subprocess.Popen(line, stdout=subprocess.PIPE)
-            self.addCleanup(job.wait)
-            self.addCleanup(job.kill)
-            assert job.stdout
-            job.stdout.readline()
-            self.addCleanup(job.stdout.close)
-            self.assertRegex(self.wrong("ports"), r"tcp port 80 of 10\.77\.0\.1: python3[^;]* listens there \(process [0-9]+\)")
-
-        def test_rules(self) -> None:
-            self.assertIn("not loaded (inet, netdev)", self.wrong("rules"))
-            rules = (FIELD / "settings/rules.nft").read_text().replace("@LISTED@", "").replace("@PORT@", "8080")
-            rules = rules.replace("@LAN@", "lan0").replace("@WAN@", "wan0").replace("@FIELD@", str(FIELD))
-            path = self.folder / "rules.nft"
-            path.write_text("".join("define desk_users = { 0 }\n" if line.startswith("define desk_users") else line + "\n"
-                                    for line in rules.splitlines()))
-            self.sh("nft", "-f", path)
-            self.assertEqual(self.wrong("rules").count("; ") + 1, 3)       # no timer, no forwarding, IPv6 is on
-            self.sh("sysctl", "-q", "-w", "net.ipv4.ip_forward=1", "net.ipv6.conf.lan0.disable_ipv6=1")
-            self.assertIn("the grace timer does not run", self.wrong("rules"))
-            self.sh("nft", "add element inet portal alive { \"lan0\" timeout 60s }")
-            self.assertEqual({state for state, _ in self.found("rules")}, {"good"})
-            self.sh("nft", "flush", "ruleset")
-            self.assertIn("packets are forwarded", self.wrong("rules"))
+    def test_rules(self) -> None:
+        self.assertIn("not loaded (inet, netdev)", self.wrong("rules"))
+        rules = (FIELD / "settings/rules.nft").read_text().replace("@LISTED@", "").replace("@PORT@", "8080")
+        rules = rules.replace("@LAN@", "lan0").replace("@WAN@", "wan0").replace("@FIELD@", str(FIELD))
+        path = self.folder / "rules.nft"
+        path.write_text("".join("define desk_users = { 0 }\n" if line.startswith("define desk_users") else line + "\n"
+                                for line in rules.splitlines()))
+        self.sh("nft", "-f", path)
+        self.assertEqual(self.wrong("rules").count("; ") + 1, 3)       # no timer, no forwarding, IPv6 is on
+        self.sh("sysctl", "-q", "-w", "net.ipv4.ip_forward=1", "net.ipv6.conf.lan0.disable_ipv6=1")
+        self.assertIn("the grace timer does not run", self.wrong("rules"))
+        self.sh("nft", "add element inet portal alive { \"lan0\" timeout 60s }")
+        self.assertEqual({state for state, _ in self.found("rules")}, {"good"})
+        self.sh("nft", "flush", "ruleset")
+        self.assertIn("packets are forwarded", self.wrong("rules"))
 
 
 if __name__ == "__main__":

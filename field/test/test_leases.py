@@ -13,6 +13,7 @@ import unittest.mock
 from dataclasses import dataclass, field
 
 from desk_process import FIELD  # noqa: F401  (which says where the parts stand)
+from needs import needs
 
 import portal_leases
 from portal_leases import Binder, Lease, Service, leases_in
@@ -236,7 +237,7 @@ class Served(unittest.TestCase):
         self.assertEqual(self.table.rows[HERE].device, ONE)
 
 
-@unittest.skipUnless(neighbours, "python3-pyroute2 is not installed")
+@needs("python3-pyroute2")
 class Neighbours(unittest.TestCase):
     def test_a_device_is_one_that_no_arp_can_change(self) -> None:
         message = {"state": 0x80, "flags": 0x10, "attrs": [("NDA_DST", HERE), ("NDA_LLADDR", ONE.upper())]}
