@@ -2,7 +2,8 @@
 answered is the answer with memory, and then its rows stand in the file; or it is no_memory, and the rows are as before. Then the same call
 with memory is answered as if nothing had been. An opening is refused memory a second time too, before it is made with memory.
 
-usage: routes.py PROGRAM LIBRARY [--quick]      --quick: of an opening, which is the same in each call, only some requests for memory
+usage: routes.py PROGRAM LIBRARY [--quick] [--one]      --quick: of an opening, which is the same in each call, only some requests for
+                                                        memory; --one: of the calls that without a request alone, the shortest
 
 The last line is 'memory: N passed, M failed', in calls."""
 
@@ -187,12 +188,14 @@ def refuse_each(program, name, place, call, start, step):
 def main():
     program, LIBRARY["path"] = sys.argv[1:3]
     step = FEWER if "--quick" in sys.argv else 1
+    calls = [it for it in CALLS if "--one" not in sys.argv or it[2] is NOTHING]
     passed = failed = 0
     with folder() as room, concurrent.futures.ThreadPoolExecutor(os.cpu_count() or 2) as pool:
         stores(program, room)
-        first = dict(zip(STORES, pool.map(lambda name: opened(program, os.path.join(room, name)), STORES)))
+        used = {store for _, store, _ in calls}
+        first = dict(zip(used, pool.map(lambda name: opened(program, os.path.join(room, name)), used)))
         tasks = {}
-        for name, store, call in CALLS:
+        for name, store, call in calls:
             start, steps = (1, step) if name in WHOLE else (first[store], 1)
             tasks[pool.submit(refuse_each, program, name, os.path.join(room, store), call, start, steps)] = name, start
         for done in concurrent.futures.as_completed(tasks):
