@@ -222,7 +222,8 @@ class Pages:
         return self.show(
             "repetition.html", 200, repetition.notice(counter, name, before), name=counter.say(ACTIONS[name]),
             facts=repetition.facts(counter, before), money_left=repetition.money_left(counter, name, before),
-            code=form.get("code", ""), plans=counter.plans, plan=plan, number=new_number(), one=name_of_one())
+            code=form.get("code", ""), plans=counter.offers.offered_prices, plan=plan, number=new_number(),
+            one=name_of_one())
 
     def keep(self, acts: Acts) -> None:
         """In the journal. What was done is done without it, too."""
