@@ -10,3 +10,4 @@ pub mod ShownDays
 pub mod Rules
 pub mod Added
 pub mod TakingsVectors
+pub mod WrongKeys

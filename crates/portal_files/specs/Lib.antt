@@ -3,6 +3,7 @@ pub mod Laws
 pub mod LocalDay
 pub mod PlansFile
 pub mod Sample
+pub mod SettingsFault
 pub mod SettingsFile
 pub mod Takings
 pub mod Texts

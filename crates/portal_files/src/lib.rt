@@ -9,6 +9,7 @@ mod fields;
 mod laws;
 mod plans;
 mod settings;
+mod settings_fault;
 mod settings_file;
 mod sheet;
 
@@ -20,5 +21,6 @@ pub use laws::{
 };
 pub use plans::read_plans;
 pub use settings::Settings;
+pub use settings_fault::{SettingsFault, SettingsKey, find_settings_fault};
 pub use settings_file::{read_settings, sample_settings};
 pub use sheet::BatchSheet;

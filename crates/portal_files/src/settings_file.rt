@@ -88,7 +88,7 @@ fn is_token(text: &str) -> bool
 }
 
 /// Returns the URL under a key, if the key has one.
-fn url_at<'a>(table: &'a Table, key: &str) -> Option<&'a str>
+pub(crate) fn url_at<'a>(table: &'a Table, key: &str) -> Option<&'a str>
     ensures some { IfSome result (λ u. IsTextAt is_url key.now (table_view table.now) u.now) }
     ensures none { result ≡ None → (u : List ℕ) → IsTextAt is_url key.now (table_view table.now) u → ⊥ }
 {
@@ -100,7 +100,7 @@ fn url_at<'a>(table: &'a Table, key: &str) -> Option<&'a str>
 }
 
 /// Returns the token under a key, if the key has one.
-fn token_at<'a>(table: &'a Table, key: &str) -> Option<&'a str>
+pub(crate) fn token_at<'a>(table: &'a Table, key: &str) -> Option<&'a str>
     ensures some { IfSome result (λ u. IsTextAt is_token key.now (table_view table.now) u.now) }
     ensures none { result ≡ None → (u : List ℕ) → IsTextAt is_token key.now (table_view table.now) u → ⊥ }
 {
@@ -114,7 +114,7 @@ fn token_at<'a>(table: &'a Table, key: &str) -> Option<&'a str>
 /// Returns the URL of the venue, which the table can leave out.
 ///
 /// The inner value is none if the key is left out, the outer one if the key has another value than a URL.
-fn venue_at<'a>(table: &'a Table) -> Option<Option<&'a str>>
+pub(crate) fn venue_at<'a>(table: &'a Table) -> Option<Option<&'a str>>
     ensures some { IfSome result (λ o. IsVenueAt (table_view table.now) (option_map (λ u. u.now) o)) }
     ensures none { result ≡ None → (o : Option (List ℕ)) → IsVenueAt (table_view table.now) o → ⊥ }
 {
@@ -126,7 +126,7 @@ fn venue_at<'a>(table: &'a Table) -> Option<Option<&'a str>>
 }
 
 /// Returns the time zone, if its key has a POSIX TZ rule of 1 to 64 bytes.
-fn zone_at(table: &Table) -> Option<TimeZone<'static>>
+pub(crate) fn zone_at(table: &Table) -> Option<TimeZone<'static>>
     ensures some { IfSome result (λ zone. IsZoneAt (table_view table.now) (plain_zone zone)) }
     ensures none { result ≡ None → (zone : PlainZone) → IsZoneAt (table_view table.now) zone → ⊥ }
 {
@@ -148,7 +148,7 @@ struct Texts<'a> {
 }
 
 /// Returns the number of keys of a settings file, with the URL of a venue or without it.
-fn key_count(venue_url: Option<&str>) -> usize
+pub(crate) fn key_count(venue_url: Option<&str>) -> usize
     ensures { result ≡ file.key_count (option_map (λ u. u.now) venue_url.entry) }
 {
     match venue_url {
