@@ -24,6 +24,24 @@ DOCUMENT = os.path.join(os.path.dirname(os.path.abspath(__file__)), "../../docs/
 VERSION = os.path.join(os.path.dirname(DOCUMENT), "../VERSION")
 MEBIBYTE = 1 << 20
 NONE = "No such file or directory (os error 2)"
+DATE = "a date as YYYY-MM-DD, of the years 1969 to 9999"
+NO_TOML = 'is not TOML in UTF-8: a line is KEY = "VALUE", and no key occurs twice'
+ZONE = ("a POSIX TZ rule of 1 to 64 bytes, such as CET-1CEST,M3.5.0,M10.5.0/3, "
+        "which is the last line of /usr/share/zoneinfo/Europe/Berlin")
+# Settings that are refused, by the name of their file: its text (in Latin-1), and the cause that is told. No value is in it.
+REFUSED = {
+    "open": (SETTINGS.replace("https:", "http:"), "portal_url is not a URL that begins with https:// and has 9 to 2048 bytes of visible ASCII"),
+    "named": (re.sub('zone = .*', 'zone = "Europe/Berlin"', SETTINGS), f"zone is not {ZONE}"),
+    "bare": (SETTINGS.replace(' = "desk-token"', " = desk-token"), f"line 3 {NO_TOML}"),
+    "unended": (SETTINGS.replace('"gate-token"', '"gate-token'), f"line 4 {NO_TOML}"),
+    "twice": (SETTINGS + 'desk_token = "other-token"\n', f"line 5 {NO_TOML}"),
+    "latin": (SETTINGS + "# f\xfcr G\xe4ste\n", f"line 5 {NO_TOML}"),
+    "short": (SETTINGS.replace("gate-token", "secret"), "gateway_token is not a text of 8 to 128 bytes of visible ASCII"),
+    "number": (SETTINGS.replace('"desk-token"', "12345678"), "desk_token is not a text of 8 to 128 bytes of visible ASCII"),
+    "misspelt": (SETTINGS.replace("desk_token", "desk-token"), "desk_token is missing"),
+    "further": (SETTINGS + 'venue = "https://wifi.example/"\n', "there is a key other than zone, portal_url, venue_url, desk_token and gateway_token"),
+    "same": (SETTINGS.replace("gate-token", "desk-token"), "desk_token and gateway_token are the same"),
+}
 Said = tuple[int, str, str]
 Wanted = tuple[int, str | None, str | None]
 Limit = tuple[int, int]
@@ -48,9 +66,9 @@ def free_port() -> str:
 
 def files(folder: str) -> None:
     """The files that the cases name."""
-    texts = {"settings": SETTINGS, "open": SETTINGS.replace("https:", "http:"), "text": "no database"}
+    texts = {"settings": SETTINGS, "text": "no database"} | {name: text for name, (text, _) in REFUSED.items()}
     for name, text in texts.items():
-        with open(os.path.join(folder, name), "w", encoding="utf-8") as file:
+        with open(os.path.join(folder, name), "w", encoding="latin-1") as file:
             file.write(text)
     os.mkdir(os.path.join(folder, "folder"))
     for name, orders in (("other.db", "CREATE TABLE portal_plans (id TEXT)"),
@@ -82,6 +100,11 @@ def file_at(path: str, text: str) -> str:
     return f"portal: file\n  {path}: {text}\n"
 
 
+def usage(text: str) -> str:
+    """What is told of a value on the command line."""
+    return f"portal: usage\n  {text}\n"
+
+
 def cases() -> Iterator[tuple[tuple[str | bytes, ...], Wanted]]:
     """The words, and what they come to: status, standard output (None: any), standard error (None: any)."""
     moment = ("--now", "1583125693", "--seed", SEED)
@@ -90,17 +113,19 @@ def cases() -> Iterator[tuple[tuple[str | bytes, ...], Wanted]]:
     yield ("check",), (2, "", None)
     yield ("sell",), (2, "", None)
     yield ("serve", *at(), "--port", "0"), (2, "", None)
-    yield ("answer", "--now", "253370764800", "--seed", SEED), (2, "", "portal: usage\n")
-    yield ("answer", "--now", "0", "--seed", SEED[1:]), (2, "", "portal: usage\n")
-    yield ("answer", "--now", "0", "--seed", SEED[1:] + "g"), (2, "", "portal: usage\n")
-    yield ("print", b"b\xff", *at()), (2, "", "portal: usage\n")
-    yield ("takings", "2020-02-30", "2020-03-01", *at(settings="none")), (2, "", "portal: usage\n")
-    yield ("takings", "2020-03-02", "2020-03-01", *at(settings="none")), (2, "", "portal: usage\n")
-    yield ("takings", "2020-03-01", "2021-03-02", *at(settings="none")), (2, "", "portal: usage\n")
+    yield ("answer", "--now", "253370764800", "--seed", SEED), (2, "", usage("--now: 0 to 253370764799"))
+    for seed in (SEED[1:], SEED[1:] + "g"):
+        yield ("answer", "--now", "0", "--seed", seed), (2, "", usage("--seed: 64 hexadecimal digits"))
+    yield ("print", b"b\xff", *at()), (2, "", usage("arguments: text in UTF-8"))
+    yield ("takings", "2020-02-30", "2020-03-01", *at(settings="none")), (2, "", usage(f"FROM: {DATE}"))
+    yield ("takings", "2020-03-01", "2020-02-30", *at(settings="none")), (2, "", usage(f"TO: {DATE}"))
+    for days in (("2020-03-02", "2020-03-01"), ("2020-03-01", "2021-03-02")):
+        yield ("takings", *days, *at(settings="none")), (2, "", usage("FROM and TO: the first and the last of 1 to 366 days"))
     yield ("takings", "2020-03-01", "2021-03-01", *at()), (0, None, "")
     yield ("check", *at(settings="none")), (3, "", file_at("none", NONE))
     yield ("check", *at(settings="folder")), (3, "", file_at("folder", "Is a directory (os error 21)"))
-    yield ("check", *at(db="text", settings="open")), (3, "", "portal: settings\n")
+    for name, (_, cause) in REFUSED.items():
+        yield ("check", *at(db="text", settings=name)), (3, "", f"portal: settings\n  {name}: {cause}\n")
     for db, said in (("text", file_at("text", "file is not a database that obeys its schema")), ("folder", file_at("folder", "unsupported")),
                      ("none/portal.db", file_at("none/portal.db", NONE)), ("other.db", "portal: not_ours\n"),
                      ("later.db", "portal: newer\n")):
@@ -192,7 +217,9 @@ def taken(shown: Shown) -> None:
     with socket.socket() as other:
         other.bind(("127.0.0.1", 0))
         other.listen()
-        shown.call(("serve", *at(), "--port", str(other.getsockname()[1])), (3, "", "portal: network\n"))
+        port = str(other.getsockname()[1])
+        told = f"portal: network\n  port {port}: Address already in use (os error 98)\n"
+        shown.call(("serve", *at(), "--port", port), (3, "", told))
     how: dict[str, Any] = {"cwd": shown.folder, "stdout": subprocess.PIPE, "stderr": subprocess.DEVNULL}
     with subprocess.Popen([shown.program, "serve", *at(), "--port", free_port()], **how) as holds:
         assert holds.stdout

@@ -17,8 +17,8 @@ Exit codes:
   1  the request was refused, or the counters differ
   2  the command line is invalid, or a value is out of range (`portal: usage`)
   3  an error of a file, the network, the output or memory, or the server has stopped
-An error is one line on standard error: `portal: ` and a word. After `portal: file` a second line may
-name the path and the cause.
+An error is one line on standard error: `portal: ` and a word. A second line may say where it is, and
+its cause.
 
 The database is the file of `--db` and its log, PATH-wal. Each subcommand copies the log into the file
 as it ends; after a kill or a crash both files are needed."

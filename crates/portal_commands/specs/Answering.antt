@@ -1,5 +1,5 @@
 -- How the subcommand `answer` ends.
-use Rattle.std.specs.Prelude.{◌≡◌, ◌⊎◌, ◌≤◌, ℕ, List, [], length, Bool, ◌==◌, ◌&&◌, if◌then◌else◌, Option, None, Some, Result, Ok, Err, ⊤}
+use Rattle.std.specs.Prelude.{◌≡◌, ◌⊎◌, ◌<◌, ◌≤◌, ℕ, List, [], length, Bool, ◌==◌, ◌&&◌, if◌then◌else◌, Option, None, Some, Result, Ok, Err, ⊤}
 use Rattle.std.specs.List.{AllPass}
 use Rattle.std.specs.Borrow.{Bor}
 use Rattle.std.specs.Io.KnownBytes.{Keeps}
@@ -14,14 +14,16 @@ use Rattle.portal_http.specs.Arrived.{Arrived}
 use Rattle.portal_http.specs.Runs.{ServesInOrder}
 use Rattle.portal_http.specs.Exchanges.{Wire, EndsExchange}
 use Rattle.portal_exit.specs.declared.error.ProgramError.{ProgramError}
-use Rattle.portal_exit.specs.declared.error.ProgramError.TheVariants.{Usage, Cut, NoMemory}
+use Rattle.portal_exit.specs.declared.error.ProgramError.TheVariants.{Cut, NoMemory}
 use Rattle.portal_exit.specs.Errors.{line_of, exit_code_of}
 use Rattle.portal_exit.specs.Streams.{Prints}
 use Rattle.portal_commands.specs.declared.answering.AnswerOptions.{AnswerOptions}
+use Rattle.portal_commands.specs.declared.causes.UsageFault.{UsageFault}
+use Rattle.portal_commands.specs.declared.causes.UsageFault.TheVariants.{Now, Seed}
 use Rattle.portal_commands.specs.declared.place.Purpose.TheVariants.{Answer}
 use Rattle.portal_commands.specs.declared.trouble.Trouble.{Trouble}
 use Rattle.portal_commands.specs.Places.{IsFileError, IsDatabaseError, IsForMemory, PlaceValue, AreReadSettings, IsNotRead, ByDesk}
-use Rattle.portal_commands.specs.Troubles.{NamesPath, Reports}
+use Rattle.portal_commands.specs.Troubles.{IsOutOfRange, NamesPath, Reports}
 
 -- 0 after 200, 3 after the 503 of a desk that has stopped, 1 after any other status.
 abbrev pub exit_code_for : ℕ → Bool → ℕ
@@ -40,6 +42,12 @@ EndsAnswering wire moment seed IsRun is_stopped result =
 -- A time up to the end of the year 9998, and 64 hexadecimal digits.
 abbrev pub IsInRange : ℕ → List ℕ → Type 0
 IsInRange now seed = (now ≤ 253370764799) × (length seed ≡ 64) × AllPass is_hex_digit seed
+
+-- Which of the two is not.
+abbrev pub IsFaultOf : ℕ → List ℕ → UsageFault → Type 0
+IsFaultOf now seed Now = 253370764799 < now
+IsFaultOf now seed Seed = (now ≤ 253370764799) × ¬ ((length seed ≡ 64) × AllPass is_hex_digit seed)
+IsFaultOf now seed _ = ⊥
 
 -- Nothing is read, and nothing is written.
 abbrev pub AreLeftAlone : Wire → Type 0
@@ -88,13 +96,14 @@ IsAnswered place wire errors errors_after moment seed (Some path) settings statu
 abbrev pub IsOfNamed : (List ℕ → List ℕ → Type 0) → (List ℕ → Trouble → Type 0) → Option (Bor (List ℕ)) → Trouble → Type 0
 IsOfNamed reads fails settings trouble =
     (settings ≡ None → IsForMemory trouble)
-    × ((path : Bor (List ℕ)) → settings ≡ Some path → NamesPath path.now trouble × IsNotRead (reads path.now) (fails path.now) trouble)
+    × ((path : Bor (List ℕ)) → settings ≡ Some path → IsNotRead path.now (reads path.now) (fails path.now) trouble)
 
 -- A value is out of its range; or there are no settings; or the request is answered with the settings that
 -- were read.
 abbrev pub EndsAnswer : PlaceValue → Wire → Option (List ℕ) → Option (List ℕ) → AnswerOptions → ℕ → Type 0
 EndsAnswer place wire errors errors_after request status =
-    ((¬ IsInRange request.now request.seed.now) × AreLeftAlone wire × EndsStatus (Err Usage) errors errors_after status)
+    ((fault : UsageFault) × IsFaultOf request.now request.seed.now fault
+    × (trouble : Trouble) × IsOutOfRange fault trouble × EndsBeforeReading wire errors errors_after trouble status)
     ⊎ (IsInRange request.now request.seed.now
     × (((trouble : Trouble) × IsOfNamed place.reads place.fails_to_read request.settings trouble × EndsBeforeReading wire errors errors_after trouble status)
     ⊎ ((bytes : List ℕ) × (settings : SettingsValue) × (decode_of request.seed.now ≡ Ok bytes)

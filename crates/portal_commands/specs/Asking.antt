@@ -1,5 +1,5 @@
 -- The output of the subcommands that ask the desk one question: `print`, `takings` and `check`.
-use Rattle.std.specs.Prelude.{◌≡◌, ◌⊎◌, ℕ, List, Bool, true, false, Option, Some, Result, Ok, Err, ⊤}
+use Rattle.std.specs.Prelude.{◌≡◌, ◌⊎◌, ℕ, ℤ, List, Bool, true, false, Option, Some, Result, Ok, Err, ⊤}
 use Rattle.jiff_tz.specs.declared.timezone.TimeZone.{TimeZone}
 use Rattle.portal_days.specs.Span.{Span, IsSpan}
 use Rattle.portal_model.specs.IdText.{IsIdText}
@@ -17,7 +17,7 @@ use Rattle.portal_desk.specs.Sheets.{sheet_of, takings_over}
 use Rattle.portal_exit.specs.declared.ending.Output.{Output}
 use Rattle.portal_exit.specs.declared.ending.Output.TheVariants.{Text, Agrees, Differs}
 use Rattle.portal_exit.specs.declared.error.ProgramError.{ProgramError}
-use Rattle.portal_exit.specs.declared.error.ProgramError.TheVariants.{Refused, Usage}
+use Rattle.portal_exit.specs.declared.error.ProgramError.TheVariants.{Refused}
 use Rattle.portal_exit.specs.Streams.{Outlets}
 use Rattle.portal_exit.specs.Ends.{EndsWith}
 use Rattle.portal_files.specs.SettingsFile.{SettingsValue}
@@ -25,9 +25,11 @@ use Rattle.portal_commands.specs.declared.place.Files.{Files}
 use Rattle.portal_commands.specs.declared.place.Purpose.TheVariants.{Ask}
 use Rattle.portal_commands.specs.declared.asking.Question.{Question}
 use Rattle.portal_commands.specs.declared.asking.Question.TheVariants.{Batch, Takings, Counters}
+use Rattle.portal_commands.specs.declared.causes.UsageFault.{UsageFault}
+use Rattle.portal_commands.specs.declared.causes.UsageFault.TheVariants.{From, To, Days}
 use Rattle.portal_commands.specs.declared.trouble.Trouble.{Trouble}
 use Rattle.portal_commands.specs.Places.{PlaceValue, AreReadSettings, ByDesk, Closes, FailsBeforeDesk}
-use Rattle.portal_commands.specs.Troubles.{EndsTrouble}
+use Rattle.portal_commands.specs.Troubles.{EndsTrouble, EndsUsage}
 
 -- The output of a desk, or a refusal as the error.
 abbrev pub IsDeskResult : Result Output ProgramError → Type 0
@@ -70,6 +72,13 @@ PrintsBatch zone batch old _ new = ⊥
 abbrev pub IsRangeText : List ℕ → List ℕ → Span → Type 0
 IsRangeText from to range = IsDayText from range.first × IsDayText to range.last × IsSpan range.first range.last
 
+-- Why the texts name no range: one is no date, or the days are not those of one.
+abbrev pub IsRangeFault : List ℕ → List ℕ → UsageFault → Type 0
+IsRangeFault from to From = (day : ℤ) → ¬ IsDayText from day
+IsRangeFault from to To = ((day : ℤ) × IsDayText from day) × ((day : ℤ) → ¬ IsDayText to day)
+IsRangeFault from to Days = (first last : ℤ) × IsDayText from first × IsDayText to last × ¬ IsSpan first last
+IsRangeFault from to _ = ⊥
+
 -- The takings report over those days.
 abbrev pub IsReportOver : TimeZone → Span → History → List ℕ → Type 0
 IsReportOver zone range H text = IsReport (takings_over zone H range) text
@@ -84,7 +93,7 @@ PrintsTakingsOver zone range old _ new = ⊥
 -- Texts that name no range are an invalid command line, before any other error.
 abbrev pub PrintsTakingsFrom : PlaceValue → Files → List ℕ → List ℕ → Outlets → ℕ → Type 0
 PrintsTakingsFrom place files from to outlets status =
-    (((range : Span) → ¬ (IsRangeText from to range)) × EndsWith (Err Usage) outlets status)
+    ((fault : UsageFault) × IsRangeFault from to fault × EndsUsage fault outlets status)
     ⊎ ((range : Span) × IsRangeText from to range × AsksOver place files (λ settings. PrintsTakingsOver settings.zone range) outlets status)
 
 -- ---- check

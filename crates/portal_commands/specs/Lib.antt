@@ -1,3 +1,4 @@
+pub mod Causes
 pub mod Troubles
 pub mod Places
 pub mod Asking

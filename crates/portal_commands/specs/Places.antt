@@ -9,7 +9,7 @@ use Rattle.portal_exit.specs.declared.error.ProgramError.TheVariants.{File, NoMe
 use Rattle.portal_commands.specs.declared.place.Files.{Files}
 use Rattle.portal_commands.specs.declared.place.Purpose.{Purpose}
 use Rattle.portal_commands.specs.declared.trouble.Trouble.{Trouble}
-use Rattle.portal_commands.specs.Troubles.{NamesPath, Reports}
+use Rattle.portal_commands.specs.Troubles.{NamesPath, Reports, TellsFault}
 
 -- The file cannot be read, or out of memory.
 abbrev pub IsFileError : ProgramError → Type 0
@@ -32,6 +32,12 @@ AreReadSettings reads settings = (bytes : List ℕ) × reads bytes × IsSettings
 -- Bytes may be read that are no valid settings file.
 abbrev pub AreNone : (List ℕ → Type 0) → Type 0
 AreNone reads = (bytes : List ℕ) × reads bytes × ((settings : SettingsValue) → ¬ IsSettingsFile bytes settings)
+
+-- The same of the file at a path, and the trouble tells a fault of these bytes.
+abbrev pub AreRefused : List ℕ → (List ℕ → Type 0) → Trouble → Type 0
+AreRefused path reads trouble =
+    (trouble.error ≡ Settings)
+    × (bytes : List ℕ) × reads bytes × ((settings : SettingsValue) → ¬ IsSettingsFile bytes settings) × TellsFault path bytes trouble
 
 -- What is assumed of a place. Of its files: which bytes may be read at a path, which ledger the file at a
 -- path holds, what is found there by an opening for a purpose, which desk was opened over it for that purpose,
@@ -81,21 +87,21 @@ ByDesk place path purpose printed_after Ends Does =
     × ((new : State) × place.represents desk new × CrashStatesAllowedBy place desk new
     × Does printed (running L) new)))
 
+-- Out of memory, and nothing more is known.
+abbrev pub IsForMemory : Trouble → Type 0
+IsForMemory trouble = (trouble.error ≡ NoMemory) × (trouble.line ≡ None)
+
 -- There are no settings of the file at a path: the place does not read it; or bytes may be read there that
 -- are no valid settings; or there is no memory to tell.
-abbrev pub IsNotRead : (List ℕ → Type 0) → (Trouble → Type 0) → Trouble → Type 0
-IsNotRead reads fails trouble =
-    (IsFileError trouble.error × fails trouble)
-    ⊎ (((trouble.error ≡ Settings) × AreNone reads) ⊎ ((trouble.error ≡ NoMemory) × ((bytes : List ℕ) × reads bytes)))
+abbrev pub IsNotRead : List ℕ → (List ℕ → Type 0) → (Trouble → Type 0) → Trouble → Type 0
+IsNotRead path reads fails trouble =
+    (IsFileError trouble.error × NamesPath path trouble × fails trouble)
+    ⊎ (AreRefused path reads trouble ⊎ (IsForMemory trouble × ((bytes : List ℕ) × reads bytes)))
 
 -- The settings file or the database file cannot be used: there are no settings; or there are, and the place
 -- does not open the database for this purpose.
 abbrev pub FailsBeforeDesk : (List ℕ → List ℕ → Type 0) → (List ℕ → Trouble → Type 0) → (List ℕ → Purpose → Trouble → Type 0) → Files → Purpose → Trouble → Type 0
 FailsBeforeDesk reads fails_to_read refuses files purpose trouble =
-    (NamesPath files.settings.now trouble × IsNotRead (reads files.settings.now) (fails_to_read files.settings.now) trouble)
+    IsNotRead files.settings.now (reads files.settings.now) (fails_to_read files.settings.now) trouble
     ⊎ (NamesPath files.db.now trouble × IsDatabaseError trouble.error × refuses files.db.now purpose trouble
     × ((settings : SettingsValue) × AreReadSettings (reads files.settings.now) settings))
-
--- Out of memory, before the place was asked for a file.
-abbrev pub IsForMemory : Trouble → Type 0
-IsForMemory trouble = (trouble.error ≡ NoMemory) × (trouble.line ≡ None)

@@ -19,8 +19,11 @@ use Rattle.portal_commands.specs.Answering.{EndsAnswer}
 use Rattle.portal_commands.specs.declared.place.Files.{Files}
 use Rattle.portal_commands.specs.Asking.{AsksOver, AsksRightly, PrintsBatch, PrintsTakingsFrom, ChecksCounters}
 use Rattle.portal_commands.specs.declared.asking.Question.TheVariants.{Counters}
-use Rattle.portal_commands.specs.Places.{PlaceValue}
+use Rattle.portal_commands.specs.Places.{IsForMemory, PlaceValue}
 use Rattle.portal_commands.specs.Serving.{NetworkValue, ServesOver}
+use Rattle.portal_commands.specs.declared.causes.UsageFault.TheVariants.{Arguments, Port}
+use Rattle.portal_commands.specs.declared.trouble.Trouble.{Trouble}
+use Rattle.portal_commands.specs.Troubles.{EndsUsage, IsOutOfRange}
 
 -- Why the arguments could not be copied: one is not UTF-8, or out of memory.
 abbrev pub error_of_words : ErrorKind → ProgramError
@@ -28,8 +31,8 @@ error_of_words InvalidData = Usage
 error_of_words _ = NoMemory
 
 -- An error of copying the arguments.
-abbrev pub IsWordsError : ProgramError → Type 0
-IsWordsError error = (error ≡ Usage) ⊎ (error ≡ NoMemory)
+abbrev pub IsOfWords : Trouble → Type 0
+IsOfWords trouble = IsOutOfRange Arguments trouble ⊎ IsForMemory trouble
 
 -- The exit code is 0 for help and the version, 2 for an invalid command line, and 3 for out of memory.
 abbrev pub EndsPrintingText : NoOrder → Outlets → ℕ → Type 0
@@ -41,7 +44,7 @@ EndsPrintingText printout.NoMemory o status = EndsWith (Err NoMemory) o status
 -- Serving at a port; a port past 65,535 is an invalid command line.
 abbrev pub EndsServing : PlaceValue → Files → NetworkValue → ℕ → ℕ → Outlets → ℕ → Type 0
 EndsServing place files network port count o status =
-    ((65535 < port) × EndsWith (Err Usage) o status)
+    ((65535 < port) × EndsUsage Port o status)
     ⊎ ((port ≤ 65535) × ServesOver place files network (record { port = port; count = count }) o status)
 
 -- Where standard output and standard error go.

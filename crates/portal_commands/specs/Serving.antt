@@ -1,8 +1,6 @@
 -- How the subcommand `serve` ends.
-use Rattle.std.specs.Prelude.{◌≡◌, ◌⊎◌, ℕ, Result, Err}
+use Rattle.std.specs.Prelude.{◌≡◌, ◌⊎◌, ℕ, Result}
 use Rattle.portal_exit.specs.declared.error.ProgramError.{ProgramError}
-use Rattle.portal_exit.specs.declared.error.ProgramError.TheVariants.{Network, NoMemory}
-use Rattle.portal_exit.specs.Ends.{EndsWith}
 use Rattle.portal_exit.specs.Streams.{Outlets}
 use Rattle.portal_server.specs.Command.{PrintsAll, PrintsTurns, exit_code_at}
 use Rattle.portal_commands.specs.declared.serving.ServeOptions.{ServeOptions}
@@ -14,15 +12,15 @@ use Rattle.portal_server.specs.Turns.{HostValue}
 use Rattle.portal_commands.specs.declared.place.Files.{Files}
 use Rattle.portal_commands.specs.declared.place.Purpose.TheVariants.{Serve}
 use Rattle.portal_commands.specs.declared.trouble.Trouble.{Trouble}
-use Rattle.portal_commands.specs.Places.{PlaceValue, AreReadSettings, ByDesk, FailsBeforeDesk}
-use Rattle.portal_commands.specs.Troubles.{EndsTrouble}
+use Rattle.portal_commands.specs.Places.{PlaceValue, AreReadSettings, ByDesk, FailsBeforeDesk, IsForMemory}
+use Rattle.portal_commands.specs.Troubles.{EndsTrouble, IsUnbound}
 
 -- Connections are served; or an error comes before: the port cannot be bound, or out of memory.
 abbrev pub IsServed : ServeOptions → Outlets → ℕ → Type 0
 IsServed at o status =
     ((ended : Result (Unit {0}) ProgramError) × (status ≡ exit_code_at ended)
     × PrintsAll at.port at.count o ended)
-    ⊎ ((error : ProgramError) × ((error ≡ Network) ⊎ (error ≡ NoMemory)) × EndsWith (Err error) o status)
+    ⊎ ((trouble : Trouble) × (IsUnbound at.port trouble ⊎ IsForMemory trouble) × EndsTrouble trouble o status)
 
 -- What is assumed of a network: which hosts may be bound at a port, and at which ports none may be bound.
 pub record NetworkValue : Type 1 where
@@ -34,8 +32,8 @@ pub record NetworkValue : Type 1 where
 -- there is no memory, and the desk is as it was.
 abbrev pub ServesAt : NetworkValue → ServeOptions → SettingsValue → Outlets → ℕ → State → State → Type 0
 ServesAt network at settings o status old new =
-    ((error : ProgramError) × (((error ≡ Network) × network.refuses at.port) ⊎ (error ≡ NoMemory)) × EndsWith (Err error) o status
-    × (new ≡ old))
+    ((trouble : Trouble) × ((IsUnbound at.port trouble × network.refuses at.port) ⊎ IsForMemory trouble)
+    × EndsTrouble trouble o status × (new ≡ old))
     ⊎ ((before : network.host.Host) × (after : network.host.Host) × (ended : Result (Unit {0}) ProgramError)
     × network.listens at.port before × (status ≡ exit_code_at ended) × PrintsTurns network.host settings at.port at.count o before old ended after new)
 

@@ -30,6 +30,7 @@ ghost use Rattle.portal_commands.specs.Answering.{
   exit_code_for,
   EndsAnswering,
   EndsStatus,
+  IsFaultOf,
   IsInRange,
   IsOfNamed,
   AnswersFresh,
@@ -38,6 +39,7 @@ ghost use Rattle.portal_commands.specs.Answering.{
   EndsAnswer,
 };
 
+use crate::causes::UsageFault;
 use crate::place::{Place, Purpose, close_opened_desk, read_settings_at};
 use crate::seed::read_seed;
 use crate::trouble::Trouble;
@@ -110,17 +112,17 @@ pub fn answer_at<D: Desk, R: Read, W: Write>(
     }
 }
 
-/// Validates the time and the seed of the command line. Error: `Usage`, if the time is past the greatest one
-/// or the seed is not 64 hexadecimal digits.
-fn read_options(now: u64, seed: &str) -> Result<(Moment, [u8; 32]), ProgramError>
+/// Validates the time and the seed of the command line. Faults: `Now`, if the time is past the greatest one;
+/// `Seed`, if the seed is not 64 hexadecimal digits.
+fn read_options(now: u64, seed: &str) -> Result<(Moment, [u8; 32]), UsageFault>
     ensures { MatchResult result
         (λ values. IsInRange now seed.now × (values.0 ≡ now) × (decode_of seed.now ≡ Ok values.1))
-        (λ error. (error ≡ ProgramError.Usage) × ¬ (IsInRange now seed.now)) }
+        (IsFaultOf now seed.now) }
 {
     match Moment::new(now) {
-        None => Err(ProgramError::Usage),
+        None => Err(UsageFault::Now),
         Some(moment) => match read_seed(seed) {
-            None => Err(ProgramError::Usage),
+            None => Err(UsageFault::Seed),
             Some(seed) => Ok((moment, seed)),
         },
     }
@@ -264,7 +266,7 @@ pub fn answer<P: Place, R: Read, W: Write, E: Write>(
 {
     let (moment, seed) = match read_options(request.now, request.seed) {
         Ok(values) => values,
-        Err(error) => return error.report(errors),
+        Err(fault) => return Trouble::of_usage(alloc, fault).report(errors),
     };
     match settings_or_sample(alloc, &place, request.settings) {
         Err(trouble) => trouble.report(errors),

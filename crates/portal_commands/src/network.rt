@@ -1,9 +1,10 @@
 //! Where the program accepts connections.
-ghost use Rattle.std.specs.Prelude.{◌≡◌, ℕ, IfOk, IfErr, OnErr};
-ghost use Rattle.portal_exit.specs.declared.error.ProgramError.TheVariants.{Network as OfNetwork};
+ghost use Rattle.std.specs.Prelude.{ℕ, IfOk, IfErr, OnErr};
+ghost use Rattle.portal_commands.specs.Troubles.{IsUnbound};
 
-use portal_exit::ProgramError;
+use crate::trouble::Trouble;
 use portal_server::Host;
+use std::alloc::Global;
 
 /// Where the program accepts connections: the loopback address of the machine, or a test's stand-in.
 pub trait Network: Drop {
@@ -18,8 +19,8 @@ pub trait Network: Drop {
 
     /// Binds a port of the loopback address; connections wait from then on. Error: `Network`, if the port
     /// cannot be bound. The network is consumed, so no second port can be bound.
-    fn listen(self, port: u16) -> Result<Self::Bound, ProgramError>
-        ensures why { IfErr result (λ error. error ≡ OfNetwork) }
+    fn listen(self, alloc: Global, port: u16) -> Result<Self::Bound, Trouble>
+        ensures why { IfErr result (IsUnbound port) }
         ensures fails { OnErr result (refuses self port) }
         ensures bound { IfOk result (listens self port) };
 }

@@ -126,19 +126,19 @@ pub struct Files<'a> {
 }
 
 /// Reads the settings file at a path. Errors: `File`; `NoMemory`; `Settings`, if the file is no valid
-/// settings file.
+/// settings file, with what is wrong in it.
 pub fn read_settings_at<P: Place>(alloc: Global, place: &P, path: &str) -> Result<Settings, Trouble>
-    ensures why { IfErr result (λ trouble. IsSettingsError trouble.error × NamesPath path.now trouble) }
+    ensures why { IfErr result (λ trouble. IsSettingsError trouble.error) }
     ensures read { IfOk result (AreReadSettings (P.reads place.now path.now)) }
     ensures none { IfErr result (λ trouble.
         trouble.error ≡ ProgramError.Settings → AreNone (P.reads place.now path.now)) }
     ensures not_read { IfErr result
-        (IsNotRead (P.reads place.now path.now) (P.fails_to_read place.now path.now)) }
+        (IsNotRead path.now (P.reads place.now path.now) (P.fails_to_read place.now path.now)) }
 {
     let bytes = place.read(alloc, path)?;
     match read_settings(alloc, bytes.as_slice()) {
         Ok(settings) => Ok(settings),
-        Err(FileFault::Bad) => Err(Trouble::plain(ProgramError::Settings)),
+        Err(FileFault::Bad) => Err(Trouble::of_settings(alloc, path, bytes.as_slice())),
         Err(FileFault::Memory) => Err(Trouble::plain(ProgramError::NoMemory)),
     }
 }

@@ -6,11 +6,13 @@ ghost use Rattle.portal_commands.specs.Program.{EndsPrintingText, EndsOrder, End
 ghost use Rattle.portal_exit.specs.Streams.{outlets, Prints};
 
 use crate::answering::{AnswerOptions, answer};
+use crate::causes::UsageFault;
 use crate::checking::check;
 use crate::place::{Files, Place};
 use crate::printing::print;
 use crate::serving::{Network, ServeOptions, serve};
 use crate::takings::takings;
+use crate::trouble::Trouble;
 use portal_cli::{NoOrder, Order, parse_command_line, version_line};
 use portal_exit::{ProgramError, print_best_effort, print_for_exit_code};
 use std::alloc::Global;
@@ -57,7 +59,7 @@ fn run_serve<P: Place, N: Network, W: Write, E: Write>(
         (outlets W.Write E.Write output.old output.new errors.old errors.new) result }
 {
     if port > 65_535 {
-        return ProgramError::Usage.report(errors);
+        return Trouble::of_usage(alloc, UsageFault::Port).report(errors);
     }
     let at = ServeOptions {
         port: port as u16,

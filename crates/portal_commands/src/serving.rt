@@ -6,6 +6,7 @@ ghost use Rattle.portal_commands.specs.Bounds.{network_of, place_of};
 
 pub use crate::network::Network;
 use crate::place::{Files, Place, Purpose, close_opened_desk, open_desk};
+use crate::trouble::Trouble;
 use portal_desk::Desk;
 use portal_exit::ProgramError;
 use portal_http_routes::Routes;
@@ -26,7 +27,7 @@ pub struct ServeOptions {
 /// code.
 ///
 /// An error before the first connection is printed on `errors`, with exit code 3: `no_memory`, or `network`
-/// if the port cannot be bound.
+/// if the port cannot be bound, with the cause.
 pub fn serve_at<D: Desk, N: Network, W: Write, E: Write>(
     alloc: Global,
     desk: &mut D,
@@ -45,10 +46,10 @@ pub fn serve_at<D: Desk, N: Network, W: Write, E: Write>(
         (outlets W.Write E.Write output.old output.new errors.old errors.new) result old new) }
 {
     let Ok(routes) = Routes::new(alloc) else {
-        return ProgramError::NoMemory.report(errors);
+        return Trouble::plain(ProgramError::NoMemory).report(errors);
     };
-    match network.listen(at.port) {
-        Err(error) => error.report(errors),
+    match network.listen(alloc, at.port) {
+        Err(trouble) => trouble.report(errors),
         Ok(mut host) => serve_bound(
             alloc, desk, &routes, &mut host, at.port, at.count, output, errors,
         ),

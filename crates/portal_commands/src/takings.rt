@@ -1,6 +1,5 @@
 //! The subcommand `takings`.
-ghost use Rattle.std.specs.Prelude.{MatchResult, MatchOption};
-ghost use Rattle.portal_days.specs.Span.{Span};
+ghost use Rattle.std.specs.Prelude.{MatchResult};
 ghost use Rattle.portal_ledger.specs.Calls.{ReadsThat};
 ghost use Rattle.portal_desk.specs.Calls.{CannotAnswer};
 ghost use Rattle.portal_exit.specs.Streams.{outlets};
@@ -8,6 +7,7 @@ ghost use Rattle.portal_server.specs.Asks.{KeepsSettings, LeadsDesk};
 ghost use Rattle.portal_commands.specs.Asking.{
   IsDeskResult,
   IsReportOver,
+  IsRangeFault,
   IsRangeText,
   PrintsOutput,
   PrintsTakingsOver,
@@ -16,27 +16,26 @@ ghost use Rattle.portal_commands.specs.Asking.{
 ghost use Rattle.portal_commands.specs.Bounds.{place_of};
 
 use crate::asking::{Question, ask_database};
+use crate::causes::UsageFault;
 use crate::place::{Files, Place};
+use crate::trouble::Trouble;
 use portal_days::DayRange;
 use portal_desk::Desk;
 use portal_exit::{Output, ProgramError, print_result};
-use portal_files::{read_day, text_names_day};
+use portal_files::read_day;
 use portal_files_print::takings_text;
 use portal_model::refusal::Refusal;
 use std::alloc::Global;
 use std::io::Write;
 
-/// Reads a range of days from the texts of its first and its last day. None if one is no date `YYYY-MM-DD` of
-/// the years 1969 to 9999, or if they are no range of at most 366 days.
-pub fn read_range(from: &str, to: &str) -> Option<DayRange>
-    ensures { MatchOption result
-        ((range : Span) → ¬ (IsRangeText from.now to.now range))
-        (IsRangeText from.now to.now) }
+/// Reads a range of days from the texts of its first and its last day. Faults: `From` or `To`, if that text
+/// is no date `YYYY-MM-DD` of the years 1969 to 9999; `Days`, if they are no range of at most 366 days.
+pub fn read_range(from: &str, to: &str) -> Result<DayRange, UsageFault>
+    ensures { MatchResult result (IsRangeText from.now to.now) (IsRangeFault from.now to.now) }
 {
-    text_names_day();
-    let first = read_day(from)?;
-    let last = read_day(to)?;
-    DayRange::new(first, last)
+    let first = read_day(from).ok_or(UsageFault::From)?;
+    let last = read_day(to).ok_or(UsageFault::To)?;
+    DayRange::new(first, last).ok_or(UsageFault::Days)
 }
 
 /// Returns the takings report over the days. Refusals: `NoMemory`, `Stopped`.
@@ -94,8 +93,8 @@ pub fn takings_at<D: Desk, W: Write, E: Write>(
 /// Runs `takings`: prints the takings report of the database file over the days from `from` to `to` on
 /// `output`, and returns the exit code.
 ///
-/// The first of these errors that applies is printed: `usage`, exit code 2, if `read_range` gives None; those
-/// of `ask_database`.
+/// The first of these errors that applies is printed: `usage`, exit code 2, with the fault that `read_range`
+/// gives; those of `ask_database`.
 pub fn takings<P: Place, W: Write, E: Write>(
     alloc: Global,
     place: P,
@@ -109,8 +108,8 @@ pub fn takings<P: Place, W: Write, E: Write>(
         (outlets W.Write E.Write output.old output.new errors.old errors.new) result }
 {
     match read_range(from, to) {
-        None => ProgramError::Usage.report(errors),
-        Some(range) => ask_database(
+        Err(fault) => Trouble::of_usage(alloc, fault).report(errors),
+        Ok(range) => ask_database(
             alloc,
             place,
             files,

@@ -1,6 +1,6 @@
 //! The host that serves the machine itself: a port of its loopback address, its clock and its source of
 //! seeds.
-ghost use Rattle.std.specs.Prelude.{◌≡◌, ◌∷◌, [], Result, IfOk, IfErr, ⊤};
+ghost use Rattle.std.specs.Prelude.{◌≡◌, ◌∷◌, [], Result, IfOk, ⊤};
 ghost use Rattle.std.specs.declared.io.Error.{Error as Why};
 ghost use Rattle.std.specs.declared.time.Duration.{Duration as Since};
 ghost use Rattle.portal_server.specs.Turns.{IsMomentOf};
@@ -9,7 +9,6 @@ ghost use Rattle.std.specs.declared.net.socket_addr.SocketAddrV4.{SocketAddrV4 a
 ghost use Rattle.std.specs.declared.net.tcp.TcpListener.{TcpListener as Listener};
 ghost use Rattle.portal_server.specs.Loopback.{BindsLoopback};
 ghost use Rattle.std.specs.Net.Socket.{v4_ip, v4_port};
-ghost use Rattle.portal_exit.specs.declared.error.ProgramError.TheVariants.{Network};
 
 use crate::clock::{WallClock, moment_now};
 use crate::host::Host;
@@ -46,16 +45,12 @@ impl<'n, N: Net<Listener = TcpListener, Stream = TcpStream>> Socket for &'n N {
     }
 }
 
-/// Binds a port of the loopback address; connections wait from then on.
-///
-/// Error: `Network`, if the port cannot be bound.
-pub fn bind_loopback<B: Socket>(socket: B, port: u16) -> Result<TcpListener, ProgramError>
-    ensures why { IfErr result (λ error. error ≡ Network) }
-    ensures bound { IfOk result (BindsLoopback (B.binds socket) port) }
+/// Binds a port of the loopback address; connections wait from then on. Error: that of the system, if the
+/// port cannot be bound.
+pub fn bind_loopback<B: Socket>(socket: B, port: u16) -> io::Result<TcpListener>
+    ensures { IfOk result (BindsLoopback (B.binds socket) port) }
 {
-    socket
-        .bind_at(loopback_address(port))
-        .map_err(|_| ProgramError::Network)
+    socket.bind_at(loopback_address(port))
 }
 
 /// A listener, with the clock and the source of seeds of its machine.

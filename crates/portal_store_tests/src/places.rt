@@ -220,11 +220,11 @@ impl Network for TestNetwork {
 
     ghost refuses = { λ _ _. ⊤ };
 
-    fn listen(self, _port: u16) -> Result<Broken, ProgramError> {
+    fn listen(self, alloc: Global, port: u16) -> Result<Broken, Trouble> {
         if self.is_free {
             Ok(Broken)
         } else {
-            Err(ProgramError::Network)
+            Err(Trouble::of_port(alloc, port, "no room"))
         }
     }
 }

@@ -5,6 +5,7 @@ use crate::requests::{CAPTIVE, MOMENT, REQUEST};
 use portal_commands::answering::{AnswerOptions, answer};
 use portal_commands::place::Place;
 use portal_commands::program::run_program;
+use portal_commands::trouble::Trouble;
 use portal_commands::words::words_of;
 use portal_exit::ProgramError;
 use std::alloc::Global;
@@ -333,7 +334,7 @@ fn words_to_status(rt: HostRuntime) {
 }
 
 /// Returns how many arguments there are, and whether the second is an umlaut.
-fn read_arguments(alloc: Global, words: &[&[u8]]) -> Result<(usize, bool), ProgramError> {
+fn read_arguments(alloc: Global, words: &[&[u8]]) -> Result<(usize, bool), Trouble> {
     let words = words_of(&(GivenWords { words }, alloc))?;
     let is_umlaut = match words.get(1) {
         Some(word) => word.as_str() == "ä",
@@ -342,13 +343,21 @@ fn read_arguments(alloc: Global, words: &[&[u8]]) -> Result<(usize, bool), Progr
     Ok((words.len(), is_umlaut))
 }
 
+/// Checks that the arguments cannot be copied, and that this is what is printed.
+fn are_refused(alloc: Global, words: &[&[u8]], said: &str) -> bool {
+    let mut errors = Vec::new(alloc);
+    match read_arguments(alloc, words) {
+        Ok(_) => false,
+        Err(trouble) => { trouble.report(&mut errors) == 2 && errors.as_slice() == said.as_bytes() }
+    }
+}
+
 /// Arguments are read as UTF-8; one that is not gives `usage`.
 #[test]
 fn words_in_utf8(rt: HostRuntime) {
     let umlaut: &[&[u8]] = &[b"portal", b"\xc3\xa4", b""];
-    assert!(rt; read_arguments(rt.alloc(), umlaut) == Ok((3, true)));
-    let latin: &[&[u8]] = &[b"portal", b"\xe4"];
-    assert!(rt; read_arguments(rt.alloc(), latin) == Err(ProgramError::Usage));
-    let first: &[&[u8]] = &[b"\xff", b"answer"];
-    assert!(rt; read_arguments(rt.alloc(), first) == Err(ProgramError::Usage));
+    assert!(rt; matches!(read_arguments(rt.alloc(), umlaut), Ok((3, true))));
+    let said = "portal: usage\n  arguments: text in UTF-8\n";
+    assert!(rt; are_refused(rt.alloc(), &[b"portal", b"\xe4"], said));
+    assert!(rt; are_refused(rt.alloc(), &[b"\xff", b"answer"], said));
 }

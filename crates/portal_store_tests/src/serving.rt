@@ -272,7 +272,7 @@ fn line_cut_off(rt: HostRuntime) {
 fn is_port_taken(rt: &HostRuntime) -> Option<bool> {
     let listener = bind_loopback(rt, 0).ok()?;
     let port = listener.local_addr().ok()?.port();
-    Some(matches!(bind_loopback(rt, port), Err(ProgramError::Network)))
+    Some(bind_loopback(rt, port).is_err())
 }
 
 /// A port cannot be bound twice.
