@@ -6,6 +6,7 @@ database that is missing or blank, and what is told of a new database, of a file
 
 from __future__ import annotations
 
+import hashlib
 import json
 import os
 import resource
@@ -184,6 +185,42 @@ def file_is_explained(program: str) -> None:
         expect("check --db with a line feed", (done.returncode, done.stderr), (3, "portal: file\n"))
 
 
+def order_of(batch: str, count: int) -> bytes:
+    return request("POST", "/desk/batches", DESK, json.dumps({"batch": batch, "plan": "hour", "count": count}))
+
+
+def issue(desk: Desk, batch: str, count: int, length: int = resource.RLIM_INFINITY) -> tuple[int, str]:
+    """The exit code and the errors of `answer`, which issues a batch and may make no file longer than that. (SIGXFSZ stays ignored.)"""
+    seed = hashlib.sha256(batch.encode()).hexdigest()
+    done = subprocess.run(desk.words("answer", "--now", "0", "--seed", seed), cwd=desk.folder, input=order_of(batch, count),
+                          capture_output=True, check=False, restore_signals=False,
+                          preexec_fn=lambda: resource.setrlimit(resource.RLIMIT_FSIZE, (length, length)))
+    return done.returncode, done.stderr.decode()
+
+
+def failed_close_keeps_the_files(program: str) -> None:
+    """A batch is answered, and then the close fails, as the database file may not grow: all batches are there at the next opening."""
+    with tempfile.TemporaryDirectory() as folder:
+        desk = Desk(program, folder)
+        answer(desk, 0, request("POST", "/desk/plans", DESK, PLANS))
+        issued = {f"a{number}": 500 for number in range(4)}
+        for name, count in issued.items():
+            expect("a batch, with files of any length", issue(desk, name, count), (0, ""))
+        length = len(content(desk, "portal.db"))
+        ends = (0, "portal: file\n  portal.db: disk I/O error\n")
+        for count in range(1, 41):
+            end = issue(desk, f"b{count}", count, length)
+            if end[0] == 0:
+                issued[f"b{count}"] = count
+            if end == ends:
+                break
+        expect("a batch that is answered, and a close that fails", end, ends)
+        for name, count in issued.items():
+            done = desk.run("print", name)
+            expect(f"codes of {name} after a failed close", (done.stderr, len(done.stdout.splitlines())), ("", count + 1))
+        expect("check after a failed close", desk.run("check").stdout, "ok\n")
+
+
 def told_without_descriptors(desk: Desk) -> None:
     """Lets the server have no more descriptors than it has, while peers come, and then more again."""
     used = len(os.listdir(f"/proc/{desk.process.pid}/fd"))
@@ -215,7 +252,7 @@ def accepts_without_descriptors(program: str) -> None:
 
 def main() -> None:
     parts = (answers_leave_it_whole, serving_leaves_it_whole, starting_makes_it_whole, log_is_kept, new_database_is_told, file_is_explained,
-             accepts_without_descriptors)
+             failed_close_keeps_the_files, accepts_without_descriptors)
     chosen = [part for part in parts if not sys.argv[2:] or part.__name__ in sys.argv[2:]]
     for part in chosen:
         part(sys.argv[1])

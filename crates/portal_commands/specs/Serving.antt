@@ -2,7 +2,7 @@
 use Rattle.std.specs.Prelude.{◌≡◌, ◌⊎◌, ℕ, Result}
 use Rattle.portal_exit.specs.declared.error.ProgramError.{ProgramError}
 use Rattle.portal_exit.specs.Streams.{Outlets}
-use Rattle.portal_server.specs.Command.{PrintsAll, PrintsTurns, exit_code_at}
+use Rattle.portal_server.specs.Command.{PrintsAll, EndsTurns, exit_code_at}
 use Rattle.portal_commands.specs.declared.serving.ServeOptions.{ServeOptions}
 use Rattle.portal_files.specs.SettingsFile.{SettingsValue}
 use Rattle.portal_http.specs.Runs.{Run}
@@ -35,7 +35,7 @@ ServesAt network at settings o status old new =
     ((trouble : Trouble) × ((IsUnbound at.port trouble × network.refuses at.port) ⊎ IsForMemory trouble)
     × EndsTrouble trouble o status × (new ≡ old))
     ⊎ ((before : network.host.Host) × (after : network.host.Host) × (ended : Result (Unit {0}) ProgramError)
-    × network.listens at.port before × (status ≡ exit_code_at ended) × PrintsTurns network.host settings at.port at.count o before old ended after new)
+    × network.listens at.port before × (status ≡ exit_code_at ended) × EndsTurns network.host settings at.port at.count o before old ended after new)
 
 -- Served by the desk over the files of a place: a file cannot be used; or connections are served with the
 -- settings that were read, from the ledger that the file holds, by a desk that was opened after the log was

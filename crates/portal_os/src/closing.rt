@@ -27,5 +27,6 @@ pub fn close_desk<D: Disk + Drop>(
     ensures left { IfErr result (λ e.
         (tables : Tables) → IsCrashStateOfStore e.1 tables → IsCrashStateOfDesk over_files desk tables) }
 {
-    desk.release().close_files()
+    let conn = desk.release();
+    conn.close_files()
 }

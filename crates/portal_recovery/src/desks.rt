@@ -86,5 +86,6 @@ pub fn release_desk_files<D: Disk + Drop>(desk: StoreDesk<FileStore<D>>) -> File
     ensures left { AreClean D.Disk result.log result.db
         → (s : State) → DeskRepresents over_files desk s → EachImage D.Disk result (HoldsAllowedLedger s) }
 {
-    release_conn_files(desk.release())
+    let conn = desk.release();
+    release_conn_files(conn)
 }

@@ -1,5 +1,5 @@
 -- How the command `serve` ends.
-use Rattle.std.specs.Prelude.{◌≡◌, ◌⊎◌, ℕ, ◌<◌, ◌≤◌, List, [], ◌++◌, length, take, codes, decimal, Option, false, Result, Ok, Err}
+use Rattle.std.specs.Prelude.{◌≡◌, ◌⊎◌, ℕ, ◌≤◌, List, [], ◌++◌, length, codes, decimal, Option, false, Result, Ok, Err}
 use Rattle.std.specs.Io.KnownBytes.{Appends, Keeps}
 use Rattle.portal_ledger.specs.States.{State}
 use Rattle.portal_desk.specs.Calls.{is_stopped_state}
@@ -46,8 +46,18 @@ exit_code_at (Err error) = exit_code_of error
 abbrev pub EndsAt : State → ℕ → Type 0
 EndsAt new status = ((status ≡ 0) × (is_stopped_state new ≡ false)) ⊎ (status ≡ 3)
 
--- turns are taken; or the line was not written whole, and nothing more happens
+-- The line is written and turns are taken, and for each turn that is printed which belongs to it; or the line
+-- was not written whole, and nothing more happens.
 abbrev pub PrintsTurns : (host : HostValue) → SettingsValue → ℕ → ℕ → Outlets → host.Host → State → Result (Unit {0}) ProgramError → host.Host → State → Type 0
 PrintsTurns host settings port count o before old ended after new =
-    TakesTurns host settings count before old ended after new
-    ⊎ ((error : ProgramError) × (ended ≡ Err error) × IsLineLost error o.output o.output_after (listening_line port) × (after ≡ before) × (new ≡ old))
+    (Appends o.output o.output_after (listening_line port)
+    × (said : List (Option ProgramError)) × PrintsOfConnections said o.errors o.errors_after × TakesTurns host settings count before old said ended after new)
+    ⊎ ((error : ProgramError) × (ended ≡ Err error) × IsLineLost error o.output o.output_after (listening_line port) × Keeps o.errors o.errors_after
+    × (after ≡ before) × (new ≡ old))
+
+-- That, and the line of the error that ended it.
+abbrev pub EndsTurns : (host : HostValue) → SettingsValue → ℕ → ℕ → Outlets → host.Host → State → Result (Unit {0}) ProgramError → host.Host → State → Type 0
+EndsTurns host settings port count o before old (Ok done) after new = PrintsTurns host settings port count o before old (Ok done) after new
+EndsTurns host settings port count o before old (Err error) after new =
+    (between : Option (List ℕ)) × PrintsTurns host settings port count (record o { errors_after = between }) before old (Err error) after new
+    × Prints between o.errors_after (line_of error)

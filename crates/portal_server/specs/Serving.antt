@@ -11,6 +11,8 @@ use Rattle.portal_exit.specs.declared.error.ProgramError.TheVariants.{File, Netw
 use Rattle.portal_exit.specs.Errors.{line_of}
 use Rattle.portal_exit.specs.Streams.{Prints}
 use Rattle.portal_http.specs.Arrived.{Arrived}
+use Rattle.portal_http.specs.declared.exchanges.Done.{Done}
+use Rattle.portal_http.specs.declared.exchanges.Cut.{Cut as Broken}
 
 -- For so many connections: at most so many requests were served. `IsRun` says which requests with which
 -- responses are a run.
@@ -27,6 +29,11 @@ ComeWith moment seed (one ∷ more) = (one.moment ≡ moment) × (one.seed ≡ s
 abbrev pub PrintsOfConnection : Option ProgramError → Option (List ℕ) → Option (List ℕ) → Type 0
 PrintsOfConnection None printed printed_after = Keeps printed printed_after
 PrintsOfConnection (Some error) printed printed_after = ((error ≡ Cut) ⊎ (error ≡ Network)) × Prints printed printed_after (line_of error)
+
+-- what is printed for an exchange that ended so: nothing, or that the connection broke off
+abbrev pub said_of : Result Done Broken → Option ProgramError
+said_of (Ok done) = None
+said_of (Err broken) = Some Cut
 
 -- what is printed for connections, the newest first
 abbrev pub PrintsOfConnections : List (Option ProgramError) → Option (List ℕ) → Option (List ℕ) → Type 0

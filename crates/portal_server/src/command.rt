@@ -12,6 +12,7 @@ ghost use Rattle.portal_server.specs.Command.{
   PrintsBefore,
   PrintsAll,
   PrintsTurns,
+  EndsTurns,
   EndsAt,
 };
 
@@ -98,7 +99,7 @@ pub fn serve<D: Desk, H: Host, W: Write, E: Write>(
     ensures survives { ServesSafely D.Desk desk.old desk.new count }
     ensures turns { LeadsDesk D.Desk desk.old desk.new (λ old new.
         (ended : Result (Unit {0}) Failure) × (result ≡ exit_code_at ended)
-        × PrintsTurns (host_of H.Host H.Reader.Read H.Writer.Write) (D.settings desk.old) port count
+        × EndsTurns (host_of H.Host H.Reader.Read H.Writer.Write) (D.settings desk.old) port count
         (outlets W.Write E.Write output.old output.new errors.old errors.new)
         host.old old ended host.new new) }
 {

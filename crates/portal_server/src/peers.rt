@@ -6,7 +6,7 @@ ghost use Rattle.portal_http.specs.Exchanges.{EndsExchange};
 ghost use Rattle.portal_exit.specs.declared.error.ProgramError.{ProgramError as Failure};
 ghost use Rattle.portal_http.specs.Runs.{Run, ServesInOrder};
 ghost use Rattle.portal_server.specs.Asks.{KeepsSettings, LeadsDesk};
-ghost use Rattle.portal_server.specs.Serving.{ServesAtMost, ComeWith, PrintsOfConnection};
+ghost use Rattle.portal_server.specs.Serving.{ServesAtMost, ComeWith, PrintsOfConnection, said_of};
 ghost use Rattle.portal_server.specs.Turns.{wire_of};
 
 use portal_desk::Desk;
@@ -37,7 +37,8 @@ pub fn serve_peer<D: Desk, R: Read, W: Write, E: Write>(
         ComeWith moment seed arrivals × Run (D.settings desk.old) old arrivals responses new)) }
     ensures exchanges { LeadsDesk D.Desk desk.old desk.new (λ old new. (ended : Result Ended Broken)
         × EndsExchange (wire_of R.Read W.Write reader.old reader.new writer.old writer.new) moment seed
-        (λ arrivals responses. ServesInOrder (D.settings desk.old) old arrivals responses new) ended) }
+        (λ arrivals responses. ServesInOrder (D.settings desk.old) old arrivals responses new) ended
+        × PrintsOfConnection (said_of ended) (E.contents errors.old) (E.contents errors.new)) }
 {
     match exchange(alloc, desk, routes, moment, seed, reader, writer) {
         Ok(_) => {}

@@ -1,5 +1,6 @@
 //! The loop over connections.
 ghost use Rattle.std.specs.Prelude.{◌≡◌, ◌≤◌, ℕ, List, Option, length, IfErr, MatchResult};
+ghost use Rattle.std.specs.Io.KnownBytes.{Keeps};
 ghost use Rattle.portal_exit.specs.declared.error.ProgramError.{ProgramError as Failure};
 ghost use Rattle.portal_server.specs.Asks.{KeepsSettings, LeadsDesk, ServesRun, ServesSafely};
 ghost use Rattle.portal_server.specs.Serving.{PrintsOfConnection, PrintsOfConnections, EndsLoop, IsHostError};
@@ -32,9 +33,11 @@ fn serve_connection<D: Desk, H: Host, E: Write>(
         × PrintsOfConnection said (E.contents errors.old) (E.contents errors.new) }
     ensures serves { LeadsDesk D.Desk desk.old desk.new (ServesRun (D.settings desk.old) 1) }
     ensures meets { LeadsDesk D.Desk desk.old desk.new (λ old new. MatchResult result
-        (λ _. ServesPeer (host_of H.Host H.Reader.Read H.Writer.Write)
-        (D.settings desk.old) host.old reader writer old host.new new)
-        (λ error. (new ≡ old) × H.stamps host.old (Err error) host.new)) }
+        (λ _. (said : Option Failure) × PrintsOfConnection said (E.contents errors.old) (E.contents errors.new)
+        × ServesPeer (host_of H.Host H.Reader.Read H.Writer.Write)
+        (D.settings desk.old) host.old reader writer old said host.new new)
+        (λ error. (new ≡ old) × Keeps (E.contents errors.old) (E.contents errors.new)
+        × H.stamps host.old (Err error) host.new)) }
 {
     let (moment, seed) = host.moment_and_seed()?;
     serve_peer(
@@ -78,9 +81,11 @@ fn accept_and_serve<D: Desk, H: Host, E: Write>(
         × PrintsOfConnection said (E.contents errors.old) (E.contents errors.new) }
     ensures serves { LeadsDesk D.Desk desk.old desk.new (ServesRun (D.settings desk.old) 1) }
     ensures turn { LeadsDesk D.Desk desk.old desk.new (λ old new. MatchResult result
-        (λ fails. IsTurn (host_of H.Host H.Reader.Read H.Writer.Write)
-        (D.settings desk.old) has_failed host.old old host.new new fails)
-        (λ error. (new ≡ old)
+        (λ fails. (said : Option Failure)
+        × PrintsOfConnection said (E.contents errors.old) (E.contents errors.new)
+        × IsTurn (host_of H.Host H.Reader.Read H.Writer.Write)
+        (D.settings desk.old) has_failed host.old old said host.new new fails)
+        (λ error. (new ≡ old) × Keeps (E.contents errors.old) (E.contents errors.new)
         × FailsAt (host_of H.Host H.Reader.Read H.Writer.Write) host.old error host.new)) }
 {
     match host.accept() {
@@ -122,9 +127,10 @@ pub fn serve_connections<D: Desk, H: Host, E: Write>(
     ensures serves { LeadsDesk D.Desk desk.old desk.new (λ old new.
         ServesRun (D.settings desk.old) count old new × EndsLoop new result) }
     ensures survives { ServesSafely D.Desk desk.old desk.new count }
-    ensures turns { LeadsDesk D.Desk desk.old desk.new (λ old new.
-        TakesTurns (host_of H.Host H.Reader.Read H.Writer.Write)
-        (D.settings desk.old) count host.old old result host.new new) }
+    ensures turns { LeadsDesk D.Desk desk.old desk.new (λ old new. (said : List (Option Failure))
+        × PrintsOfConnections said (E.contents errors.old) (E.contents errors.new)
+        × TakesTurns (host_of H.Host H.Reader.Read H.Writer.Write)
+        (D.settings desk.old) count host.old old said result host.new new) }
 {
     accept_loop(alloc, desk, routes, host, count, errors)
 }
@@ -146,9 +152,10 @@ fn accept_loop<D: Desk, H: Host, E: Write>(
         × MatchResult result (λ _. length said ≡ count) (λ _. length said ≤ count) }
     ensures serves { LeadsDesk D.Desk desk.old desk.new (λ old new.
         ServesRun (D.settings desk.old) count old new × EndsLoop new result) }
-    ensures turns { LeadsDesk D.Desk desk.old desk.new (λ old new.
-        TakesTurns (host_of H.Host H.Reader.Read H.Writer.Write)
-        (D.settings desk.old) count host.old old result host.new new) }
+    ensures turns { LeadsDesk D.Desk desk.old desk.new (λ old new. (said : List (Option Failure))
+        × PrintsOfConnections said (E.contents errors.old) (E.contents errors.new)
+        × TakesTurns (host_of H.Host H.Reader.Read H.Writer.Write)
+        (D.settings desk.old) count host.old old said result host.new new) }
 {
     let mut has_failed = false;
     for _turn in 0..count {

@@ -12,6 +12,7 @@ use portal_model::moment::Moment;
 use portal_server::{Host, bind_loopback, fresh_seed, moment_now, serve};
 use std::alloc::Global;
 use std::io::{self, ErrorKind, Write};
+use std::random::RandomSource;
 use std::rt::Clock;
 use std::time::Duration;
 
@@ -337,4 +338,31 @@ fn moments_of_clocks(rt: HostRuntime) {
 fn seeds_differ(rt: HostRuntime) {
     let (one, other) = (fresh_seed(&rt), fresh_seed(&rt));
     assert!(rt; one.is_ok() && one != other);
+}
+
+/// A source whose bytes are 1, 2, 3 and so on, in each call.
+#[derive(Drop)]
+struct Counting;
+
+impl RandomSource for Counting {
+    fn fill_bytes(&self, bytes: &mut [u8]) -> io::Result<()> {
+        let mut last = 0u8;
+        for byte in bytes.iter_mut() {
+            last = last.wrapping_add(1);
+            *byte = last;
+        }
+        Ok(())
+    }
+}
+
+/// The bytes from 1 to 32.
+const FIRST_BYTES: [u8; 32] = [
+    1, 2, 3, 4, 5, 6, 7, 8, 9, 10, 11, 12, 13, 14, 15, 16, 17, 18, 19, 20, 21, 22, 23, 24, 25, 26,
+    27, 28, 29, 30, 31, 32,
+];
+
+/// All 32 bytes of a seed are those of the source.
+#[test]
+fn seed_is_drawn_whole(rt: HostRuntime) {
+    assert!(rt; fresh_seed(&Counting) == Ok(FIRST_BYTES));
 }

@@ -1,4 +1,5 @@
-use Rattle.std.proofs.Common.{Some, inl, refl}
+use Rattle.std.proofs.Common.{Ok, Err, Some, inl, refl}
+use Rattle.std.proofs.KnownBytes.{Keeps-refl}
 use Rattle.portal_exit.specs.declared.error.ProgramError.TheVariants.{Cut}
 use Rattle.portal_server.proofs.ServingLemmas.{exchange_serves}
 use Rattle.portal_server.proofs.peers.serve_peer.Goals as goal
@@ -18,8 +19,8 @@ returns-in-Err-clause-serves g c = λ honest old represents.
 
 pub returns-in-Ok-clause-exchanges : goal.returns-in-Ok-clause-exchanges
 returns-in-Ok-clause-exchanges g c = λ honest old represents.
-    let ends = c.exchange.ensures.serves honest old represents in (ends.0, ends.1, (c.exchange.result, ends.2))
+    let ends = c.in-Ok.ensures.serves honest old represents in (ends.0, ends.1, (Ok _, ends.2, Keeps-refl _))
 
 pub returns-in-Err-clause-exchanges : goal.returns-in-Err-clause-exchanges
 returns-in-Err-clause-exchanges g c = λ honest old represents.
-    let ends = c.exchange.ensures.serves honest old represents in (ends.0, ends.1, (c.exchange.result, ends.2))
+    let ends = c.in-Err.ensures.serves honest old represents in (ends.0, ends.1, (Err _, ends.2, (inl refl, c.report.ensures.prints)))

@@ -10,11 +10,13 @@ pub returns-in-None-clause-serves : goal.returns-in-None-clause-serves
 returns-in-None-clause-serves g c = λ honest old represents. (old, represents, serves_none (g.D.Desk.settings c.args.desk.now) 1 old)
 
 pub returns-in-None-clause-turn : goal.returns-in-None-clause-turn
-returns-in-None-clause-turn g c = λ honest old represents. (old, represents, inl (refl, refl, c.accept.new.self, c.in-None.ensures, c.pause_if_failed.ensures))
+returns-in-None-clause-turn g c = λ honest old represents.
+    (old, represents, (Some Network, (inr refl, c.report.ensures.prints), inl (refl, refl, refl, c.accept.new.self, c.in-None.ensures, c.pause_if_failed.ensures)))
 
 pub returns-in_ok-serve_connection-in-Some-clause-turn : goal.returns-in_ok-serve_connection-in-Some-clause-turn
 returns-in_ok-serve_connection-in-Some-clause-turn g c = λ honest old represents.
-    let met = c.in_ok-serve_connection-in-Some.ensures.meets honest old represents in (met.0, met.1, inr (refl, c.in-Some.peer, c.accept.new.self, c.in-Some.ensures, met.2))
+    let met = c.in_ok-serve_connection-in-Some.ensures.meets honest old represents in
+    (met.0, met.1, (met.2.0, met.2.1, inr (refl, c.in-Some.peer, c.accept.new.self, c.in-Some.ensures, met.2.2)))
 
 pub returns-in_err-serve_connection-in-Some-clause-turn : goal.returns-in_err-serve_connection-in-Some-clause-turn
 returns-in_err-serve_connection-in-Some-clause-turn g c = λ honest old represents.
@@ -22,5 +24,5 @@ returns-in_err-serve_connection-in-Some-clause-turn g c = λ honest old represen
       met.0,
       met.1,
       rw (is_err c.from_residual.result c.in_err-serve_connection-in-Some.field-0.0 c.from_residual.ensures.1)
-          (met.2.0, (c.in-Some.peer, c.accept.new.self, c.in-Some.ensures, met.2.1)),
+          (met.2.0, met.2.1, (c.in-Some.peer, c.accept.new.self, c.in-Some.ensures, met.2.2)),
     )

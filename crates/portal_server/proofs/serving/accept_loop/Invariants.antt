@@ -11,5 +11,6 @@ invariant-loop-turn g l = record {
       → (new : State) × g.D.Desk.represents l.desk new × ServesAtMost l._turn (λ arrivals responses. Run (g.D.Desk.settings l.fn.desk) old arrivals responses new);
   turns : g.D.Desk.is_fault_free l.desk → (old : State) → g.D.Desk.represents l.fn.desk old
       → (new : State) × g.D.Desk.represents l.desk new
-      × Turns (host_of g.H.Host g.H.Reader.Read g.H.Writer.Write) (g.D.Desk.settings l.fn.desk) l._turn l.fn.host old l.host new l.has_failed;
+      × (said : List (Option ProgramError)) × PrintsOfConnections said (g.E.Write.contents l.fn.errors) (g.E.Write.contents l.errors)
+      × Turns (host_of g.H.Host g.H.Reader.Read g.H.Writer.Write) (g.D.Desk.settings l.fn.desk) l._turn l.fn.host old said l.host new l.has_failed;
 }
