@@ -221,7 +221,7 @@ def add_item(case: Case, item: Item) -> None:
     elif word == "sql":
         case.steps.append(sql_of(item))
     elif item.text.startswith("file "):
-        case.steps.append(File(item.line, item.shown, item.text[5:], text_of(item)))
+        case.steps.append(File(item.line, item.shown, item.text[5:], joined(item.block or [])))
     elif served := SERVED.fullmatch(item.text):
         count = int(served[2]) if served[2] else None
         case.steps.append(Serve(item.line, item.shown, served[1] is not None, count))

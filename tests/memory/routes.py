@@ -20,7 +20,8 @@ from refusing import LIBRARY, bytes_of, copy_files, folder, rows, run
 
 SEED, CODE = "0" * 64, "3N55-WA4S-KH5V-JR49"
 NO_MEMORY = b'{"error":"no_memory"}'
-NEW_DATABASE, NOT_CLOSED = b"portal: new database portal.db\n", b"portal: no_memory\n"
+NO_DATABASE = b"portal: file\n  portal.db: there is no database here: only serve and answer create one\n"
+NOT_CLOSED = b"portal: no_memory\n"
 BATCH = '{"batch":"b1","plan":"%s","count":3}'
 SOLD = '{"code":"%s"}' % CODE
 
@@ -100,10 +101,15 @@ class Trial:
         assert self.wanted[0] in (0, 1) and not is_no_memory(self.wanted), (name, self.wanted)
 
     def check(self, room):
+        """The counters are right, or there is no database yet; then one without commands is made."""
         database = Path(room, "portal.db")
         is_new = not database.exists() or database.stat().st_size == 0
         audit = run([self.program, *told("check")[0]], room)
-        assert audit[:3] == (0, b"ok\n", NEW_DATABASE if is_new else b""), (self.name, audit)
+        assert audit[:3] == ((3, b"", NO_DATABASE) if is_new else (0, b"ok\n", b"")), (self.name, audit)
+        if is_new:
+            words, data = NOTHING
+            made = run([self.program, *words], room, data)
+            assert made[0] == 1 and made[2] == b"", (self.name, made)
 
     def is_done(self, said):
         """Whether that is what is said with memory, perhaps with the error of the close after it."""

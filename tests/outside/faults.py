@@ -42,6 +42,7 @@ REFUSED = {
     "further": (SETTINGS + 'venue = "https://wifi.example/"\n', "there is a key other than zone, portal_url, venue_url, desk_token and gateway_token"),
     "same": (SETTINGS.replace("gate-token", "desk-token"), "desk_token and gateway_token are the same"),
 }
+NO_DATABASE = "there is no database here: only serve and answer create one"
 Said = tuple[int, str, str]
 Wanted = tuple[int, str | None, str | None]
 Limit = tuple[int, int]
@@ -127,13 +128,18 @@ def cases() -> Iterator[tuple[tuple[str | bytes, ...], Wanted]]:
     for name, (_, cause) in REFUSED.items():
         yield ("check", *at(db="text", settings=name)), (3, "", f"portal: settings\n  {name}: {cause}\n")
     for db, said in (("text", file_at("text", "file is not a database that obeys its schema")), ("folder", file_at("folder", "unsupported")),
-                     ("none/portal.db", file_at("none/portal.db", NONE)), ("other.db", "portal: not_ours\n"),
-                     ("later.db", "portal: newer\n")):
+                     ("other.db", "portal: not_ours\n"), ("later.db", "portal: newer\n")):
         yield ("check", *at(db=db)), (3, "", said)
         yield ("print", "b1", *at(db=db)), (3, "", said)
         yield ("takings", "2020-03-01", "2020-03-01", *at(db=db)), (3, "", said)
         yield ("answer", *moment, *at(db=db)), (3, "", said)
         yield ("serve", *at(db=db)), (3, "", said)
+    yield ("answer", *moment, *at(db="none/portal.db")), (3, "", file_at("none/portal.db", NONE))
+    yield ("serve", *at(db="none/portal.db")), (3, "", file_at("none/portal.db", NONE))
+    for db in ("none/portal.db", "none.db"):
+        yield ("check", *at(db=db)), (3, "", file_at(db, NO_DATABASE))
+        yield ("print", "b1", *at(db=db)), (3, "", file_at(db, NO_DATABASE))
+        yield ("takings", "2020-03-01", "2020-03-01", *at(db=db)), (3, "", file_at(db, NO_DATABASE))
     yield ("print", "b9", *at()), (1, "", "portal: unknown_batch\n")
     yield ("print", "B 1", *at()), (1, "", "portal: unknown_batch\n")
     yield ("print", "b1", *at()), (0, None, "")
@@ -240,6 +246,7 @@ def stopped(shown: Shown) -> None:
     seed = ("--now", "1000", "--seed", "1" * 64, *at("full.db"))
     order = request("POST", "/desk/batches", DESK, '{"batch":"b1","plan":"hour","count":500}')
     shown.call(("answer", *seed), (3, "", file_at("full.db", "disk I/O error")), limit=(resource.RLIMIT_FSIZE, 0))
+    shown.call(("check", *at("full.db")), (3, "", file_at("full.db", NO_DATABASE)))
     shown.call(("answer", *seed), (0, None, ""), data=request("POST", "/desk/plans", DESK, PLANS))
     limit = (resource.RLIMIT_FSIZE, length_of(shown, "full.db") + 4096)
     said = shown.call(("answer", *seed), (3, None, ""), data=order, limit=limit)

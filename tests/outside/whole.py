@@ -1,5 +1,6 @@
 """The two files of a database: after each end that is no kill the database file holds everything alone, a log is never lost beside a
-database that is missing or blank, and what is told of a new database, of a file that is of no use, and of connections that fail.
+database that is missing or blank, nothing is made where no database is, and what is told of a file that is of no use, and of
+connections that fail.
 
     whole.py PROGRAM
 """
@@ -22,6 +23,8 @@ from desk import DESK, PLANS, Desk, codes_of, request
 SEED = "0" * 64
 SALES = 200
 DAY = "1970-01-01"
+ASKING = (("check",), ("print", "b1"), ("takings", DAY, DAY))
+NO_DATABASE = "there is no database here: only serve and answer create one"
 
 
 def expect(what: str, came: object, wanted: object) -> None:
@@ -120,48 +123,102 @@ def killed(program: str, folder: str) -> Desk:
     return desk
 
 
-def content(desk: Desk, name: str) -> bytes:
-    with open(os.path.join(desk.folder, name), "rb") as file:
+def content(desk: Desk, name: str) -> bytes | None:
+    """The bytes of a file of the folder; None: there is no such file."""
+    path = os.path.join(desk.folder, name)
+    if not os.path.exists(path):
+        return None
+    with open(path, "rb") as file:
         return file.read()
 
 
+def write(desk: Desk, name: str, data: bytes) -> None:
+    with open(os.path.join(desk.folder, name), "wb") as file:
+        file.write(data)
+
+
+def remove(desk: Desk, name: str) -> None:
+    if content(desk, name) is not None:
+        os.remove(os.path.join(desk.folder, name))
+
+
 def log_is_kept(program: str) -> None:
-    """A log that holds commits beside a database that is missing or blank is `portal: file`, and stays as it is."""
+    """A log that holds commits beside a database that is missing or blank is `portal: file`, and stays as it is. What asks makes no
+    database file either."""
     with tempfile.TemporaryDirectory() as folder:
         desk = killed(program, folder)
         database, log = content(desk, "portal.db"), content(desk, "portal.db-wal")
         text = "  portal.db: the database is empty or missing, and its log holds commits\n"
         for blank in (False, True):
-            for words in (("check",), ("print", "b1"), ("takings", DAY, DAY), ("serve", "--count", "1", "--port", str(desk.port)),
-                          ("answer", "--now", "1", "--seed", SEED)):
-                os.remove(os.path.join(folder, "portal.db"))
+            for words in (*ASKING, ("serve", "--count", "1", "--port", str(desk.port)), ("answer", "--now", "1", "--seed", SEED)):
+                remove(desk, "portal.db")
                 if blank:
-                    with open(os.path.join(folder, "portal.db"), "wb"):
-                        pass
+                    write(desk, "portal.db", b"")
                 done = desk.run(*words, data=request("GET", "/gateway/sessions", "Portal-Token: gate-token"))
                 expect(f"{words[0]} over a log alone", (done.returncode, done.stdout, done.stderr), (3, "", "portal: file\n" + text))
-                expect(f"{words[0]} over a log alone: the database", content(desk, "portal.db"), b"")
+                is_made = blank or words not in ASKING
+                expect(f"{words[0]} over a log alone: the database", content(desk, "portal.db"), b"" if is_made else None)
                 expect(f"{words[0]} over a log alone: the log is as it was", content(desk, "portal.db-wal") == log, True)
-        with open(os.path.join(folder, "portal.db"), "wb") as file:
-            file.write(database)
+        write(desk, "portal.db", database)
         done = desk.run("check")
         expect("check, with the database put back", (done.returncode, done.stdout, done.stderr), (0, "ok\n", ""))
         if today() == time.strftime("%Y-%m-%d", time.gmtime(os.path.getmtime(os.path.join(folder, "settings.toml")))):
             is_whole_alone(desk, today(), "check, with the database put back")
 
 
-def new_database_is_told(program: str) -> None:
-    for words in (("print", "b1"), ("takings", DAY, DAY), ("check",)):
+def state_of(folder: str) -> list[tuple[str, int, int, int, bytes]]:
+    """Name, mode, size, time of the last change and bytes of each file in a folder, and of what a link there leads to."""
+    found = []
+    for name in sorted(os.listdir(folder)):
+        path, data = os.path.join(folder, name), b""
+        if os.path.isfile(path):
+            with open(path, "rb") as file:
+                data = file.read()
+        status = os.lstat(path)
+        found.append((name, status.st_mode, status.st_size, status.st_mtime_ns, data))
+    return found
+
+
+def asking_makes_nothing(program: str) -> None:
+    """Where no database was made, what asks says so, and leaves everything as it was: bytes, names, modes and times of the last change.
+    `answer` makes a database there, which is then asked."""
+    for name, logs in (("none.db", {}), ("none/none.db", {}), ("none.db", {"none.db-wal": b""}), ("none.db", {"none.db-wal": b"no log" * 999}),
+                       ("link.db", {}), ("empty.db", {}), ("empty.db", {"empty.db-wal": b""}), ("to_empty.db", {}),
+                       ("empty.db", {"empty.db-wal": b"no log" * 999})):
         with tempfile.TemporaryDirectory() as folder:
             desk = Desk(program, folder)
-            done = desk.run(*words)
-            status, word = (1, "portal: unknown_batch\n") if words[0] == "print" else (0, "")
-            expect(f"{words[0]} of no database", (done.returncode, done.stderr), (status, "portal: new database portal.db\n" + word))
-            done = desk.run(*words)
-            expect(f"{words[0]} the second time", (done.returncode, done.stderr), (status, word))
+            os.symlink("none.db", os.path.join(folder, "link.db"))
+            os.symlink("empty.db", os.path.join(folder, "to_empty.db"))
+            write(desk, "empty.db", b"")
+            for log, data in logs.items():
+                write(desk, log, data)
+            before = state_of(folder)
+            for words in ASKING:
+                done = subprocess.run([program, *words, "--db", name, "--settings", "settings.toml"], cwd=folder, capture_output=True,
+                                      text=True, check=False)
+                what = f"{words[0]} of {name}, beside {[*logs]}"
+                expect(what, (done.returncode, done.stdout, done.stderr), (3, "", f"portal: file\n  {name}: {NO_DATABASE}\n"))
+                expect(f"{what}: what is there", state_of(folder), before)
     with tempfile.TemporaryDirectory() as folder:
         desk = Desk(program, folder)
         answer(desk, 0, request("POST", "/desk/plans", DESK, PLANS))
+        for words in ASKING:
+            status, word = (1, "portal: unknown_batch\n") if words[0] == "print" else (0, "")
+            done = desk.run(*words)
+            expect(f"{words[0]} of a database that answer made", (done.returncode, done.stderr), (status, word))
+
+
+def database_in_use_is_told(program: str) -> None:
+    """A database that a server has just made is in use, whatever of it is in the file yet."""
+    with tempfile.TemporaryDirectory() as folder:
+        desk = Desk(program, folder)
+        desk.start()
+        for words in ASKING:
+            done = desk.run(*words)
+            expect(f"{words[0]} beside a server", (done.returncode, done.stderr), (3, "portal: file\n  portal.db: the database is in use\n"))
+        desk.kill()
+        done = desk.run("check")
+        expect("check after a server that was killed", (done.returncode, done.stdout, done.stderr), (0, "ok\n", ""))
 
 
 def file_is_explained(program: str) -> None:
@@ -169,7 +226,9 @@ def file_is_explained(program: str) -> None:
     with tempfile.TemporaryDirectory() as folder:
         desk = Desk(program, folder)
         words = [program, "check", "--settings", "settings.toml", "--db"]
-        cases = [("none/portal.db", "No such file or directory (os error 2)"), ("settings.toml", "file is not a database that obeys its schema")]
+        cases = [("none/portal.db", NO_DATABASE), ("settings.toml", "file is not a database that obeys its schema"),
+                 ("settings.toml/portal.db", "Not a directory (os error 20)"), (".", "unsupported"), ("/dev/null", "unsupported"),
+                 (":memory:", "unable to open database file"), ("file:portal.db", "unable to open database file")]
         for path, text in cases:
             done = subprocess.run([*words, path], cwd=folder, capture_output=True, text=True, check=False)
             expect(f"check --db {path}", (done.returncode, done.stderr), (3, f"portal: file\n  {path}: {text}\n"))
@@ -177,10 +236,6 @@ def file_is_explained(program: str) -> None:
                               check=False)
         expect("check --settings none.toml", (done.returncode, done.stderr),
                (3, "portal: file\n  none.toml: No such file or directory (os error 2)\n"))
-        desk.start()
-        done = desk.run("check")
-        expect("check beside a server", (done.returncode, done.stderr), (3, "portal: file\n  portal.db: the database is in use\n"))
-        desk.kill()
         done = subprocess.run([*words, "two\nlines/portal.db"], cwd=folder, capture_output=True, text=True, check=False)
         expect("check --db with a line feed", (done.returncode, done.stderr), (3, "portal: file\n"))
 
@@ -227,7 +282,7 @@ def told_without_descriptors(desk: Desk) -> None:
     resource.prlimit(desk.process.pid, resource.RLIMIT_NOFILE, (used, 256))
     peers = [desk.connect() for _ in range(8)]
     time.sleep(2)
-    lines = content(desk, "errors").decode().splitlines()
+    lines = (content(desk, "errors") or b"").decode().splitlines()
     expect("lines in 2 s", (1 <= len(lines) <= 4, set(lines)), (True, {"portal: network"}))
     resource.prlimit(desk.process.pid, resource.RLIMIT_NOFILE, (256, 256))
     for peer in peers:
@@ -251,8 +306,8 @@ def accepts_without_descriptors(program: str) -> None:
 
 
 def main() -> None:
-    parts = (answers_leave_it_whole, serving_leaves_it_whole, starting_makes_it_whole, log_is_kept, new_database_is_told, file_is_explained,
-             failed_close_keeps_the_files, accepts_without_descriptors)
+    parts = (answers_leave_it_whole, serving_leaves_it_whole, starting_makes_it_whole, log_is_kept, asking_makes_nothing,
+             database_in_use_is_told, file_is_explained, failed_close_keeps_the_files, accepts_without_descriptors)
     chosen = [part for part in parts if not sys.argv[2:] or part.__name__ in sys.argv[2:]]
     for part in chosen:
         part(sys.argv[1])
