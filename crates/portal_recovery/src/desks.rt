@@ -86,6 +86,5 @@ pub fn release_desk_files<D: Disk + Drop>(desk: StoreDesk<FileStore<D>>) -> File
     ensures left { AreClean D.Disk result.log result.db
         → (s : State) → DeskRepresents over_files desk s → EachImage D.Disk result (HoldsAllowedLedger s) }
 {
-    let conn = desk.release();
-    release_conn_files(conn)
+    release_conn_files(desk.release())
 }
