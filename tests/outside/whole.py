@@ -23,7 +23,7 @@ from desk import DESK, PLANS, Desk, codes_of, request
 SEED = "0" * 64
 SALES = 200
 DAY = "1970-01-01"
-ASKING = (("check",), ("print", "b1"), ("takings", DAY, DAY))
+ASKING: list[tuple[str, ...]] = [("check",), ("print", "b1"), ("takings", DAY, DAY)]
 NO_DATABASE = "there is no database here: only serve and answer create one"
 
 
@@ -123,23 +123,14 @@ def killed(program: str, folder: str) -> Desk:
     return desk
 
 
-def content(desk: Desk, name: str) -> bytes | None:
-    """The bytes of a file of the folder; None: there is no such file."""
-    path = os.path.join(desk.folder, name)
-    if not os.path.exists(path):
-        return None
-    with open(path, "rb") as file:
+def content(desk: Desk, name: str) -> bytes:
+    with open(os.path.join(desk.folder, name), "rb") as file:
         return file.read()
 
 
 def write(desk: Desk, name: str, data: bytes) -> None:
     with open(os.path.join(desk.folder, name), "wb") as file:
         file.write(data)
-
-
-def remove(desk: Desk, name: str) -> None:
-    if content(desk, name) is not None:
-        os.remove(os.path.join(desk.folder, name))
 
 
 def log_is_kept(program: str) -> None:
@@ -151,13 +142,15 @@ def log_is_kept(program: str) -> None:
         text = "  portal.db: the database is empty or missing, and its log holds commits\n"
         for blank in (False, True):
             for words in (*ASKING, ("serve", "--count", "1", "--port", str(desk.port)), ("answer", "--now", "1", "--seed", SEED)):
-                remove(desk, "portal.db")
+                if os.path.exists(os.path.join(folder, "portal.db")):
+                    os.remove(os.path.join(folder, "portal.db"))
                 if blank:
                     write(desk, "portal.db", b"")
                 done = desk.run(*words, data=request("GET", "/gateway/sessions", "Portal-Token: gate-token"))
                 expect(f"{words[0]} over a log alone", (done.returncode, done.stdout, done.stderr), (3, "", "portal: file\n" + text))
-                is_made = blank or words not in ASKING
-                expect(f"{words[0]} over a log alone: the database", content(desk, "portal.db"), b"" if is_made else None)
+                is_there = os.path.exists(os.path.join(folder, "portal.db"))
+                expect(f"{words[0]} over a log alone: a database file is there", is_there, blank or words not in ASKING)
+                expect(f"{words[0]} over a log alone: the database", content(desk, "portal.db") if is_there else b"", b"")
                 expect(f"{words[0]} over a log alone: the log is as it was", content(desk, "portal.db-wal") == log, True)
         write(desk, "portal.db", database)
         done = desk.run("check")
@@ -182,23 +175,23 @@ def state_of(folder: str) -> list[tuple[str, int, int, int, bytes]]:
 def asking_makes_nothing(program: str) -> None:
     """Where no database was made, what asks says so, and leaves everything as it was: bytes, names, modes and times of the last change.
     `answer` makes a database there, which is then asked."""
-    for name, logs in (("none.db", {}), ("none/none.db", {}), ("none.db", {"none.db-wal": b""}), ("none.db", {"none.db-wal": b"no log" * 999}),
-                       ("link.db", {}), ("empty.db", {}), ("empty.db", {"empty.db-wal": b""}), ("to_empty.db", {}),
-                       ("empty.db", {"empty.db-wal": b"no log" * 999})):
-        with tempfile.TemporaryDirectory() as folder:
-            desk = Desk(program, folder)
-            os.symlink("none.db", os.path.join(folder, "link.db"))
-            os.symlink("empty.db", os.path.join(folder, "to_empty.db"))
-            write(desk, "empty.db", b"")
-            for log, data in logs.items():
-                write(desk, log, data)
-            before = state_of(folder)
-            for words in ASKING:
-                done = subprocess.run([program, *words, "--db", name, "--settings", "settings.toml"], cwd=folder, capture_output=True,
-                                      text=True, check=False)
-                what = f"{words[0]} of {name}, beside {[*logs]}"
-                expect(what, (done.returncode, done.stdout, done.stderr), (3, "", f"portal: file\n  {name}: {NO_DATABASE}\n"))
-                expect(f"{what}: what is there", state_of(folder), before)
+    for log in (None, b"", b"no log" * 999):
+        for name in ("none.db", "none/none.db", "link.db", "empty.db", "to_empty.db"):
+            with tempfile.TemporaryDirectory() as folder:
+                desk = Desk(program, folder)
+                os.symlink("none.db", os.path.join(folder, "link.db"))
+                os.symlink("empty.db", os.path.join(folder, "to_empty.db"))
+                write(desk, "empty.db", b"")
+                if log is not None:
+                    write(desk, "none.db-wal", log)
+                    write(desk, "empty.db-wal", log)
+                before = state_of(folder)
+                for words in ASKING:
+                    done = subprocess.run([program, *words, "--db", name, "--settings", "settings.toml"], cwd=folder, capture_output=True,
+                                          text=True, check=False)
+                    what = f"{words[0]} of {name}, with {'no' if log is None else len(log)} bytes in the logs"
+                    expect(what, (done.returncode, done.stdout, done.stderr), (3, "", f"portal: file\n  {name}: {NO_DATABASE}\n"))
+                    expect(f"{what}: what is there", state_of(folder), before)
     with tempfile.TemporaryDirectory() as folder:
         desk = Desk(program, folder)
         answer(desk, 0, request("POST", "/desk/plans", DESK, PLANS))
@@ -282,7 +275,7 @@ def told_without_descriptors(desk: Desk) -> None:
     resource.prlimit(desk.process.pid, resource.RLIMIT_NOFILE, (used, 256))
     peers = [desk.connect() for _ in range(8)]
     time.sleep(2)
-    lines = (content(desk, "errors") or b"").decode().splitlines()
+    lines = content(desk, "errors").decode().splitlines()
     expect("lines in 2 s", (1 <= len(lines) <= 4, set(lines)), (True, {"portal: network"}))
     resource.prlimit(desk.process.pid, resource.RLIMIT_NOFILE, (256, 256))
     for peer in peers:
