@@ -322,6 +322,11 @@ def restore() -> None:
     check("after a restore the session of before the copy goes on, a voucher of after it is unknown", done.returncode == 0
           and is_online() and look == 404 and took is not None,
           f"{told(done)}; voucher {look}, passes after {took} s")
+    lists = list(DATABASE.parent.glob(f"{DATABASE.name}.before-*/undone.csv"))
+    modes = [sh("stat", "-c", "%U:%a", path).stdout.strip() for path in lists]
+    check("the restore prints how many vouchers it undid, without codes, and lists that one for root alone",
+          re.search(r"sold [1-9]\d* \(\d+\.00\), refunded 0 ", done.stdout) and text not in done.stdout and modes == ["root:600"]
+          and f",{text}," in lists[0].read_text(), f"{told(done)}; {modes}")
     own = sh("stat", "-c", "%U:%G:%a", DATABASE).stdout.strip()
     check.note(f"restored database: {own}, beside it: {' '.join(os.listdir(DATABASE.parent))}")
 

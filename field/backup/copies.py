@@ -70,8 +70,13 @@ def fold(path: pathlib.Path) -> None:
     path.chmod(0o600)
 
 
+def address_of(path: pathlib.Path) -> str:
+    """SQLite's address of a file that has no log and that nobody writes, to read it."""
+    return f"file:{urllib.parse.quote(str(path))}?mode=ro&immutable=1"
+
+
 def read_only(path: pathlib.Path) -> sqlite3.Connection:
-    return sqlite3.connect(f"file:{urllib.parse.quote(str(path))}?mode=ro&immutable=1", uri=True)
+    return sqlite3.connect(address_of(path), uri=True)
 
 
 def look(path: pathlib.Path) -> None:

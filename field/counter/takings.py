@@ -116,4 +116,6 @@ def difference(server: Sums, journal: Sums, language: Language, money: Callable[
     if any(mine < other for mine, other in counts):
         told.append(say("The journal has something that the server does not have: an older copy of the database was "
                         "restored, or the answer came after midnight."))
-    return [*told, say("What the server says counts.")]
+        told.append(say("What a restore undid is listed in undone.csv, beside the database that portal-restore replaced: that "
+                        "money was taken or given back all the same."))
+    return told

@@ -6,9 +6,12 @@ Run by itself it takes FIELD_PORTAL for the server; else the stand-in answers.
 from __future__ import annotations
 
 import contextlib
+import csv
+import datetime
 import os
 import pathlib
 import re
+import shlex
 import shutil
 import signal
 import sqlite3
@@ -23,6 +26,7 @@ from unittest import mock
 
 from desk_process import FIELD, PORTAL, Desk, DeskProcess, Refused, Routes
 from needs import LOOP_DEVICES, ROOT, needs
+from schema_versions import ADDED, LATER, VERSIONS, make_database
 from steady import wait_until
 
 COPIES = 3
@@ -43,6 +47,10 @@ def with_stubs(folder: pathlib.Path) -> dict[str, str]:
 def systemctl(folder: pathlib.Path, state: str) -> None:
     """A `systemctl` that writes down what it was asked, for a server in this state."""
     stub(folder, "systemctl", f'echo "$1" >> {folder}/order\n[ "$1" != show ] || echo {state}')
+
+
+def decimal(amount: int) -> str:
+    return f"{amount / 100:.2f}"
 
 
 def files(folder: pathlib.Path) -> dict[str, bytes]:
@@ -412,6 +420,166 @@ class Restores(Case):
             done = self.drill(pathlib.Path(place), "UTC0", 0)
             self.assertEqual((done.returncode, done.stdout), (1, ""))
             self.assertIn("SQLite cannot read it", done.stderr)
+
+
+@needs("procps")
+class Undone(Case):
+    """What a restore says that it undid."""
+
+    def setUp(self) -> None:
+        self.folder = pathlib.Path(self.enterContext(tempfile.TemporaryDirectory()))
+        self.book, self.copy = self.folder / "book.db", self.folder / "copy.db"
+        stub(self.folder, "systemctl", "echo inactive")
+        stub(self.folder, "portal", '[ "$1" = check ] && echo ok')
+        (self.folder / "settings.toml").write_text('zone = "XST-9"\n')
+
+    def restored(self) -> tuple[str, list[pathlib.Path]]:
+        """What was printed, and the lists that were written; the copy is in the database's place, whatever was there."""
+        before, copy = files(self.folder), self.copy.read_bytes()
+        done = self.run_it("portal-restore", "--portal", self.folder / "portal", "--settings", self.folder / "settings.toml",
+                           self.copy, self.book, folder=self.folder)
+        self.assertEqual((done.returncode, done.stderr), (0, ""))
+        self.assertTrue(files(self.folder) == {"book.db": copy})        # (the difference of two databases is long)
+        aside, = self.folder.glob("book.db.before-*")
+        lists = list(aside.glob("*.csv"))
+        self.assertTrue(files(aside) == before)
+        seen = aside.rename(self.folder / f"seen-{time.monotonic_ns()}")
+        return done.stdout, [seen / path.name for path in lists]
+
+    def test_sales_refunds_and_redemptions_of_each_schema_version_are_listed(self) -> None:
+        """Of 5.00 for three uses 3.33 are left after one. Unix time 90000 is 1970-01-02, 10:00 nine hours east of UTC."""
+        for version, earlier in ((version, earlier) for version in VERSIONS for earlier in sorted({1, version})):
+            with self.subTest(version=version, copy=earlier):
+                self.book.unlink(missing_ok=True)
+                self.copy.unlink(missing_ok=True)
+                make_database(self.book, version, LATER)
+                make_database(self.copy, earlier)
+                told, lists = self.restored()
+                self.assertEqual(len(lists), 1, told)
+                path = lists[0]
+                self.assertIn("sold 2 (8.00), refunded 1 (5.00), redeemed 3 (6.33)\n", told)
+                self.assertIn(f"/{path.name}\n", told)
+                self.assertNotRegex(told, "2222|4444")
+                self.assertEqual(path.stat().st_mode & 0o777, 0o600)
+                self.assertEqual(path.read_text().splitlines(), [
+                    "what,time,code,batch,plan,uses,sum,in the copy",
+                    "redeemed,1970-01-01 09:20:00,2222-2222-223N,b1,gig,2,3.33,sold",
+                    "refunded,1970-01-01 09:21:40,2222-2222-2222,b1,gig,,5.00,sold",
+                    "sold,1970-01-01 09:23:20,2222-2222-2249,b1,gig,,5.00,unsold",
+                    "sold,1970-01-01 09:25:00,4444-4444-444A,b3,hour,,3.00,not issued",
+                    "redeemed,1970-01-02 10:00:00,4444-4444-444A,b3,hour,1,3.00,not issued"])
+
+    def test_the_tables_of_this_test_are_those_of_the_specification(self) -> None:
+        specification = FIELD.parent / "crates/portal_tables_rows/specs/Schema.antt"
+        if specification.is_file():     # a kit that is installed alone has none
+            specified = re.findall(r'"(CREATE TABLE [^"]*)"', specification.read_text())
+            self.assertEqual([line.strip() for line in "".join(ADDED.values()).split(";")[:-1]], specified)
+
+    def test_what_cannot_be_read_is_said_and_hinders_no_restore(self) -> None:
+        foreign = 'CREATE TABLE acts (number INTEGER);'
+        make_database(self.copy, 4)
+        whole = self.copy.read_bytes()
+        for data, words in ((b"", "it is no database of portal, or an empty one"),
+                            (b"no database" * 99, "file is not a database"),
+                            (whole[:8192] + bytes(len(whole) - 8192), "malformed"), (foreign, "it is no database of portal"),
+                            ("UPDATE portal_head SET layout = 5", "its schema version is 5, and 1 to 4 can be read"),
+                            ("DROP TABLE portal_grants", "no such table")):
+            with self.subTest(words=words, data=data[:30]):
+                self.book.write_bytes(data if isinstance(data, bytes) else b"" if data == foreign else whole)
+                if isinstance(data, str):
+                    with contextlib.closing(sqlite3.connect(self.book)) as base:
+                        base.executescript(data)
+                told, lists = self.restored()
+                self.assertIn("what this undid is not known", told)
+                self.assertIn(words, told)
+                self.assertEqual(lists, [])
+
+    def test_a_disk_without_room_for_reading_hinders_no_restore(self) -> None:
+        """With a `cp` that has room for the copy alone."""
+        make_database(self.book, 4, LATER)
+        make_database(self.copy, 4)
+        stub(self.folder, "cp", 'case "$*" in *replaced.db) exit 1 ;; esac\nexec /bin/cp "$@"')
+        told, lists = self.restored()
+        self.assertIn("what this undid is not known", told)
+        self.assertEqual((lists, list(self.folder.glob(".restore-*"))), ([], []))
+
+    def test_a_log_without_its_database_is_said(self) -> None:
+        make_database(self.copy, 4)
+        pathlib.Path(f"{self.book}-wal").write_bytes(b"a log")
+        self.assertIn("what this undid is not known", self.restored()[0])
+
+    def test_a_damaged_database_is_listed_as_far_as_it_can_be_read(self) -> None:
+        """With a row that SQLite's check finds to be wrong."""
+        make_database(self.copy, 4)
+        make_database(self.book, 4, LATER, "CREATE TABLE spare (x INTEGER); INSERT INTO spare VALUES (NULL);"
+                      "PRAGMA writable_schema = ON; UPDATE sqlite_master SET sql = 'CREATE TABLE spare (x INTEGER NOT NULL)'"
+                      " WHERE name = 'spare'")
+        told, lists = self.restored()
+        self.assertIn("sold 2 (8.00)", told)
+        self.assertIn("more may be undone: what was there before is damaged: NULL value in spare.x", told)
+        self.assertEqual([len(path.read_text().splitlines()) for path in lists], [6])
+
+    def test_a_copy_that_has_all_of_it_undoes_nothing(self) -> None:
+        make_database(self.book, 4)
+        make_database(self.copy, 4, LATER)
+        self.assertIn("sold 0 (0.00), refunded 0 (0.00), redeemed 0 (0.00)\n", self.restored()[0])
+
+
+@needs("procps")
+class UndoneByTheProgram(Case):
+    """With the program of FIELD_PORTAL, else the shipped one where that runs, since the stand-in has other tables."""
+
+    def setUp(self) -> None:
+        folder = self.enterContext(tempfile.TemporaryDirectory())
+        self.portal, shipped = os.environ.get("FIELD_PORTAL", ""), f"{FIELD.parent}/deb/shipped {folder}/portal"
+        line = f"{shipped} && {folder}/portal --version"
+        if not self.portal and subprocess.run(line, shell=True, capture_output=True).returncode == 0:
+            self.portal = f"{folder}/portal"
+
+    def paid(self, desk: DeskProcess, book: pathlib.Path) -> list[int]:
+        """What the program's takings have in all: vouchers sold, hundredths, vouchers refunded, hundredths."""
+        days = [str(datetime.date.today() + datetime.timedelta(days)) for days in (-2, 2)]
+        words = [*shlex.split(self.portal), "takings", *days, "--db", str(book), "--settings", str(desk.settings)]
+        done = subprocess.run(words, capture_output=True, text=True, check=True)
+        total, = (line.split()[1:] for line in done.stdout.splitlines() if line.startswith("total"))
+        return [int(word.replace(".", "")) for word in total]
+
+    def refund(self, book: pathlib.Path, code: str) -> int:
+        with DeskProcess(book, self.portal) as desk:
+            return int(desk.desk.tell(Routes.REFUND, body={"code": code})["amount"])
+
+    def test_a_restore_undoes_what_the_program_counts(self) -> None:
+        """A refund, a redemption of one of three uses, and two sales, one of a voucher that was issued since the copy. Money is
+        as the takings of both databases differ, and the redemption's as what the program pays back in each."""
+        if not self.portal:
+            return
+        with DeskProcess(portal=self.portal) as desk:
+            desk.load()
+            refunded, unsold = desk.issued("hour", "b1", 2)
+            redeemed, = desk.sold("gigabyte", "b2")
+            desk.desk.tell(Routes.SELL, body={"code": refunded})
+            copy = self.copied(desk)
+            desk.desk.tell(Routes.REFUND, body={"code": refunded})
+            desk.desk.tell(Routes.REDEEM, body={"code": redeemed}, device="02:00:00:00:00:01")
+            desk.desk.tell(Routes.SELL, body={"code": unsold})
+            issued, = desk.sold("day", "b3")
+            self.end(desk)
+            systemctl(desk.folder, "inactive")
+            there = files(desk.folder)
+            done = self.restore(desk, "--portal", self.portal, copy, desk.book, folder=desk.folder)
+            self.assertEqual((done.returncode, done.stderr), (0, ""))
+            aside, = desk.folder.glob("book.db.before-*")
+            before = aside / "book.db"
+            self.assertTrue(files(aside) == there)      # (the difference of two databases is long)
+            sold, sales, refunds, money = (a - b for a, b in zip(self.paid(desk, before), self.paid(desk, desk.book)))
+            worth = self.refund(desk.book, redeemed) - self.refund(before, redeemed)
+            words = f"sold {sold} ({decimal(sales)}), refunded {refunds} ({decimal(money)}), redeemed 1 ({decimal(worth)})\n"
+            self.assertIn(words, done.stdout)
+            self.assertEqual((sold, sales, refunds, money, worth), (2, 1200, 1, 300, 167))
+            with open(aside / "undone.csv", newline="") as file:
+                rows = {(row["what"], row["code"], row["in the copy"]) for row in csv.DictReader(file)}
+            self.assertEqual(rows, {("refunded", refunded, "sold"), ("redeemed", redeemed, "sold"), ("sold", unsold, "unsold"),
+                                    ("sold", issued, "not issued")})
 
 
 class Units(unittest.TestCase):

@@ -7,7 +7,8 @@ from dataclasses import dataclass
 NFT, AGENT, KERNEL = "gateway/portal.nft", "gateway/portal_gateway.py", "gateway/kernel_gate.py"
 GUESTS, FRONT, COUNTER = "front/nginx-guests.conf", "front/portal_front.py", "counter/portal_counter.py"
 CLIENT, BACKUP = "lib/desk_client.py", "backup/portal-backup"
-RESTORE, COPIES = "backup/portal-restore", "backup/copies.py"
+RESTORE, COPIES, UNDONE = "backup/portal-restore", "backup/copies.py", "backup/undone_entries.py"
+UNDONE_LIST = "test_sales_refunds_and_redemptions_of_each_schema_version_are_listed"
 SERVER, TIME, MACHINE_TIME = "server/portal_server.py", "server/right_time.py", "lib/machine_time.py"
 VENUE, CODES = "lib/venue.py", "lib/typed_codes.py"
 JOURNAL, TAKINGS, REPORT = "counter/journal.py", "counter/takings.py", "counter/portal_report.py"
@@ -193,6 +194,31 @@ BACKUPS = (
          "test_a_drill_prints_the_takings_of_the_last_day"),
     Edit("a_schema_version_that_stays", RESTORE, "    if mark.exists() and head:", "    if not mark and head:",
          "backup_test.Restores", "test_the_package_is_told_the_schema_version_of_what_was_restored"),
+    Edit("what_is_undone_is_not_told", RESTORE, "aside}\", *lines, sep", "aside}\", sep", "backup_test.UndoneByTheProgram",
+         "test_a_restore_undoes_what_the_program_counts"),
+    Edit("codes_of_what_is_undone_are_printed", RESTORE, "lines = [undone.counts(),",
+         "lines = [undone.counts(), *(entry.code for entry in undone.entries),", "backup_test.Undone", UNDONE_LIST),
+    Edit("a_list_of_codes_that_all_can_read", UNDONE, "os.O_EXCL, 0o600)", "os.O_EXCL, 0o644)", "backup_test.Undone", UNDONE_LIST),
+    Edit("vouchers_of_new_batches_are_not_listed", UNDONE, "LEFT JOIN copy.portal_vouchers", "JOIN copy.portal_vouchers",
+         "backup_test.UndoneByTheProgram", "test_a_restore_undoes_what_the_program_counts"),
+    Edit("redemptions_are_not_compared", UNDONE, 'if row["there"] > row["here"]:', "if False:",
+         "backup_test.UndoneByTheProgram", "test_a_restore_undoes_what_the_program_counts"),
+    Edit("redemptions_at_the_full_price", UNDONE, "left[0] - left[1])", 'row["price"])',
+         "backup_test.UndoneByTheProgram", "test_a_restore_undoes_what_the_program_counts"),
+    Edit("uses_of_the_copy_are_counted_again", UNDONE, 'row["there"] - row["here"], left', 'row["there"], left',
+         "backup_test.Undone", UNDONE_LIST),
+    Edit("the_first_schema_version_is_not_read", UNDONE, "(1, 2, 3, 4)", "(2, 3, 4)", "backup_test.Undone", UNDONE_LIST),
+    Edit("a_later_schema_version_is_read", UNDONE, "(1, 2, 3, 4)", "(1, 2, 3, 4, 5)", "backup_test.Undone",
+         "test_what_cannot_be_read_is_said_and_hinders_no_restore"),
+    Edit("an_unreadable_database_is_not_replaced", RESTORE, "except Exception as fault:", "except ZeroDivisionError as fault:",
+         "backup_test.Undone", "test_what_cannot_be_read_is_said_and_hinders_no_restore"),
+    Edit("damage_is_not_said", RESTORE, "    if undone.damage:\n", "    if False:\n", "backup_test.Undone",
+         "test_a_damaged_database_is_listed_as_far_as_it_can_be_read"),
+    Edit("what_is_kept_is_opened", UNDONE, "        copy_both(database, whole)\n        fold(whole)\n",
+         "        fold(database)\n        whole = database\n", "backup_test.UndoneByTheProgram",
+         "test_a_restore_undoes_what_the_program_counts"),
+    Edit("a_cash_up_that_knows_no_list", TAKINGS, 'say("What a restore undid is', 'say("What the server says counts, and a restore is',
+         "test_journal.Takings", "test_what_differs_is_said_in_words"),
     Edit("logs_that_two_rotations_name", "units/logrotate.conf", "/var/log/portal/*.log", "/var/log/nginx/portal-*.log",
          "backup_test.Logs", "test_logs_are_in_a_folder_that_no_other_rotation_names"),
 )

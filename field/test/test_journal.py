@@ -104,8 +104,7 @@ class Kept(AtCounter):
         self.journal.path = str(self.folder / "journal.db")
         self.assertIn("Take 3.00", self.ask("/sell", code=other, request="s2")[1])
         text = self.cash_up()
-        for words in ("Sales: the server has 3.00 more than the journal.", "What the server says counts."):
-            self.assertIn(words, text)
+        self.assertIn("Sales: the server has 3.00 more than the journal.", text)
 
     def test_a_day_is_cashed_up_beside_the_servers_takings(self) -> None:
         hours, gigabytes = self.desk.issued("hour", "b1", 3), self.desk.issued("gigabyte", "b2", 2)
@@ -217,8 +216,9 @@ class Takings(AtCounter):
         for server, journal, words in cases:
             told = " ".join(takings.difference(server, journal, WORDS, WORDS.money))
             self.assertIn(words, told)
-            self.assertEqual("What the server says counts." in told, server != journal)
-            self.assertEqual("The journal has something" in told, journal.sold > server.sold or journal.refunded > server.refunded)
+            self.assertNotIn("What the server says counts.", told)
+            for words in ("The journal has something", "What a restore undid is listed in undone.csv"):
+                self.assertEqual(words in told, journal.sold > server.sold or journal.refunded > server.refunded)
 
 
 class Report(AtCounter):
