@@ -18,7 +18,7 @@ COMMANDS = {"btrfs-progs": "mkfs.btrfs", "chromium": "chromium", "chromium-drive
             "nftables": "nft", "openssl": "openssl", "procps": "sysctl", "rsync": "rsync", "systemd": "systemd-analyze"}
 MODULES = {f"python3-{name}": name for name in ("babel", "flask", "jsonschema", "pyroute2", "segno", "selenium", "waitress", "yaml")}
 FILES = {"fonts-dejavu-extra": "/usr/share/fonts/truetype/dejavu/DejaVuSansCondensed.ttf"}
-NEW_NAMESPACE = ["unshare", "-n", "ip", "link", "add", "a", "type", "veth", "peer", "name", "b"]
+NEW_NAMESPACE = ["unshare", "-n", "ip", "link", "add", "one", "type", "veth", "peer", "name", "two"]
 os.environ["PATH"] = f"{os.environ['PATH']}:/usr/sbin:/sbin"      # an ordinary user's has neither, nor has root's after `su`
 
 
