@@ -56,7 +56,6 @@ class Counter:
     """What the clerk can do. An action answers what stands above the next page, and adds to `acts` what it did."""
     desk: Desk
     conf: dict[str, Any]
-    plans: dict[str, int]       # id: price
     journal: Journal = field(default_factory=lambda: Journal(STATE / "journal.db"))
     plans_notice: Notice | None = None
     since: Any = None           # the start of the server, by its note, for which the plans were loaded
@@ -90,7 +89,7 @@ class Counter:
         and one that did not, as after a restore, takes it."""
         self.offers.load(since)
         lines = self.offers.notice(self.say)
-        self.plans, self.since = self.offers.prices, self.offers.since
+        self.since = self.offers.since
         self.plans_notice = Notice(False, lines) if lines else None
 
     def catch_up(self) -> None:

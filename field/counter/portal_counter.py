@@ -337,7 +337,7 @@ def main() -> None:
     conf = settings("/etc/portal/counter.toml")
     use_zone(conf["zone"])
     door = web.listening(conf["socket"])
-    counter = Counter(Desk(conf["desk_port"], credential("desk_token")), conf, {})
+    counter = Counter(Desk(conf["desk_port"], credential("desk_token")), conf)
     counter.load_plans(counter.notes.read("state").get("since"))
     threading.Thread(target=counter.follow, daemon=True).start()
     web.serve(pages(counter), door, threads=8)

@@ -53,7 +53,7 @@ def main() -> int:
     words = sys.argv[1:]
     day = datetime.date.fromisoformat(words[0]) if words else datetime.date.today() - datetime.timedelta(1)
     try:
-        text = report(Counter(Desk(conf["desk_port"], credential("desk_token")), conf, {}), day)
+        text = report(Counter(Desk(conf["desk_port"], credential("desk_token")), conf), day)
         return subprocess.run(command, input=text, text=True, timeout=LIMIT).returncode
     except (NoAnswer, Refused, sqlite3.Error, OSError, subprocess.TimeoutExpired) as fault:
         print(f"the takings of {day} were not told: {fault}", file=sys.stderr, flush=True)

@@ -90,7 +90,7 @@ class Venue:
         self.desk = DeskProcess().__enter__()
         self.conf: dict[str, Any] = {**VENUE, "plans": str(FIELD / "settings/plans.toml"), "snapshot": str(self.list), "notes": str(notes),
                      "knock": str(folder / "knock"), **changed}
-        self.counter = Counter(Desk(self.desk.port, "desk-token"), self.conf, {}, Journal(folder / "journal.db"))
+        self.counter = Counter(Desk(self.desk.port, "desk-token"), self.conf, Journal(folder / "journal.db"))
         self.counter.load_plans()
         self.front = portal_front.Front(Desk(self.desk.port), self.conf, lambda _: self.device, "a key")
         self.device: str | None = MAC

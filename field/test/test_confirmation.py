@@ -88,7 +88,7 @@ class Refunds(Confirmed):
 
     def test_the_price_is_the_servers_whatever_the_plans_file_says(self) -> None:
         code, = self.desk.issued("hour", "b1")
-        self.counter.plans = {"hour": 400}
+        self.counter.offers.accepted_plans = {"hour": {"price": 400}}
         self.assertIn("Sell for 3.00", self.ask(f"/voucher?code={code}")[1])
         self.desk.desk.tell(Routes.SELL, body={"code": code})
         self.assertEqual(self.button(self.ask(f"/refund?code={code}")[1]), "Give back 3.00")

@@ -48,7 +48,7 @@ class AtCounter(unittest.TestCase):
         (self.folder / "notes").mkdir()
         self.notes = Notes(conf["notes"])
         self.journal = Journal(self.folder / "journal.db")
-        self.counter = Counter(Desk(self.relay.port, "desk-token"), conf, {}, self.journal)
+        self.counter = Counter(Desk(self.relay.port, "desk-token"), conf, self.journal)
         self.counter.load_plans()
         served(self, pages(self.counter), web.listening(str(self.path)))
 
@@ -525,7 +525,7 @@ class Words(unittest.TestCase):
         for refusal in refusals.TABLE:
             self.assertTrue(refusal.cause.endswith(".") and refusal.advice.endswith("."), refusal.word)
             self.assertTrue(refusal.for_guest)
-        odd = Counter(Desk(1), {}, {}).refused(refusals.of_word("new_word"))
+        odd = Counter(Desk(1), {}).refused(refusals.of_word("new_word"))
         self.assertEqual(odd.lines[0], "The server answered 'new_word'.")
 
 

@@ -114,7 +114,7 @@ class Offered(AtCounter):
 
     def starts(self) -> None:
         """The counter's page is started, as by systemctl."""
-        self.counter = Counter(Desk(self.relay.port, "desk-token"), self.conf, {}, self.journal)
+        self.counter = Counter(Desk(self.relay.port, "desk-token"), self.conf, self.journal)
         self.counter.load_plans()
         self.path = self.folder / f"socket-{time.monotonic_ns()}"
         served(self, pages(self.counter), web.listening(str(self.path)))
@@ -286,7 +286,7 @@ class Offered(AtCounter):
             end = time.monotonic() + 20
             while self.counter.since != 7 and time.monotonic() < end:
                 time.sleep(0.05)
-        self.assertEqual((self.counter.since, self.counter.plans["hour"]), (7, 300))
+        self.assertEqual((self.counter.since, self.counter.offers.prices["hour"]), (7, 300))
 
     # offers.toml
 
