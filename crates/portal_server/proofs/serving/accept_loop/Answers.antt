@@ -80,16 +80,15 @@ returns-in_err-has_failed-clause-turns g c = λ honest old represents.
       (
         None ∷ mid.2,
         (g.E.Write.contents c.loop-turn.errors, mid.3, next.2.1),
-        rw (is_err c.from_residual.result c.in_err-has_failed.field-0.0 c.from_residual.ensures.1)
-            (
-              c.loop-turn._turn,
-              c.loop-turn.host,
-              c.loop-turn.has_failed,
-              mid.2,
-              omega (arith, c.loop-turn-test.true),
-              subst (λ (s : State). Turns host (g.D.Desk.settings c.args.desk.now) c.loop-turn._turn c.args.host.now old mid.2 c.loop-turn.host s c.loop-turn.has_failed)
-                  (sym next.2.0) mid.4,
-              inr (next.2.2, refl),
-            ),
+        rw (is_err c.from_residual.result c.in_err-has_failed.field-0.0 c.from_residual.ensures.1) (
+          c.loop-turn._turn,
+          c.loop-turn.host,
+          c.loop-turn.has_failed,
+          mid.2,
+          omega (arith, c.loop-turn-test.true),
+          subst (λ (s : State). Turns host (g.D.Desk.settings c.args.desk.now) c.loop-turn._turn c.args.host.now old mid.2 c.loop-turn.host s c.loop-turn.has_failed)
+              (sym next.2.0) mid.4,
+          inr (next.2.2, refl),
+        ),
       ),
     )
