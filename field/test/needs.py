@@ -40,9 +40,12 @@ def is_there(need: str) -> bool:
 
 
 def lacks(*needs: str) -> str:
-    """Why a test that needs these Debian packages, and then these of the three above, cannot run here; else nothing."""
+    """Why a test that needs these Debian packages, and these of the three above, cannot run here; else nothing. Root comes first: what else
+    is missing is of no use to an ordinary user."""
     packages = [need for need in needs if need in COMMANDS or need in MODULES or need in FILES]
     missing = [package for package in packages if not is_installed(package)]
+    if ROOT in needs and not is_there(ROOT):
+        return ROOT
     if missing:
         return f"not installed: {', '.join(missing)}"
     return next((need for need in needs if need not in packages and not is_there(need)), "")
