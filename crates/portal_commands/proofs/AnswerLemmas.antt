@@ -1,8 +1,8 @@
 -- An answer that runs out of memory.
 use Rattle.portal_commands.proofs.Common.{◌≡◌, ℕ, List, Option, Some, None, inl, inr, refl, Keeps-refl, SettingsValue, Wire, NoMemory, AreLeftAlone, IsAnswered}
 use Rattle.std.specs.Borrow.{Bor}
-use Rattle.portal_exit.specs.Errors.{line_of, exit_code_of}
-use Rattle.portal_exit.specs.Streams.{Prints}
+use Rattle.portal_server.specs.Errors.{line_of, exit_code_of}
+use Rattle.portal_server.specs.Streams.{Prints}
 use Rattle.portal_commands.specs.Places.{PlaceValue}
 
 module _ (place : PlaceValue) (wire : Wire) (errors errors_after : Option (List ℕ)) (moment : ℕ) (seed : List ℕ) (settings : SettingsValue) (status : ℕ) where

@@ -2,7 +2,7 @@
 pub use Rattle.std.proofs.Common.{List, None, Ok, Option, Some, [], ap, arith, inl, inr, refl, rules, subst, sym, true≢false, ℕ, ℤ, ◌∙◌, ◌≡◌}
 pub use Rattle.std.proofs.KnownBytes.{Appends-nil, Keeps-refl}
 pub use Rattle.portal_desk.specs.Calls.{is_stopped_state}
-pub use Rattle.portal_exit.specs.declared.error.ProgramError.TheVariants.{NoMemory}
+pub use Rattle.portal_server.specs.declared.error.ProgramError.TheVariants.{NoMemory}
 pub use Rattle.portal_files.specs.SettingsFile.{IsSettingsFile, SettingsValue}
 pub use Rattle.portal_http.specs.Exchanges.{Wire, between}
 pub use Rattle.portal_http.specs.Runs.{ServesInOrder}

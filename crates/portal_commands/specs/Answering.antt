@@ -13,10 +13,10 @@ use Rattle.portal_http.specs.declared.exchanges.Cut.{Cut as Break}
 use Rattle.portal_http.specs.Arrived.{Arrived}
 use Rattle.portal_http.specs.Runs.{ServesInOrder}
 use Rattle.portal_http.specs.Exchanges.{Wire, EndsExchange}
-use Rattle.portal_exit.specs.declared.error.ProgramError.{ProgramError}
-use Rattle.portal_exit.specs.declared.error.ProgramError.TheVariants.{Cut, NoMemory}
-use Rattle.portal_exit.specs.Errors.{line_of, exit_code_of}
-use Rattle.portal_exit.specs.Streams.{Prints}
+use Rattle.portal_server.specs.declared.error.ProgramError.{ProgramError}
+use Rattle.portal_server.specs.declared.error.ProgramError.TheVariants.{Cut, NoMemory}
+use Rattle.portal_server.specs.Errors.{line_of, exit_code_of}
+use Rattle.portal_server.specs.Streams.{Prints}
 use Rattle.portal_commands.specs.declared.answering.AnswerOptions.{AnswerOptions}
 use Rattle.portal_commands.specs.declared.causes.UsageFault.{UsageFault}
 use Rattle.portal_commands.specs.declared.causes.UsageFault.TheVariants.{Now, Seed}
@@ -82,7 +82,7 @@ AnswersStored place path wire errors errors_after moment seed settings status =
     (λ printed old new. (answered : Result ℕ ProgramError)
     × EndsAnswering wire moment seed (λ arrivals responses. ServesInOrder settings old arrivals responses new) (is_stopped_state new) answered
     × EndsStatus answered errors printed status)
-    ⊎ ((trouble : Trouble) × (IsDatabaseError trouble.error × NamesPath path trouble) × (IsForMemory trouble ⊎ place.refuses path Answer trouble)
+    ⊎ ((trouble : Trouble) × (IsDatabaseError trouble.error × NamesPath path trouble) × (IsForMemory trouble ⊎ ((left : place.Left) × place.refuses left path Answer trouble))
     × EndsBeforeReading wire errors errors_after trouble status)
 
 -- With a database file or without one.

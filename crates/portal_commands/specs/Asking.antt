@@ -1,30 +1,30 @@
 -- The output of the subcommands that ask the desk one question: `print`, `takings` and `check`.
 use Rattle.std.specs.Prelude.{◌≡◌, ◌⊎◌, ℕ, ℤ, List, Bool, true, false, Option, Some, Result, Ok, Err, ⊤}
 use Rattle.jiff_tz.specs.declared.timezone.TimeZone.{TimeZone}
-use Rattle.portal_days.specs.Span.{Span, IsSpan}
+use Rattle.portal_model.specs.Span.{Span, IsSpan}
 use Rattle.portal_model.specs.IdText.{IsIdText}
 use Rattle.portal_model.specs.History.{History}
 use Rattle.portal_model.specs.declared.refusal.Refusal.TheVariants.{UnknownBatch}
 use Rattle.portal_files.specs.DayText.{IsDayText}
 use Rattle.portal_files.specs.declared.sheet.BatchSheet.{BatchSheet}
-use Rattle.portal_files_print.specs.PrintFile.{IsPrintFile}
-use Rattle.portal_files_print.specs.Report.{IsReport}
+use Rattle.portal_files.specs.PrintFile.{IsPrintFile}
+use Rattle.portal_files.specs.Report.{IsReport}
 use Rattle.portal_ledger.specs.Calls.{ReadsThat}
 use Rattle.portal_ledger.specs.Ledger.{Ledger}
 use Rattle.portal_ledger.specs.States.{State, running}
 use Rattle.portal_desk.specs.Calls.{CannotAnswer, RefusesUnknown}
 use Rattle.portal_desk.specs.Sheets.{sheet_of, takings_over}
-use Rattle.portal_exit.specs.declared.ending.Output.{Output}
-use Rattle.portal_exit.specs.declared.ending.Output.TheVariants.{Text, Agrees, Differs}
-use Rattle.portal_exit.specs.declared.error.ProgramError.{ProgramError}
-use Rattle.portal_exit.specs.declared.error.ProgramError.TheVariants.{Refused}
-use Rattle.portal_exit.specs.Streams.{Outlets}
-use Rattle.portal_exit.specs.Ends.{EndsWith}
+use Rattle.portal_server.specs.declared.ending.Output.{Output}
+use Rattle.portal_server.specs.declared.ending.Output.TheVariants.{Text, Agrees, Differs}
+use Rattle.portal_server.specs.declared.error.ProgramError.{ProgramError}
+use Rattle.portal_server.specs.declared.error.ProgramError.TheVariants.{Refused}
+use Rattle.portal_server.specs.Streams.{Outlets}
+use Rattle.portal_server.specs.Ends.{EndsWith}
 use Rattle.portal_files.specs.SettingsFile.{SettingsValue}
 use Rattle.portal_commands.specs.declared.place.Files.{Files}
 use Rattle.portal_commands.specs.declared.place.Purpose.TheVariants.{Ask}
-use Rattle.portal_commands.specs.declared.asking.Question.{Question}
-use Rattle.portal_commands.specs.declared.asking.Question.TheVariants.{Batch, Takings, Counters}
+use Rattle.portal_commands.specs.declared.asking.DeskQuestion.{DeskQuestion}
+use Rattle.portal_commands.specs.declared.asking.DeskQuestion.TheVariants.{Batch, Takings, Counters}
 use Rattle.portal_commands.specs.declared.causes.UsageFault.{UsageFault}
 use Rattle.portal_commands.specs.declared.causes.UsageFault.TheVariants.{From, To, Days}
 use Rattle.portal_commands.specs.declared.trouble.Trouble.{Trouble}
@@ -107,7 +107,7 @@ ChecksCounters old _ new = ⊥
 -- ---- what is asked
 
 -- The output for a question.
-abbrev pub ResultOf : Question → SettingsValue → State → Result Output ProgramError → State → Type 0
+abbrev pub ResultOf : DeskQuestion → SettingsValue → State → Result Output ProgramError → State → Type 0
 ResultOf (Batch id) settings = PrintsBatch settings.zone id.now
 ResultOf (Takings range) settings = PrintsTakingsOver settings.zone range
 ResultOf Counters settings = ChecksCounters
@@ -122,7 +122,7 @@ AuditIsRight audits (Err (Refused r)) = ⊤
 AuditIsRight audits _ = ⊥
 
 -- The output for a question is right about the counters.
-abbrev pub IsRight : Question → (Bool → Type 0) → Result Output ProgramError → Type 0
+abbrev pub IsRight : DeskQuestion → (Bool → Type 0) → Result Output ProgramError → Type 0
 IsRight (Batch id) audits printout = ⊤
 IsRight (Takings range) audits printout = ⊤
 IsRight Counters audits printout = AuditIsRight audits printout
@@ -130,7 +130,7 @@ IsRight Counters audits printout = AuditIsRight audits printout
 -- Whatever the file at the path holds: a file cannot be used, or there is no database; or the output is right
 -- about the desk as it was opened. That desk represents the ledger that the file holds, if it holds one. The
 -- desk is closed then.
-abbrev pub AsksRightly : PlaceValue → Files → Question → Outlets → ℕ → Type 0
+abbrev pub AsksRightly : PlaceValue → Files → DeskQuestion → Outlets → ℕ → Type 0
 AsksRightly place files question o status =
     ((trouble : Trouble) × FailsBeforeDesk place.reads place.fails_to_read place.refuses files Ask trouble × EndsTrouble trouble o status)
     ⊎ ((before after : place.Desk) × (printed : Option (List ℕ)) × place.opens files.db.now Ask before

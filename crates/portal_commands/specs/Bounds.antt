@@ -10,9 +10,10 @@ use Rattle.portal_commands.specs.Places.{PlaceValue}
 use Rattle.portal_commands.specs.Serving.{NetworkValue}
 
 -- A place, and the desks over its files.
-abbrev pub place_of : {P Stored Fresh : Type 0} → PlaceOf P Stored Fresh → DeskOf Stored → P → PlaceValue
-place_of place desk at = record {
+abbrev pub place_value : {P Stored Fresh Left : Type 0} → PlaceOf P Stored Fresh Left → DeskOf Stored → P → PlaceValue
+place_value place desk at = record {
   Desk = _;
+  Left = _;
   Tables = desk.Files;
   is_fault_free = desk.is_fault_free;
   represents = desk.represents;

@@ -1,3 +1,6 @@
+pub mod CommandLine
+pub mod Orders
+pub mod Version
 pub mod Causes
 pub mod Troubles
 pub mod Places
@@ -6,3 +9,5 @@ pub mod Answering
 pub mod Serving
 pub mod Bounds
 pub mod Program
+pub mod Served
+pub mod Sessions

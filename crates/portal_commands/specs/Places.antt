@@ -4,8 +4,8 @@ use Rattle.std.specs.Io.KnownBytes.{Keeps}
 use Rattle.portal_files.specs.SettingsFile.{SettingsValue, IsSettingsFile}
 use Rattle.portal_ledger.specs.Ledger.{Ledger, IsSound}
 use Rattle.portal_ledger.specs.States.{State, MayBeFound, running}
-use Rattle.portal_exit.specs.declared.error.ProgramError.{ProgramError}
-use Rattle.portal_exit.specs.declared.error.ProgramError.TheVariants.{File, NoMemory, NotOurs, Newer, Settings}
+use Rattle.portal_server.specs.declared.error.ProgramError.{ProgramError}
+use Rattle.portal_server.specs.declared.error.ProgramError.TheVariants.{File, NoMemory, NotOurs, Newer, Settings}
 use Rattle.portal_commands.specs.declared.place.Files.{Files}
 use Rattle.portal_commands.specs.declared.place.Purpose.{Purpose}
 use Rattle.portal_commands.specs.declared.trouble.Trouble.{Trouble}
@@ -41,12 +41,13 @@ AreRefused path reads trouble =
 
 -- What is assumed of a place. Of its files: which bytes may be read at a path, which ledger the file at a
 -- path holds, what is found there by an opening for a purpose, which desk was opened over it for that purpose,
--- and with which errors a read or an open fails. Of its desks: whether a desk has been fault-free, what it
--- represents, which answer of an audit is right, which tables are its crash states, which ledger those hold,
--- what holds after a close, and with which errors a close fails. And with which errors the making of a
--- database in memory fails.
+-- and with which errors a read or an open fails, the latter with what is left of the file. Of its desks:
+-- whether a desk has been fault-free, what it represents, which answer of an audit is right, which tables are
+-- its crash states, which ledger those hold, what is left after a close, and with which errors a close fails.
+-- And with which errors the making of a database in memory fails.
 pub record PlaceValue : Type 1 where
   pub Desk : Type 0
+  pub Left : Type 0
   pub Tables : Type 0
   pub is_fault_free : Desk → Type 0
   pub represents : Desk → State → Type 0
@@ -57,17 +58,17 @@ pub record PlaceValue : Type 1 where
   pub holds_ledger : List ℕ → Ledger → Type 0
   pub finds : List ℕ → Purpose → Type 0
   pub opens : List ℕ → Purpose → Desk → Type 0
-  pub closes : Desk → Type 0
+  pub closes : Desk → Left → Type 0
   pub fails_to_read : List ℕ → Trouble → Type 0
-  pub refuses : List ℕ → Purpose → Trouble → Type 0
-  pub fails_to_close : Desk → List ℕ → Trouble → Type 0
+  pub refuses : Left → List ℕ → Purpose → Trouble → Type 0
+  pub fails_to_close : Desk → Left → List ℕ → Trouble → Type 0
   pub fails_to_make : ProgramError → Type 0
 
 -- A desk over the file at a path is closed; or the close fails, and its error is printed.
-abbrev pub Closes : {Desk : Type 0} → (Desk → Type 0) → (Desk → List ℕ → Trouble → Type 0) → Desk → List ℕ → Option (List ℕ) → Option (List ℕ) → Type 0
+abbrev pub Closes : {Desk Left : Type 0} → (Desk → Left → Type 0) → (Desk → Left → List ℕ → Trouble → Type 0) → Desk → List ℕ → Option (List ℕ) → Option (List ℕ) → Type 0
 Closes closes fails desk path printed printed_after =
-    (closes desk × Keeps printed printed_after)
-    ⊎ ((trouble : Trouble) × (IsFileError trouble.error × NamesPath path trouble) × fails desk path trouble × Reports trouble printed printed_after)
+    ((left : _) × closes desk left × Keeps printed printed_after)
+    ⊎ ((trouble : Trouble) × (left : _) × (IsFileError trouble.error × NamesPath path trouble) × fails desk left path trouble × Reports trouble printed printed_after)
 
 -- Each crash state of a desk holds a sound ledger that the desk's state allows.
 abbrev pub CrashStatesAllowedBy : (place : PlaceValue) → place.Desk → State → Type 0
@@ -100,8 +101,8 @@ IsNotRead path reads fails trouble =
 
 -- The settings file or the database file cannot be used: there are no settings; or there are, and the place
 -- does not open the database for this purpose.
-abbrev pub FailsBeforeDesk : (List ℕ → List ℕ → Type 0) → (List ℕ → Trouble → Type 0) → (List ℕ → Purpose → Trouble → Type 0) → Files → Purpose → Trouble → Type 0
+abbrev pub FailsBeforeDesk : {Left : Type 0} → (List ℕ → List ℕ → Type 0) → (List ℕ → Trouble → Type 0) → (Left → List ℕ → Purpose → Trouble → Type 0) → Files → Purpose → Trouble → Type 0
 FailsBeforeDesk reads fails_to_read refuses files purpose trouble =
     IsNotRead files.settings.now (reads files.settings.now) (fails_to_read files.settings.now) trouble
-    ⊎ (NamesPath files.db.now trouble × IsDatabaseError trouble.error × refuses files.db.now purpose trouble
+    ⊎ (NamesPath files.db.now trouble × IsDatabaseError trouble.error × ((left : _) × refuses left files.db.now purpose trouble)
     × ((settings : SettingsValue) × AreReadSettings (reads files.settings.now) settings))

@@ -4,21 +4,21 @@ use Rattle.std.specs.declared.io.ErrorKind.{ErrorKind}
 use Rattle.std.specs.declared.io.ErrorKind.TheVariants.{InvalidData}
 use Rattle.std.specs.Borrow.{Bor}
 use Rattle.std.specs.Io.KnownBytes.{Keeps}
-use Rattle.portal_cli.specs.declared.order.Order.{Order}
-use Rattle.portal_cli.specs.declared.order.Order.TheVariants as order
-use Rattle.portal_cli.specs.declared.order.NoOrder.{NoOrder}
-use Rattle.portal_cli.specs.declared.order.NoOrder.TheVariants as printout
-use Rattle.portal_cli.specs.Orders.{GivesOrder, GivesNoOrder}
-use Rattle.portal_cli.specs.Version.{version_line}
-use Rattle.portal_exit.specs.declared.error.ProgramError.{ProgramError}
-use Rattle.portal_exit.specs.declared.error.ProgramError.TheVariants.{Usage, NoMemory}
-use Rattle.portal_exit.specs.Ends.{EndsPrinting, EndsWith}
-use Rattle.portal_exit.specs.Streams.{Outlets, Prints}
+use Rattle.portal_commands.specs.declared.order.Order.{Order}
+use Rattle.portal_commands.specs.declared.order.Order.TheVariants as order
+use Rattle.portal_commands.specs.declared.order.NoOrder.{NoOrder}
+use Rattle.portal_commands.specs.declared.order.NoOrder.TheVariants as printout
+use Rattle.portal_commands.specs.Orders.{GivesOrder, GivesNoOrder}
+use Rattle.portal_commands.specs.Version.{version_line}
+use Rattle.portal_server.specs.declared.error.ProgramError.{ProgramError}
+use Rattle.portal_server.specs.declared.error.ProgramError.TheVariants.{Usage, NoMemory}
+use Rattle.portal_server.specs.Ends.{EndsPrinting, EndsWith}
+use Rattle.portal_server.specs.Streams.{Outlets, Prints}
 use Rattle.portal_http.specs.Exchanges.{Wire}
 use Rattle.portal_commands.specs.Answering.{EndsAnswer}
 use Rattle.portal_commands.specs.declared.place.Files.{Files}
 use Rattle.portal_commands.specs.Asking.{AsksOver, AsksRightly, PrintsBatch, PrintsTakingsFrom, ChecksCounters}
-use Rattle.portal_commands.specs.declared.asking.Question.TheVariants.{Counters}
+use Rattle.portal_commands.specs.declared.asking.DeskQuestion.TheVariants.{Counters}
 use Rattle.portal_commands.specs.Places.{IsForMemory, PlaceValue}
 use Rattle.portal_commands.specs.Serving.{NetworkValue, ServesOver}
 use Rattle.portal_commands.specs.declared.causes.UsageFault.TheVariants.{Arguments, Port}

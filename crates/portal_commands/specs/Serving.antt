@@ -1,7 +1,7 @@
 -- How the subcommand `serve` ends.
 use Rattle.std.specs.Prelude.{◌≡◌, ◌⊎◌, ℕ, Result}
-use Rattle.portal_exit.specs.declared.error.ProgramError.{ProgramError}
-use Rattle.portal_exit.specs.Streams.{Outlets}
+use Rattle.portal_server.specs.declared.error.ProgramError.{ProgramError}
+use Rattle.portal_server.specs.Streams.{Outlets}
 use Rattle.portal_server.specs.Command.{PrintsAll, EndsTurns, exit_code_at}
 use Rattle.portal_commands.specs.declared.serving.ServeOptions.{ServeOptions}
 use Rattle.portal_files.specs.SettingsFile.{SettingsValue}

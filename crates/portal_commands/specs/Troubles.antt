@@ -1,9 +1,9 @@
 -- What is printed about an error and its cause.
 use Rattle.std.specs.Prelude.{◌≡◌, ◌≢◌, ℕ, List, ◌++◌, codes, All, Option, MatchOption, ⊤, string_bytes}
 use Rattle.std.specs.Io.KnownBytes.{Keeps}
-use Rattle.portal_exit.specs.declared.error.ProgramError.TheVariants.{File, Network, Usage}
-use Rattle.portal_exit.specs.Errors.{line_of, exit_code_of}
-use Rattle.portal_exit.specs.Streams.{Outlets, Prints}
+use Rattle.portal_server.specs.declared.error.ProgramError.TheVariants.{File, Network, Usage}
+use Rattle.portal_server.specs.Errors.{line_of, exit_code_of}
+use Rattle.portal_server.specs.Streams.{Outlets, Prints}
 use Rattle.portal_files.specs.SettingsFault.{IsSettingsFault}
 use Rattle.portal_files.specs.declared.settings_fault.SettingsFault.{SettingsFault}
 use Rattle.portal_commands.specs.declared.causes.UsageFault.{UsageFault}

@@ -25,7 +25,7 @@ ghost use Rattle.portal_http.specs.Runs.{ServesInOrder};
 ghost use Rattle.portal_server.specs.Asks.{KeepsSettings, LeadsDesk};
 ghost use Rattle.portal_server.specs.Turns.{wire_of};
 ghost use Rattle.portal_commands.specs.Places.{AreReadSettings};
-ghost use Rattle.portal_commands.specs.Bounds.{place_of};
+ghost use Rattle.portal_commands.specs.Bounds.{place_value};
 ghost use Rattle.portal_commands.specs.Answering.{
   exit_code_for,
   EndsAnswering,
@@ -44,11 +44,11 @@ use crate::place::{Place, Purpose, close_opened_desk, read_settings_at};
 use crate::seed::read_seed;
 use crate::trouble::Trouble;
 use portal_desk::Desk;
-use portal_exit::ProgramError;
 use portal_files::{Settings, sample_settings};
 use portal_http::exchanges::exchange;
 use portal_http_routes::Routes;
 use portal_model::moment::Moment;
+use portal_server::ProgramError;
 use std::alloc::Global;
 use std::io::{Read, Write};
 
@@ -198,12 +198,12 @@ fn answer_from_file<P: Place, R: Read, W: Write, E: Write>(
     output: &mut W,
     errors: &mut E,
 ) -> u8
-    ensures { AnswersStored (place_of P.Place P.Stored.Desk place) path.entry.now
+    ensures { AnswersStored (place_value P.Place P.Stored.Desk place) path.entry.now
         (wire_of R.Read W.Write input.old input.new output.old output.new)
         (E.contents errors.old) (E.contents errors.new) moment seed settings result }
 {
     match place.open(alloc, path, settings, Purpose::Answer) {
-        Err(trouble) => trouble.report(errors),
+        Err((trouble, _left)) => trouble.report(errors),
         Ok(mut desk) => {
             let answered = answer_at(alloc, &mut desk, routes, moment, seed, input, output);
             let status = exit_code_of_answer(answered, errors);
@@ -225,7 +225,7 @@ fn answer_with_settings<P: Place, R: Read, W: Write, E: Write>(
     output: &mut W,
     errors: &mut E,
 ) -> u8
-    ensures { IsAnswered (place_of P.Place P.Stored.Desk place)
+    ensures { IsAnswered (place_value P.Place P.Stored.Desk place)
         (wire_of R.Read W.Write input.old input.new output.old output.new)
         (E.contents errors.old) (E.contents errors.new) moment seed db.entry settings result }
 {
@@ -260,7 +260,7 @@ pub fn answer<P: Place, R: Read, W: Write, E: Write>(
     output: &mut W,
     errors: &mut E,
 ) -> u8
-    ensures { EndsAnswer (place_of P.Place P.Stored.Desk place)
+    ensures { EndsAnswer (place_value P.Place P.Stored.Desk place)
         (wire_of R.Read W.Write input.old input.new output.old output.new)
         (E.contents errors.old) (E.contents errors.new) request.entry.now result }
 {

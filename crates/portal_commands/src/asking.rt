@@ -1,5 +1,5 @@
 //! What the subcommands `print`, `takings` and `check` share: each asks the desk one question.
-ghost use Rattle.portal_exit.specs.Streams.{outlets};
+ghost use Rattle.portal_server.specs.Streams.{outlets};
 ghost use Rattle.portal_server.specs.Asks.{KeepsSettings, LeadsDesk};
 ghost use Rattle.portal_commands.specs.Asking.{
   AsksOver,
@@ -9,20 +9,20 @@ ghost use Rattle.portal_commands.specs.Asking.{
   PrintsOutput,
   ResultOf,
 };
-ghost use Rattle.portal_commands.specs.Bounds.{place_of};
+ghost use Rattle.portal_commands.specs.Bounds.{place_value};
 
 use crate::checking::check_at;
 use crate::place::{Files, Place, Purpose, close_opened_desk, open_desk};
 use crate::printing::print_at;
 use crate::takings::takings_at;
-use portal_days::DayRange;
 use portal_desk::Desk;
+use portal_model::calendar::DayRange;
 use std::alloc::Global;
 use std::io::Write;
 
 /// A question to the desk.
 #[derive(Clone, Copy, Debug)]
-pub enum Question<'a> {
+pub enum DeskQuestion<'a> {
     /// The print file of the batch with this id.
     Batch(&'a str),
     /// The takings report over these days.
@@ -36,7 +36,7 @@ pub enum Question<'a> {
 pub fn ask_desk<D: Desk, W: Write, E: Write>(
     alloc: Global,
     desk: &mut D,
-    question: &Question<'_>,
+    question: &DeskQuestion<'_>,
     output: &mut W,
     errors: &mut E,
 ) -> u8
@@ -51,9 +51,9 @@ pub fn ask_desk<D: Desk, W: Write, E: Write>(
         (outlets W.Write E.Write output.old output.new errors.old errors.new) result }
 {
     match *question {
-        Question::Batch(batch) => print_at(alloc, desk, batch, output, errors),
-        Question::Takings(range) => takings_at(alloc, desk, range, output, errors),
-        Question::Counters => check_at(alloc, desk, output, errors),
+        DeskQuestion::Batch(batch) => print_at(alloc, desk, batch, output, errors),
+        DeskQuestion::Takings(range) => takings_at(alloc, desk, range, output, errors),
+        DeskQuestion::Counters => check_at(alloc, desk, output, errors),
     }
 }
 
@@ -68,13 +68,13 @@ pub fn ask_database<P: Place, W: Write, E: Write>(
     alloc: Global,
     place: P,
     files: Files<'_>,
-    question: &Question<'_>,
+    question: &DeskQuestion<'_>,
     output: &mut W,
     errors: &mut E,
 ) -> u8
-    ensures over { AsksOver (place_of P.Place P.Stored.Desk place) files.entry (ResultOf question.entry.now)
+    ensures over { AsksOver (place_value P.Place P.Stored.Desk place) files.entry (ResultOf question.entry.now)
         (outlets W.Write E.Write output.old output.new errors.old errors.new) result }
-    ensures exact { AsksRightly (place_of P.Place P.Stored.Desk place) files.entry question.entry.now
+    ensures exact { AsksRightly (place_value P.Place P.Stored.Desk place) files.entry question.entry.now
         (outlets W.Write E.Write output.old output.new errors.old errors.new) result }
 {
     match open_desk(alloc, place, files, Purpose::Ask) {

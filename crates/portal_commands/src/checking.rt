@@ -1,5 +1,5 @@
 //! The subcommand `check`.
-ghost use Rattle.portal_exit.specs.Streams.{outlets};
+ghost use Rattle.portal_server.specs.Streams.{outlets};
 ghost use Rattle.portal_server.specs.Asks.{KeepsSettings, LeadsDesk};
 ghost use Rattle.portal_commands.specs.Asking.{
   AsksOver,
@@ -9,13 +9,13 @@ ghost use Rattle.portal_commands.specs.Asking.{
   PrintsOutput,
   AuditIsRight,
 };
-ghost use Rattle.portal_commands.specs.declared.asking.Question.TheVariants.{Counters};
-ghost use Rattle.portal_commands.specs.Bounds.{place_of};
+ghost use Rattle.portal_commands.specs.declared.asking.DeskQuestion.TheVariants.{Counters};
+ghost use Rattle.portal_commands.specs.Bounds.{place_value};
 
-use crate::asking::{Question, ask_database};
+use crate::asking::{DeskQuestion, ask_database};
 use crate::place::{Files, Place};
 use portal_desk::Desk;
-use portal_exit::{Output, ProgramError, print_result};
+use portal_server::{Output, ProgramError, print_result};
 use std::alloc::Global;
 use std::io::Write;
 
@@ -68,10 +68,10 @@ pub fn check<P: Place, W: Write, E: Write>(
     output: &mut W,
     errors: &mut E,
 ) -> u8
-    ensures over { AsksOver (place_of P.Place P.Stored.Desk place) files.entry (λ settings. ChecksCounters)
+    ensures over { AsksOver (place_value P.Place P.Stored.Desk place) files.entry (λ settings. ChecksCounters)
         (outlets W.Write E.Write output.old output.new errors.old errors.new) result }
-    ensures exact { AsksRightly (place_of P.Place P.Stored.Desk place) files.entry Counters
+    ensures exact { AsksRightly (place_value P.Place P.Stored.Desk place) files.entry Counters
         (outlets W.Write E.Write output.old output.new errors.old errors.new) result }
 {
-    ask_database(alloc, place, files, &Question::Counters, output, errors)
+    ask_database(alloc, place, files, &DeskQuestion::Counters, output, errors)
 }

@@ -1,8 +1,8 @@
 //! Where the program's files are.
-ghost use Rattle.std.specs.Prelude.{◌≡◌, ℕ, List, [], IfOk, IfErr, OnOk};
+ghost use Rattle.std.specs.Prelude.{◌≡◌, ℕ, List, [], IfOk, IfErr};
 ghost use Rattle.portal_ledger.specs.Ledger.{Ledger};
 ghost use Rattle.portal_ledger.specs.States.{running};
-ghost use Rattle.portal_exit.specs.declared.error.ProgramError.{ProgramError as Failure};
+ghost use Rattle.portal_server.specs.declared.error.ProgramError.{ProgramError as Failure};
 ghost use Rattle.portal_commands.specs.declared.trouble.Trouble.{Trouble as Why};
 ghost use Rattle.portal_commands.specs.declared.place.Purpose.{Purpose as For};
 ghost use Rattle.portal_commands.specs.Places.{
@@ -19,8 +19,8 @@ ghost use Rattle.portal_commands.specs.Troubles.{NamesPath};
 
 use crate::trouble::Trouble;
 use portal_desk::Desk;
-use portal_exit::ProgramError;
 use portal_files::{FileFault, Settings, read_settings};
+use portal_server::ProgramError;
 use std::alloc::Global;
 use std::io::Write;
 
@@ -43,6 +43,10 @@ pub trait Place: Drop {
     /// A desk over an empty database in memory, which is fault-free.
     type Fresh: Desk;
 
+    /// What is left of a database file that was refused, or of a desk over it after its close. A caller can
+    /// only let it go.
+    type Left: Drop;
+
     /// Which bytes may be read from the file at a path.
     ghost reads: { Self → List ℕ → List ℕ → Type 0 };
 
@@ -56,17 +60,17 @@ pub trait Place: Drop {
     /// file.
     ghost opens: { Self → List ℕ → For → Self.Stored → Type 0 };
 
-    /// What holds after a desk over a file was closed.
-    ghost closes: { Self.Stored → Type 0 };
+    /// What holds of what is left after a desk over a file was closed.
+    ghost closes: { Self.Stored → Self.Left → Type 0 };
 
     /// Which errors a read of the file at a path gives.
     ghost fails_to_read: { Self → List ℕ → Why → Type 0 };
 
-    /// Which errors an open of the file at a path for a purpose gives.
-    ghost refuses: { Self → List ℕ → For → Why → Type 0 };
+    /// Which errors an open of the file at a path for a purpose gives, and what holds of what is left then.
+    ghost refuses: { Self → Self.Left → List ℕ → For → Why → Type 0 };
 
-    /// Which errors a close of a desk over the file at a path gives.
-    ghost fails_to_close: { Self.Stored → List ℕ → Why → Type 0 };
+    /// Which errors a close of a desk over the file at a path gives, and what holds of what is left then.
+    ghost fails_to_close: { Self.Stored → Self.Left → List ℕ → Why → Type 0 };
 
     /// Which errors the making of a database in memory gives.
     ghost fails_to_make: { Failure → Type 0 };
@@ -87,9 +91,9 @@ pub trait Place: Drop {
         path: &str,
         settings: Settings,
         purpose: Purpose,
-    ) -> Result<Self::Stored, Trouble>
-        ensures why { IfErr result (λ trouble. IsDatabaseError trouble.error × NamesPath path.now trouble) }
-        ensures fails { IfErr result (λ trouble. refuses self path.now purpose trouble) }
+    ) -> Result<Self::Stored, (Trouble, Self::Left)>
+        ensures why { IfErr result (λ e. IsDatabaseError e.0.error × NamesPath path.now e.0) }
+        ensures fails { IfErr result (λ e. refuses self e.1 path.now purpose e.0) }
         ensures same_settings { IfOk result (λ desk. Self.Stored.settings desk ≡ settings) }
         ensures opened { IfOk result (λ desk. opens self path.now purpose desk) }
         ensures represents { (L : Ledger) → holds_ledger self path.now L
@@ -98,10 +102,14 @@ pub trait Place: Drop {
 
     /// Closes a desk over the database file at a path: its log is copied into the file, which then holds
     /// everything. Errors: `File`, `NoMemory`; then the file and its log together hold everything.
-    fn close(alloc: Global, path: &str, desk: Self::Stored) -> Result<(), Trouble>
-        ensures why { IfErr result (λ trouble. IsFileError trouble.error × NamesPath path.now trouble) }
-        ensures fails { IfErr result (λ trouble. fails_to_close desk path.now trouble) }
-        ensures closed { OnOk result (closes desk) };
+    fn close(
+        alloc: Global,
+        path: &str,
+        desk: Self::Stored,
+    ) -> Result<Self::Left, (Trouble, Self::Left)>
+        ensures why { IfErr result (λ e. IsFileError e.0.error × NamesPath path.now e.0) }
+        ensures fails { IfErr result (λ e. fails_to_close desk e.1 path.now e.0) }
+        ensures closed { IfOk result (λ left. closes desk left) };
 
     /// Opens a desk over an empty database in memory. Errors: `NoMemory`; `File`, if the database failed.
     fn open_desk_in_memory(alloc: Global, settings: Settings) -> Result<Self::Fresh, ProgramError>
@@ -162,7 +170,10 @@ pub fn open_desk<P: Place>(
         P.Stored.is_fault_free desk → P.finds place files.entry.db.now purpose) }
 {
     let settings = read_settings_at(alloc, &place, files.settings)?;
-    place.open(alloc, files.db, settings, purpose)
+    match place.open(alloc, files.db, settings, purpose) {
+        Ok(desk) => Ok(desk),
+        Err((trouble, _left)) => Err(trouble),
+    }
 }
 
 /// Closes a desk over the file at a path. If the close fails, prints its error on `errors`.
@@ -175,8 +186,8 @@ pub fn close_opened_desk<P: Place, E: Write>(
     ensures { Closes P.closes P.fails_to_close desk path.now (E.contents errors.old) (E.contents errors.new) }
 {
     match P::close(alloc, path, desk) {
-        Ok(()) => {}
-        Err(trouble) => {
+        Ok(_left) => {}
+        Err((trouble, _left)) => {
             trouble.report(errors);
         }
     }

@@ -3,7 +3,7 @@ ghost use Rattle.std.specs.Prelude.{MatchResult};
 ghost use Rattle.portal_ledger.specs.Calls.{ReadsThat};
 ghost use Rattle.portal_desk.specs.Calls.{RefusesUnknown};
 ghost use Rattle.portal_desk.specs.Sheets.{sheet_of};
-ghost use Rattle.portal_exit.specs.Streams.{outlets};
+ghost use Rattle.portal_server.specs.Streams.{outlets};
 ghost use Rattle.portal_server.specs.Asks.{KeepsSettings, LeadsDesk};
 ghost use Rattle.portal_commands.specs.Asking.{
   AsksOver,
@@ -12,15 +12,15 @@ ghost use Rattle.portal_commands.specs.Asking.{
   PrintsBatch,
   PrintsOutput,
 };
-ghost use Rattle.portal_commands.specs.Bounds.{place_of};
+ghost use Rattle.portal_commands.specs.Bounds.{place_value};
 
-use crate::asking::{Question, ask_database};
+use crate::asking::{DeskQuestion, ask_database};
 use crate::place::{Files, Place};
 use portal_desk::Desk;
-use portal_exit::{Output, ProgramError, print_result};
-use portal_files_print::print_batch;
+use portal_files::print_batch;
 use portal_model::name::Id;
 use portal_model::refusal::Refusal;
+use portal_server::{Output, ProgramError, print_result};
 use std::alloc::Global;
 use std::io::Write;
 
@@ -92,9 +92,16 @@ pub fn print<P: Place, W: Write, E: Write>(
     output: &mut W,
     errors: &mut E,
 ) -> u8
-    ensures { AsksOver (place_of P.Place P.Stored.Desk place) files.entry
+    ensures { AsksOver (place_value P.Place P.Stored.Desk place) files.entry
         (λ settings. PrintsBatch settings.zone batch.now)
         (outlets W.Write E.Write output.old output.new errors.old errors.new) result }
 {
-    ask_database(alloc, place, files, &Question::Batch(batch), output, errors)
+    ask_database(
+        alloc,
+        place,
+        files,
+        &DeskQuestion::Batch(batch),
+        output,
+        errors,
+    )
 }

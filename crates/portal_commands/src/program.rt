@@ -1,20 +1,22 @@
 //! The whole program, over its arguments, a place that holds its files, a network, a reader and two writers.
 ghost use Rattle.std.specs.Prelude.{◌≡◌, map};
-ghost use Rattle.portal_commands.specs.Bounds.{network_of, place_of};
+ghost use Rattle.portal_commands.specs.Bounds.{network_of, place_value};
 ghost use Rattle.portal_server.specs.Turns.{wire_of};
 ghost use Rattle.portal_commands.specs.Program.{EndsPrintingText, EndsOrder, EndsProgram, EndsServing};
-ghost use Rattle.portal_exit.specs.Streams.{outlets, Prints};
+ghost use Rattle.portal_server.specs.Streams.{outlets, Prints};
 
 use crate::answering::{AnswerOptions, answer};
 use crate::causes::UsageFault;
 use crate::checking::check;
+use crate::command_line::parse_command_line;
+use crate::order::{NoOrder, Order};
 use crate::place::{Files, Place};
 use crate::printing::print;
 use crate::serving::{Network, ServeOptions, serve};
 use crate::takings::takings;
 use crate::trouble::Trouble;
-use portal_cli::{NoOrder, Order, parse_command_line, version_line};
-use portal_exit::{ProgramError, print_best_effort, print_for_exit_code};
+use crate::version::version_line;
+use portal_server::{ProgramError, print_best_effort, print_for_exit_code};
 use std::alloc::Global;
 use std::convert::AsStr;
 use std::io::{Read, Write};
@@ -54,7 +56,7 @@ fn run_serve<P: Place, N: Network, W: Write, E: Write>(
     output: &mut W,
     errors: &mut E,
 ) -> u8
-    ensures { EndsServing (place_of P.Place P.Stored.Desk place) files.entry
+    ensures { EndsServing (place_value P.Place P.Stored.Desk place) files.entry
         (network_of N.Network N.Bound.Host N.Bound.Reader.Read N.Bound.Writer.Write network) port count
         (outlets W.Write E.Write output.old output.new errors.old errors.new) result }
 {
@@ -78,7 +80,7 @@ fn run_order<P: Place, N: Network, R: Read, W: Write, E: Write>(
     output: &mut W,
     errors: &mut E,
 ) -> u8
-    ensures { EndsOrder (place_of P.Place P.Stored.Desk place)
+    ensures { EndsOrder (place_value P.Place P.Stored.Desk place)
         (network_of N.Network N.Bound.Host N.Bound.Reader.Read N.Bound.Writer.Write network)
         (wire_of R.Read W.Write input.old input.new output.old output.new)
         (E.contents errors.old) (E.contents errors.new) order.entry result }
@@ -157,7 +159,7 @@ pub fn run_program<P: Place, N: Network, S: AsStr, R: Read, W: Write, E: Write>(
     output: &mut W,
     errors: &mut E,
 ) -> u8
-    ensures { EndsProgram (place_of P.Place P.Stored.Desk place)
+    ensures { EndsProgram (place_value P.Place P.Stored.Desk place)
         (network_of N.Network N.Bound.Host N.Bound.Reader.Read N.Bound.Writer.Write network)
         (wire_of R.Read W.Write input.old input.new output.old output.new)
         (E.contents errors.old) (E.contents errors.new) (map S.text words.now) result }

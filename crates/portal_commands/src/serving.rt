@@ -1,16 +1,15 @@
 //! The subcommand `serve`.
-ghost use Rattle.portal_exit.specs.Streams.{outlets};
+ghost use Rattle.portal_server.specs.Streams.{outlets};
 ghost use Rattle.portal_server.specs.Asks.{KeepsSettings, LeadsDesk, ServesRun};
 ghost use Rattle.portal_commands.specs.Serving.{IsServed, ServesAt, ServesOver};
-ghost use Rattle.portal_commands.specs.Bounds.{network_of, place_of};
+ghost use Rattle.portal_commands.specs.Bounds.{network_of, place_value};
 
 pub use crate::network::Network;
 use crate::place::{Files, Place, Purpose, close_opened_desk, open_desk};
 use crate::trouble::Trouble;
 use portal_desk::Desk;
-use portal_exit::ProgramError;
 use portal_http_routes::Routes;
-use portal_server::serve as serve_bound;
+use portal_server::{ProgramError, serve as serve_bound};
 use std::alloc::Global;
 use std::io::Write;
 
@@ -72,7 +71,7 @@ pub fn serve<P: Place, N: Network, W: Write, E: Write>(
     output: &mut W,
     errors: &mut E,
 ) -> u8
-    ensures { ServesOver (place_of P.Place P.Stored.Desk place) files.entry
+    ensures { ServesOver (place_value P.Place P.Stored.Desk place) files.entry
         (network_of N.Network N.Bound.Host N.Bound.Reader.Read N.Bound.Writer.Write network) at
         (outlets W.Write E.Write output.old output.new errors.old errors.new) result }
 {

@@ -2,7 +2,7 @@
 ghost use Rattle.std.specs.Prelude.{MatchResult};
 ghost use Rattle.portal_ledger.specs.Calls.{ReadsThat};
 ghost use Rattle.portal_desk.specs.Calls.{CannotAnswer};
-ghost use Rattle.portal_exit.specs.Streams.{outlets};
+ghost use Rattle.portal_server.specs.Streams.{outlets};
 ghost use Rattle.portal_server.specs.Asks.{KeepsSettings, LeadsDesk};
 ghost use Rattle.portal_commands.specs.Asking.{
   IsDeskResult,
@@ -13,18 +13,17 @@ ghost use Rattle.portal_commands.specs.Asking.{
   PrintsTakingsOver,
   PrintsTakingsFrom,
 };
-ghost use Rattle.portal_commands.specs.Bounds.{place_of};
+ghost use Rattle.portal_commands.specs.Bounds.{place_value};
 
-use crate::asking::{Question, ask_database};
+use crate::asking::{DeskQuestion, ask_database};
 use crate::causes::UsageFault;
 use crate::place::{Files, Place};
 use crate::trouble::Trouble;
-use portal_days::DayRange;
 use portal_desk::Desk;
-use portal_exit::{Output, ProgramError, print_result};
-use portal_files::read_day;
-use portal_files_print::takings_text;
+use portal_files::{read_day, takings_text};
+use portal_model::calendar::DayRange;
 use portal_model::refusal::Refusal;
+use portal_server::{Output, ProgramError, print_result};
 use std::alloc::Global;
 use std::io::Write;
 
@@ -104,7 +103,7 @@ pub fn takings<P: Place, W: Write, E: Write>(
     output: &mut W,
     errors: &mut E,
 ) -> u8
-    ensures { PrintsTakingsFrom (place_of P.Place P.Stored.Desk place) files.entry from.now to.now
+    ensures { PrintsTakingsFrom (place_value P.Place P.Stored.Desk place) files.entry from.now to.now
         (outlets W.Write E.Write output.old output.new errors.old errors.new) result }
 {
     match read_range(from, to) {
@@ -113,7 +112,7 @@ pub fn takings<P: Place, W: Write, E: Write>(
             alloc,
             place,
             files,
-            &Question::Takings(range),
+            &DeskQuestion::Takings(range),
             output,
             errors,
         ),

@@ -1,9 +1,9 @@
 //! Why the program did not do what it was asked to do, and what is printed about it.
 ghost use Rattle.std.specs.Prelude.{◌≡◌, None, IsTrue, IfOk, IfSome, MatchOption, string_bytes};
 ghost use Rattle.std.specs.Io.KnownBytes.{Keeps};
-ghost use Rattle.portal_exit.specs.declared.error.ProgramError.TheVariants.{File, Settings};
-ghost use Rattle.portal_exit.specs.Errors.{exit_code_of};
-ghost use Rattle.portal_exit.specs.Streams.{Prints};
+ghost use Rattle.portal_server.specs.declared.error.ProgramError.TheVariants.{File, Settings};
+ghost use Rattle.portal_server.specs.Errors.{exit_code_of};
+ghost use Rattle.portal_server.specs.Streams.{Prints};
 ghost use Rattle.portal_files.specs.SettingsFault.{IsSettingsFault};
 ghost use Rattle.portal_files.specs.declared.settings_fault.SettingsFault.{SettingsFault as Fault};
 ghost use Rattle.portal_commands.specs.Causes.{port_text, settings_text};
@@ -18,8 +18,8 @@ ghost use Rattle.portal_commands.specs.Troubles.{
 };
 
 use crate::causes::{UsageFault, port_text, settings_text};
-use portal_exit::{ProgramError, print_best_effort};
 use portal_files::find_settings_fault;
+use portal_server::{ProgramError, print_best_effort};
 use std::alloc::{AllocError, Global};
 use std::io::Write;
 

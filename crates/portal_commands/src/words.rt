@@ -4,7 +4,7 @@ ghost use Rattle.portal_commands.specs.Program.{error_of_words, IsOfWords};
 
 use crate::causes::UsageFault;
 use crate::trouble::Trouble;
-use portal_exit::ProgramError;
+use portal_server::ProgramError;
 use std::alloc::Global;
 use std::env::{self, Env};
 use std::io::ErrorKind;

@@ -10,8 +10,8 @@ pub use decide::{
     decide_close, decide_issue, decide_plans, decide_redeem, decide_refund, decide_report,
     decide_sell,
 };
-pub use portal_days::{Day, DayRange, DayTakings};
 pub use portal_ledger::{Caller, KeptRequest, RequestMark, RequestNumber, decide_repeat};
+pub use portal_model::calendar::{Day, DayRange};
 pub use portal_model::captive::{Captive, OpenSession};
 pub use portal_model::change::{
     Answer, Changes, CloseChange, IssueChange, LoadChange, RedeemChange, RefundChange,
@@ -24,5 +24,6 @@ pub use portal_model::name::{Device, Id};
 pub use portal_model::plan::Plan;
 pub use portal_model::record::{Batch, Head, Session, Voucher, is_open};
 pub use portal_model::refusal::Refusal;
+pub use portal_model::takings::DayTakings;
 pub use state::{captive_of, effective, open_session};
 pub use takings::add_takings;

@@ -1,10 +1,11 @@
 //! The takings of days, with the desk's error.
 ghost use Rattle.std.specs.Prelude.{◌≡◌, IfOk, IfErr, map};
-ghost use Rattle.portal_days.specs.Span.{days_of};
-ghost use Rattle.portal_days.specs.Takings.{takings_on, TotalsFit};
+ghost use Rattle.portal_model.specs.Span.{days_of};
+ghost use Rattle.portal_model.specs.Takings.{takings_on, TotalsFit};
 
-use portal_days::{Day, DayRange, DayTakings};
+use portal_model::calendar::{Day, DayRange};
 use portal_model::refusal::Refusal;
+use portal_model::takings::DayTakings;
 use std::alloc::Global;
 
 /// Computes the takings of each day of the range, in order, from sales and refunds that each have a day and
@@ -23,5 +24,5 @@ pub fn add_takings(
     ensures totals { IfOk result (λ v. TotalsFit v.items) }
     ensures memory { IfErr result (λ r. r ≡ Refusal.NoMemory) }
 {
-    Ok(portal_days::add_takings(alloc, range, sales, refunds)?)
+    Ok(portal_model::takings::add_day_takings(alloc, range, sales, refunds)?)
 }

@@ -1,8 +1,8 @@
 -- What the counter prints: the batch sheet, and the takings of days.
 use Rattle.std.specs.Prelude.{ℕ, List, map, Option, option_map, option_and_then}
 use Rattle.jiff_tz.specs.declared.timezone.TimeZone.{TimeZone}
-use Rattle.portal_days.specs.Span.{Span, days_of}
-use Rattle.portal_days.specs.declared.takings.DayTakings.{DayTakings}
+use Rattle.portal_model.specs.Span.{Span, days_of}
+use Rattle.portal_model.specs.declared.takings.DayTakings.{DayTakings}
 use Rattle.portal_model.specs.declared.plan.Plan.{Plan}
 use Rattle.portal_model.specs.declared.record.Batch.{Batch}
 use Rattle.portal_model.specs.History.{History, plan_of, batch_of, codes_of}

@@ -5,7 +5,7 @@ ghost use Rattle.std.specs.Prelude.{◌≡◌, Bool, true, None, Some, IfOk, Mat
 ghost use Rattle.portal_model.specs.Verdict.{IsWellFormed};
 ghost use Rattle.portal_model.specs.Captive.{captive_of, open_sessions_of};
 ghost use Rattle.portal_model.specs.History.{voucher_of};
-ghost use Rattle.portal_days.specs.Takings.{TotalsFit};
+ghost use Rattle.portal_model.specs.Takings.{TotalsFit};
 ghost use Rattle.portal_files.specs.SettingsFile.{SettingsValue};
 ghost use Rattle.portal_ledger.specs.Ledger.{Accepted, Ledger, IsSound};
 ghost use Rattle.portal_ledger.specs.States.{State, MayBeFound};
@@ -26,15 +26,16 @@ ghost use Rattle.portal_desk.specs.Sheets.{sheet_of, takings_over};
 pub mod prepared;
 
 use portal_codes::Code;
-use portal_days::{DayRange, DayTakings};
 use portal_files::{BatchSheet, Settings};
 use portal_ledger::request::RequestMark;
+use portal_model::calendar::DayRange;
 use portal_model::captive::{Captive, OpenSession};
 use portal_model::command::Command;
 use portal_model::moment::Moment;
 use portal_model::name::{Device, Id};
 use portal_model::record::Voucher;
 use portal_model::refusal::Refusal;
+use portal_model::takings::DayTakings;
 pub use prepared::{Marked, Prepared};
 use std::alloc::Global;
 

@@ -7,3 +7,5 @@ pub mod ReadLemmas
 pub mod StepLemmas
 pub mod StopLemmas
 pub mod TakingLemmas
+pub mod SessionLemmas
+pub mod OpenSessionLemmas

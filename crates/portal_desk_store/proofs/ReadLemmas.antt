@@ -1,23 +1,10 @@
 -- From the results of the tables to the results of a desk over them.
-use Rattle.portal_desk_store.proofs.Common.{◌≡◌, inl, inr, Bool, true, false, refl, sym, subst, ◌↔◌, IsTrue, Result, Ok, Err, IfOk, IsErrAnd, MatchResult, state, Ghosts, Refusal, IsLegal, Accepted, Ledger, history_of, State, running, stopped, FailsToKeep, is_stopped_state, CannotKeep, StoreFault, Memory, Tables, IsStopped}
+use Rattle.portal_desk_store.proofs.Common.{◌≡◌, inl, inr, Bool, true, false, refl, sym, ◌↔◌, IsTrue, Ghosts, Refusal, IsLegal, Accepted, Ledger, history_of, State, running, stopped, FailsToKeep, is_stopped_state, CannotKeep, StoreFault, Memory, Tables, IsStopped}
 use Rattle.portal_model.specs.declared.refusal.Refusal.TheVariants as refusal
 use Rattle.portal_ledger.proofs.Ledgers.{the_sound_is_legal}
-use Rattle.portal_tables_queries.specs.Audit.{IsAudited}
-use Rattle.portal_tables_rows.specs.Contents.{Contents}
-use Rattle.portal_tables_rows.specs.Holds.{Holds}
-use Rattle.portal_desk_store.specs.Counters.{CountersAre}
 use Rattle.portal_tables.specs.declared.errors.StoreFault.TheVariants.{Stopped}
 use Rattle.portal_tables.proofs.StateLemmas.{sound_at}
 use Rattle.portal_tables.specs.TablesRepresent.{TablesRepresent}
-
--- the result of an audit, if only its error is converted
-pub counters_on : {S : Type 0} (g : Ghosts S) (tables : Tables S) {E F : Type 0} (Q : E → F → Type 0) (result : Result Bool E) (changed : Result Bool F)
-    → MatchResult result (λ x. changed ≡ Ok x) (λ e. IsErrAnd changed (Q e))
-    → (IsTrue (state g tables.conn).is_open → (t : Contents) → Holds (state g tables.conn).now t → IfOk result (λ agrees. IsTrue agrees ↔ IsAudited t))
-    → IfOk changed (CountersAre g tables)
-counters_on g tables {E} {F} Q (Ok x) changed same exact = subst (λ (r : Result Bool F). IfOk r (CountersAre g tables)) (sym same) exact
-counters_on g tables Q (Err e) (Ok y) other exact = absurd other
-counters_on g tables Q (Err e) (Err f) other exact = tt
 
 -- a command was not committed
 pub cannot_keep : {S : Type 0} (g : Ghosts S) (after : Tables S) (a : Accepted) (fault : StoreFault) (r : Refusal) (old : State)

@@ -1,7 +1,8 @@
 -- Calls over the tables of a desk, one after another.
 use Rattle.portal_desk_store.proofs.Common.{◌≡◌, inr, Bool, refl, subst, ◌∙◌, ◌≢◌, Result, Ok, Err, IfErr, Ghosts, Refusal, IsLegal, Ledger, history_of, State, running, stopped, ReadsOf, KeepsStop, IsFaultFree, StoreDesk, stop_flag, KeepsRest, MovesTables, MovesFromLedger}
 use Rattle.portal_model.specs.declared.refusal.Refusal.TheVariants as refusal
-use Rattle.portal_tables.specs.TablesRepresent.{TablesRepresent}
+use Rattle.portal_tables.specs.declared.tables.Tables.{Tables}
+use Rattle.portal_tables.specs.TablesRepresent.{ReadsTables, TablesRepresent}
 use Rattle.portal_desk_store.proofs.ReadLemmas.{legal_at}
 
 -- a decision, which is no call of the tables
@@ -27,6 +28,17 @@ module _ {S : Type 0} {g : Ghosts S} where
     fault_free = call.fault_free;
     stops = call.stops;
     step = λ honest L at. call.step honest (running L) at;
+  }
+
+  -- a question that the tables answered
+  pub answered : {A : Type 0} {old : StoreDesk S} {tables : Tables S} {found : A} {Is : Ledger → A → Type 0}
+      → ReadsTables g old.tables tables (Ok found) Is
+      → MovesTables g old (record old { tables = tables }) (Ok found) (λ before after. ReadsOf before (λ L. Is L found) after)
+  answered read = record {
+    rest = (refl, refl);
+    fault_free = read.fault_free;
+    stops = read.stops;
+    step = λ honest before at. let it = read.found honest before at in (it.0, it.1, it.3);
   }
 
   -- a call that read something, and another one after it

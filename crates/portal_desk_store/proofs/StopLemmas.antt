@@ -1,8 +1,6 @@
 -- Whether a desk has stopped, after a call of its tables.
-use Rattle.portal_desk_store.proofs.Common.{◌≡◌, ◌⊎◌, inl, inr, Bool, true, Option, sym, subst, ◌≢◌, Result, Ok, Err, IfErr, Refusal, Answer, repeat_of, Fingerprint, KeepsStop, RefusalGivesStop, StoreFault, Memory}
+use Rattle.portal_desk_store.proofs.Common.{◌≡◌, ◌⊎◌, inl, inr, Bool, true, sym, subst, ◌≢◌, Result, Ok, Err, IfErr, Refusal, RefusalGivesStop, StoreFault, Memory}
 use Rattle.portal_model.specs.declared.refusal.Refusal.TheVariants as refusal
-use Rattle.portal_ledger.specs.declared.request.KeptRequest.{KeptRequest}
-use Rattle.portal_desk.proofs.Verdicts.{repeat_is_no_stop}
 use Rattle.portal_tables.specs.declared.errors.StoreFault.TheVariants.{Stopped}
 
 memory_is_no_stop : refusal.NoMemory ≢ refusal.Stopped

@@ -13,9 +13,9 @@ use Rattle.jiff_tz.specs.PosixRule as PosixRule
 use Rattle.jiff_tz.specs.Tzif as Table
 use Rattle.jiff_tz.specs.declared.timezone.TimeZone.{TimeZone}
 use Rattle.jiff_tz.specs.declared.timezone.TimeZone.TheVariants.{UTC, Unknown, Fixed, Posix, Tzif}
-use Rattle.portal_days.specs.Span.{Span, day_count, days_of}
-use Rattle.portal_days.specs.Takings.{Pair, is_on, amount_on, takings_on}
-use Rattle.portal_days.specs.declared.takings.DayTakings.{DayTakings}
+use Rattle.portal_model.specs.Span.{Span, day_count, days_of}
+use Rattle.portal_model.specs.Takings.{Pair, is_on, amount_on, takings_on}
+use Rattle.portal_model.specs.declared.takings.DayTakings.{DayTakings}
 use Rattle.portal_model.specs.Payments.{Payment, payment, sales_of, refunds_of, by_day}
 use Rattle.portal_files.specs.Takings.{paid_on, sum_of, takings_of, ArePaid}
 use Rattle.portal_files.proofs.Added.{counted, summed, day_takings}

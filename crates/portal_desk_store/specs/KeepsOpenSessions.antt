@@ -1,6 +1,6 @@
 -- The open sessions that a desk keeps.
 use Rattle.std.specs.Prelude.{◌≡◌, Option, IfSome}
-use Rattle.portal_desk_sessions.specs.Open.{OpenAt, open_at_last}
+use Rattle.portal_desk_store.specs.OpenSessions.{OpenAt, open_at_last}
 use Rattle.portal_ledger.specs.Ledger.{history_of}
 use Rattle.portal_ledger.specs.States.{State, running, stopped}
 

@@ -5,6 +5,8 @@ pub mod DeskRepresents
 pub mod Judging
 pub mod Laws
 pub mod KeepsOpenSessions
+pub mod OpenSessions
 pub mod Paid
 pub mod Rest
+pub mod SessionLaws
 pub mod Steps

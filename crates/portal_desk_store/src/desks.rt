@@ -12,23 +12,25 @@ ghost use Rattle.portal_desk_store.specs.Laws.{crash_state_is_allowed, found_is_
 ghost use Rattle.portal_desk_store.specs.KeepsOpenSessions.{KeepsOpenSessions};
 
 use crate::keeping::update_open_sessions;
-use crate::reading::refusal_of_fault;
+use crate::open_sessions::OpenSessions;
 use portal_codes::Code;
 use portal_core::{captive_of, effective};
-use portal_days::{DayRange, DayTakings};
 use portal_desk::Desk;
 use portal_desk::prepared::{Marked, Prepared};
-use portal_desk_sessions::OpenSessions;
 use portal_files::{BatchSheet, Settings};
 use portal_ledger::marked::MarkedChanges;
 use portal_ledger::request::{RequestMark, fingerprint_is_typed};
+use portal_model::calendar::DayRange;
 use portal_model::captive::{Captive, OpenSession};
 use portal_model::command::Command;
 use portal_model::lists::Codes;
 use portal_model::moment::Moment;
 use portal_model::name::{Device, Id};
+use portal_model::proof::witness;
 use portal_model::record::Voucher;
 use portal_model::refusal::Refusal;
+use portal_model::takings::DayTakings;
+use portal_tables::questions::{BatchOf, CodesOf, LastSessionOf, PlanOf, TheHead, VoucherOf};
 use portal_tables::tables::Tables;
 use sqlite::Alter;
 use std::alloc::Global;
@@ -74,20 +76,28 @@ impl<S: Alter> Desk for StoreDesk<S> {
     }
 
     fn state(&mut self, moment: Moment, device: Device) -> Result<Captive, Refusal> {
-        let head = self.find_head()?;
-        let last = self.find_last_session(&device)?;
+        let head = self.tables.read(TheHead)?;
+        let last = self.tables.read(LastSessionOf { device: &device })?;
         Ok(captive_of(last.as_ref(), effective(moment, head.last)))
     }
 
     fn voucher(&mut self, code: &Code) -> Result<Voucher, Refusal> {
-        self.find_voucher(code)?.ok_or(Refusal::UnknownCode)
+        self.tables
+            .read(VoucherOf { code })?
+            .ok_or(Refusal::UnknownCode)
     }
 
     fn batch(&mut self, alloc: Global, id: &Id) -> Result<BatchSheet, Refusal> {
-        let batch = self.find_batch(id)?.ok_or(Refusal::UnknownBatch)?;
+        let batch = self
+            .tables
+            .read(BatchOf { id })?
+            .ok_or(Refusal::UnknownBatch)?;
         // The plan of a batch always exists.
-        let plan = self.find_plan(&batch.plan)?.ok_or(Refusal::UnknownBatch)?;
-        let codes = self.find_codes(alloc, id)?;
+        let plan = self
+            .tables
+            .read(PlanOf { id: &batch.plan })?
+            .ok_or(Refusal::UnknownBatch)?;
+        let codes = self.tables.read(CodesOf { alloc, batch: id })?;
         let codes = Codes::from_slice(alloc, codes.as_slice())?;
         Ok(BatchSheet { batch, plan, codes })
     }
@@ -124,7 +134,7 @@ impl<S: Alter> Desk for StoreDesk<S> {
         command: Command,
         mark: &RequestMark,
     ) -> Result<Marked, Refusal> {
-        fingerprint_is_typed(mark);
+        witness(fingerprint_is_typed(mark));
         if let Some(answer) = self.find_repeat(alloc, mark)? {
             return Ok(Marked::Kept(answer));
         }
@@ -140,7 +150,7 @@ impl<S: Alter> Desk for StoreDesk<S> {
                 self.open = update_open_sessions(self.open.take(), &marked.changes);
                 Ok(())
             }
-            Err(fault) => Err(refusal_of_fault(fault)),
+            Err(fault) => Err(Refusal::from(fault)),
         }
     }
 }

@@ -32,8 +32,12 @@ use portal_model::command::{Command, command_is_typed};
 use portal_model::moment::Moment;
 use portal_model::name::{Device, Id};
 use portal_model::plan::Plan;
+use portal_model::proof::witness;
 use portal_model::record::Head;
 use portal_model::refusal::Refusal;
+use portal_tables::questions::{
+    BatchOf, IsHeld, LastSessionOf, PlanOf, SessionOf, TheHead, VoucherOf,
+};
 use sqlite::Alter;
 use std::alloc::Global;
 
@@ -65,8 +69,8 @@ impl<S: Alter> StoreDesk<S> {
         ensures { MovesTables S.Store self.old self.new result
             (λ old new. Decides result command.now moment old new) }
     {
-        command_is_typed(command);
-        let head = self.find_head()?;
+        witness(command_is_typed(command));
+        let head = self.tables.read(TheHead)?;
         self.judge_by_head(alloc, &head, command, effective(moment, head.last))
     }
 
@@ -99,7 +103,7 @@ impl<S: Alter> StoreDesk<S> {
         ensures { MovesFromLedger S.Store self.old self.new result
             (λ L new. Judges result (Sell code.now) t L new) }
     {
-        let found = self.find_voucher(code)?;
+        let found = self.tables.read(VoucherOf { code })?;
         decide_sell(found, t)
     }
 
@@ -108,7 +112,7 @@ impl<S: Alter> StoreDesk<S> {
         ensures { MovesFromLedger S.Store self.old self.new result
             (λ L new. Judges result (Report session bytes) t L new) }
     {
-        let found = self.find_session(session)?;
+        let found = self.tables.read(SessionOf { number: session })?;
         decide_report(found, bytes, t)
     }
 
@@ -117,7 +121,7 @@ impl<S: Alter> StoreDesk<S> {
         ensures { MovesFromLedger S.Store self.old self.new result
             (λ L new. Judges result (Refund code.now) t L new) }
     {
-        let found = self.find_voucher(code)?;
+        let found = self.tables.read(VoucherOf { code })?;
         decide_refund(found, t)
     }
 
@@ -126,7 +130,7 @@ impl<S: Alter> StoreDesk<S> {
         ensures { MovesFromLedger S.Store self.old self.new result
             (λ L new. Judges result (Close session) t L new) }
     {
-        let found = self.find_session(session)?;
+        let found = self.tables.read(SessionOf { number: session })?;
         decide_close(found, t)
     }
 
@@ -142,8 +146,8 @@ impl<S: Alter> StoreDesk<S> {
             (λ L new. head.now ≡ head_of (history_of L)
             → Judges result (Redeem device.now code.now) t L new) }
     {
-        let voucher = self.find_voucher(code)?;
-        let last = self.find_last_session(device)?;
+        let voucher = self.tables.read(VoucherOf { code })?;
+        let last = self.tables.read(LastSessionOf { device })?;
         decide_redeem(head, voucher, last, *device, t)
     }
 
@@ -169,8 +173,8 @@ impl<S: Alter> StoreDesk<S> {
         ensures { MovesFromLedger S.Store self.old self.new result
             (λ L new. Judges result (Issue batch.now plan.now codes.now) t L new) }
     {
-        let found = self.find_plan(plan)?;
-        let held = self.find_batch(batch)?;
+        let found = self.tables.read(PlanOf { id: plan })?;
+        let held = self.tables.read(BatchOf { id: batch })?;
         let taken = self.is_any_code_held(codes)?;
         decide_issue(alloc, found, held, taken, *batch, codes, t)
     }
@@ -181,7 +185,7 @@ impl<S: Alter> StoreDesk<S> {
             (λ _ H. held.new.items ≡ held.old.items ++ held_among (plans_of H) listed.now) (running L) new) }
     {
         for plan in listed {
-            let found = self.find_plan(&plan.id)?;
+            let found = self.tables.read(PlanOf { id: &plan.id })?;
             add_plan_if_found(held, found)?;
         }
         Ok(())
@@ -193,7 +197,7 @@ impl<S: Alter> StoreDesk<S> {
             (λ taken H. taken ≡ any_held H codes.now) (running L) new) }
     {
         for code in codes {
-            if self.is_held(code)? {
+            if self.tables.read(IsHeld { code })? {
                 return Ok(true);
             }
         }

@@ -4,16 +4,17 @@ ghost use Rattle.portal_model.specs.declared.command.Command.{Command};
 ghost use Rattle.portal_model.specs.Change.{changes_of};
 ghost use Rattle.portal_model.specs.History.{entry, History};
 ghost use Rattle.portal_model.specs.Verdict.{Follows, IsLegal};
-ghost use Rattle.portal_desk_sessions.specs.Open.{open_at_last};
+ghost use Rattle.portal_desk_store.specs.OpenSessions.{open_at_last};
 ghost use Rattle.portal_desk.specs.Calls.{Returns};
 ghost use Rattle.portal_desk_store.specs.DeskRepresents.{MovesDesk};
 ghost use Rattle.portal_desk_store.specs.Steps.{Reads};
 
 use crate::desks::StoreDesk;
+use crate::open_sessions::OpenSessions;
 use portal_desk::Desk;
-use portal_desk_sessions::OpenSessions;
 use portal_model::change::Changes;
 use portal_model::refusal::Refusal;
+use portal_tables::questions::{SessionsOpenAt, TheHead};
 use sqlite::Alter;
 use std::alloc::Global;
 
@@ -22,8 +23,11 @@ impl<S: Alter> StoreDesk<S> {
     fn find_sessions_open_at_last(&mut self, alloc: Global) -> Result<OpenSessions, Refusal>
         ensures { Reads S.Store self.old self.new result (λ list H. list ≡ open_at_last H) }
     {
-        let head = self.find_head()?;
-        let sessions = self.find_open_sessions(alloc, head.last)?;
+        let head = self.tables.read(TheHead)?;
+        let sessions = self.tables.read(SessionsOpenAt {
+            alloc,
+            at: head.last,
+        })?;
         Ok(OpenSessions::new(head.last, sessions))
     }
 

@@ -7,7 +7,10 @@ mod desks;
 mod judging;
 mod keeping;
 mod lists;
+mod open_sessions;
 mod reading;
+mod session_changes;
+pub mod session_laws;
 mod takings;
 
 pub use desks::StoreDesk;

@@ -1,8 +1,8 @@
 //! The takings of days, from the payments in the tables.
 ghost use Rattle.std.specs.Prelude.{◌≡◌, ◌<◌, ◌≤◌, ℕ, ◌+ℤ◌, ◌≤ℤ◌, IfErr, IfOk, map, pos};
 ghost use Rattle.jiff_tz.specs.declared.timezone.TimeZone.{TimeZone as Zone};
-ghost use Rattle.portal_days.specs.Span.{day_count, days_of};
-ghost use Rattle.portal_days.specs.Takings.{takings_on, TotalsFit};
+ghost use Rattle.portal_model.specs.Span.{day_count, days_of};
+ghost use Rattle.portal_model.specs.Takings.{takings_on, TotalsFit};
 ghost use Rattle.portal_desk.specs.Sheets.{takings_over};
 ghost use Rattle.portal_files.specs.LocalDay.{local_day_of};
 ghost use Rattle.portal_model.specs.Verdict.{greatest_moment};
@@ -12,10 +12,12 @@ ghost use Rattle.portal_desk_store.specs.Steps.{Reads};
 use crate::desks::StoreDesk;
 use crate::lists::{Paid, payments_with_days};
 use portal_core::add_takings;
-use portal_days::{Day, DayRange, DayTakings};
 use portal_files::Settings;
+use portal_model::calendar::{Day, DayRange};
 use portal_model::moment::Moment;
 use portal_model::refusal::Refusal;
+use portal_model::takings::DayTakings;
+use portal_tables::questions::{Refunds, SalesAsIssued};
 use sqlite::Alter;
 use std::alloc::Global;
 
@@ -103,8 +105,8 @@ impl<S: Alter> StoreDesk<S> {
             (λ days H. days.items ≡ takings_over self.old.settings.zone H range) }
     {
         let (from, to) = moments_of_range(range);
-        let sales = self.find_sales(alloc, from, to)?;
-        let refunds = self.find_refunds(alloc, from, to)?;
+        let sales = self.tables.read(SalesAsIssued { alloc, from, to })?;
+        let refunds = self.tables.read(Refunds { alloc, from, to })?;
         add_payments(
             alloc,
             &self.settings,

@@ -2,8 +2,8 @@
 use Rattle.portal_files.proofs.Common.{◌≡◌, ℕ, ◌+◌, ℤ, Bool, true, false, cond, List, [], ◌∷◌, refl, ap, sym, ◌∙◌, arith, filter, length, sum_by, count_by, int_eq, TimeZone, DayTakings, Payment, sales_of, refunds_of, by_day, local_day_of, paid_on, sum_of, ArePaid, TakingsAreAdded}
 use Rattle.std.proofs.lemmas.List.Sorted.{sum_by-IsPermutation}
 use Rattle.std.proofs.lemmas.List.Sums.{sum_by-cons, length-filter}
-use Rattle.portal_days.specs.Takings.{Pair, is_on, amount_on}
-use Rattle.portal_days.proofs.Totals.{sum_by-map}
+use Rattle.portal_model.specs.Takings.{Pair, is_on, amount_on}
+use Rattle.portal_model.proofs.Totals.{sum_by-map}
 
 sum_by-filtered : (test : Payment → Bool) (f : Payment → ℕ) (payments : List Payment) → sum_by (λ p. cond (test p) (f p) 0) payments ≡ sum_by f (filter test payments)
 sum_by-filtered test f [] = refl

@@ -11,3 +11,8 @@ pub mod Rules
 pub mod Added
 pub mod TakingsVectors
 pub mod WrongKeys
+pub mod Columns
+pub mod PlainFields
+pub mod PrintLines
+pub mod ReportLines
+pub mod ShownTimes

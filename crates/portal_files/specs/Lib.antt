@@ -1,7 +1,12 @@
+pub mod Amount
 pub mod DayText
 pub mod Laws
 pub mod LocalDay
+pub mod Minute
 pub mod PlansFile
+pub mod PrintFile
+pub mod Private
+pub mod Report
 pub mod Sample
 pub mod SettingsFault
 pub mod SettingsFile

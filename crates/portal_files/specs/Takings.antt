@@ -3,8 +3,8 @@ use Rattle.std.specs.Prelude.{◌≡◌, ℕ, ℤ, pos, List, ◌∷◌, length,
 use Rattle.std.specs.Ordering.{int_eq}
 use Rattle.jiff.specs.Placed.{IsPosixZone}
 use Rattle.jiff_tz.specs.declared.timezone.TimeZone.{TimeZone}
-use Rattle.portal_days.specs.Takings.{Pair, takings_on}
-use Rattle.portal_days.specs.declared.takings.DayTakings.{DayTakings}
+use Rattle.portal_model.specs.Takings.{Pair, takings_on}
+use Rattle.portal_model.specs.declared.takings.DayTakings.{DayTakings}
 use Rattle.portal_model.specs.declared.command.Command.TheVariants.{Refund}
 use Rattle.portal_model.specs.History.{History, entry}
 use Rattle.portal_model.specs.Payments.{Payment, sales_of, refunds_of, by_day}

@@ -5,8 +5,8 @@ use Rattle.portal_files.specs.SettingsFile.{SettingsValue}
 use Rattle.portal_files.specs.declared.settings_file.Texts.{Texts}
 
 -- the settings that they make
-abbrev pub value_of : Texts → SettingsValue
-value_of t = record {
+abbrev pub settings_of : Texts → SettingsValue
+settings_of t = record {
   zone = plain_zone t.zone;
   portal_url = t.portal_url.now;
   venue_url = option_map (λ u. u.now) t.venue_url;

@@ -24,7 +24,7 @@ use crate::settings::Settings;
 use jiff::Timestamp;
 use jiff::civil::{Date, DateTime};
 use jiff_core::civil;
-use portal_days::Day;
+use portal_model::calendar::Day;
 use portal_model::moment::Moment;
 use std::alloc::{AllocError, Global};
 

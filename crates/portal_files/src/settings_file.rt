@@ -33,7 +33,7 @@ ghost use Rattle.portal_files.specs.SettingsFile.{
   IsSettingsFile,
 };
 ghost use Rattle.portal_files.specs.SettingsFile as file;
-ghost use Rattle.portal_files.specs.Texts.{value_of};
+ghost use Rattle.portal_files.specs.Texts.{settings_of};
 ghost use Rattle.portal_files.specs.Sample.{IsSample};
 
 use crate::document::read_document;
@@ -161,7 +161,7 @@ pub(crate) fn key_count(venue_url: Option<&str>) -> usize
 ///
 /// None unless the table has exactly their keys, with valid values, and the tokens differ.
 fn texts_of_table<'a>(table: &'a Table) -> Option<Texts<'a>>
-    ensures some { IfSome result (λ t. IsSettingsTable (table_view table.now) (value_of t)) }
+    ensures some { IfSome result (λ t. IsSettingsTable (table_view table.now) (settings_of t)) }
     ensures none { result ≡ None → (s : SettingsValue) → IsSettingsTable (table_view table.now) s → ⊥ }
 {
     let zone = zone_at(table)?;
@@ -196,7 +196,7 @@ fn copy_of_text(alloc: Global, text: Option<&str>) -> Result<Option<String>, All
 
 /// Copies borrowed values into settings. The only error is out of memory.
 fn owned_settings(alloc: Global, texts: Texts<'_>) -> Result<Settings, AllocError>
-    ensures { IfOk result (λ s. s ≡ value_of texts.entry) }
+    ensures { IfOk result (λ s. s ≡ settings_of texts.entry) }
 {
     let portal_url = String::from_str(alloc, texts.portal_url)?;
     let venue_url = copy_of_text(alloc, texts.venue_url)?;

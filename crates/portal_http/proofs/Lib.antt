@@ -4,6 +4,9 @@ pub mod ServeLemmas
 pub mod RunLemmas
 pub mod Lines
 pub mod HeadlineLemmas
+pub mod ExecutionCommon
+pub mod AnsweredLemmas
+pub mod SessionLemmas
 pub mod ExecutionLemmas
 pub mod Readings
 pub mod ExchangeLemmas

@@ -8,7 +8,7 @@ use Rattle.std.proofs.lemmas.List.{length-append}
 use Rattle.std.proofs.Math.Seq.{drop-append-add}
 use Rattle.httpdate.specs.Date.{date_text}
 use Rattle.serde_json.proofs.OnLiterals.{serde_json_on_literals}
-use Rattle.portal_days.specs.declared.takings.DayTakings.{DayTakings}
+use Rattle.portal_model.specs.declared.takings.DayTakings.{DayTakings}
 use Rattle.portal_model.specs.declared.captive.Captive.{Captive}
 use Rattle.portal_model.specs.declared.captive.OpenSession.{OpenSession}
 use Rattle.portal_model.specs.declared.record.Voucher.{Voucher}

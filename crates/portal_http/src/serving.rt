@@ -16,12 +16,12 @@ use crate::responses::{
     sheet_response, takings_response, voucher_response,
 };
 use portal_codes::Code;
-use portal_days::DayRange;
 use portal_desk::Desk;
 use portal_desk::prepared::{Marked, Prepared};
 use portal_http_request::{Operation, Rejection, check_request};
 use portal_http_routes::Routes;
 use portal_ledger::request::RequestMark;
+use portal_model::calendar::DayRange;
 use portal_model::command::Command;
 use portal_model::moment::Moment;
 use portal_model::name::{Device, Id};

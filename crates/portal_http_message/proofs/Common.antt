@@ -23,4 +23,4 @@ pub use Rattle.portal_http_message.specs.Message.{BeginsWith, HeadOf, ParsesTo, 
 pub use Rattle.portal_http_message.specs.Reading.{BreaksOff, IsIncompleteBefore, ReadsRequestBytes}
 pub use Rattle.portal_http_message.specs.Steps.{IsFinding, IsHeadAt, IsOccurrence, Receives}
 pub use Rattle.portal_http_message.specs.declared.errors.HeadError.{HeadError}
-pub use Rattle.portal_http_message.specs.declared.head.Head.{Head}
+pub use Rattle.portal_http_message.specs.declared.head.FoundHead.{FoundHead}

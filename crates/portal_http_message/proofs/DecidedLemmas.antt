@@ -1,5 +1,5 @@
 -- What the parser's spans say of a decided reply.
-use Rattle.portal_http_message.proofs.Common.{◌≡◌, ℕ, ◌+◌, ◌-◌, ◌<◌, ◌≤◌, ◌⊎◌, List, [], ◌++◌, length, take, drop, Bool, true, false, leb, Result, Ok, Err, refl, sym, ap, ◌∙◌, subst, inl, inr, arith, append-nil, Some, None, ◌↔◌, IfOk, IsTrue, MatchBool, false≢true, leb_tells, take_all, take-append-le, take-append-drop, length-drop, take-append-add, take-append_seam, RequestHead, ReadsRequest, NeverHasRequest, MayBecomeRequest, EndsInTarget, request_unique, ReadsRequest-append, head_limit, body_limit, HeadError, HeadOf, BeginsWith, length_of, bytes_after, HasTooManyLines, Head, IsHeadAt, IsSettled, IsDecided, IsDecidedByHead, IsDecidedWithout, ExceedsHeadLimits, IsIncomplete}
+use Rattle.portal_http_message.proofs.Common.{◌≡◌, ℕ, ◌+◌, ◌-◌, ◌<◌, ◌≤◌, ◌⊎◌, List, [], ◌++◌, length, take, drop, Bool, true, false, leb, Result, Ok, Err, refl, sym, ap, ◌∙◌, subst, inl, inr, arith, append-nil, Some, None, ◌↔◌, IfOk, IsTrue, MatchBool, false≢true, leb_tells, take_all, take-append-le, take-append-drop, length-drop, take-append-add, take-append_seam, RequestHead, ReadsRequest, NeverHasRequest, MayBecomeRequest, EndsInTarget, request_unique, ReadsRequest-append, head_limit, body_limit, HeadError, HeadOf, BeginsWith, length_of, bytes_after, HasTooManyLines, FoundHead, IsHeadAt, IsSettled, IsDecided, IsDecidedByHead, IsDecidedWithout, ExceedsHeadLimits, IsIncomplete}
 use Rattle.httparse.specs.Grammar.{print_request}
 use Rattle.portal_http_message.proofs.LineFeedLemmas.{too_late}
 use Rattle.portal_http_message.specs.Laws.{HasOneHead}
@@ -85,7 +85,7 @@ declared_settles head bytes start declared at sized =
     ∙ ap (λ (n : ℕ). declared ≤ length (drop n bytes)) (sym at)
 
 -- by a head whose fields are refused
-pub refused : (bytes : List ℕ) (at : Head) (head : RequestHead) (error : HeadError) → IsHeadAt bytes at head → at.declared ≡ Err error → IsDecided bytes
+pub refused : (bytes : List ℕ) (at : FoundHead) (head : RequestHead) (error : HeadError) → IsHeadAt bytes at head → at.declared ≡ Err error → IsDecided bytes
 refused bytes at head error is fails =
     let wrong : length_of head ≡ Err error = sym is.declared ∙ fails in
     inl (head, is.begins, subst (λ (l : Result ℕ HeadError). IsSettled l (length (bytes_after head bytes))) (sym wrong) tt)
@@ -117,7 +117,7 @@ open_at bytes head start declared begins at within sized small few =
     }
 
 -- whether the declared body is there decides
-pub decided_when_there : (bytes : List ℕ) (at : Head) (head : RequestHead) (declared : ℕ) → IsHeadAt bytes at head → at.declared ≡ Ok declared
+pub decided_when_there : (bytes : List ℕ) (at : FoundHead) (head : RequestHead) (declared : ℕ) → IsHeadAt bytes at head → at.declared ≡ Ok declared
     → MatchBool (leb (at.spans.len + declared) (length bytes)) (IsDecided bytes) (IsIncomplete bytes)
 decided_when_there bytes at head declared is sized =
     let length_is : length_of head ≡ Ok declared = sym is.declared ∙ sized in

@@ -1,5 +1,5 @@
 -- Where a head is in the bytes, and what the bytes then say.
-use Rattle.portal_http_message.proofs.Common.{◌≡◌, ℕ, ◌-◌, ◌≤◌, List, [], ◌∷◌, ◌++◌, length, take, drop, map, Option, Some, Result, Ok, Err, codes, refl, sym, ap, ◌∙◌, subst, arith, All, IfOk, length-take, length-drop, length-append, length-map, drop-append-le, take-append-le, take-append-drop, HeaderSpan, RequestSpans, RequestHead, ReadsRequest, header_bytes, name_and_value, span_bytes, IsHeaderWithin, IsRequestAt, IsRequestWithin, IsWithin, ReadsRequest-append, body_limit, field_limit, head_limit, HeadError, Head, IsFinding, IsHeadAt, HeadOf, Message, fields_of, length_of, bytes_after, body_after, message_with, message_in}
+use Rattle.portal_http_message.proofs.Common.{◌≡◌, ℕ, ◌-◌, ◌≤◌, List, [], ◌∷◌, ◌++◌, length, take, drop, map, Option, Some, Result, Ok, Err, codes, refl, sym, ap, ◌∙◌, subst, arith, All, IfOk, length-take, length-drop, length-append, length-map, drop-append-le, take-append-le, take-append-drop, HeaderSpan, RequestSpans, RequestHead, ReadsRequest, header_bytes, name_and_value, span_bytes, IsHeaderWithin, IsRequestAt, IsRequestWithin, IsWithin, ReadsRequest-append, body_limit, field_limit, head_limit, HeadError, FoundHead, IsFinding, IsHeadAt, HeadOf, Message, fields_of, length_of, bytes_after, body_after, message_with, message_in}
 use Rattle.std.proofs.lemmas.List.Elements.{All-head, All-tail}
 use Rattle.httparse.specs.declared.spans.Span.{Span}
 use Rattle.portal_http_message.specs.declared.head.Finding.TheVariants.{Whole}
@@ -50,7 +50,7 @@ at_stays xs ys headers r head within at =
       fields = headers_stay r.len xs ys (take r.headers headers) there within.section.headers_fit ∙ at.fields;
     }
 
-pub head_stays : (front more bytes : List ℕ) (at : Head) → bytes ≡ front ++ more → IsFinding front (Whole at) → IsFinding bytes (Whole at)
+pub head_stays : (front more bytes : List ℕ) (at : FoundHead) → bytes ≡ front ++ more → IsFinding front (Whole at) → IsFinding bytes (Whole at)
 head_stays front more bytes at e (head, is) =
     subst (λ (b : List ℕ). IsFinding b (Whole at)) (sym e) (
       head,
@@ -101,7 +101,7 @@ assembled_is head (Err error) = refl
 assembled_is head (Ok body) = refl
 
 -- what the places hold is what the bytes say
-pub told : (bytes : List ℕ) (at : Head) (head : RequestHead) (fields : FieldList) (body : Result (List ℕ) HeadError) (method target : List ℕ)
+pub told : (bytes : List ℕ) (at : FoundHead) (head : RequestHead) (fields : FieldList) (body : Result (List ℕ) HeadError) (method target : List ℕ)
     (token device : Option (List ℕ)) (number : Result (Option (List ℕ)) HeadError)
     → IsHeadAt bytes at head → fields ≡ map (header_bytes bytes) (take at.spans.headers at.headers)
     → body ≡ body_after at.declared (drop at.spans.len bytes)

@@ -6,7 +6,7 @@ use Rattle.httparse.specs.Spans.{IsRequestAt, IsRequestWithin}
 use Rattle.portal_http_message.specs.Limits.{head_limit, body_limit, piece_limit}
 use Rattle.portal_http_message.specs.declared.fields.Occurrence.{Occurrence}
 use Rattle.portal_http_message.specs.declared.fields.Occurrence.TheVariants.{Absent, Once, Repeated}
-use Rattle.portal_http_message.specs.declared.head.Head.{Head}
+use Rattle.portal_http_message.specs.declared.head.FoundHead.{FoundHead}
 use Rattle.portal_http_message.specs.declared.head.Finding.{Finding}
 use Rattle.portal_http_message.specs.declared.head.Finding.TheVariants as finding
 use Rattle.portal_http_message.specs.declared.received.ReadError.{ReadError}
@@ -27,7 +27,7 @@ IsOccurrence values Repeated =
 -- ---- a head
 
 -- The bytes begin with the head; its parts and its length are at those places.
-pub record IsHeadAt (bytes : List ℕ) (at : Head) (head : RequestHead) : Type 0 where
+pub record IsHeadAt (bytes : List ℕ) (at : FoundHead) (head : RequestHead) : Type 0 where
   pub begins : BeginsWith (take head_limit bytes) head
   pub early : at.spans.len ≤ head_limit
   pub within : IsRequestWithin bytes at.headers at.spans

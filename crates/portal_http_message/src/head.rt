@@ -43,7 +43,7 @@ pub fn front(bytes: &[u8]) -> &[u8]
 
 /// A complete head: the places of its parts in the bytes, and the declared length of the body.
 #[derive(Clone, Copy)]
-pub struct Head {
+pub struct FoundHead {
     /// The places of the method and of the target, the minor version, the number of fields, and the length
     /// of the head in bytes.
     pub spans: RequestSpans,
@@ -57,7 +57,7 @@ pub struct Head {
 #[derive(Clone, Copy)]
 pub enum Finding {
     /// A complete head.
-    Whole(Head),
+    Whole(FoundHead),
     /// No complete head yet, but further bytes may complete it.
     Unfinished,
     /// No head, and no further bytes can make one.
@@ -74,7 +74,7 @@ pub fn parse_head(bytes: &[u8]) -> Finding
         Ok(Status::Complete(spans)) => {
             let (used, _) = headers.split_at(spans.headers);
             let declared = declared_length(&Fields::new(front, used), spans.version);
-            Finding::Whole(Head {
+            Finding::Whole(FoundHead {
                 spans,
                 headers,
                 declared,
@@ -112,7 +112,7 @@ fn take_body(after: &[u8], declared: Result<usize, HeadError>) -> Result<&[u8], 
 /// Reads the request from the bytes, which have that complete head.
 ///
 /// Errors: those of `parse_request`, but for a head that is not complete.
-fn request_with_head<'b>(head: &Head, bytes: &'b [u8]) -> Result<ParsedRequest<'b>, HeadError>
+fn request_with_head<'b>(head: &FoundHead, bytes: &'b [u8]) -> Result<ParsedRequest<'b>, HeadError>
     requires { (is : RequestHead) × IsHeadAt bytes.now head.now is }
     ensures { ParsesTo bytes.now result }
 {

@@ -7,12 +7,12 @@ pub use Rattle.portal_http_request.specs.Callers.{IsGuest, ReadsKey, holds_token
 pub use Rattle.portal_http_request.specs.Checks.{AsksForCommand, AtGuest, AtMessage, AtPath, AtRoute, AtToken, IsChecked, IsOfRequest, OrMemory, syntax_error, operation_of}
 pub use Rattle.portal_http_request.specs.Issues.{issue_of}
 pub use Rattle.portal_http_request.specs.Queries.{AreDays, IsDayAt, NamesBatch, NamesCode}
-pub use Rattle.portal_http_request.specs.Seeds.{codes_of, words_at}
+pub use Rattle.portal_http_request.specs.Seeds.{codes_from_seed, words_at}
 pub use Rattle.portal_http_request.specs.declared.rejection.Rejection.{Rejection}
 pub use Rattle.portal_http_request.specs.declared.rejection.Rejection.TheVariants.{Method, Refused}
 pub use Rattle.portal_http_request.specs.declared.operation.Operation.{Operation}
 pub use Rattle.portal_codes.specs.Code.{code_of_words}
-pub use Rattle.portal_days.specs.Span.{IsSpan, Span}
+pub use Rattle.portal_model.specs.Span.{IsSpan, Span}
 pub use Rattle.portal_files.specs.PlansFile.{IsPlansFile}
 pub use Rattle.portal_files.specs.SettingsFile.{SettingsValue}
 pub use Rattle.portal_http_message.specs.Message.{Message, message_in, message_of_request}

@@ -8,11 +8,11 @@ use Rattle.portal_model.specs.declared.refusal.Refusal.TheVariants.{BadRequest}
 use Rattle.portal_json.specs.declared.orders.BatchOrder.{BatchOrder}
 use Rattle.portal_json.specs.Orders.{ReadsJson, IsBatchOrder}
 use Rattle.portal_http_request.specs.Bodies.{Gives}
-use Rattle.portal_http_request.specs.Seeds.{codes_of}
+use Rattle.portal_http_request.specs.Seeds.{codes_from_seed}
 
 -- the command that issues the batch of an order, with the codes of the seed
 abbrev pub issue_of : List ℕ → BatchOrder → Command
-issue_of seed order = Issue order.batch order.plan (codes_of seed order.count)
+issue_of seed order = Issue order.batch order.plan (codes_from_seed seed order.count)
 
 -- the body's JSON orders that batch
 abbrev pub OrdersIssue : List ℕ → BatchOrder → Type 0

@@ -1,7 +1,7 @@
 -- The values in a path and in a query.
 use Rattle.std.specs.Prelude.{◌≡◌, ℕ, ℤ, List, Option, Some, codes, option_and_then, IsUtf8}
 use Rattle.portal_codes.specs.Code.{Spells}
-use Rattle.portal_days.specs.Span.{Span, IsSpan}
+use Rattle.portal_model.specs.Span.{Span, IsSpan}
 use Rattle.portal_model.specs.IdText.{IsIdText}
 use Rattle.portal_files.specs.DayText.{IsDayText}
 use Rattle.portal_http_routes.specs.Queries.{only_of, values_of}

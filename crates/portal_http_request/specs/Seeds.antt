@@ -10,5 +10,5 @@ abbrev pub words_at : List ℕ → ℕ → List ℕ
 words_at seed place = map (λ i. word_at 10 (key_of seed) 0 (15 * place + i)) (range_with_len 0 15)
 
 -- the first so many codes of a seed
-abbrev pub codes_of : List ℕ → ℕ → List (List ℕ)
-codes_of seed count = map (λ place. code_of_words (words_at seed place)) (range_with_len 0 count)
+abbrev pub codes_from_seed : List ℕ → ℕ → List (List ℕ)
+codes_from_seed seed count = map (λ place. code_of_words (words_at seed place)) (range_with_len 0 count)

@@ -2,7 +2,7 @@
 ghost use Rattle.std.specs.Prelude.{◌≡◌, ◌+◌, ◌<◌, ◌≤◌, ◌^◌, IfOk, map};
 ghost use Rattle.std.specs.List.{range_with_len};
 ghost use Rattle.rand_chacha.specs.ChaCha.{word_at};
-ghost use Rattle.portal_http_request.specs.Seeds.{codes_of};
+ghost use Rattle.portal_http_request.specs.Seeds.{codes_from_seed};
 
 use portal_codes::{Code, LONG_WORDS};
 use portal_model::lists::Codes;
@@ -30,9 +30,9 @@ fn next_words(rng: &mut ChaCha20Rng) -> [u32; LONG_WORDS]
 /// A code of sixteen characters is made of fifteen words of ChaCha20 with the seed as its key (the block
 /// function of RFC 8439, with a 64-bit counter and nonce), stream 0, from place 0 on. Two of the codes may
 /// be equal. The only error is out of memory.
-pub fn codes_of(alloc: Global, seed: [u8; 32], count: usize) -> Result<Codes, AllocError>
+pub fn codes_from_seed(alloc: Global, seed: [u8; 32], count: usize) -> Result<Codes, AllocError>
     requires { count ≤ 500 }
-    ensures { IfOk result (λ codes. codes ≡ codes_of seed count) }
+    ensures { IfOk result (λ codes. codes ≡ codes_from_seed seed count) }
 {
     let mut rng = ChaCha20Rng::from_seed(seed);
     let mut codes = Codes::new(alloc);

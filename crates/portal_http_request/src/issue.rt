@@ -3,7 +3,7 @@ ghost use Rattle.std.specs.Prelude.{◌≡◌, ◌≤◌, ◌⊎◌, Err, IfOk, 
 ghost use Rattle.portal_model.specs.Verdict.{IsWellFormed};
 ghost use Rattle.portal_http_request.specs.Issues.{ReadsIssue, issue_of};
 
-use crate::codes::codes_of;
+use crate::codes::codes_from_seed;
 use portal_json::{BatchOrder, read_batch};
 use portal_model::command::Command;
 use portal_model::refusal::Refusal;
@@ -17,7 +17,7 @@ fn issue_of_order(alloc: Global, order: BatchOrder, seed: [u8; 32]) -> Result<Co
     ensures well_formed { IfOk result IsWellFormed }
     ensures err { IfErr result (λ r. r ≡ Refusal.NoMemory) }
 {
-    let codes = codes_of(alloc, seed, order.count as usize)?;
+    let codes = codes_from_seed(alloc, seed, order.count as usize)?;
     Ok(Command::Issue {
         batch: order.batch,
         plan: order.plan,

@@ -1,8 +1,8 @@
 //! The operations that a request can ask of the desk.
 
 use portal_codes::Code;
-use portal_days::DayRange;
 use portal_ledger::request::RequestMark;
+use portal_model::calendar::DayRange;
 use portal_model::command::Command;
 use portal_model::name::{Device, Id};
 

@@ -1,12 +1,12 @@
 //! Reads the values in a path and in a query.
 ghost use Rattle.std.specs.Prelude.{◌≡◌, ℕ, ℤ, List, None, IfSome, option_map};
-ghost use Rattle.portal_days.specs.Span.{Span};
+ghost use Rattle.portal_model.specs.Span.{Span};
 ghost use Rattle.portal_http_request.specs.Queries.{NamesBatch, NamesCode, IsDayAt, AreDays};
 
 use portal_codes::Code;
-use portal_days::{Day, DayRange};
 use portal_files::read_day;
 use portal_http_routes::only_value;
+use portal_model::calendar::{Day, DayRange};
 use portal_model::name::Id;
 use std::str;
 

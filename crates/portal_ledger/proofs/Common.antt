@@ -7,7 +7,6 @@ pub use Rattle.portal_model_laws.proofs.Basics.{and-true, by_map, bytes_refl, by
 pub use Rattle.portal_ledger.specs.Ledger.{Accepted, IsKeyFree, IsSound, Ledger, MayFollow, answer_in, held_in, history_of, is_under, kept_with, newly_accepted, repeat_in, repeat_of, request_among, request_kept, request_row, requests_of, accepted_at}
 pub use Rattle.portal_ledger.specs.Fingerprint.{IsPaddedKey, IsKeyText, Fingerprint, key_with_zeros, is_key_character, same_caller, same_key, same_request}
 pub use Rattle.portal_ledger.specs.RequestRow.{AnswerCells, IsAnswerTyped, IsKeptTyped, RequestRow, cells_of, boolean}
-pub use Rattle.portal_ledger.specs.Runs.{AllAreCalls, AreCalls, AreAllEqual, CallRequest, Call, RepliesByKey, IsCallRequest, IsCall, RepliesByVerdict, IsKeptByExecution, IsFingerprintIfSome, IsCallReply, Execution, CallRun, CallStep, CallStops, CallResponse, acknowledged_of, acts, answers_of_call, answers_of, answers_of_execution, answers_of_session, asks, is_request_under, ledger_after, no_memory, refuses, stops, command_answer}
 pub use Rattle.portal_ledger.specs.States.{MayBeFound, State, running, stopped}
 pub use Rattle.portal_ledger.specs.declared.caller.Caller.{Caller}
 pub use Rattle.portal_ledger.specs.declared.caller.Caller.TheVariants.{Desk, Gateway, Guest}

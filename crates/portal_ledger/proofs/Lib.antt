@@ -2,7 +2,6 @@ pub mod Common
 pub mod Filling
 pub mod Keys
 pub mod Ledgers
-pub mod Executions
-pub mod Acknowledged
+pub mod Repetitions
 pub mod KnownByRow
 pub mod Typed

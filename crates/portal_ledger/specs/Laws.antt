@@ -1,5 +1,5 @@
 -- Laws of ledgers.
-use Rattle.std.specs.Prelude.{◌≡◌, ℕ, ◌+◌, ◌≤◌, true, cond, List, [], ◌∷◌, ◌++◌, Some, All}
+use Rattle.std.specs.Prelude.{◌≡◌, ℕ, ◌+◌, ◌≤◌, true, cond, [], ◌∷◌, ◌++◌, Some, All}
 use Rattle.portal_model.specs.declared.change.Changes.{Changes}
 use Rattle.portal_model.specs.Change.{changes_of}
 use Rattle.portal_model.specs.Verdict.{IsLegal}
@@ -8,7 +8,6 @@ use Rattle.portal_ledger.specs.declared.caller.Caller.{Caller}
 use Rattle.portal_ledger.specs.Fingerprint.{Fingerprint, IsCaller, same_key}
 use Rattle.portal_ledger.specs.RequestRow.{IsKeptTyped, text_of_caller, row_of_request}
 use Rattle.portal_ledger.specs.Ledger.{Accepted, Ledger, history_of, answer_in, requests_of, is_under, held_in, request_among, MayFollow, IsSound, all_rows_of, all_rows_after_changes}
-use Rattle.portal_ledger.specs.Runs.{Call, Execution, AllAreCalls, answers_of_execution, AreAllEqual, IsKeptByExecution}
 
 -- the histories of sound ledgers are legal
 abbrev pub SoundIsLegal : Type 0
@@ -49,22 +48,6 @@ KeptAnswerIsGiven = (L : Ledger) (mark : Fingerprint) (k : KeptRequest) → held
 -- a kept request stays kept
 abbrev pub HeldRequestStays : Type 0
 HeldRequestStays = (L : Ledger) (a : Accepted) (mark : Fingerprint) (k : KeptRequest) → held_in L mark ≡ Some k → held_in (a ∷ L) mark ≡ Some k
-
--- over an execution, an idempotent request is accepted at most once, and all 200 responses to it have the
--- same answer
-pub record IsIdempotent (found : Ledger) (server_sessions : List (List Call)) (mark : Fingerprint) : Type 0 where
-  pub accepted : times_under found mark ≤ 1
-  pub answered : AreAllEqual (answers_of_execution mark server_sessions)
-
-abbrev pub RequestsAreIdempotent : Type 0
-RequestsAreIdempotent = (L found : Ledger) (server_sessions : List (List Call)) → IsSound L → AllAreCalls server_sessions
-    → Execution L server_sessions found → (mark : Fingerprint) → IsIdempotent found server_sessions mark
-
--- after an execution, the ledger has every acknowledged command, and at most one more for each server
--- session
-abbrev pub ExecutionIsKept : Type 0
-ExecutionIsKept = (L found : Ledger) (server_sessions : List (List Call)) → Execution L server_sessions found
-    → IsKeptByExecution L server_sessions found
 
 -- callers with the same text are equal
 abbrev pub CallerIsKnownByText : Type 0

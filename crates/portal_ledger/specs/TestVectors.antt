@@ -9,7 +9,7 @@ use Rattle.portal_model.specs.TestVectors.{hour, history_with_plans, device1, de
 use Rattle.portal_ledger.specs.declared.caller.Caller.TheVariants.{Desk, Guest}
 use Rattle.portal_ledger.specs.Fingerprint.{Fingerprint}
 use Rattle.portal_ledger.specs.Ledger.{accepted_command, Ledger, history_of, kept_with, requests_of}
-use Rattle.portal_ledger.specs.Runs.{acts, command_answer, refuses, IsCallReply}
+use Rattle.portal_ledger.specs.Replies.{acts, command_answer, refuses, IsCallReply}
 
 -- a ledger of requests without idempotency keys
 abbrev pub without_fingerprint : History → Ledger

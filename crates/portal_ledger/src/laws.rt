@@ -12,8 +12,6 @@ ghost use Rattle.portal_ledger.specs.Laws.{
   KeyIsHeldOnce,
   KeptAnswerIsGiven,
   HeldRequestStays,
-  RequestsAreIdempotent,
-  ExecutionIsKept,
   CallerIsKnownByText,
   KeptRequestsAreTyped,
   RequestIsKnownByRow,
@@ -53,19 +51,6 @@ pub fn kept_answer_is_given()
 #[tactic(auto, using(crate::proofs::Ledgers::the_held_stays))]
 pub fn held_request_stays()
     ensures { HeldRequestStays }
-{}
-
-/// Over an execution with crashes, an idempotent request is accepted at most once, and all 200 responses to
-/// it have the same answer.
-pub fn requests_are_idempotent()
-    ensures { RequestsAreIdempotent }
-{}
-
-/// After an execution with crashes, the ledger has every acknowledged command in order, and at most one
-/// more for each server session.
-#[tactic(auto, using(crate::proofs::Acknowledged::the_execution_is_kept))]
-pub fn call_execution_is_kept()
-    ensures { ExecutionIsKept }
 {}
 
 /// Test vectors: four ledgers, with repeated requests.

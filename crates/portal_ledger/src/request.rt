@@ -17,6 +17,7 @@ ghost use Rattle.portal_ledger.specs.Fingerprint.{
 use crate::caller::Caller;
 use portal_model::change::Answer;
 use portal_model::name::Device;
+use portal_model::proof::witness;
 use std::alloc::{AllocError, Global};
 use std::marker::Model;
 
@@ -190,13 +191,13 @@ pub fn fingerprint_is_typed(mark: &RequestMark)
 {
     match &mark.caller {
         Caller::Guest(device) => {
-            let _ = device.text();
+            witness(device.text());
         }
         Caller::Desk | Caller::Gateway => {}
     }
-    let _ = mark.number.text();
-    let _ = mark.method.as_str();
-    let _ = mark.path.as_str();
+    witness(mark.number.text());
+    witness(mark.method.as_str());
+    witness(mark.path.as_str());
 }
 
 /// Returns whether two devices are equal.

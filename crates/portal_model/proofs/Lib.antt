@@ -1,3 +1,7 @@
+pub mod Common
+pub mod DayLists
+pub mod DaySumLemmas
 pub mod Devices
 pub mod Padding
 pub mod SamePlan
+pub mod Totals

@@ -9,5 +9,8 @@ pub mod Change
 pub mod Rows
 pub mod Captive
 pub mod Payments
+pub mod Private
+pub mod Span
+pub mod Takings
 pub mod TestVectors
 pub mod VerdictVectors

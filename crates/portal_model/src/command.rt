@@ -4,6 +4,7 @@ ghost use Rattle.portal_model.specs.Verdict.{IsTyped};
 
 use crate::lists::{Codes, Plans};
 use crate::name::{Device, Id};
+use crate::proof::witness;
 use portal_codes::Code;
 
 /// A command as a caller sends it.
@@ -36,19 +37,19 @@ pub fn command_is_typed(command: &Command)
 {
     match command {
         Command::Load { plans } => {
-            let _ = plans.as_slice();
+            witness(plans.as_slice());
         }
         Command::Issue { batch, plan, codes } => {
-            let _ = batch.text();
-            let _ = plan.text();
-            let _ = codes.as_slice();
+            witness(batch.text());
+            witness(plan.text());
+            witness(codes.as_slice());
         }
         Command::Sell { code } | Command::Refund { code } => {
-            let _ = code.text();
+            witness(code.text());
         }
         Command::Redeem { device, code } => {
-            let _ = device.text();
-            let _ = code.text();
+            witness(device.text());
+            witness(code.text());
         }
         Command::Report { .. } | Command::Close { .. } => {}
     }

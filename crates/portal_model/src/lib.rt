@@ -1,6 +1,7 @@
-//! The records of the desk and the commands that change them.
+//! The records of the desk and the commands that change them; days, and the takings of each day.
 #![tactic(auto)]
 
+pub mod calendar;
 pub mod captive;
 pub mod change;
 pub mod command;
@@ -9,6 +10,8 @@ mod memory;
 pub mod moment;
 pub mod name;
 pub mod plan;
+pub mod proof;
 pub mod record;
 pub mod refusal;
+pub mod takings;
 pub mod test_vectors;

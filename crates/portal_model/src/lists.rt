@@ -4,6 +4,7 @@ ghost use Rattle.std.specs.Prelude.{◌≡◌, ◌++◌, ◌∷◌, [], IfOk, If
 ghost use Rattle.portal_codes.specs.Code.{IsCode};
 
 use crate::plan::Plan;
+use crate::proof::witness;
 use portal_codes::Code;
 use std::alloc::{AllocError, Global};
 use std::marker::Model;
@@ -108,7 +109,7 @@ impl Codes {
         ensures err { IfErr result (λ _. self.new ≡ self.old) }
     {
         // The contract of `text` gives that the value is a code, which the list's invariant needs.
-        let _ = code.text();
+        witness(code.text());
         self.items.push(code)?;
         Ok(())
     }

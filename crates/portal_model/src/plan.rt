@@ -4,6 +4,7 @@ ghost use Rattle.std.specs.Prelude.{◌≡◌, ◌+◌, ◌<◌, ◌≤◌, IfOk
 ghost use Rattle.portal_model.specs.IdText.{IsIdText};
 
 use crate::name::Id;
+use crate::proof::witness;
 use crate::refusal::Refusal;
 
 /// The terms of a voucher. Every value is within its limits.
@@ -55,7 +56,7 @@ impl Plan {
             × ¬ AreTerms price uses seconds bytes shelf_days) }
     {
         // The contract of `text` gives that the id is an id text, which the plan's invariant needs.
-        let _ = id.text();
+        witness(id.text());
         if price > 100_000_000 || uses < 1 || uses > 100_000 || seconds > 31_622_400 {
             return Err(Refusal::BadPlans);
         }

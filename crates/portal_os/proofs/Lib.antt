@@ -1,4 +1,5 @@
 pub mod Common
 pub mod OpeningLemmas
 pub mod ClosingLemmas
+pub mod ImageLemmas
 pub mod LookingLemmas

@@ -1,10 +1,12 @@
 -- What holds of files that were opened, and opened again.
-use Rattle.portal_os.proofs.Common.{◌≡◌, ◌∙◌, sym, subst, Bool, IsTrue, Result, Ok, Err, IfOk, IsErrAnd, Image, ComesFrom, IsReopened, OpensFiles, Ghosts, Held, AreFoundIn, file_state, over_files}
+use Rattle.portal_os.proofs.Common.{◌≡◌, ◌∙◌, sym, subst, Bool, IsTrue, Result, Ok, Err, IfOk, IsErrAnd, Image, ComesFrom, OpensFiles, Ghosts, Held, AreFoundIn, file_state, over_files}
 use Rattle.sqlite_store.specs.declared.store.FileStore.{FileStore}
 use Rattle.sqlite.specs.State.{HasCleanDisk}
 use Rattle.sqlite.specs.Start.{FindsIn}
 use Rattle.sqlite_trees.specs.Tree.{Trees}
 use Rattle.portal_commands.specs.declared.place.Purpose.{Purpose}
+use Rattle.portal_desk_store.specs.Attaching.{IsConnOpen}
+use Rattle.portal_tables.specs.Images.{IsReopened}
 use Rattle.portal_tables.specs.TablesRepresent.{ConnIsFaultFree}
 
 module _ {D : Type 0} {g : Ghosts D} (conn : Held (FileStore D g)) where
@@ -12,6 +14,11 @@ module _ {D : Type 0} {g : Ghosts D} (conn : Held (FileStore D g)) where
   pub clean_by : ConnIsFaultFree over_files conn → HasCleanDisk (file_state conn)
   unfolding ConnIsFaultFree
   clean_by honest = honest
+
+  -- if it is open, the words of the desk say so
+  pub open_by : IsTrue (file_state conn).is_open → IsConnOpen over_files conn
+  unfolding IsConnOpen
+  open_by live = live
 
 -- what was opened is closed and opened again, or not: what holds of it as long as its disk is clean
 pub honest_on : {C E : Type 0} (again : Result C E) (Clean : C → Type 0) (Was Output : Type 0)
@@ -47,4 +54,4 @@ module _ {D : Type 0} {g : Ghosts D} where
   pub opens_not : {E : Type 0} (image : Image) (purpose : Purpose) (result : Result (Held (FileStore D g)) E) (Q : E → Type 0) → IsErrAnd result Q
       → OpensFiles image purpose result
   opens_not image purpose (Ok conn) Q failed = absurd failed
-  opens_not image purpose (Err e) Q failed = record { opened = λ L shown. tt; found = tt; from = tt }
+  opens_not image purpose (Err e) Q failed = record { opened = λ L shown. tt; found = tt; from = tt; live = tt }

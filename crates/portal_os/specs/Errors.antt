@@ -7,10 +7,10 @@ use Rattle.sqlite.specs.declared.error.ErrorCode.TheVariants as code
 use Rattle.std.specs.IoError.{error_kind}
 use Rattle.sqlite_std_file.specs.declared.pair.OpenError.{OpenError}
 use Rattle.sqlite_std_file.specs.declared.pair.OpenError.TheVariants as path
-use Rattle.portal_os.specs.declared.unopened.Unopened.{Unopened}
-use Rattle.portal_os.specs.declared.unopened.Unopened.TheVariants as unopened
-use Rattle.portal_exit.specs.declared.error.ProgramError.{ProgramError}
-use Rattle.portal_exit.specs.declared.error.ProgramError.TheVariants as said
+use Rattle.portal_os.specs.declared.opening_error.OpeningError.{OpeningError}
+use Rattle.portal_os.specs.declared.opening_error.OpeningError.TheVariants as opening
+use Rattle.portal_server.specs.declared.error.ProgramError.{ProgramError}
+use Rattle.portal_server.specs.declared.error.ProgramError.TheVariants as said
 use Rattle.portal_tables.specs.declared.errors.OpenFault.{OpenFault}
 use Rattle.portal_tables.specs.declared.errors.OpenFault.TheVariants.{NotOurs, Newer, Memory, Store}
 
@@ -31,11 +31,11 @@ error_of_path (path.Io error) = error_of_file (error_kind error)
 error_of_path _ = said.File
 
 -- The same for a database file that was not opened.
-abbrev pub error_of_unopened : Unopened → ProgramError
-error_of_unopened (unopened.Path error) = error_of_path error
-error_of_unopened (unopened.Store error) = error_of_store error
-error_of_unopened unopened.Lost = said.File
-error_of_unopened unopened.NoDatabase = said.File
+abbrev pub program_error_of : OpeningError → ProgramError
+program_error_of (opening.Path error) = error_of_path error
+program_error_of (opening.Store error) = error_of_store error
+program_error_of opening.Lost = said.File
+program_error_of opening.NoDatabase = said.File
 
 -- A database that could not be attached.
 abbrev pub error_of_open : OpenFault → ProgramError

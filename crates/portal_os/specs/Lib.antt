@@ -1,3 +1,4 @@
+pub mod CrashImages
 pub mod Errors
 pub mod Laws
 pub mod Opening

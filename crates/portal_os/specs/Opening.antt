@@ -8,8 +8,8 @@ use Rattle.sqlite_wal.specs.Files.{outcomes}
 use Rattle.sqlite_wal.specs.Reads.{AreClean}
 use Rattle.sqlite_store.specs.declared.store.FileStore.{FileStore}
 use Rattle.sqlite_trees.specs.declared.store.Store as stores
-use Rattle.sqlite.specs.Closing.{HoldsAlone, IsCopied}
-use Rattle.sqlite.specs.Files.{Finds, file_state, over_files}
+use Rattle.sqlite.specs.Closing.{HoldsAlone}
+use Rattle.sqlite.specs.Files.{file_state, over_files}
 use Rattle.sqlite.specs.Held.{Held}
 use Rattle.sqlite.specs.Start.{FindsIn}
 use Rattle.sqlite.specs.State.{HasCleanDisk}
@@ -17,17 +17,20 @@ use Rattle.portal_ledger.specs.Ledger.{Ledger}
 use Rattle.portal_ledger.specs.States.{running}
 use Rattle.portal_commands.specs.declared.place.Purpose.{Purpose}
 use Rattle.portal_commands.specs.declared.place.Purpose.TheVariants.{Serve, Answer, Ask}
-use Rattle.portal_exit.specs.declared.error.ProgramError.{ProgramError}
+use Rattle.portal_server.specs.declared.error.ProgramError.{ProgramError}
+use Rattle.portal_server.specs.declared.error.ProgramError.TheVariants.{File}
 use Rattle.portal_tables.specs.Attaching.{AttachesOthers}
-use Rattle.portal_tables.specs.Images.{ImageHoldsLedger, IsCrashStateOfStore}
+use Rattle.portal_tables.specs.Images.{ImageHoldsLedger, IsCrashStateOfStore, IsReopened}
 use Rattle.portal_tables.specs.TablesRepresent.{ConnRepresents, ConnIsFaultFree, Files as Tables}
 use Rattle.portal_tables.specs.declared.errors.OpenFault.{OpenFault}
 use Rattle.portal_tables.specs.declared.errors.OpenFault.TheVariants.{Memory, Store}
-use Rattle.portal_desk_store.specs.Attaching.{IsCause}
+use Rattle.portal_desk_store.specs.Attaching.{IsAsItWas, IsCause, IsSpared, MayBeAttached}
 use Rattle.portal_desk_store.specs.declared.desks.StoreDesk.{StoreDesk}
 use Rattle.portal_desk_store.specs.DeskRepresents.{DeskRepresents, DeskIsFaultFree, IsCrashStateOfDesk}
-use Rattle.portal_os.specs.declared.unopened.Unopened.{Unopened}
-use Rattle.portal_os.specs.Errors.{error_of_open, error_of_unopened}
+use Rattle.portal_os.specs.declared.remains.Remains.{Remains}
+use Rattle.portal_os.specs.declared.remains.Remains.TheVariants.{Nothing, Refused, Closed, Unclosed}
+use Rattle.portal_os.specs.declared.opening_error.OpeningError.{OpeningError}
+use Rattle.portal_os.specs.Errors.{error_of_open, program_error_of}
 
 -- Frames of a log with pages of this size are committed: the first are valid, and the last of those commits.
 abbrev pub AreCommitted : ℕ → List ℕ → Type 0
@@ -73,23 +76,23 @@ RefusesStore g conn left error =
     (cause : OpenFault) × (error ≡ error_of_open cause)
     × (ConnIsFaultFree g left → ConnIsFaultFree g conn × IsCause g conn cause × ((L : Ledger) → ConnRepresents g conn L → (cause ≡ Memory) ⊎ (cause ≡ Store)))
 
-module _ {D : Type 0} (g : Ghosts D) where
-  -- Two files that held this image were not opened, or their database was not attached, which is tried only
-  -- if it may be opened for this purpose; the error is the one that belongs to that. A database that holds a
-  -- ledger is never called foreign or newer.
-  abbrev pub RefusesFiles : Image → Purpose → ProgramError → Type 0
-  RefusesFiles image purpose error =
-      ((unopened : Unopened) × (error ≡ error_of_unopened unopened))
-      ⊎ ((cause : OpenFault) × (error ≡ error_of_open cause) × (conn left : Held (FileStore D g))
+module _ {D : Type 0} {g : Ghosts D} where
+  -- Two files that held this image were not opened, and nothing is left; or their database was not attached,
+  -- which is tried only if it may be opened for this purpose, and the connection to it is left. The error is
+  -- the one that belongs to that. A database that holds a ledger is never called foreign or newer. One that is
+  -- not to be attached gets no crash state, and after all errors but `file` the database is as it was.
+  abbrev pub RefusesFiles : Image → Purpose → Remains D g → ProgramError → Type 0
+  RefusesFiles image purpose Nothing error = (cause : OpeningError) × (error ≡ program_error_of cause)
+  RefusesFiles image purpose (Refused left) error =
+      (cause : OpenFault) × (error ≡ error_of_open cause) × (conn : Held (FileStore D g))
       × (ConnIsFaultFree over_files left → IsFoundFor image purpose × FindsIn image (file_state conn) × IsCause over_files conn cause
-      × ((L : Ledger) → ImageHoldsLedger image L → (cause ≡ Memory) ⊎ (cause ≡ Store))))
+      × ((L : Ledger) → ImageHoldsLedger image L → (cause ≡ Memory) ⊎ (cause ≡ Store))
+      × (error ≢ File → IsAsItWas over_files conn left))
+      × (¬ MayBeAttached over_files conn → IsSpared over_files conn left)
+  RefusesFiles image purpose (Closed files) error = ⊥
+  RefusesFiles image purpose (Unclosed store) error = ⊥
 
 module _ {D : Type 0} {g : Ghosts D} where
-  -- The files of a connection were closed, so that its log was copied into the database file, and opened
-  -- again.
-  abbrev pub IsReopened : Held (FileStore D g) → Held (FileStore D g) → Type 0
-  IsReopened first again = (closed : Pair D) × IsCopied first closed × Finds closed again
-
   -- A connection to two files that held this image: it finds all tables that they held, ours and those of
   -- others. If the log was to be copied, they were opened, closed and opened again.
   abbrev pub ComesFrom : Image → Bool → Held (FileStore D g) → Type 0
@@ -99,20 +102,22 @@ module _ {D : Type 0} {g : Ghosts D} where
 
   -- Two files that held this image were opened for a purpose. As long as the disk of the connection is clean:
   -- it represents the ledger that they hold; the database may be opened for this purpose; and the connection
-  -- finds all tables that they held.
+  -- finds all tables that they held, and is open.
   pub record OpensFiles {E : Type 0} (image : Image) (purpose : Purpose) (result : Result (Held (FileStore D g)) E) : Type 0 where
     pub opened : (L : Ledger) → ImageHoldsLedger image L → IfOk result (λ conn. HasCleanDisk (file_state conn) → ConnRepresents over_files conn L)
     pub found : IfOk result (λ conn. HasCleanDisk (file_state conn) → IsFoundFor image purpose)
     pub from : IfOk result (λ conn. HasCleanDisk (file_state conn) → ComesFrom image (copies_for purpose) conn)
+    pub live : IfOk result (λ conn. HasCleanDisk (file_state conn) → IsTrue (file_state conn).is_open)
 
   -- The files of a connection were closed and opened again, if that was asked for. As long as the disk of the
-  -- new connection is clean: so was that of the old one; it represents the same ledger, and finds the same
-  -- tables.
+  -- new connection is clean: so was that of the old one; it represents the same ledger, finds the same tables,
+  -- and is open if the old one was.
   pub record OpensAgain {E : Type 0} (conn : Held (FileStore D g)) (copies : Bool) (result : Result (Held (FileStore D g)) E) : Type 0 where
     pub fault_free : IfOk result (λ again. HasCleanDisk (file_state again) → HasCleanDisk (file_state conn))
     pub represents : (L : Ledger) → ConnRepresents over_files conn L → IfOk result (λ again. HasCleanDisk (file_state again) → ConnRepresents over_files again L)
     pub same : IfOk result (λ again. HasCleanDisk (file_state again) → (file_state again).committed.trees ≡ (file_state conn).committed.trees)
     pub reopened : IfOk result (λ again. HasCleanDisk (file_state again) → IsTrue copies → IsReopened conn again)
+    pub live : IsTrue (file_state conn).is_open → IfOk result (λ again. HasCleanDisk (file_state again) → IsTrue (file_state again).is_open)
 
   -- The desk attached the database of a connection to two files that hold a ledger: it represents that
   -- ledger, and keeps the tables of others.
@@ -134,11 +139,18 @@ module _ {D : Type 0} {g : Ghosts D} where
   abbrev pub AreCopied : StoreDesk (FileStore D g) → Pair D → Type 0
   AreCopied desk files = (image : Image) → outcomes g files.log files.db image → HoldsAlone image (file_state desk.tables.conn).committed.trees
 
-  -- The desk was closed: two files hold what it represented, as long as the disk has been fault-free.
-  abbrev pub IsClosed : StoreDesk (FileStore D g) → Type 0
-  IsClosed desk =
-      (files : Pair D) × (AreClean g files.log files.db → AreCopied desk files × ((L : Ledger) → DeskRepresents over_files desk (running L) → AreWhole g files L))
+  -- The desk was closed: the two files that are left hold what it represented, as long as the disk has been
+  -- fault-free.
+  abbrev pub IsClosed : StoreDesk (FileStore D g) → Remains D g → Type 0
+  IsClosed desk (Closed files) =
+      AreClean g files.log files.db → AreCopied desk files × ((L : Ledger) → DeskRepresents over_files desk (running L) → AreWhole g files L)
+  IsClosed desk Nothing = ⊥
+  IsClosed desk (Refused conn) = ⊥
+  IsClosed desk (Unclosed store) = ⊥
 
-  -- The desk was not closed: the crash states of its files are crash states of the desk.
-  abbrev pub IsUnclosed : StoreDesk (FileStore D g) → Type 0
-  IsUnclosed desk = (store : FileStore D g) × ((tables : Tables) → IsCrashStateOfStore store tables → IsCrashStateOfDesk over_files desk tables)
+  -- The desk was not closed: the crash states of the store that is left are crash states of the desk.
+  abbrev pub IsUnclosed : StoreDesk (FileStore D g) → Remains D g → Type 0
+  IsUnclosed desk (Unclosed store) = (tables : Tables) → IsCrashStateOfStore store tables → IsCrashStateOfDesk over_files desk tables
+  IsUnclosed desk Nothing = ⊥
+  IsUnclosed desk (Refused conn) = ⊥
+  IsUnclosed desk (Closed files) = ⊥

@@ -22,6 +22,7 @@ use Rattle.portal_os.specs.Opening.{IsClosed, IsFoundFor, IsUnclosed, OpensTo, R
 abbrev pub host_place : {D : Type 0} (g : Ghosts D) → Image → DeskOf (StoreDesk (FileStore D g)) → PlaceValue
 host_place g image desk = record {
   Desk = _;
+  Left = _;
   Tables = desk.Files;
   is_fault_free = desk.is_fault_free;
   represents = desk.represents;
@@ -32,10 +33,10 @@ host_place g image desk = record {
   holds_ledger = λ path. ImageHoldsLedger image;
   finds = λ path. IsFoundFor image;
   opens = λ path. OpensTo image;
-  closes = λ closed. IsClosed closed;
+  closes = λ closed left. IsClosed closed left;
   fails_to_read = λ path trouble. ⊤;
-  refuses = λ path purpose trouble. RefusesFiles g image purpose trouble.error;
-  fails_to_close = λ unclosed path trouble. IsUnclosed unclosed;
+  refuses = λ left path purpose trouble. RefusesFiles image purpose left trouble.error;
+  fails_to_close = λ unclosed left path trouble. IsUnclosed unclosed left;
   fails_to_make = IsFileError;
 }
 

@@ -2,7 +2,7 @@
 ghost use Rattle.std.specs.Prelude.{◌≡◌};
 ghost use Rattle.portal_os.specs.Errors.{error_of_file, error_of_open, error_of_path, error_of_store};
 
-use portal_exit::ProgramError;
+use portal_server::ProgramError;
 use portal_tables::errors::OpenFault;
 use sqlite::{Error, ErrorCode};
 use sqlite_std_file::OpenError;

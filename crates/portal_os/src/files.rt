@@ -1,9 +1,8 @@
 //! The machine's files.
-ghost use Rattle.std.specs.Prelude.{◌≡◌, [], IfErr, IfOk, OnOk, ⊤};
-ghost use Rattle.portal_exit.specs.declared.error.ProgramError.{ProgramError as Failure};
+ghost use Rattle.std.specs.Prelude.{◌≡◌, [], IfErr, IfOk, ⊤};
+ghost use Rattle.portal_server.specs.declared.error.ProgramError.{ProgramError as Failure};
 ghost use Rattle.portal_os.specs.Laws.{memory_desk_is_fault_free};
 ghost use Rattle.portal_os.specs.Opening.{IsClosed, IsFoundFor, IsUnclosed, OpensTo, RefusesFiles};
-ghost use Rattle.sqlite_wal.specs.Files.{image_at};
 ghost use Rattle.sqlite.specs.Files.{over_files};
 ghost use Rattle.sqlite.specs.Steps.{over_memory};
 ghost use Rattle.portal_ledger.specs.Ledger.{Ledger};
@@ -16,23 +15,23 @@ ghost use Rattle.portal_tables.specs.Images.{ImageHoldsLedger};
 use crate::closing::close_desk;
 use crate::errors::{error_of_file, error_of_store};
 use crate::opening::{attach_store, open_memory_desk, open_store};
+use crate::pairs::FilePair;
+use crate::remains::Remains;
 use portal_commands::place::{Place, Purpose};
 use portal_commands::trouble::Trouble;
 use portal_desk_store::StoreDesk;
-use portal_exit::ProgramError;
 use portal_files::Settings;
-use sqlite::{FileFrom, FileStore, MemStore, Start};
-use sqlite_disk::Disk;
+use portal_server::ProgramError;
+use sqlite::{FileStore, MemStore};
 use std::alloc::Global;
 use std::fmt::Display;
 use std::fs;
 
-/// The files of the machine. `start` is the assumption about the disk: what a crash may leave of the bytes
-/// that were written to it.
+/// The files of the machine: those of settings, and a database file with its log.
 #[derive(Drop)]
-pub struct HostFiles<'h, S: Start> {
+pub struct HostFiles<'h, P: FilePair> {
     pub host: &'h HostRuntime,
-    pub start: S,
+    pub pair: P,
 }
 
 /// Makes the trouble of the file at a path: the error, and for `file` the system's message.
@@ -49,27 +48,29 @@ fn trouble_at<T: Display>(alloc: Global, path: &str, error: ProgramError, why: &
     }
 }
 
-impl<'h, S: Start> Place for HostFiles<'h, S> {
-    type Stored = StoreDesk<FileStore<FileFrom<S>>>;
+impl<'h, P: FilePair> Place for HostFiles<'h, P> {
+    type Stored = StoreDesk<FileStore<P::File>>;
 
     type Fresh = StoreDesk<MemStore>;
 
+    type Left = Remains<P::File>;
+
     ghost reads = { λ _ _ _. ⊤ };
 
-    ghost holds_ledger = { λ place path L. ImageHoldsLedger (image_at S.Start) L };
+    ghost holds_ledger = { λ place path L. ImageHoldsLedger P.image L };
 
-    ghost finds = { λ place path purpose. IsFoundFor (image_at S.Start) purpose };
+    ghost finds = { λ place path purpose. IsFoundFor P.image purpose };
 
-    ghost opens = { λ place path purpose desk. OpensTo (image_at S.Start) purpose desk };
+    ghost opens = { λ place path purpose desk. OpensTo P.image purpose desk };
 
-    ghost closes = { λ desk. IsClosed desk };
+    ghost closes = { λ desk left. IsClosed desk left };
 
     ghost fails_to_read = { λ _ _ _. ⊤ };
 
-    ghost refuses = { λ place path purpose trouble.
-        RefusesFiles ⟦<FileFrom<S> as Disk>⟧ (image_at S.Start) purpose trouble.error };
+    ghost refuses = { λ place left path purpose trouble.
+        RefusesFiles P.image purpose left trouble.error };
 
-    ghost fails_to_close = { λ desk path trouble. IsUnclosed desk };
+    ghost fails_to_close = { λ desk left path trouble. IsUnclosed desk left };
 
     ghost fails_to_make = { λ error. IsFileError error };
 
@@ -93,42 +94,42 @@ impl<'h, S: Start> Place for HostFiles<'h, S> {
         path: &str,
         settings: Settings,
         purpose: Purpose,
-    ) -> Result<StoreDesk<FileStore<FileFrom<S>>>, Trouble>
-        ensures why { IfErr result (λ trouble. IsDatabaseError trouble.error × NamesPath path.now trouble) }
-        ensures fails { IfErr result (λ trouble.
-            RefusesFiles ⟦<FileFrom<S> as Disk>⟧ (image_at S.Start) purpose trouble.error) }
+    ) -> Result<StoreDesk<FileStore<P::File>>, (Trouble, Remains<P::File>)>
+        ensures why { IfErr result (λ e. IsDatabaseError e.0.error × NamesPath path.now e.0) }
+        ensures fails { IfErr result (λ e. RefusesFiles P.image purpose e.1 e.0.error) }
         ensures same_settings { IfOk result (λ desk. settings_of desk ≡ settings) }
-        ensures represents { (L : Ledger) → ImageHoldsLedger (image_at S.Start) L
+        ensures represents { (L : Ledger) → ImageHoldsLedger P.image L
             → IfOk result (λ desk. DeskIsFaultFree over_files desk → DeskRepresents over_files desk (running L)) }
         ensures found { IfOk result (λ desk.
-            DeskIsFaultFree over_files desk → IsFoundFor (image_at S.Start) purpose) }
-        ensures opened { IfOk result (λ desk. OpensTo (image_at S.Start) purpose desk) }
+            DeskIsFaultFree over_files desk → IsFoundFor P.image purpose) }
+        ensures opened { IfOk result (λ desk. OpensTo P.image purpose desk) }
     {
-        match open_store(self.host, path, self.start, purpose) {
+        match open_store(self.host, path, self.pair, purpose) {
             Ok(conn) => match attach_store(conn, settings) {
                 Ok(desk) => Ok(desk),
-                Err((error, _left)) => Err(Trouble::plain(error)),
+                Err((error, left)) => Err((Trouble::plain(error), Remains::Refused(left))),
             },
-            Err(unopened) => Err(trouble_at(alloc, path, unopened.program_error(), &unopened)),
+            Err(error) => Err((
+                trouble_at(alloc, path, error.program_error(), &error),
+                Remains::Nothing,
+            )),
         }
     }
 
     fn close(
         alloc: Global,
         path: &str,
-        desk: StoreDesk<FileStore<FileFrom<S>>>,
-    ) -> Result<(), Trouble>
-        ensures why { IfErr result (λ trouble. IsFileError trouble.error × NamesPath path.now trouble) }
-        ensures fails { IfErr result (λ trouble. IsUnclosed desk) }
-        ensures closed { OnOk result (IsClosed desk) }
+        desk: StoreDesk<FileStore<P::File>>,
+    ) -> Result<Remains<P::File>, (Trouble, Remains<P::File>)>
+        ensures why { IfErr result (λ e. IsFileError e.0.error × NamesPath path.now e.0) }
+        ensures fails { IfErr result (λ e. IsUnclosed desk e.1) }
+        ensures closed { IfOk result (λ left. IsClosed desk left) }
     {
         match close_desk(desk) {
-            Ok(_files) => Ok(()),
-            Err((io_error, _store)) => Err(trouble_at(
-                alloc,
-                path,
-                error_of_store(&io_error),
-                &io_error,
+            Ok(files) => Ok(Remains::Closed(files)),
+            Err((io_error, store)) => Err((
+                trouble_at(alloc, path, error_of_store(&io_error), &io_error),
+                Remains::Unclosed(store),
             )),
         }
     }

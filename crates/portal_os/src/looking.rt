@@ -5,7 +5,7 @@ ghost use Rattle.sqlite.specs.Files.{image_of};
 ghost use Rattle.sqlite_wal.specs.PageSize.{bytes_of};
 ghost use Rattle.portal_os.specs.Opening.{AreCommitted, HoldsCommits, IsFoundFor, IsFoundNew};
 
-use crate::unopened::Unopened;
+use crate::opening_error::OpeningError;
 use portal_commands::place::Purpose;
 use sqlite_disk::{Disk, Files};
 use sqlite_wal::{Error, PageSize, probe_frames, probe_page_size};
@@ -55,7 +55,7 @@ fn holds_commits<D: Disk>(alloc: Global, files: &mut Files<D>) -> Result<bool, E
 
 /// Checks whether the database has yet to be made: its file is empty. Error: `Lost`, if the file is empty but
 /// its log holds commits.
-fn is_database_new<D: Disk>(alloc: Global, files: &mut Files<D>) -> Result<bool, Unopened>
+fn is_database_new<D: Disk>(alloc: Global, files: &mut Files<D>) -> Result<bool, OpeningError>
     requires log { IsTrue (D.Disk.is_usable files.old.log) }
     requires db { IsTrue (D.Disk.is_usable files.old.db) }
     ensures found { IfOk result (λ is_new.
@@ -67,10 +67,10 @@ fn is_database_new<D: Disk>(alloc: Global, files: &mut Files<D>) -> Result<bool,
         Ok(false) => Ok(false),
         Ok(true) => match holds_commits(alloc, files) {
             Ok(false) => Ok(true),
-            Ok(true) => Err(Unopened::Lost),
-            Err(error) => Err(Unopened::of_log(error)),
+            Ok(true) => Err(OpeningError::Lost),
+            Err(error) => Err(OpeningError::of_log(error)),
         },
-        Err(error) => Err(Unopened::of_io(error)),
+        Err(error) => Err(OpeningError::of_io(error)),
     }
 }
 
@@ -80,7 +80,7 @@ pub fn check_database<D: Disk>(
     alloc: Global,
     files: &mut Files<D>,
     purpose: Purpose,
-) -> Result<(), Unopened>
+) -> Result<(), OpeningError>
     requires log { IsTrue (D.Disk.is_usable files.old.log) }
     requires db { IsTrue (D.Disk.is_usable files.old.db) }
     ensures found { OnOk result (
@@ -90,18 +90,18 @@ pub fn check_database<D: Disk>(
 {
     match is_database_new(alloc, files) {
         Ok(is_new) => check_made(is_new, purpose),
-        Err(unopened) => Err(unopened),
+        Err(error) => Err(error),
     }
 }
 
 /// Checks that a database was made before one is asked.
-fn check_made(is_new: bool, purpose: Purpose) -> Result<(), Unopened>
+fn check_made(is_new: bool, purpose: Purpose) -> Result<(), OpeningError>
     ensures { OnOk result (purpose ≡ Purpose.Ask → is_new ≡ false) }
 {
     match purpose {
         Purpose::Ask => {
             if is_new {
-                Err(Unopened::NoDatabase)
+                Err(OpeningError::NoDatabase)
             } else {
                 Ok(())
             }

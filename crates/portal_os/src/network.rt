@@ -5,8 +5,7 @@ ghost use Rattle.portal_server.specs.Loopback.{BindsLoopback};
 
 use portal_commands::serving::Network;
 use portal_commands::trouble::Trouble;
-use portal_exit::ProgramError;
-use portal_server::{Loopback, SeedSource, Socket, WallClock, bind_loopback};
+use portal_server::{Loopback, ProgramError, SeedSource, Socket, WallClock, bind_loopback};
 use std::alloc::Global;
 use std::fmt::Display;
 

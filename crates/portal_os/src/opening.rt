@@ -1,7 +1,5 @@
 //! Opens database files, and attaches desks to them.
-ghost use Rattle.std.specs.Prelude.{◌≡◌, ◌≢◌, [], true, false, IsTrue, IfErr, IfOk};
-ghost use Rattle.sqlite_std_file.specs.File.{file_is_usable, IsFresh};
-ghost use Rattle.sqlite_wal.specs.Files.{image_at};
+ghost use Rattle.std.specs.Prelude.{◌≡◌, ◌≢◌, [], IsTrue, IfErr, IfOk};
 ghost use Rattle.sqlite_wal.specs.Reads.{AreClean};
 ghost use Rattle.sqlite.specs.Files.{file_state, image_of, over_files};
 ghost use Rattle.sqlite.specs.State.{HasCleanDisk};
@@ -17,15 +15,15 @@ ghost use Rattle.portal_tables.specs.TablesRepresent.{ConnRepresents, ConnIsFaul
 ghost use Rattle.portal_os.specs.Opening.{ComesFrom, OpensAgain, OpensFiles, RefusesStore, copies_for};
 
 use crate::errors::error_of_open;
-use crate::finding::find_database;
 use crate::looking::check_database;
-use crate::unopened::Unopened;
+use crate::opening_error::OpeningError;
+use crate::pairs::FilePair;
 use portal_commands::place::Purpose;
 use portal_desk_store::StoreDesk;
-use portal_exit::ProgramError;
 use portal_files::Settings;
-use portal_tables::opening::open_in_memory;
-use sqlite::{Alter, Connection, Error, ErrorCode, FileFrom, FileStore, MemStore, Options, Start};
+use portal_server::ProgramError;
+use portal_tables::opening::{self, open_files, open_in_memory, reopen};
+use sqlite::{Alter, Connection, FileStore, MemStore, Options};
 use sqlite_disk::{Disk, Files};
 use std::alloc::Global;
 use std::hash::{BuildHasher, RandomState};
@@ -95,18 +93,16 @@ fn copy_log<D: Disk + Drop>(
     conn: Connection<FileStore<D>>,
     options: Options,
     copies: bool,
-) -> Result<Connection<FileStore<D>>, Unopened>
+) -> Result<Connection<FileStore<D>>, OpeningError>
     ensures { OpensAgain conn copies result }
 {
     if !copies {
         return Ok(conn);
     }
-    match conn.close_files() {
-        Ok(files) => match Connection::open_files(alloc, files, options) {
-            Ok(again) => Ok(again),
-            Err((error, _)) => Err(Unopened::Store(error)),
-        },
-        Err((error, _)) => Err(Unopened::Store(error)),
+    match reopen(alloc, conn, options) {
+        Ok(again) => Ok(again),
+        Err(opening::Unopened::Unclosed(error, _)) => Err(OpeningError::Store(error)),
+        Err(opening::Unopened::Refused(error, _)) => Err(OpeningError::Store(error)),
     }
 }
 
@@ -128,7 +124,7 @@ pub fn open_database_files<D: Disk + Drop>(
     mut files: Files<D>,
     options: Options,
     purpose: Purpose,
-) -> Result<Connection<FileStore<D>>, Unopened>
+) -> Result<Connection<FileStore<D>>, OpeningError>
     requires log { IsTrue (D.Disk.is_usable files.log) }
     requires db { IsTrue (D.Disk.is_usable files.db) }
     ensures { OpensFiles (image_of D.Disk files) purpose result }
@@ -143,7 +139,7 @@ fn open_connection<D: Disk + Drop>(
     files: Files<D>,
     options: Options,
     copies: bool,
-) -> Result<Connection<FileStore<D>>, Unopened>
+) -> Result<Connection<FileStore<D>>, OpeningError>
     requires log { IsTrue (D.Disk.is_usable files.log) }
     requires db { IsTrue (D.Disk.is_usable files.db) }
     ensures fault_free { IfOk result (λ conn.
@@ -152,39 +148,17 @@ fn open_connection<D: Disk + Drop>(
         → IfOk result (λ conn. HasCleanDisk (file_state conn) → ConnRepresents over_files conn L) }
     ensures from { IfOk result (λ conn.
         HasCleanDisk (file_state conn) → ComesFrom (image_of D.Disk files) copies conn) }
+    ensures live { IfOk result (λ conn. HasCleanDisk (file_state conn) → IsTrue (file_state conn).is_open) }
 {
-    match Connection::open_files(alloc, files, options) {
+    match open_files(alloc, files, options) {
         Ok(conn) => copy_log(alloc, conn, options, copies),
-        Err((error, _)) => Err(Unopened::Store(error)),
-    }
-}
-
-/// Opens and locks the database file at a path and its log. To serve or to answer, makes them if they are
-/// missing; to ask, makes no database. They stay locked until they are released.
-fn open_file_pair<S: Start>(
-    host: &HostRuntime,
-    path: &str,
-    start: S,
-    purpose: Purpose,
-) -> Result<Files<FileFrom<S>>, Unopened>
-    ensures log { IfOk result (λ files. IsTrue (file_is_usable S.Start files.log)) }
-    ensures db { IfOk result (λ files. IsTrue (file_is_usable S.Start files.db)) }
-    ensures fresh { IfOk result (λ files. IsFresh true files.log × IsFresh false files.db) }
-{
-    // names that SQLite reads as no path
-    if path == ":memory:" || path.starts_with("file:") {
-        return Err(Unopened::Store(Error::SqliteFailure(ErrorCode::CannotOpen)));
-    }
-    find_database(host, path, purpose)?;
-    match sqlite_std_file::open(host, path, start) {
-        Ok(files) => Ok(files),
-        Err(error) => Err(Unopened::Path(error)),
+        Err((error, _)) => Err(OpeningError::Store(error)),
     }
 }
 
 /// Makes the options of a connection, with a random number for the log.
-fn random_options(host: &HostRuntime) -> Result<Options, Unopened> {
-    let state = RandomState::new(host).map_err(Unopened::of_io)?;
+fn random_options(host: &HostRuntime) -> Result<Options, OpeningError> {
+    let state = RandomState::new(host).map_err(OpeningError::of_io)?;
     Ok(Options::new(state.hash_one(&0u8)))
 }
 
@@ -193,7 +167,7 @@ fn open_with_clock<D: Disk + Drop>(
     host: &HostRuntime,
     files: Files<D>,
     purpose: Purpose,
-) -> Result<Connection<FileStore<D>>, Unopened>
+) -> Result<Connection<FileStore<D>>, OpeningError>
     requires log { IsTrue (D.Disk.is_usable files.log) }
     requires db { IsTrue (D.Disk.is_usable files.db) }
     ensures { OpensFiles (image_of D.Disk files) purpose result }
@@ -209,17 +183,17 @@ fn open_with_clock<D: Disk + Drop>(
 /// The connection finds all tables that the file and its log held, ours and those of others, and holds the
 /// file's lock until it is released.
 ///
-/// No contract ties a path to what its file holds: `S` stands for that. If `S` holds a ledger, the connection
+/// No contract ties a path to what its file holds: `pair` stands for that. If it holds a ledger, the connection
 /// represents it. Errors among others: `Lost`, if the file is empty but its log holds commits; `NoDatabase`, to
 /// ask where no database was made: then nothing is made or written.
-pub fn open_store<S: Start>(
+pub fn open_store<P: FilePair>(
     host: &HostRuntime,
     path: &str,
-    start: S,
+    pair: P,
     purpose: Purpose,
-) -> Result<Connection<FileStore<FileFrom<S>>>, Unopened>
-    ensures { OpensFiles (image_at S.Start) purpose result }
+) -> Result<Connection<FileStore<P::File>>, OpeningError>
+    ensures { OpensFiles P.image purpose result }
 {
-    let files = open_file_pair(host, path, start, purpose)?;
+    let files = pair.open_files(host, path, purpose)?;
     open_with_clock(host, files, purpose)
 }

@@ -7,6 +7,7 @@ ghost use Rattle.portal_server.specs.Turns.{wire_of};
 
 use crate::files::HostFiles;
 use crate::network::HostNetwork;
+use crate::pairs::FilePair;
 use portal_commands::program::run_program;
 use portal_desk::Desk;
 use portal_desk_store::StoreDesk;
@@ -16,6 +17,28 @@ use sqlite_disk::Disk;
 use std::convert::AsStr;
 use std::io::{Read, Write};
 use std::net::TcpStream;
+
+/// Runs the program over a pair of files and the machine's loopback address, as `run_program` does, and returns
+/// the exit code.
+fn run_over_pair<P: FilePair, T: AsStr, R: Read, W: Write, E: Write>(
+    host: &HostRuntime,
+    pair: P,
+    words: &[T],
+    input: &mut R,
+    output: &mut W,
+    errors: &mut E,
+) -> u8
+    ensures { EndsProgram
+        (host_place P.File.Disk P.image ⟦<StoreDesk<FileStore<P::File>> as Desk>⟧)
+        (host_network ⟦<Loopback<'static, HostRuntime> as Host>⟧
+        ⟦<TcpStream as Read>⟧ ⟦<TcpStream as Write>⟧ ⟦<&'static HostRuntime as Socket>⟧ host.entry)
+        (wire_of R.Read W.Write input.old input.new output.old output.new)
+        (E.contents errors.old) (E.contents errors.new) (map T.text words.now) result }
+{
+    let files = HostFiles { host, pair };
+    let network = HostNetwork { host, socket: host };
+    run_program(host.alloc(), files, network, words, input, output, errors)
+}
 
 /// Runs the program over the machine's files and its loopback address, as `run_program` does, and returns the
 /// exit code. `start` is the assumption about the disk.
@@ -34,7 +57,5 @@ pub fn run_on_host<S: Start, T: AsStr, R: Read, W: Write, E: Write>(
         (wire_of R.Read W.Write input.old input.new output.old output.new)
         (E.contents errors.old) (E.contents errors.new) (map T.text words.now) result }
 {
-    let files = HostFiles { host, start };
-    let network = HostNetwork { host, socket: host };
-    run_program(host.alloc(), files, network, words, input, output, errors)
+    run_over_pair(host, start, words, input, output, errors)
 }

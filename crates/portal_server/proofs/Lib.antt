@@ -1,3 +1,4 @@
 pub mod Common
+mod PrintLemmas
 pub mod ServingLemmas
 pub mod TurnLemmas

@@ -3,7 +3,7 @@ use Rattle.portal_server.proofs.Common.{◌≡◌, inl, inr, Option, ℕ, ◌+�
 use Rattle.std.specs.Prelude.{Result, Ok, Err, IsErrAnd}
 use Rattle.std.proofs.lemmas.List.{length-append}
 use Rattle.portal_ledger.specs.Ledger.{Ledger, IsSound}
-use Rattle.portal_exit.specs.Errors.{exit_code_of}
+use Rattle.portal_server.specs.Errors.{exit_code_of}
 use Rattle.portal_http.specs.Headline.{Survives}
 use Rattle.portal_http.proofs.HeadlineLemmas.{survives}
 use Rattle.portal_http.specs.Exchanges.{Wire, CutsOff, EndsExchange}
@@ -40,7 +40,7 @@ module _ (settings : SettingsValue) (old new : State) (wire : Wire) (moment : �
 
 -- ---- one run after another
 
-Run-append : (settings : SettingsValue) (old mid new : State) (xs ys : List Arrived) (rs qs : List (List ℕ))
+pub Run-append : (settings : SettingsValue) (old mid new : State) (xs ys : List Arrived) (rs qs : List (List ℕ))
     → Run settings old xs rs mid → Run settings mid ys qs new → Run settings old (xs ++ ys) (rs ++ qs) new
 Run-append settings old mid new [] ys [] qs h more = subst (λ (s : State). Run settings s ys qs new) h more
 Run-append settings old mid new [] ys (r ∷ rs) qs h more = absurd h

@@ -3,10 +3,10 @@ use Rattle.std.specs.Prelude.{◌≡◌, ◌⊎◌, ℕ, ◌≤◌, List, [], �
 use Rattle.std.specs.Io.KnownBytes.{Appends, Keeps}
 use Rattle.portal_ledger.specs.States.{State}
 use Rattle.portal_desk.specs.Calls.{is_stopped_state}
-use Rattle.portal_exit.specs.declared.error.ProgramError.{ProgramError}
-use Rattle.portal_exit.specs.declared.error.ProgramError.TheVariants.{Cut, NoMemory}
-use Rattle.portal_exit.specs.Errors.{line_of, exit_code_of}
-use Rattle.portal_exit.specs.Streams.{IsCutOff, Outlets, Prints}
+use Rattle.portal_server.specs.declared.error.ProgramError.{ProgramError}
+use Rattle.portal_server.specs.declared.error.ProgramError.TheVariants.{Cut, NoMemory}
+use Rattle.portal_server.specs.Errors.{line_of, exit_code_of}
+use Rattle.portal_server.specs.Streams.{IsCutOff, Outlets, Prints}
 use Rattle.portal_files.specs.SettingsFile.{SettingsValue}
 use Rattle.portal_server.specs.Serving.{PrintsOfConnections}
 use Rattle.portal_server.specs.Turns.{HostValue, TakesTurns}

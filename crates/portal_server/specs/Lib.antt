@@ -1,3 +1,6 @@
+pub mod Streams
+pub mod Errors
+pub mod Ends
 pub mod Serving
 pub mod Asks
 pub mod Command

@@ -6,10 +6,10 @@ use Rattle.std.specs.declared.io.ErrorKind.TheVariants as kind
 use Rattle.portal_model.specs.declared.refusal.Refusal.TheVariants.{Stopped}
 use Rattle.portal_ledger.specs.States.{State}
 use Rattle.portal_desk.specs.Calls.{is_stopped_state}
-use Rattle.portal_exit.specs.declared.error.ProgramError.{ProgramError}
-use Rattle.portal_exit.specs.declared.error.ProgramError.TheVariants.{File, Network, Cut, NoMemory, Refused}
-use Rattle.portal_exit.specs.Errors.{line_of}
-use Rattle.portal_exit.specs.Streams.{Prints}
+use Rattle.portal_server.specs.declared.error.ProgramError.{ProgramError}
+use Rattle.portal_server.specs.declared.error.ProgramError.TheVariants.{File, Network, Cut, NoMemory, Refused}
+use Rattle.portal_server.specs.Errors.{line_of}
+use Rattle.portal_server.specs.Streams.{Prints}
 use Rattle.portal_http.specs.Arrived.{Arrived}
 use Rattle.portal_http.specs.declared.exchanges.Done.{Done}
 use Rattle.portal_http.specs.declared.exchanges.Cut.{Cut as Broken}

@@ -11,8 +11,8 @@ use Rattle.portal_files.specs.SettingsFile.{SettingsValue}
 use Rattle.portal_ledger.specs.States.{State}
 use Rattle.portal_model.specs.declared.refusal.Refusal.TheVariants.{Stopped}
 use Rattle.portal_desk.specs.Calls.{is_stopped_state}
-use Rattle.portal_exit.specs.declared.error.ProgramError.{ProgramError}
-use Rattle.portal_exit.specs.declared.error.ProgramError.TheVariants.{Network, Refused}
+use Rattle.portal_server.specs.declared.error.ProgramError.{ProgramError}
+use Rattle.portal_server.specs.declared.error.ProgramError.TheVariants.{Network, Refused}
 use Rattle.portal_http.specs.declared.exchanges.Done.{Done}
 use Rattle.portal_http.specs.declared.exchanges.Cut.{Cut}
 use Rattle.portal_http.specs.Exchanges.{Wire, between, EndsExchange}
@@ -72,20 +72,20 @@ ServesPeer host settings before reader writer old said after new =
     × (said ≡ said_of ended)
     × host.closes stamped reader_after writer_after after
 
--- a second is waited if the connection before failed too
+-- a second is waited if accepting failed in the turn before too
 abbrev pub Pauses : (host : HostValue) → Bool → host.Host → host.Host → Type 0
 Pauses host true before after = host.pauses before after
 Pauses host false before after = after ≡ before
 
--- One turn, after one whose connection failed or did not: a connection failed before it was accepted, which
--- is printed, and only a pause follows; or a peer is accepted and served. And whether it failed.
+-- One turn, after one in which accepting failed or did not: accepting fails, which is printed, and only a
+-- pause follows; or a peer is accepted and served. And whether accepting failed.
 abbrev pub IsTurn : (host : HostValue) → SettingsValue → Bool → host.Host → State → Option ProgramError → host.Host → State → Bool → Type 0
 IsTurn host settings has_failed before old said after new fails =
     ((fails ≡ true) × (new ≡ old) × (said ≡ Some Network) × (broken : host.Host) × host.accepts before None broken × Pauses host has_failed broken after)
     ⊎ ((fails ≡ false) × (peer : host.Reader × host.Writer) × (accepted : host.Host) × host.accepts before (Some peer) accepted
     × ServesPeer host settings accepted peer.0 peer.1 old said after new)
 
--- So many turns, one after another, and whether the connection of the last one failed. What is printed for
+-- So many turns, one after another, and whether accepting failed in the last one. What is printed for
 -- each is listed, the newest first.
 abbrev pub Turns : (host : HostValue) → SettingsValue → ℕ → host.Host → State → List (Option ProgramError) → host.Host → State → Bool → Type 0
 Turns host settings zero before old said after new fails = (after ≡ before) × (new ≡ old) × (said ≡ []) × (fails ≡ false)

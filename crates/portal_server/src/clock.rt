@@ -5,7 +5,7 @@ ghost use Rattle.std.specs.declared.time.Duration.{Duration as Since};
 ghost use Rattle.portal_server.specs.Serving.{error_of_host, IsHostError};
 ghost use Rattle.portal_server.specs.Turns.{IsMomentOf};
 
-use portal_exit::ProgramError;
+use crate::error::ProgramError;
 use portal_model::moment::Moment;
 use std::io::{self, ErrorKind};
 use std::rt::Clock;

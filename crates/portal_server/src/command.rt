@@ -1,8 +1,8 @@
 //! The command `serve`, over a host with a bound port.
 ghost use Rattle.std.specs.Prelude.{◌≡◌, Result, MatchResult, IfOk, string_bytes};
 ghost use Rattle.std.specs.Io.KnownBytes.{Appends};
-ghost use Rattle.portal_exit.specs.declared.error.ProgramError.{ProgramError as Failure};
-ghost use Rattle.portal_exit.specs.Streams.{outlets};
+ghost use Rattle.portal_server.specs.declared.error.ProgramError.{ProgramError as Failure};
+ghost use Rattle.portal_server.specs.Streams.{outlets};
 ghost use Rattle.portal_server.specs.Asks.{KeepsSettings, LeadsDesk, ServesRun, ServesSafely};
 ghost use Rattle.portal_server.specs.Turns.{host_of};
 ghost use Rattle.portal_server.specs.Command.{
@@ -16,10 +16,11 @@ ghost use Rattle.portal_server.specs.Command.{
   EndsAt,
 };
 
+use crate::error::ProgramError;
 use crate::host::Host;
+use crate::printing::print_text;
 use crate::serving::serve_connections;
 use portal_desk::Desk;
-use portal_exit::{ProgramError, print_text};
 use portal_http_routes::Routes;
 use std::alloc::{AllocError, Global};
 use std::io::Write;
@@ -70,15 +71,16 @@ fn announce_and_serve<D: Desk, H: Host, W: Write, E: Write>(
     serve_connections(alloc, desk, routes, host, count, errors)
 }
 
-/// Serves `count` connections of a host on which `port` is bound, and returns the exit code of the program.
+/// Takes `count` turns of a host on which `port` is bound, and returns the exit code of the program.
 ///
-/// First it prints `listening 127.0.0.1:` and the port on `output`. Then it serves one connection after
-/// another: each request is executed at the time of the clock and with a fresh seed, as `exchange` says. On
-/// `errors` it prints `portal: cut` for a connection that breaks off, and `portal: network` for one that is
-/// not accepted. From the second one in a row that is not accepted on, it waits a second after each.
+/// First it prints `listening 127.0.0.1:` and the port on `output`. Then in each turn it accepts one
+/// connection and serves it, or accepting fails. Each request is executed at the time of the clock and with
+/// a fresh seed, as `exchange` says. On `errors` it prints `portal: cut` for a connection that breaks off,
+/// and `portal: network` for a turn in which accepting fails. From the second such turn in a row on, it
+/// waits a second after each.
 ///
-/// Exit code 0: `count` connections were served, and the desk has not stopped. Exit code 3, with the line
-/// of the error on `errors`: the desk has stopped (`portal: stopped`), at once; the clock or the source of
+/// Exit code 0: `count` turns were taken, and the desk has not stopped. Exit code 3, with the line of the
+/// error on `errors`: the desk has stopped (`portal: stopped`), at once; the clock or the source of
 /// seeds failed (`portal: file`, `portal: no_memory`); or the first line was not written (`portal: cut`,
 /// `portal: no_memory`).
 pub fn serve<D: Desk, H: Host, W: Write, E: Write>(

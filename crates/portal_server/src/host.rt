@@ -1,9 +1,9 @@
 //! What the server needs of the machine on which it runs.
 ghost use Rattle.std.specs.Prelude.{ℕ, List, Option, Result, IfErr};
-ghost use Rattle.portal_exit.specs.declared.error.ProgramError.{ProgramError as Failure};
+ghost use Rattle.portal_server.specs.declared.error.ProgramError.{ProgramError as Failure};
 ghost use Rattle.portal_server.specs.Serving.{IsHostError};
 
-use portal_exit::ProgramError;
+use crate::error::ProgramError;
 use portal_model::moment::Moment;
 use std::io::{Read, Write};
 
@@ -16,7 +16,7 @@ pub trait Host {
     /// The bytes that are sent to a peer.
     type Writer: Write + Drop;
 
-    /// A connection was accepted, or failed before that.
+    /// A connection was accepted, with its reader and its writer, or accepting failed.
     ghost accepts: { Self → Option (Self.Reader × Self.Writer) → Self → Type 0 };
 
     /// The clock gave a time and a seed was drawn, or one of them failed.
@@ -28,7 +28,8 @@ pub trait Host {
     /// A second was waited.
     ghost pauses: { Self → Self → Type 0 };
 
-    /// Waits for the next connection. None if it failed before it was accepted.
+    /// Waits for the next connection. `None` if accepting failed: no connection was accepted, or one was
+    /// accepted and closed again without a reader and a writer.
     fn accept(&mut self) -> Option<(Self::Reader, Self::Writer)>
         ensures { accepts self.old result self.new };
 

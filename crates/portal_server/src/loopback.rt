@@ -11,9 +11,9 @@ ghost use Rattle.portal_server.specs.Loopback.{BindsLoopback};
 ghost use Rattle.std.specs.Net.Socket.{v4_ip, v4_port};
 
 use crate::clock::{WallClock, moment_now};
+use crate::error::ProgramError;
 use crate::host::Host;
 use crate::seeds::{SeedSource, fresh_seed};
-use portal_exit::ProgramError;
 use portal_model::moment::Moment;
 use std::io::{self, Read};
 use std::net::{Ipv4Addr, Net, Shutdown, SocketAddr, SocketAddrV4, TcpListener, TcpStream};

@@ -3,14 +3,14 @@ ghost use Rattle.std.specs.Prelude.{Option, Result};
 ghost use Rattle.portal_http.specs.declared.exchanges.Done.{Done as Ended};
 ghost use Rattle.portal_http.specs.declared.exchanges.Cut.{Cut as Broken};
 ghost use Rattle.portal_http.specs.Exchanges.{EndsExchange};
-ghost use Rattle.portal_exit.specs.declared.error.ProgramError.{ProgramError as Failure};
+ghost use Rattle.portal_server.specs.declared.error.ProgramError.{ProgramError as Failure};
 ghost use Rattle.portal_http.specs.Runs.{Run, ServesInOrder};
 ghost use Rattle.portal_server.specs.Asks.{KeepsSettings, LeadsDesk};
 ghost use Rattle.portal_server.specs.Serving.{ServesAtMost, ComeWith, PrintsOfConnection, said_of};
 ghost use Rattle.portal_server.specs.Turns.{wire_of};
 
+use crate::error::ProgramError;
 use portal_desk::Desk;
-use portal_exit::ProgramError;
 use portal_http::exchanges::exchange;
 use portal_http_routes::Routes;
 use portal_model::moment::Moment;

@@ -3,7 +3,7 @@ ghost use Rattle.std.specs.Prelude.{ℕ, List, IfOk, IfErr, ⊤};
 ghost use Rattle.portal_server.specs.Serving.{IsHostError};
 
 use crate::clock::error_of_host;
-use portal_exit::ProgramError;
+use crate::error::ProgramError;
 use rand::TryRng;
 use rand::rngs::SysRng;
 use std::io;

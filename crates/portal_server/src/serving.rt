@@ -1,15 +1,15 @@
 //! The loop over connections.
 ghost use Rattle.std.specs.Prelude.{◌≡◌, ◌≤◌, ℕ, List, Option, length, IfErr, MatchResult};
 ghost use Rattle.std.specs.Io.KnownBytes.{Keeps};
-ghost use Rattle.portal_exit.specs.declared.error.ProgramError.{ProgramError as Failure};
+ghost use Rattle.portal_server.specs.declared.error.ProgramError.{ProgramError as Failure};
 ghost use Rattle.portal_server.specs.Asks.{KeepsSettings, LeadsDesk, ServesRun, ServesSafely};
 ghost use Rattle.portal_server.specs.Serving.{PrintsOfConnection, PrintsOfConnections, EndsLoop, IsHostError};
 ghost use Rattle.portal_server.specs.Turns.{host_of, ServesPeer, IsTurn, Pauses, FailsAt, TakesTurns};
 
+use crate::error::ProgramError;
 use crate::host::Host;
 use crate::peers::serve_peer;
 use portal_desk::Desk;
-use portal_exit::ProgramError;
 use portal_http_routes::Routes;
 use portal_model::refusal::Refusal;
 use std::alloc::Global;
@@ -54,7 +54,7 @@ fn serve_connection<D: Desk, H: Host, E: Write>(
     Ok(())
 }
 
-/// Waits a second if the connection before this one failed too.
+/// Waits a second if accepting failed in the turn before this one too.
 fn pause_if_failed<H: Host>(host: &mut H, has_failed: bool)
     ensures { Pauses (host_of H.Host H.Reader.Read H.Writer.Write) has_failed host.old host.new }
 {
@@ -63,10 +63,10 @@ fn pause_if_failed<H: Host>(host: &mut H, has_failed: bool)
     }
 }
 
-/// Waits for one connection and serves it. Returns whether it failed before it was accepted.
+/// Takes one turn: waits for a connection and serves it. Returns whether accepting failed.
 ///
-/// In that case it prints `portal: network`, and waits a second if the connection before failed too, as
-/// `has_failed` says. Errors: `File` or `NoMemory` of the host.
+/// In that case it prints `portal: network`, and waits a second if accepting failed in the turn before too,
+/// as `has_failed` says. Errors: `File` or `NoMemory` of the host.
 fn accept_and_serve<D: Desk, H: Host, E: Write>(
     alloc: Global,
     desk: &mut D,
@@ -102,13 +102,14 @@ fn accept_and_serve<D: Desk, H: Host, E: Write>(
     }
 }
 
-/// Serves `count` connections of the host, one after another.
+/// Takes `count` turns, one after another. In each turn one connection of the host is accepted and served,
+/// or accepting fails.
 ///
-/// Each gets the time of the clock and a fresh seed. It prints `portal: cut` for a connection that breaks
-/// off and `portal: network` for one that is not accepted, and goes on; after the second one in a row that
-/// is not accepted, and each further one, it waits a second.
+/// Each connection gets the time of the clock and a fresh seed. It prints `portal: cut` for a connection
+/// that breaks off and `portal: network` for a turn in which accepting fails, and goes on; after the second
+/// such turn in a row, and each further one, it waits a second.
 ///
-/// The desk then represents the state after a run of at most one request for each connection.
+/// The desk then represents the state after a run of at most one request for each turn.
 ///
 /// Errors: `Refused(Stopped)` if the desk has stopped, at once, before it waits for another connection;
 /// `File` or `NoMemory` if the clock or the source of seeds fails.
@@ -135,7 +136,7 @@ pub fn serve_connections<D: Desk, H: Host, E: Write>(
     accept_loop(alloc, desk, routes, host, count, errors)
 }
 
-/// Serves the connections one after another, as `serve_connections` says.
+/// Takes the turns one after another, as `serve_connections` says.
 ///
 /// The contract of `serve_connections` adds the crash states.
 fn accept_loop<D: Desk, H: Host, E: Write>(

@@ -1,6 +1,5 @@
 -- From the promises of the calls on the rows to the state that the tables represent.
-use Rattle.portal_tables.proofs.Common.{◌≡◌, ◌⊎◌, inl, inr, ℕ, true, false, IsTrue, Bool, List, [], ◌∷◌, ◌++◌, map, Option, Some, None, option_map, refl, sym, ap, subst, ◌∙◌, ◌≤◌, arith, append-nil, true≢false, option_and_then, Result, Ok, Err, IsErrAnd, err_from_is_err_and, map-append, Held, state, Trees, Database, State, HasCleanDisk, IsUnchanged, Survives, survives_then, survives_weaker, Changes, entry, History, changes_of, answer_of, Rows, rows_of, MarkedChanges, KeptRequest, Fingerprint, Accepted, Ledger, IsSound, history_of, answer_in, kept_with, request_kept, requests_of, all_rows_of, RequestRow, row_of_request, running, stopped, MayBeFound, the_sound_is_legal, kept_under, IsUndone, ReadsOnly, Fails, Looks, Represents, CrashStateHolds, still_at, at_open, again_at, left_still, StoreFault, Holds, HasTables, this_schema_version, RowError, CommitsRows, MayCommitRows, after_changes, after_command, with_kept_request, HoldsLedger, OfHistory, OfLedger, contents_of, all_contents_of, StoreHolds}
-use Rattle.std.specs.Prelude.{IfOk}
+use Rattle.portal_tables.proofs.Common.{◌≡◌, ◌⊎◌, inl, inr, ℕ, true, false, IsTrue, Bool, List, [], ◌∷◌, ◌++◌, map, Option, Some, None, option_map, refl, sym, ap, subst, ◌∙◌, ◌≤◌, arith, append-nil, true≢false, option_and_then, Ok, Err, map-append, Held, state, Trees, Database, State, HasCleanDisk, IsUnchanged, Survives, survives_then, survives_weaker, Changes, entry, changes_of, answer_of, Rows, rows_of, MarkedChanges, KeptRequest, Fingerprint, Accepted, Ledger, IsSound, history_of, answer_in, kept_with, request_kept, requests_of, all_rows_of, RequestRow, row_of_request, running, stopped, MayBeFound, the_sound_is_legal, kept_under, IsUndone, ReadsOnly, Fails, Represents, CrashStateHolds, still_at, at_open, again_at, left_still, StoreFault, Holds, HasTables, this_schema_version, CommitsRows, MayCommitRows, after_changes, after_command, with_kept_request, HoldsLedger, OfLedger, contents_of, all_contents_of, StoreHolds}
 use Rattle.std.specs.Option.{option_to_list}
 use Rattle.sqlite_trees.specs.declared.store.Store.{Ghosts}
 use Rattle.sqlite.specs.View.{doubt as doubt_of}
@@ -8,9 +7,9 @@ use Rattle.portal_ledger.specs.States.{State as DeskState}
 use Rattle.portal_ledger.specs.Calls.{ReadsOf, FailsToRead, Fits, Keeps, FailsToKeep}
 use Rattle.portal_tables.specs.declared.errors.StoreFault.TheVariants.{Memory, Stopped}
 use Rattle.portal_tables.specs.declared.tables.Tables.{Tables}
-use Rattle.portal_tables.specs.TablesRepresent.{ConnRepresents, ConnIsFaultFree, CrashStatesOfConnHold, IsCrashStateOfConn, Files, IsFaultFree, TablesRepresent, CrashStatesHold, AddsNoCrashState, IsCrashState, FilesHold, ReadsTables, GivesFault, GivesRead}
+use Rattle.portal_tables.specs.TablesRepresent.{ConnRepresents, ConnIsFaultFree, CrashStatesOfConnHold, IsCrashStateOfConn, Files, IsFaultFree, TablesRepresent, CrashStatesHold, AddsNoCrashState, IsCrashState, FilesHold, ReadsTables, GivesFault}
 use Rattle.portal_tables.proofs.Leading.{leads_on}
-use Rattle.portal_tables.proofs.ShownLemmas.{has_all_tables, history_shown}
+use Rattle.portal_tables.proofs.ShownLemmas.{has_all_tables}
 
 -- the law of the store, at this connection
 abbrev pub IsSettled : {S : Type 0} → Ghosts S → Held S → Type 0
@@ -145,19 +144,15 @@ module _ {S : Type 0} (g : Ghosts S) where
   -- ---- the result of a read, as the caller gets it
 
   -- tables that have stopped
-  pub read_stopped : {A : Type 0} (tables : Tables S) (result : Result A StoreFault) {fault : StoreFault} {Is : Ledger → A → Type 0} → (fault ≡ Stopped) × (tables.is_stopped ≡ true) → IsErrAnd result (λ e. e ≡ fault)
-      → ReadsTables g tables tables result Is
-  read_stopped tables result on fails =
-      let told = err_from_is_err_and result fails in
-      let is : result ≡ Err Stopped = told.1 ∙ ap Err (told.2 ∙ on.0) in
-      record {
-        fault_free = λ clean. clean;
-        stopped = λ _. (rw is refl, refl);
-        stops = rw is (inr (refl, on.1));
-        found = λ clean s at. rw is (stays_read tables s at on.1);
-      }
+  pub read_stopped : {A : Type 0} (tables : Tables S) {Is : Ledger → A → Type 0} → tables.is_stopped ≡ true → ReadsTables g tables tables (Err Stopped) Is
+  read_stopped tables on = record {
+    fault_free = λ clean. clean;
+    stopped = λ _. (refl, refl);
+    stops = inr (refl, on);
+    found = λ clean s at. stays_read tables s at on;
+  }
 
-  read_found : {A : Type 0} (old new : Tables S) (found : A) {Is : Ledger → A → Type 0} → old.is_stopped ≡ false → new.is_stopped ≡ old.is_stopped → ReadsOnly HasTables (state g old.conn) (state g new.conn)
+  pub read_found : {A : Type 0} (old new : Tables S) (found : A) {Is : Ledger → A → Type 0} → old.is_stopped ≡ false → new.is_stopped ≡ old.is_stopped → ReadsOnly HasTables (state g old.conn) (state g new.conn)
       → OfLedger (state g old.conn) (state g new.conn) (λ L. Is L found) → ReadsTables g old new (Ok found) Is
   read_found old new found {Is = Is} on same read is = record {
     fault_free = λ clean. honest_by old new (omega (arith, read.crash.clean)) clean;
@@ -166,7 +161,7 @@ module _ {S : Type 0} (g : Ghosts S) where
     found = λ clean s at. reads_of old new on same clean read (λ L. Is L found) is s at;
   }
 
-  read_failed : {A : Type 0} (old new : Tables S) (mid : Held S) (fault : StoreFault) {Is : Ledger → A → Type 0} → old.is_stopped ≡ false → IsSettled g new.conn → Fails HasTables (state g old.conn) (state g mid)
+  pub read_failed : {A : Type 0} (old new : Tables S) (mid : Held S) (fault : StoreFault) {Is : Ledger → A → Type 0} → old.is_stopped ≡ false → IsSettled g new.conn → Fails HasTables (state g old.conn) (state g mid)
       → GivesFault g (record old { conn = mid }) new fault → ReadsTables g old new (Err fault) Is
   read_failed old new mid fault on law failed tells = record {
     fault_free = λ clean. honest_by old new (omega (arith, failed.crash.clean, tells.survives.clean)) clean;
@@ -174,27 +169,6 @@ module _ {S : Type 0} (g : Ghosts S) where
     stops = tells.gives_fault;
     found = λ clean s at. fails old new mid on clean failed tells.survives law fault tells.gives_fault tells.same s at;
   }
-
-  module _ {A : Type 0} (old new : Tables S) (mid : Held S) {result : Result A StoreFault} (on : old.is_stopped ≡ false) (law : IsSettled g new.conn) where
-    -- of a ledger
-    pub tells_ledger : {Is : Ledger → A → Type 0} (read : Result A RowError) → Looks HasTables read (state g old.conn) (state g mid) → OfLedger (state g old.conn) (state g mid) (λ L. IfOk read (Is L))
-        → GivesRead g (record old { conn = mid }) new read result → ReadsTables g old new result Is
-    tells_ledger {Is = Is} (Ok found) looks is tells =
-        subst (λ (it : Result A StoreFault). ReadsTables g old new it Is) (sym tells.0)
-        (subst (λ (t : Tables S). ReadsTables g old t (Ok found) Is) (sym tells.1) (read_found old (record old { conn = mid }) found on refl looks is))
-    tells_ledger {Is = Is} (Err e) looks is tells =
-        let told = err_from_is_err_and result tells in
-        subst (λ (it : Result A StoreFault). ReadsTables g old new it Is) (sym told.1) (read_failed old new mid told.0 on law looks told.2)
-
-    -- of a history
-    pub tells_history : (Is : History → A → Type 0) (read : Result A RowError) → Looks HasTables read (state g old.conn) (state g mid) → OfHistory (state g old.conn) (state g mid) (λ h. IfOk read (Is h))
-        → GivesRead g (record old { conn = mid }) new read result → ReadsTables g old new result (λ L. Is (history_of L))
-    tells_history Is read looks is tells = tells_ledger read looks (λ clean live L shown. is clean live (history_of L) (history_shown L (state g old.conn).now shown)) tells
-
-  -- what else is so of what was read
-  pub tells_also : {A : Type 0} (old new : Tables S) (mid : Held S) (P : A → Type 0) (result : Result A StoreFault) (read : Result A RowError) → (HasCleanDisk (state g mid) → IfOk read P) → GivesRead g (record old { conn = mid }) new read result → IsFaultFree g new → IfOk result P
-  tells_also {A = A} old new mid P result (Ok found) is tells clean = subst (λ (it : Result A StoreFault). IfOk it P) (sym tells.0) (is (subst (λ (t : Tables S). HasCleanDisk (state g t.conn)) tells.1 (honest_is new clean)))
-  tells_also {A = A} old new mid P result (Err e) is tells clean = let told = err_from_is_err_and result tells in subst (λ (it : Result A StoreFault). IfOk it P) (sym told.1) tt
 
   -- ---- a commit
 

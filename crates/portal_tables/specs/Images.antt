@@ -14,7 +14,9 @@ use Rattle.sqlite_store.specs.Unopened.{state_of}
 use Rattle.sqlite.specs.Tree.{Trees}
 use Rattle.sqlite.specs.declared.file.Leftover.{Leftover}
 use Rattle.sqlite.specs.declared.file.Leftover.TheVariants as left
-use Rattle.sqlite.specs.Files.{HoldsDatabase, IsCleanLeft, IsNothing, image_of}
+use Rattle.sqlite.specs.Closing.{IsCopied}
+use Rattle.sqlite.specs.Files.{Finds, HoldsDatabase, IsCleanLeft, IsNothing, image_of}
+use Rattle.sqlite.specs.Held.{Held}
 use Rattle.portal_ledger.specs.Ledger.{Ledger}
 use Rattle.portal_tables.specs.declared.opening.Unopened.{Unopened}
 use Rattle.portal_tables.specs.declared.opening.Unopened.TheVariants.{Unclosed, Refused}
@@ -51,6 +53,11 @@ module _ {D : Type 0} {g : Ghosts D} where
   LeftoverHolds before (left.Unopened now) L = (image : Image) → (state_of now).may_leave image → ∥ ImageHoldsLedger image L ⊎ HasSums before ∥₁
   LeftoverHolds before (left.Store now) L =
       (files : Files) → IsCrashStateOfStore now files → FilesHold files L
+
+  -- The files of a connection were closed, so that its log was copied into the database file, and opened
+  -- again.
+  abbrev pub IsReopened : Held (FileStore D g) → Held (FileStore D g) → Type 0
+  IsReopened first again = (closed : Pair D) × IsCopied first closed × Finds closed again
 
   -- The files were closed, and the second opening failed. The crash states between the two hold the ledger,
   -- and so do those after them if the disk has returned what was written to it.

@@ -1,4 +1,5 @@
 pub mod Attaching
+pub mod Faults
 pub mod Images
 pub mod PaymentLists
 pub mod Older

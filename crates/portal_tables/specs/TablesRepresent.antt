@@ -1,6 +1,6 @@
 -- When tables represent a state of the desk, and their crash states. The layers above cite these words and
 -- none of SQL.
-use Rattle.std.specs.Prelude.{◌≡◌, ◌⊎◌, ◌∷◌, Some, None, Result, Ok, MatchResult, IsErrAnd, IsErrOf, true, false}
+use Rattle.std.specs.Prelude.{◌≡◌, ◌⊎◌, ◌∷◌, Some, None, Result, MatchResult, IsErrOf, true, false}
 use Rattle.sqlite.specs.Tree.{Trees}
 use Rattle.sqlite.specs.State.{HasCleanDisk, IsUnchanged, Survives}
 use Rattle.sqlite.specs.Held.{Held, state}
@@ -10,7 +10,6 @@ use Rattle.portal_ledger.specs.Ledger.{Ledger}
 use Rattle.portal_ledger.specs.States.{State as DeskState, running, stopped}
 use Rattle.portal_ledger.specs.Calls.{ReadsOf, FailsToRead}
 use Rattle.portal_tables_rows.specs.Others.{KeepsOthers, CrashStateHasOthers}
-use Rattle.portal_tables_rows.specs.declared.rows.RowError.{RowError}
 use Rattle.portal_tables.specs.declared.errors.StoreFault.{StoreFault}
 use Rattle.portal_tables.specs.declared.errors.StoreFault.TheVariants.{Memory, Stopped}
 use Rattle.portal_tables.specs.declared.tables.Tables.{Tables}
@@ -109,10 +108,6 @@ module _ {S : Type 0} (g : Ghosts S) where
     pub gives_fault : FaultGivesStop old new fault
     pub same : HasCleanDisk (state g new.conn) → fault ≡ Memory → IsUnchanged (state g old.conn) (state g new.conn)
     pub survives : Survives (state g old.conn) (state g new.conn) (λ _. ⊥)
-
-  -- the result of a read: what was found, with the tables as they were, or the error
-  abbrev pub GivesRead : {T : Type 0} → Tables S → Tables S → Result T RowError → Result T StoreFault → Type 0
-  GivesRead old new read result = MatchResult read (λ found. (result ≡ Ok found) × (new ≡ old)) (λ _. IsErrAnd result (GivesFault old new))
 
   -- each crash state is one of those before
   abbrev pub AddsNoCrashState : Tables S → Tables S → Type 0

@@ -22,29 +22,15 @@ ghost use Rattle.portal_tables.specs.Attaching.{
 ghost use Rattle.portal_tables.specs.Attaching.{GivesKnownVersion, GivesNewerVersion};
 ghost use Rattle.portal_tables.specs.declared.errors.OpenFault.TheVariants.{NotOurs, Newer, Memory, Store};
 
-use crate::errors::OpenFault;
-use crate::migration::migrate_schema;
+use crate::errors::{OpenFault, open_fault_of};
+use crate::migration::migrate_database;
+use portal_tables_rows::rows::RowError;
 use portal_tables_schema::creation::{can_add_tables, create_schema};
 use portal_tables_schema::schema_versions::{
     OldSchema, has_no_action_on_ours, is_any_name_taken, is_indexed, is_usable_schema,
     schema_version_in, select_schema_version,
 };
-use portal_tables_sql::query::is_answering;
-use sqlite::{Alter, Connection, Error, ErrorCode};
-
-/// Maps an SQLite error to an `OpenFault`. It is `Memory` only if the connection still answers; then
-/// nothing has changed.
-fn open_fault_of<S: Alter>(conn: &mut Connection<S>, error: &Error) -> OpenFault
-    ensures gives_fault { (result ≡ Memory) ⊎ (result ≡ Store) }
-    ensures same { HasCleanDisk (state S.Store conn.new) → result ≡ Memory
-        → IsUnchanged (state S.Store conn.old) (state S.Store conn.new) }
-    ensures survives { Survives (state S.Store conn.old) (state S.Store conn.new) (λ _. ⊥) }
-{
-    if matches!(error, Error::SqliteFailure(ErrorCode::OutOfMemory)) && is_answering(conn) {
-        return OpenFault::Memory;
-    }
-    OpenFault::Store
-}
+use sqlite::{Alter, Connection, Error};
 
 /// Reads the schema version from the head row. It is `None` if the head is not one row with a version
 /// from 1 on.
@@ -64,7 +50,7 @@ fn read_schema_version<S: Alter>(conn: &mut Connection<S>) -> Result<Option<u64>
     match select_schema_version(conn) {
         Ok(rows) => Ok(schema_version_in(rows.as_slice())),
         Err(Error::SqlInputError(_)) => Ok(None),
-        Err(error) => Err(open_fault_of(conn, &error)),
+        Err(error) => Err(open_fault_of(conn, &RowError::Sql(error))),
     }
 }
 
@@ -90,7 +76,7 @@ fn create_tables<S: Alter>(conn: &mut Connection<S>) -> Result<(), OpenFault>
     }
     match create_schema(conn) {
         Ok(()) => Ok(()),
-        Err(error) => Err(open_fault_of(conn, &error)),
+        Err(error) => Err(open_fault_of(conn, &RowError::Sql(error))),
     }
 }
 
@@ -112,7 +98,7 @@ fn check_and_migrate<S: Alter>(conn: &mut Connection<S>, from: OldSchema) -> Res
     if !has_no_action_on_ours(conn.schema()) {
         return Err(OpenFault::Store);
     }
-    migrate_schema(conn, from)?;
+    migrate_database(conn, from)?;
     Ok(())
 }
 
@@ -138,7 +124,7 @@ fn add_session_index<S: Alter>(conn: &mut Connection<S>) -> Result<(), OpenFault
     if is_indexed(conn.schema()) {
         return Ok(());
     }
-    migrate_schema(conn, OldSchema::Fourth)?;
+    migrate_database(conn, OldSchema::Fourth)?;
     Ok(())
 }
 

@@ -19,17 +19,13 @@ use sqlite::{Alter, Connection};
 pub fn tables_crash_states<S: Alter>(tables: &Tables<S>)
     ensures { (s : DeskState) → TablesRepresent S.Store tables.now s
         → CrashStatesHold S.Store tables.now (MayBeFound s) }
-{
-    let _ = tables;
-}
+{}
 
 /// Law: the ledger of tables that work is sound, and so its history is legal.
 #[tactic(auto, using(crate::proofs::StateLemmas::sound_at))]
 pub fn tables_are_sound<S: Alter>(tables: &Tables<S>)
     ensures { (L : Ledger) → TablesRepresent S.Store tables.now (running L) → IsSound L }
-{
-    let _ = tables;
-}
+{}
 
 /// Law: a ledger that files hold is sound.
 #[tactic(auto, using(crate::proofs::StateLemmas::files_sound))]
@@ -41,6 +37,4 @@ pub fn files_are_sound()
 #[tactic(auto, using(crate::proofs::StateLemmas::conn_leaves))]
 pub fn connections_crash_states<S: Alter>(conn: &Connection<S>)
     ensures { (L : Ledger) → ConnRepresents S.Store conn.now L → CrashStatesOfConnHold S.Store conn.now L }
-{
-    let _ = conn;
-}
+{}

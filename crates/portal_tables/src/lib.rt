@@ -10,6 +10,7 @@ mod lists;
 mod migration;
 pub mod opening;
 mod prices;
+pub mod questions;
 mod records;
 pub mod tables;
 

@@ -12,35 +12,15 @@ ghost use Rattle.portal_tables.specs.Older.{HoldsLedgerIn, CrashStateHoldsEither
 ghost use Rattle.portal_tables.specs.HoldsLedger.{HoldsLedger};
 ghost use Rattle.portal_tables.specs.declared.errors.OpenFault.TheVariants.{Memory, Store};
 
-use crate::errors::OpenFault;
-use portal_tables_rows::rows::RowError;
+use crate::errors::{OpenFault, open_fault_of};
 use portal_tables_schema::from_versions;
 use portal_tables_schema::schema_versions::OldSchema;
-use portal_tables_sql::query::is_answering;
-use sqlite::{Alter, Connection, Error, ErrorCode};
-
-/// Maps an error of the rows to an `OpenFault`. It is `Memory` only if the connection still answers;
-/// then nothing has changed.
-fn open_fault_of<S: Alter>(conn: &mut Connection<S>, fault: &RowError) -> OpenFault
-    ensures gives_fault { (result ≡ Memory) ⊎ (result ≡ Store) }
-    ensures same { HasCleanDisk (state S.Store conn.new) → result ≡ Memory
-        → IsUnchanged (state S.Store conn.old) (state S.Store conn.new) }
-    ensures survives { Survives (state S.Store conn.old) (state S.Store conn.new) (λ _. ⊥) }
-{
-    if matches!(
-        fault,
-        RowError::Sql(Error::SqliteFailure(ErrorCode::OutOfMemory))
-    ) && is_answering(conn)
-    {
-        return OpenFault::Memory;
-    }
-    OpenFault::Store
-}
+use sqlite::{Alter, Connection};
 
 /// Migrates a database of an older schema version to this version, with the index of the sessions, in
 /// one transaction. After `Memory` the database is as it was. After `Store` the files hold the same
 /// ledger, in the old schema version or in this one.
-pub(crate) fn migrate_schema<S: Alter>(
+pub(crate) fn migrate_database<S: Alter>(
     conn: &mut Connection<S>,
     from: OldSchema,
 ) -> Result<(), OpenFault>

@@ -6,7 +6,7 @@ ghost use Rattle.sqlite.specs.Files.{Finds, IsCleanLeft, image_of, file_state, o
 ghost use Rattle.sqlite.specs.State.{HasCleanDisk};
 ghost use Rattle.sqlite.specs.Steps.{over_memory};
 ghost use Rattle.portal_ledger.specs.Ledger.{Ledger};
-ghost use Rattle.portal_tables.specs.Images.{FilesRepresent, ImageHoldsLedger, LeftoverHolds, UnopenedHolds};
+ghost use Rattle.portal_tables.specs.Images.{FilesRepresent, ImageHoldsLedger, IsReopened, LeftoverHolds, UnopenedHolds};
 ghost use Rattle.portal_tables.specs.TablesRepresent.{ConnRepresents};
 
 use sqlite::{Connection, Error, FileFrom, FileStore, Leftover, MemStore, Options, Start};
@@ -23,8 +23,8 @@ pub fn open_in_memory(alloc: Global) -> Result<Connection<MemStore>, AllocError>
 /// Opens a database in two files: the database file and its log.
 ///
 /// If the files hold a ledger, as after a crash, the connection represents that ledger. Files with no
-/// database yet hold the empty ledger. The connection has all tables that the files hold, the product's
-/// and others. If the files are not opened, their crash states still hold the ledger.
+/// database yet hold the empty ledger. The connection is open, and has all tables that the files hold, the
+/// product's and others. If the files are not opened, their crash states still hold the ledger.
 pub fn open_files<D: Disk + Drop>(
     alloc: Global,
     files: Files<D>,
@@ -35,6 +35,7 @@ pub fn open_files<D: Disk + Drop>(
     ensures opened { (L : Ledger) → ImageHoldsLedger (image_of D.Disk files) L
         → IfOk result (λ conn. HasCleanDisk (file_state conn) → ConnRepresents over_files conn L) }
     ensures found { IfOk result (λ conn. HasCleanDisk (file_state conn) → Finds files conn) }
+    ensures live { IfOk result (λ conn. HasCleanDisk (file_state conn) → IsTrue (file_state conn).is_open) }
     ensures fails_to_open { (L : Ledger) → FilesRepresent D.Disk files L
         → IfErr result (λ e. IsCleanLeft e.1 → LeftoverHolds (image_of D.Disk files) e.1 L) }
 {
@@ -70,8 +71,9 @@ pub enum Unopened<D: Disk> {
     Refused(Error, Leftover<D>),
 }
 
-/// Closes the files of a connection and opens them again. The new connection represents the same ledger.
-/// If the files are not closed, or not opened again, their crash states still hold that ledger.
+/// Closes the files of a connection, so that the log is copied into the database file, and opens them again.
+/// The new connection is open, represents the same ledger, and finds all tables that the old one had
+/// committed. If the files are not closed, or not opened again, their crash states still hold that ledger.
 pub fn reopen<D: Disk + Drop>(
     alloc: Global,
     conn: Connection<FileStore<D>>,
@@ -79,6 +81,8 @@ pub fn reopen<D: Disk + Drop>(
 ) -> Result<Connection<FileStore<D>>, Unopened<D>>
     ensures opened { (L : Ledger) → ConnRepresents over_files conn L
         → IfOk result (λ again. HasCleanDisk (file_state again) → ConnRepresents over_files again L) }
+    ensures reopened { IfOk result (λ again. HasCleanDisk (file_state again) → IsReopened conn again) }
+    ensures live { IfOk result (λ again. HasCleanDisk (file_state again) → IsTrue (file_state again).is_open) }
     ensures fails_to_open { (L : Ledger) → ConnRepresents over_files conn L
         → IfErr result (λ e. UnopenedHolds e L) }
 {

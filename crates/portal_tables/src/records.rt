@@ -1,44 +1,22 @@
 //! Reads the records of a history, each from several tables.
 
 ghost use Rattle.std.specs.Prelude.{◌≡◌, Some, IfOk, is_some};
-ghost use Rattle.sqlite.specs.Held.{state};
 ghost use Rattle.portal_model.specs.History.{plan_of, batch_of, issued_of, voucher_of, session_of};
-ghost use Rattle.portal_model.specs.History.{last_session_of, head_of};
+ghost use Rattle.portal_model.specs.History.{last_session_of};
 ghost use Rattle.portal_model.specs.Device.{IsDevice};
 ghost use Rattle.portal_model.specs.Rows.{allowance_from};
-ghost use Rattle.portal_tables_sql.specs.Looks.{Looks};
-ghost use Rattle.portal_tables_rows.specs.Holds.{HasTables};
-ghost use Rattle.portal_tables.specs.HoldsLedger.{IsHeldUnder, IsRowOf, OfLedger, ReadsHistory};
+ghost use Rattle.portal_tables.specs.HoldsLedger.{IsRowOf, ReadsHistory};
 
 use portal_codes::Code;
-use portal_ledger::caller::Caller;
-use portal_ledger::request::{KeptRequest, RequestNumber};
 use portal_model::name::{Device, Id};
 use portal_model::plan::Plan;
-use portal_model::record::{Batch, Head, Session, Voucher};
+use portal_model::record::{Batch, Session, Voucher};
 use portal_tables_rows::finds::{
-    read_batch_row, read_count_row, read_head_row, read_last_session_row, read_plan_row,
-    read_session_row, read_total_row, read_voucher_row,
+    read_batch_row, read_count_row, read_last_session_row, read_plan_row, read_session_row,
+    read_total_row, read_voucher_row,
 };
-use portal_tables_rows::requests::read_request_row;
 use portal_tables_rows::rows::{RowError, SessionValue};
 use sqlite::{Alter, Connection};
-use std::alloc::Global;
-
-/// Reads the time of the last command and the numbers of redemptions and sessions. Fails with
-/// `ForeignRow` if there is no head row.
-pub(crate) fn read_head<S: Alter>(conn: &mut Connection<S>) -> Result<Head, RowError>
-    ensures { ReadsHistory S.Store conn.old conn.new result (λ h head. head ≡ head_of h) }
-{
-    match read_head_row(conn)? {
-        Some(kept) => Ok(Head {
-            last: kept.last,
-            grants: kept.grants,
-            sessions: kept.sessions,
-        }),
-        None => Err(RowError::ForeignRow),
-    }
-}
 
 /// Reads a batch and its plan. Fails with `ForeignRow` if one is missing.
 pub(crate) fn read_batch_and_plan<S: Alter>(
@@ -177,19 +155,4 @@ pub(crate) fn read_last_session<S: Alter>(
         Some(row) => Ok(Some(session_of_row(conn, &row)?)),
         None => Ok(None),
     }
-}
-
-/// Reads the request with this caller and idempotency key, and the answer that was given, or `None`.
-pub(crate) fn read_kept_request<S: Alter>(
-    alloc: Global,
-    conn: &mut Connection<S>,
-    caller: &Caller,
-    number: &RequestNumber,
-) -> Result<Option<KeptRequest>, RowError>
-    ensures found { OfLedger (state S.Store conn.old) (state S.Store conn.new)
-        (λ L. IfOk result (IsHeldUnder L caller.now number.now)) }
-    ensures looks { Looks HasTables result (state S.Store conn.old) (state S.Store conn.new) }
-{
-    let found = read_request_row(alloc, conn, caller, number)?;
-    Ok(found)
 }

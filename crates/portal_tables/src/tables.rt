@@ -4,7 +4,7 @@ ghost use Rattle.std.specs.Prelude.{◌≡◌, ◌↔◌, ◌⊎◌, true, false
 ghost use Rattle.sqlite.specs.Held.{state};
 ghost use Rattle.sqlite.specs.State.{HasCleanDisk, IsUnchanged, Survives};
 ghost use Rattle.portal_ledger.specs.Ledger.{Accepted, Ledger, history_of};
-ghost use Rattle.portal_model.specs.History.{head_of, plan_of, batch_of, issued_of, voucher_of, session_of};
+ghost use Rattle.portal_model.specs.History.{issued_of, voucher_of, session_of};
 ghost use Rattle.portal_model.specs.History.{last_session_of};
 ghost use Rattle.portal_tables_rows.specs.Commands.{
   FitsInColumns as FitsColumns,
@@ -31,30 +31,24 @@ ghost use Rattle.portal_tables.specs.TablesRepresent.{
   TablesKeepStop,
   FaultGivesStop,
 };
-ghost use Rattle.portal_tables.specs.TablesRepresent.{ReadsTables, GivesFault, GivesRead};
+ghost use Rattle.portal_tables.specs.TablesRepresent.{ReadsTables, GivesFault};
 ghost use Rattle.portal_tables.specs.declared.errors.StoreFault.TheVariants.{Memory, Stopped};
 
 mod audits;
-mod lists;
 
-use crate::errors::StoreFault;
-use crate::records::{
-    LIMIT, read_head, read_is_held, read_kept_request, read_last_session, read_session,
-    read_voucher,
-};
+use crate::errors::{StoreFault, is_memory};
+use crate::questions::Question;
+use crate::records::LIMIT;
 use portal_codes::Code;
 use portal_ledger::caller::Caller;
 use portal_ledger::marked::MarkedChanges;
 use portal_ledger::request::{KeptRequest, RequestMark, RequestNumber};
 use portal_model::change::{Answer, Changes, IssueChange, RedeemChange, ReportChange};
-use portal_model::name::{Device, Id};
-use portal_model::plan::Plan;
-use portal_model::record::{Batch, Head, Session, Voucher};
+use portal_model::name::Device;
+use portal_model::record::{Session, Voucher};
 use portal_tables_rows::commands::commit_command;
-use portal_tables_rows::finds::{read_batch_row, read_plan_row};
 use portal_tables_rows::rows::RowError;
-use portal_tables_sql::query::is_answering;
-use sqlite::{Alter, Connection, Error, ErrorCode};
+use sqlite::{Alter, Connection};
 use std::alloc::Global;
 
 /// The product's tables in a database.
@@ -98,42 +92,16 @@ impl<S: Alter> Tables<S> {
         self.is_stopped
     }
 
-    /// Checks that the tables have not stopped. The error is `Stopped`.
-    fn check_working(&self) -> Result<(), StoreFault>
-        ensures { MatchResult result (λ _. self.now.is_stopped ≡ false)
-            (λ fault. (fault ≡ Stopped) × IsStopped S.Store self.now) }
-    {
-        if self.is_stopped {
-            Err(StoreFault::Stopped)
-        } else {
-            Ok(())
-        }
-    }
-
     /// Maps an error of the rows to a `StoreFault`, and stops the tables unless it is `Memory`. It is
     /// `Memory` only if the connection still answers; then nothing has changed.
     fn stop_on_fault(&mut self, fault: RowError) -> StoreFault
         ensures { GivesFault S.Store self.old self.new result }
     {
-        if matches!(
-            &fault,
-            RowError::Sql(Error::SqliteFailure(ErrorCode::OutOfMemory))
-        ) && is_answering(&mut self.conn)
-        {
+        if is_memory(&mut self.conn, &fault) {
             return StoreFault::Memory;
         }
         self.is_stopped = true;
         StoreFault::Stopped
-    }
-
-    /// Returns the result of a read, and stops the tables if its error is not `Memory`.
-    fn answer_or_stop<T>(&mut self, read: Result<T, RowError>) -> Result<T, StoreFault>
-        ensures { GivesRead S.Store self.old self.new read result }
-    {
-        match read {
-            Ok(found) => Ok(found),
-            Err(fault) => Err(self.stop_on_fault(fault)),
-        }
     }
 
     /// Commits a command in one transaction: its changes, and its request if it has an idempotency key.
@@ -170,88 +138,17 @@ impl<S: Alter> Tables<S> {
         }
     }
 
-    /// Reads the time of the last command and the numbers of redemptions and sessions.
-    pub fn head(&mut self) -> Result<Head, StoreFault>
-        ensures { ReadsTables S.Store self.old self.new result (λ L found. found ≡ head_of (history_of L)) }
+    /// Reads the answer to a question.
+    pub fn read<Q: Question>(&mut self, question: Q) -> Result<Q::Answer, StoreFault>
+        ensures { ReadsTables S.Store self.old self.new result (Q.is question) }
     {
-        self.check_working()?;
-        let read = read_head(&mut self.conn);
-        self.answer_or_stop(read)
-    }
-
-    /// Reads the plan with this id, or `None`.
-    pub fn plan(&mut self, id: &Id) -> Result<Option<Plan>, StoreFault>
-        ensures { ReadsTables S.Store self.old self.new result
-            (λ L found. found ≡ plan_of (history_of L) id.now) }
-    {
-        self.check_working()?;
-        let read = read_plan_row(&mut self.conn, id);
-        self.answer_or_stop(read)
-    }
-
-    /// Reads the batch with this id, or `None`.
-    pub fn batch(&mut self, id: &Id) -> Result<Option<Batch>, StoreFault>
-        ensures { ReadsTables S.Store self.old self.new result
-            (λ L found. found ≡ batch_of (history_of L) id.now) }
-    {
-        self.check_working()?;
-        let read = read_batch_row(&mut self.conn, id);
-        self.answer_or_stop(read)
-    }
-
-    /// Reads the voucher with this code, or `None`.
-    pub fn voucher(&mut self, code: &Code) -> Result<Option<Voucher>, StoreFault>
-        ensures { ReadsTables S.Store self.old self.new result
-            (λ L found. found ≡ voucher_of (history_of L) code.now) }
-    {
-        self.check_working()?;
-        let read = read_voucher(&mut self.conn, code);
-        self.answer_or_stop(read)
-    }
-
-    /// Whether a voucher with this code was issued. It takes one query; `voucher` takes up to four.
-    pub fn is_held(&mut self, code: &Code) -> Result<bool, StoreFault>
-        ensures { ReadsTables S.Store self.old self.new result
-            (λ L held. held ≡ is_some (issued_of (history_of L) code.now)) }
-    {
-        self.check_working()?;
-        let read = read_is_held(&mut self.conn, code);
-        self.answer_or_stop(read)
-    }
-
-    /// Reads the session with this number, or `None`.
-    pub fn session(&mut self, number: u64) -> Result<Option<Session>, StoreFault>
-        ensures { ReadsTables S.Store self.old self.new result
-            (λ L found. found ≡ session_of (history_of L) number) }
-    {
-        self.check_working()?;
-        let read = read_session(&mut self.conn, number);
-        self.answer_or_stop(read)
-    }
-
-    /// Reads the device's session with the greatest number, or `None`.
-    pub fn last_session(&mut self, device: &Device) -> Result<Option<Session>, StoreFault>
-        ensures { ReadsTables S.Store self.old self.new result
-            (λ L found. found ≡ last_session_of (history_of L) device.now) }
-    {
-        self.check_working()?;
-        let read = read_last_session(&mut self.conn, device);
-        self.answer_or_stop(read)
-    }
-
-    /// Reads the request with this caller and idempotency key, and the answer that was given, or `None`.
-    pub fn request(
-        &mut self,
-        alloc: Global,
-        caller: &Caller,
-        number: &RequestNumber,
-    ) -> Result<Option<KeptRequest>, StoreFault>
-        ensures { ReadsTables S.Store self.old self.new result
-            (λ L found. IsHeldUnder L caller.now number.now found) }
-    {
-        self.check_working()?;
-        let read = read_kept_request(alloc, &mut self.conn, caller, number);
-        self.answer_or_stop(read)
+        if self.is_stopped {
+            return Err(StoreFault::Stopped);
+        }
+        match question.ask(&mut self.conn) {
+            Ok(found) => Ok(found),
+            Err(fault) => Err(self.stop_on_fault(fault)),
+        }
     }
 }
 

@@ -1,12 +1,10 @@
 -- The result of each SELECT of a list, by the rows that the tables hold.
-use Rattle.portal_tables_queries.proofs.Common.{◌≡◌, ◌<◌, ℕ, List, [], ◌∷◌, ◌++◌, Bool, map, filter, length, true, false, refl, sym, ap, ap₂, subst, ◌∙◌, lit<, bytes_eq, Ordering, lit≤, Key, then-Equal, value_cmp-Text, Text, Row, column, value_cmp, Schema, Table, Term, State, map-map, filter-map, number, has_key, by_column, fields, IsSelection, text_test, selected, field_at, orders_by, by, passes, keys_of, VoucherRow, TotalRow, vouchers, totals, Contents, voucher_cells, total_cells, Holds, HasTables, ListsAs, is_within, by_place, by_refund, by_sale, by_number, sale_columns, sale_cells, vouchers_in, totals_in, Asks, IsSimple, total_columns, voucher_columns}
+use Rattle.portal_tables_queries.proofs.Common.{◌≡◌, ◌<◌, ℕ, List, [], ◌∷◌, ◌++◌, Bool, map, filter, length, true, false, refl, sym, ap, ap₂, subst, ◌∙◌, lit<, bytes_eq, Ordering, lit≤, Key, then-Equal, value_cmp-Text, Text, Row, column, value_cmp, Schema, Table, Term, State, Shown, understood, means_simple, key_tests, map-map, filter-map, number, has_key, by_column, fields, IsSelection, text_test, selected, field_at, orders_by, by, passes, keys_of, VoucherRow, TotalRow, vouchers, totals, Contents, voucher_cells, total_cells, Holds, HasTables, ListsAs, is_within, by_place, by_refund, by_sale, by_number, sale_columns, sale_cells, vouchers_in, totals_in, IsSimple, total_columns, voucher_columns}
 use Rattle.std.specs.Ordering.{ordering_then}
 use Rattle.sqlite.specs.Query.{key_cmp}
-use Rattle.sqlite.specs.Listing.{understood}
-use Rattle.sqlite.specs.State.{Shown}
 use Rattle.portal_tables_queries.proofs.Listing.{number_order, option_order, sql_within, within_is, cells_listed}
-use Rattle.portal_tables_queries.proofs.Streaming.{means_simple, simple_asks}
 use Rattle.portal_tables_queries.proofs.WholeTables.{some_columns}
+use Rattle.portal_tables_queries.proofs.WholeTexts.{all_totals_means, all_totals_text}
 use Rattle.portal_tables_queries.proofs.ListTexts as texts
 
 -- ---- two columns
@@ -28,24 +26,25 @@ within_tests table at from to within r = ap (λ v. sql_within v (number from) (n
 
 -- ---- the vouchers of a batch
 
-pub batch_listed : (t : Contents) (batch : List ℕ) (rows : List Row) → IsSelection (has_key 1 (Text batch)) (by_column 2) (map voucher_cells t.vouchers) rows
-    → ListsAs voucher_cells (λ v. bytes_eq batch v.batch) by_place t.vouchers rows
-batch_listed t batch rows s =
-    cells_listed voucher_cells (λ (v : VoucherRow). bytes_eq batch v.batch) by_place t.vouchers (has_key 1 (Text batch)) (by_column 2) (λ v. text_test v.batch batch) (λ a b. number_order a.place b.place) rows s
+pub batch_rows_are : (old new : State) (batch : List ℕ) (rows : List Row) → Shown texts.batch_vouchers_text (Text batch ∷ []) old new rows → (t : Contents) → Holds old.now t → ListsAs voucher_cells (λ v. bytes_eq batch v.batch) by_place t.vouchers rows
+batch_rows_are old new batch rows shown t h =
+    let place = h.places.vouchers in
+    let table = vouchers place.tree in
+    let it = selected texts.batch_vouchers_text table _ _ (Text batch ∷ []) old new voucher_columns (has_key 1 (Text batch)) (key_tests table 1 (Text batch) [] (lit< tt) refl) (by_column 2) (orders_by table 2 (Text batch ∷ []) (lit< tt))
+    (texts.batch_vouchers_means old.now.schema place.at place.tree h.tables_exist.vouchers.exists) rows shown in
+    let all = subst (λ xs. IsSelection (has_key 1 (Text batch)) (by_column 2) xs rows) (vouchers_in old.now.trees place.tree t.vouchers h.store.vouchers) it in
+    cells_listed voucher_cells (λ (v : VoucherRow). bytes_eq batch v.batch) by_place t.vouchers (has_key 1 (Text batch)) (by_column 2) (λ v. text_test v.batch batch) (λ a b. number_order a.place b.place) rows all
+
+pub batch_simple : (schema : Schema) → HasTables schema → IsSimple (understood schema texts.batch_vouchers_text)
+batch_simple schema h = let place = h.0.vouchers in means_simple schema texts.batch_vouchers_text _ _ (texts.batch_vouchers_means schema place.at place.tree h.1.vouchers.exists)
 
 -- ---- the ends of all sessions
 
-pub totals_simple : (schema : Schema) → HasTables schema → IsSimple (understood schema texts.totals_text)
-totals_simple schema h = let place = h.0.totals in means_simple schema texts.totals_text _ _ (texts.totals_means schema place.at place.tree (h.1.totals (lit≤ tt)).exists)
-
-pub asks_totals : (schema : Schema) → HasTables schema → Asks texts.totals_text schema
-asks_totals schema h = simple_asks texts.totals_text schema (totals_simple schema h)
-
-pub totals_rows_are : (old new : State) (rows : List Row) → Shown texts.totals_text [] old new rows → (t : Contents) → Holds old.now t → ListsAs total_cells (λ _. true) by_number t.totals rows
+pub totals_rows_are : (old new : State) (rows : List Row) → Shown all_totals_text [] old new rows → (t : Contents) → Holds old.now t → ListsAs total_cells (λ _. true) by_number t.totals rows
 totals_rows_are old new rows shown t h =
     let place = h.places.totals in
     let table = totals place.tree in
-    let it = selected texts.totals_text table [] _ [] old new total_columns (λ _. true) (λ r. refl) (by_column 0) (orders_by table 0 [] (lit< tt)) (texts.totals_means old.now.schema place.at place.tree (h.tables_exist.totals (lit≤ tt)).exists) rows shown in
+    let it = selected all_totals_text table [] _ [] old new total_columns (λ _. true) (λ r. refl) (by_column 0) (orders_by table 0 [] (lit< tt)) (all_totals_means old.now.schema place.at place.tree (h.tables_exist.totals (lit≤ tt)).exists) rows shown in
     let all = subst (λ xs. IsSelection (λ _. true) (by_column 0) xs rows) (totals_in old.now.trees place.tree t.totals (h.store.totals (lit≤ tt))) it in
     cells_listed total_cells (λ (_ : TotalRow). true) by_number t.totals (λ _. true) (by_column 0) (λ m. refl) (λ a b. number_order a.number b.number) rows all
 
@@ -93,17 +92,8 @@ module _ (old new : State) (from to : ℕ) (rows : List Row) (t : Contents) (h :
 pub sold_simple : (schema : Schema) → HasTables schema → IsSimple (understood schema texts.sold_text)
 sold_simple schema h = let place = h.0.vouchers in means_simple schema texts.sold_text _ _ (texts.sold_means schema place.at place.tree h.1.vouchers.exists)
 
-pub asks_sold : (schema : Schema) → HasTables schema → Asks texts.sold_text schema
-asks_sold schema h = simple_asks texts.sold_text schema (sold_simple schema h)
-
 pub ordered_simple : (schema : Schema) → HasTables schema → IsSimple (understood schema texts.ordered_text)
 ordered_simple schema h = let place = h.0.vouchers in means_simple schema texts.ordered_text _ _ (texts.ordered_means schema place.at place.tree h.1.vouchers.exists)
 
-pub asks_ordered : (schema : Schema) → HasTables schema → Asks texts.ordered_text schema
-asks_ordered schema h = simple_asks texts.ordered_text schema (ordered_simple schema h)
-
 pub refunded_simple : (schema : Schema) → HasTables schema → IsSimple (understood schema texts.refunded_text)
 refunded_simple schema h = let place = h.0.vouchers in means_simple schema texts.refunded_text _ _ (texts.refunded_means schema place.at place.tree h.1.vouchers.exists)
-
-pub asks_refunded : (schema : Schema) → HasTables schema → Asks texts.refunded_text schema
-asks_refunded schema h = simple_asks texts.refunded_text schema (refunded_simple schema h)

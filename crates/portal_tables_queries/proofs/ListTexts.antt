@@ -1,5 +1,5 @@
 -- What the SELECT statements of lists mean, wherever the tables are in the schema.
-use Rattle.portal_tables_queries.proofs.Common.{ℕ, pos, negsuc, List, [], ◌∷◌, ◌++◌, codes, Option, Some, None, refl, false, Int, Term, lit, col, op2, Schema, Table, place_of, Ge, Le, Binary, TableExists, drafted, unlimited, IsSelect, all_columns, by, select_means, up, vouchers, totals, vouchers_name, totals_name, total_columns, voucher_columns}
+use Rattle.portal_tables_queries.proofs.Common.{ℕ, pos, negsuc, List, [], ◌∷◌, ◌++◌, codes, Option, Some, None, refl, false, Int, Term, lit, col, op2, Schema, Table, place_of, Ge, Le, Binary, TableExists, drafted, unlimited, IsSelect, all_columns, by, column_is, select_means, up, where_is, vouchers, vouchers_name, voucher_columns}
 use Rattle.sqlite_tied.specs.Compute.{everything}
 use Rattle.sqlite_ast.specs.declared.Expr.{Expr}
 use Rattle.sqlite_ast.specs.declared.Expr.TheVariants as expr
@@ -7,16 +7,16 @@ use Rattle.sqlite_ast.specs.declared.Binary.TheVariants as binary
 use Rattle.sqlite_sql.specs.declared.ops.BinaryOp.TheVariants as by_op
 use Rattle.portal_tables_queries.proofs.WholeTables.{by_rowid, has_rowids, IsSelectOf}
 
--- ---- the ends of all sessions
+-- ---- the vouchers of a batch
 
-abbrev pub totals_text : List ℕ
-totals_text = codes "SELECT number, ends, remaining FROM portal_totals ORDER BY number"
+abbrev pub batch_vouchers_text : List ℕ
+batch_vouchers_text = codes "SELECT code, batch_id, place, sold, refunded, amount FROM portal_vouchers WHERE batch_id = ?1 ORDER BY place"
 
-pub totals_means : (schema : Schema) (at tree : ℕ) → TableExists schema at (totals tree) → IsSelect schema totals_text (totals tree) [] (by (totals tree) 0 false) unlimited total_columns
+pub batch_vouchers_means : (schema : Schema) (at tree : ℕ) → TableExists schema at (vouchers tree) → IsSelect schema batch_vouchers_text (vouchers tree) (column_is (vouchers tree) 1 (col 0 0) ∷ []) (by (vouchers tree) 2 false) unlimited voucher_columns
 unfolding everything
-totals_means schema at tree exists =
-    select_means schema totals_text totals_name total_columns None (up (codes "number")) None 0 (lit (Int (negsuc 0)), lit (Int (pos 0)))
-    (drafted tree [] (all_columns (totals tree)) (by (totals tree) 0 false) unlimited) (None ∷ Some Binary ∷ Some Binary ∷ []) (record { parsed = _; read = refl; is = refl; timeless = refl; counted = refl }) refl refl
+batch_vouchers_means schema at tree exists =
+    select_means schema batch_vouchers_text vouchers_name voucher_columns (where_is (codes "batch_id") (expr.Parameter 1)) (up (codes "place")) None 1 (lit (Int (negsuc 0)), lit (Int (pos 0)))
+    (drafted tree (column_is (vouchers tree) 1 (col 0 0) ∷ []) (all_columns (vouchers tree)) (by (vouchers tree) 2 false) unlimited) (Some Binary ∷ Some Binary ∷ Some Binary ∷ Some Binary ∷ Some Binary ∷ Some Binary ∷ []) (record { parsed = _; read = refl; is = refl; timeless = refl; counted = refl }) refl refl
     (simp (exists.named, exists.there) refl) (simp (exists.low, exists.typed) refl) refl (λ base. refl)
 
 -- ---- vouchers with a time between two

@@ -1,5 +1,5 @@
 -- From the rows of a result to the values that were read of them, in their order.
-use Rattle.portal_tables_queries.proofs.Common.{◌≡◌, ◌+◌, ◌<◌, arith, ℕ, pos, List, [], ◌∷◌, ◌++◌, map, filter, take, length, get_or, cond, Bool, true, false, ◌&&◌, nat_le, Option, Some, None, refl, sym, ap, ap₂, subst, ◌∙◌, Ordering, nat_cmp, is_ge, is_le, IsSorted, nat_tests, ints, get_or-map, length-map, map-append, take_more, filter-append, Null, Row, value_cmp, Ge, Le, Binary, value_cmp-Int, value_cmp-Null, value_cmp-apart, map-map, filter-map, pull_back, number, or_null, IsSelection, columns, TotalRow, Total, ends_row, more_mapped, Lists, ListsAs, IsReadAs, AreReadAs, is_within, may_be_open, numbers_open, sale_cells}
+use Rattle.portal_tables_queries.proofs.Common.{◌≡◌, ◌+◌, ◌<◌, arith, ℕ, pos, List, [], ◌∷◌, ◌++◌, map, filter, take, length, get_or, cond, Bool, true, false, ◌&&◌, nat_le, Option, Some, None, refl, sym, ap, ap₂, subst, ◌∙◌, Ordering, nat_cmp, is_ge, is_le, IsSorted, nat_tests, ints, get_or-map, length-map, map-append, filter-append, Null, Row, value_cmp, Ge, Le, Binary, value_cmp-Int, value_cmp-Null, value_cmp-apart, map-map, filter-map, pull_back, number, or_null, IsSelection, columns, TotalRow, Total, ends_row, more_mapped, Lists, ListsAs, is_within, may_be_open, numbers_open, sale_cells}
 use Rattle.std.specs.Option.{option_cmp}
 use Rattle.sqlite.specs.declared.types.Value.{Value}
 use Rattle.sqlite.specs.Ops.{binary, is_true, from_truth}
@@ -89,26 +89,7 @@ module _ {P : Type 0} (cells : P → Row) (passes : P → Bool) (cmp : P → P �
       → (kept : List P) → map cells kept ≡ map (columns count) rows → Lists passes cmp values kept
   read_listed count all exact rows l kept are = subst (Lists passes cmp values) (sym (read_values count all exact rows l kept are)) l.lists
 
-  -- and what was read of them
-  pub read_shown : {X : Type 0} (shown : P → X) (count : ℕ) → ((p : P) → columns count (cells p) ≡ cells p) → ((a b : P) → cells a ≡ cells b → a ≡ b) → (rows : List Row) → ListsAs cells passes cmp values rows
-      → (answer : List X) → AreReadAs cells count shown rows answer → ListsAs shown passes cmp values answer
-  read_shown shown count all exact rows l answer read = record { listed = read.values; lists = read_listed count all exact rows l read.values read.are; shows = read.shows }
-
--- ---- the loops over the rows
-
-module _ {P X : Type 0} (cells : P → Row) (count : ℕ) (shown : P → X) where
-  pub read_none : AreReadAs cells count shown [] []
-  read_none = record { values = []; are = refl; shows = refl }
-
-  pub read_more : (rows : List Row) (at : ℕ) (row : Row) (answer : List X) (x : X) → at < length rows → row ≡ get_or rows at row → AreReadAs cells count shown (take at rows) answer → IsReadAs cells count shown row x
-      → AreReadAs cells count shown (take (at + 1) rows) (answer ++ x ∷ [])
-  read_more rows at row answer x within is before one =
-      let more : take (at + 1) rows ≡ take at rows ++ row ∷ [] = take_more rows at row within ∙ ap (λ r. take at rows ++ r ∷ []) (sym is) in
-      record {
-        values = before.values ++ one.value ∷ [];
-        are = map-append cells before.values (one.value ∷ []) ∙ ap₂ ◌++◌ before.are (ap (λ r. r ∷ []) one.is) ∙ sym (map-append (columns count) (take at rows) (row ∷ [])) ∙ ap (map (columns count)) (sym more);
-        shows = ap₂ ◌++◌ before.shows (ap (λ y. y ∷ []) one.shows) ∙ sym (map-append shown before.values (one.value ∷ []));
-      }
+-- ---- the numbers of the sessions that may be open, one total after another
 
 numbers_push : (at : ℕ) (totals : List TotalRow) (m : TotalRow) → numbers_open at (totals ++ m ∷ []) ≡ numbers_open at totals ++ cond (may_be_open at m) (m.number ∷ []) []
 numbers_push at totals m =

@@ -109,11 +109,6 @@ given_step grants i g within is before old new so_far was now number =
 
 -- ---- lists made in a loop
 
--- one element more is made of one element more
-pub made_more : {X Y Z : Type 0} (f : X → Z) (h : Y → Z) (made new : List X) (x : X) (ys : List Y) (i : ℕ) (y : Y)
-    → map f made ≡ map h (take i ys) → new ≡ made ++ x ∷ [] → i < length ys → y ≡ get_or ys i y → f x ≡ h y → map f new ≡ map h (take (i + 1) ys)
-made_more f h made new x ys i y so_far grown within is one = ap (map f) grown ∙ map-append f made (x ∷ []) ∙ ap₂ ◌++◌ so_far (ap (λ z. z ∷ []) one) ∙ sym (more_mapped h ys i y within is)
-
 pub map_exact : {X Y : Type 0} (f : X → Y) → ((a b : X) → f a ≡ f b → a ≡ b) → (xs ys : List X) → map f xs ≡ map f ys → xs ≡ ys
 map_exact f exact [] [] e = refl
 map_exact f exact [] (y ∷ ys) e = cc

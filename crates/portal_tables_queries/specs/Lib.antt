@@ -1,4 +1,3 @@
-pub mod Asks
 pub mod Audit
 pub mod Lists
 pub mod Selects

@@ -8,7 +8,6 @@ use Rattle.std.specs.declared.cmp.Ordering.{Ordering}
 use Rattle.sqlite.specs.declared.types.Value.TheVariants.{Text}
 use Rattle.sqlite.specs.Order.{Row}
 use Rattle.portal_tables_sql.specs.Stored.{or_null}
-use Rattle.portal_tables_sql.specs.Finds.{columns}
 use Rattle.portal_model.specs.History.{is_below}
 use Rattle.portal_model.specs.IdText.{IsIdText}
 use Rattle.portal_model.specs.Rows.{VoucherRow, TotalRow}
@@ -27,20 +26,6 @@ pub record ListsAs {P X : Type 0} (shown : P → X) (passes : P → Bool) (cmp :
   pub listed : List P
   pub lists : Lists passes cmp values listed
   pub shows : answer ≡ map shown listed
-
--- ---- rows of a result that were read
-
--- the row has the cells of a value, and the answer is what `shown` gives of that value
-pub record IsReadAs {P X : Type 0} (cells : P → Row) (count : ℕ) (shown : P → X) (row : Row) (answer : X) : Type 0 where
-  pub value : P
-  pub is : cells value ≡ columns count row
-  pub shows : answer ≡ shown value
-
--- the same of each of the rows
-pub record AreReadAs {P X : Type 0} (cells : P → Row) (count : ℕ) (shown : P → X) (rows : List Row) (answer : List X) : Type 0 where
-  pub values : List P
-  pub are : map cells values ≡ map (columns count) rows
-  pub shows : answer ≡ map shown values
 
 -- ---- tests
 

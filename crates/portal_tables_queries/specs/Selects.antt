@@ -11,16 +11,10 @@ use Rattle.portal_tables_rows.specs.declared.rows.RowError.{RowError}
 use Rattle.portal_tables_rows.specs.Contents.{Contents}
 use Rattle.portal_tables_rows.specs.First.{HoldsFirst, HasFirst}
 use Rattle.portal_tables_rows.specs.Foreign.{NotForeign, BlamesForeign}
-use Rattle.portal_tables_queries.specs.Asks.{Anything}
+use Rattle.portal_tables_sql.specs.Asks.{Anything}
 
--- A SELECT: if the disk is clean, Is holds of the rows of the six tables and the result. It writes nothing.
-pub record SelectsFirst {S A E : Type 0} (g : Ghosts S) (old new : Held S) (result : Result A E) (Is : Contents → A → Type 0) : Type 0 where
-  pub rows : HasCleanDisk (state g new) → (t : Contents) → HoldsFirst (state g old).now t → IfOk result (Is t)
-  pub looks : Looks HasFirst result (state g old) (state g new)
-  pub always : Looks Anything result (state g old) (state g new)
-
--- The same of rows that are read as values. If Own holds of the rows of the tables, the call does not give
--- ForeignRow.
+-- Rows that are read as values: if the disk is clean, Is holds of the rows of the six tables and what is read. It
+-- writes nothing. If Own holds of the rows of the tables, the call does not give ForeignRow.
 pub record ReadsFirst {S A : Type 0} (g : Ghosts S) (old new : Held S) (result : Result A RowError) (Is : Contents → A → Type 0) (Own : Contents → Type 0) : Type 0 where
   pub found : HasCleanDisk (state g new) → (t : Contents) → HoldsFirst (state g old).now t → IfOk result (Is t)
   pub looks : Looks HasFirst result (state g old) (state g new)

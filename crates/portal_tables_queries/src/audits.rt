@@ -18,6 +18,7 @@ use crate::grants::GrantValue;
 use crate::sums::{count_uses_by_code, sum_totals, uses_of_code};
 use crate::whole::{read_all_counts, read_all_totals};
 use portal_codes::Code;
+use portal_model::proof::witness;
 use portal_tables_rows::column_values::Total;
 use portal_tables_rows::finds::read_head_row;
 use portal_tables_rows::rows::{CountValue, HeadValue, RowError, VoucherValue};
@@ -63,7 +64,7 @@ fn counted_codes(alloc: Global, counts: &[CountValue]) -> Result<HashSet<Code>, 
     let mut codes = HashSet::new(alloc);
     for count in counts {
         // Its signs tell that it is a code.
-        let _ = count.code.signs();
+        witness(count.code.signs());
         codes.insert(count.code)?;
     }
     Ok(codes)
@@ -75,7 +76,7 @@ fn is_code_among(codes: &HashSet<Code>, voucher: &VoucherValue) -> bool
         → result ≡ has_count counts (voucher_read voucher.now) }
 {
     // Its signs tell that it is a code.
-    let _ = voucher.code.signs();
+    witness(voucher.code.signs());
     codes.contains(&voucher.code)
 }
 

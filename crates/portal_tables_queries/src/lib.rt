@@ -5,8 +5,5 @@ pub mod audits;
 pub mod counted_rows;
 pub mod grants;
 pub mod lists;
-mod query;
-mod reads;
-mod scans;
 pub mod sums;
 pub mod whole;

@@ -4,20 +4,16 @@
 ghost use Rattle.std.specs.Prelude.{◌≡◌, IfOk, IsSome, List, map, filter, true, bytes_eq, All};
 ghost use Rattle.portal_codes.specs.Code.{IsCode, text_of};
 ghost use Rattle.portal_model.specs.Rows.{VoucherRow, TotalRow};
-ghost use Rattle.portal_tables_sql.specs.Finds.{columns};
-ghost use Rattle.portal_tables_rows.specs.Contents.{voucher_cells};
 ghost use Rattle.portal_tables_rows.specs.Foreign.{AreOwn, IsOwnRefund, IsOwnTotal, IsOwnVoucher, NotForeign};
-ghost use Rattle.portal_tables_rows.specs.Foreign.{AreOfOwn, SparesOwn};
+ghost use Rattle.portal_tables_rows.specs.Foreign.{IsOfOwn};
 ghost use Rattle.portal_tables_rows.specs.Selects.{ReadsRow};
 ghost use Rattle.portal_tables_queries.specs.Lists.{
   Lists,
   ListsAs,
-  IsReadAs,
-  AreReadAs,
   is_within,
   may_be_open,
 };
-ghost use Rattle.portal_tables_queries.specs.Lists.{numbers_open};
+ghost use Rattle.portal_tables_queries.specs.Lists.{numbers_open, IsOwnSale, sale_cells};
 ghost use Rattle.portal_tables_queries.specs.Lists.{
   by_place,
   by_refund,
@@ -30,14 +26,15 @@ ghost use Rattle.portal_tables_queries.specs.Lists.{refund_columns, refund_read}
 ghost use Rattle.portal_tables_rows.specs.Read.{voucher_read};
 ghost use Rattle.portal_tables_rows.specs.Steps.{ends_row};
 
-use crate::reads::query_values;
+use crate::whole::TOTALS;
 use portal_codes::Code;
 use portal_model::moment::Moment;
 use portal_model::name::Id;
+use portal_model::proof::witness;
 use portal_tables_rows::column_values::Total;
 use portal_tables_rows::from_row::FromRow;
-use portal_tables_rows::queries::select_batch_vouchers;
-use portal_tables_rows::rows::{RowError, VoucherValue};
+use portal_tables_rows::queries::read_many;
+use portal_tables_rows::rows::{RowError, VoucherValue, id_in, moment_in};
 use sqlite::{Alter, Connection, Row, params};
 use std::alloc::Global;
 
@@ -48,28 +45,54 @@ pub struct SaleValue {
     pub at: Moment,
 }
 
-/// Reads the code in a row of `portal_vouchers`.
-fn read_voucher_code(row: &Row) -> Result<Code, RowError>
-    ensures read { IfOk result (λ code. IsReadAs voucher_cells 6 (λ v. v.code) row.now (text_of code)) }
-    ensures code { IfOk result IsCode }
-    ensures own { SparesOwn voucher_cells IsOwnVoucher (columns 6 row.now) result }
-{
-    let voucher = VoucherValue::from_row(row)?;
-    // The contract of `text` says that this is a code.
-    let _ = voucher.code.text();
-    Ok(voucher.code)
+impl FromRow for SaleValue {
+    ghost cells = { λ sale. sale_cells (sale_read sale) };
+
+    ghost width = { 2 };
+
+    ghost proper = { λ _. Unit {0} };
+
+    ghost own = { IsOfOwn sale_cells IsOwnSale };
+
+    /// Reads the batch and the time of a sale from two columns.
+    fn from_row(row: &Row) -> Result<SaleValue, RowError> {
+        Ok(SaleValue {
+            batch: id_in(row, 0)?,
+            at: moment_in(row, 1)?,
+        })
+    }
 }
 
-/// Reads the codes in these rows of `portal_vouchers`, in this order.
-fn read_voucher_codes(alloc: Global, rows: &[Row]) -> Result<Vec<Code>, RowError>
+/// The vouchers of a batch, ordered by place.
+const BATCH_VOUCHERS: &str = "SELECT code, batch_id, place, sold, refunded, amount \
+         FROM portal_vouchers WHERE batch_id = ?1 ORDER BY place";
+
+/// The batch and the time of the sales between two times, in the order of issue.
+const SALES_AS_ISSUED: &str =
+    "SELECT batch_id, sold FROM portal_vouchers WHERE sold >= ?1 AND sold <= ?2 ORDER BY rowid";
+
+/// The vouchers that were sold between two times, by the time of sale.
+const SOLD_VOUCHERS: &str =
+    "SELECT code, batch_id, place, sold, refunded, amount FROM portal_vouchers \
+         WHERE sold >= ?1 AND sold <= ?2 ORDER BY sold, code";
+
+/// The vouchers that were refunded between two times, by the time of refund.
+const REFUNDED_VOUCHERS: &str =
+    "SELECT code, batch_id, place, sold, refunded, amount FROM portal_vouchers \
+         WHERE refunded >= ?1 AND refunded <= ?2 ORDER BY refunded, code";
+
+/// Returns the codes of these vouchers, in this order. The only error is out of memory.
+fn codes_of_vouchers(alloc: Global, vouchers: &[VoucherValue]) -> Result<Vec<Code>, RowError>
     ensures read { IfOk result
-        (λ codes. AreReadAs voucher_cells 6 (λ v. v.code) rows.now (map text_of codes.items)) }
+        (λ codes. map text_of codes.items ≡ map (λ v. (voucher_read v).code) vouchers.now) }
     ensures codes { IfOk result (λ codes. All IsCode codes.items) }
-    ensures own { AreOfOwn voucher_cells 6 IsOwnVoucher rows.now → NotForeign result }
+    ensures memory { NotForeign result }
 {
     let mut codes = Vec::new(alloc);
-    for row in rows {
-        codes.push(read_voucher_code(row)?)?;
+    for voucher in vouchers {
+        // The contract of `text` says that this is a code.
+        witness(voucher.code.text());
+        codes.push(voucher.code)?;
     }
     Ok(codes)
 }
@@ -165,8 +188,13 @@ pub fn list_batch_codes<S: Alter>(
         (map text_of codes.items))
         (λ t. AreOwn IsOwnVoucher t.vouchers) }
 {
-    let rows = select_batch_vouchers(conn, batch)?;
-    Ok(read_voucher_codes(alloc, &rows)?)
+    let vouchers: Vec<VoucherValue> = read_many(
+        alloc,
+        conn,
+        BATCH_VOUCHERS,
+        params![batch.text()],
+    )?;
+    Ok(codes_of_vouchers(alloc, &vouchers)?)
 }
 
 /// Lists the numbers of the sessions that may be open at the time `at`, ascending. Every other session
@@ -181,12 +209,7 @@ pub fn list_open_numbers<S: Alter>(
         × (numbers.items ≡ numbers_open at totals))
         (λ t. AreOwn IsOwnTotal t.totals) }
 {
-    let totals: Vec<Total> = query_values(
-        alloc,
-        conn,
-        "SELECT number, ends, remaining FROM portal_totals ORDER BY number",
-        &[],
-    )?;
+    let totals: Vec<Total> = read_many(alloc, conn, TOTALS, &[])?;
     Ok(numbers_of_open(alloc, &totals, at)?)
 }
 
@@ -202,10 +225,10 @@ pub fn list_sales_as_issued<S: Alter>(
         ≡ map sale_columns (filter (λ v. is_within from to v.sold) t.vouchers))
         (λ t. AreOwn IsOwnVoucher t.vouchers) }
 {
-    query_values(
+    read_many(
         alloc,
         conn,
-        "SELECT batch_id, sold FROM portal_vouchers WHERE sold >= ?1 AND sold <= ?2 ORDER BY rowid",
+        SALES_AS_ISSUED,
         params![from.get() as i64, to.get() as i64],
     )
 }
@@ -223,11 +246,10 @@ pub fn list_sales_by_moment<S: Alter>(
         (map sale_read sales.items))
         (λ t. AreOwn IsOwnVoucher t.vouchers) }
 {
-    let vouchers: Vec<VoucherValue> = query_values(
+    let vouchers: Vec<VoucherValue> = read_many(
         alloc,
         conn,
-        "SELECT code, batch_id, place, sold, refunded, amount FROM portal_vouchers \
-         WHERE sold >= ?1 AND sold <= ?2 ORDER BY sold, code",
+        SOLD_VOUCHERS,
         params![from.get() as i64, to.get() as i64],
     )?;
     Ok(sales_of_vouchers(alloc, &vouchers)?)
@@ -246,11 +268,10 @@ pub fn list_refunds<S: Alter>(
         (map refund_read refunds.items))
         (λ t. AreOwn IsOwnVoucher t.vouchers) }
 {
-    let vouchers: Vec<VoucherValue> = query_values(
+    let vouchers: Vec<VoucherValue> = read_many(
         alloc,
         conn,
-        "SELECT code, batch_id, place, sold, refunded, amount FROM portal_vouchers \
-         WHERE refunded >= ?1 AND refunded <= ?2 ORDER BY refunded, code",
+        REFUNDED_VOUCHERS,
         params![from.get() as i64, to.get() as i64],
     )?;
     Ok(refunds_of_vouchers(alloc, &vouchers)?)

@@ -26,6 +26,7 @@ use portal_codes::Code;
 use portal_model::moment::Moment;
 use portal_model::name::Id;
 use portal_model::plan::Plan;
+use portal_model::proof::witness;
 use portal_tables_rows::column_values::Total;
 use portal_tables_rows::rows::{CountValue, RowError, SessionValue, VoucherValue};
 use std::alloc::Global;
@@ -60,7 +61,7 @@ pub(crate) fn uses_of_code(uses: &HashMap<Code, u64>, code: &Code) -> u64
     ensures code { IsCode code.now }
 {
     // Its signs tell that it is a code.
-    let _ = code.signs();
+    witness(code.signs());
     uses.get(code).copied().unwrap_or(0)
 }
 

@@ -1,4 +1,5 @@
-//! Reads whole tables as values, in the order of the rowids.
+//! Reads whole tables as values, in the order of the rowids, which are the numbers of sessions and
+//! redemptions.
 
 ghost use Rattle.std.specs.Prelude.{◌≡◌, map};
 ghost use Rattle.portal_tables_rows.specs.Foreign.{AreOwn, IsOwnBatch, IsOwnCount, IsOwnGrant, IsOwnPlan};
@@ -11,16 +12,38 @@ ghost use Rattle.portal_tables_queries.specs.Selects.{ReadsFirst};
 ghost use Rattle.portal_tables_queries.specs.Sums.{grant_read};
 
 use crate::grants::GrantValue;
-use crate::reads::read_each_row;
-use crate::scans::{
-    select_all_batches, select_all_counts, select_all_grants, select_all_plans,
-    select_all_sessions, select_all_totals, select_all_vouchers,
-};
 use portal_model::plan::Plan;
 use portal_model::record::Batch;
 use portal_tables_rows::column_values::Total;
+use portal_tables_rows::queries::read_table;
 use portal_tables_rows::rows::{CountValue, RowError, SessionValue, VoucherValue};
 use sqlite::{Alter, Connection};
+
+/// All plans.
+const PLANS: &str =
+    "SELECT id, price, uses, seconds, bytes, shelf_days, extend FROM portal_plans ORDER BY rowid";
+
+/// All batches.
+const BATCHES: &str =
+    "SELECT id, plan_id, issued, expires, size FROM portal_batches ORDER BY rowid";
+
+/// All vouchers.
+const VOUCHERS: &str =
+    "SELECT code, batch_id, place, sold, refunded, amount FROM portal_vouchers ORDER BY rowid";
+
+/// All sessions.
+const SESSIONS: &str =
+    "SELECT number, device, plan_id, opened, used, closed FROM portal_sessions ORDER BY number";
+
+/// All redemptions.
+const GRANTS: &str =
+    "SELECT number, code, session, moment, seconds, bytes FROM portal_grants ORDER BY number";
+
+/// The counts of all vouchers.
+const COUNTS: &str = "SELECT code, redeemed FROM portal_counts ORDER BY rowid";
+
+/// The ends and the remaining allowances of all sessions.
+pub(crate) const TOTALS: &str = "SELECT number, ends, remaining FROM portal_totals ORDER BY number";
 
 /// Reads all plans.
 pub fn read_all_plans<S: Alter>(conn: &mut Connection<S>) -> Result<Vec<Plan>, RowError>
@@ -28,8 +51,7 @@ pub fn read_all_plans<S: Alter>(conn: &mut Connection<S>) -> Result<Vec<Plan>, R
         (λ t plans. plans.items ≡ t.plans)
         (λ t. AreOwn IsOwnPlan t.plans) }
 {
-    let rows = select_all_plans(conn)?;
-    read_each_row(*rows.allocator(), &rows)
+    read_table(conn, PLANS)
 }
 
 /// Reads all batches.
@@ -38,8 +60,7 @@ pub fn read_all_batches<S: Alter>(conn: &mut Connection<S>) -> Result<Vec<Batch>
         (λ t batches. batches.items ≡ t.batches)
         (λ t. AreOwn IsOwnBatch t.batches) }
 {
-    let rows = select_all_batches(conn)?;
-    read_each_row(*rows.allocator(), &rows)
+    read_table(conn, BATCHES)
 }
 
 /// Reads the rows of all vouchers.
@@ -48,8 +69,7 @@ pub fn read_all_vouchers<S: Alter>(conn: &mut Connection<S>) -> Result<Vec<Vouch
         (λ t vouchers. map voucher_read vouchers.items ≡ t.vouchers)
         (λ t. AreOwn IsOwnVoucher t.vouchers) }
 {
-    let rows = select_all_vouchers(conn)?;
-    read_each_row(*rows.allocator(), &rows)
+    read_table(conn, VOUCHERS)
 }
 
 /// Reads the rows of all sessions.
@@ -58,8 +78,7 @@ pub fn read_all_sessions<S: Alter>(conn: &mut Connection<S>) -> Result<Vec<Sessi
         (λ t sessions. map session_read sessions.items ≡ t.sessions)
         (λ t. AreOwn IsOwnSession t.sessions) }
 {
-    let rows = select_all_sessions(conn)?;
-    read_each_row(*rows.allocator(), &rows)
+    read_table(conn, SESSIONS)
 }
 
 /// Reads the rows of all redemptions.
@@ -68,8 +87,7 @@ pub fn read_all_grants<S: Alter>(conn: &mut Connection<S>) -> Result<Vec<GrantVa
         (λ t grants. map grant_read grants.items ≡ t.grants)
         (λ t. AreOwn IsOwnGrant t.grants) }
 {
-    let rows = select_all_grants(conn)?;
-    read_each_row(*rows.allocator(), &rows)
+    read_table(conn, GRANTS)
 }
 
 /// Reads how often each voucher was redeemed.
@@ -78,8 +96,7 @@ pub fn read_all_counts<S: Alter>(conn: &mut Connection<S>) -> Result<Vec<CountVa
         (λ t counts. map count_read counts.items ≡ t.counts)
         (λ t. AreOwn IsOwnCount t.counts) }
 {
-    let rows = select_all_counts(conn)?;
-    read_each_row(*rows.allocator(), &rows)
+    read_table(conn, COUNTS)
 }
 
 /// Reads the end of each session and its remaining allowance.
@@ -88,6 +105,5 @@ pub fn read_all_totals<S: Alter>(conn: &mut Connection<S>) -> Result<Vec<Total>,
         (λ t totals. map ends_row totals.items ≡ t.totals)
         (λ t. AreOwn IsOwnTotal t.totals) }
 {
-    let rows = select_all_totals(conn)?;
-    read_each_row(*rows.allocator(), &rows)
+    read_table(conn, TOTALS)
 }

@@ -1,5 +1,5 @@
 -- How the statements of a transaction compose.
-use Rattle.portal_tables_rows.proofs.Common.{take_more, map-append, ◌≡◌, true, false, IsTrue, ℕ, ◌+◌, ◌<◌, map, take, get_or, List, [], ◌∷◌, ◌++◌, length, refl, sym, ap, subst, subst₂, ◌∙◌, arith, add-zero, zero-add, add_assoc, add-suc, one-add, append_assoc, append-nil, Ghosts, Held, state, State, HasCleanDisk, Shows, Survives, survives_begin, Plan, new_vouchers, new_counts, Contents, CrashStateHoldsRows, KeepsOthers, CrashStateHasOthers, MakesRows, CommitsRows, MayCommitRows, new_voucher, count_row, with_plan, with_plans, with_voucher, with_vouchers, with_count, with_counts}
+use Rattle.portal_tables_rows.proofs.Common.{take_more, map-append, ◌≡◌, true, false, IsTrue, ℕ, ◌+◌, ◌<◌, map, take, get_or, List, [], ◌∷◌, ◌++◌, length, refl, sym, ap, subst, subst₂, ◌∙◌, arith, add-zero, zero-add, add_assoc, add-suc, one-add, append_assoc, append-nil, ap₂, Ghosts, Held, state, State, HasCleanDisk, Shows, Survives, survives_begin, Plan, new_vouchers, new_counts, Contents, CrashStateHoldsRows, KeepsOthers, CrashStateHasOthers, MakesRows, CommitsRows, MayCommitRows, new_voucher, count_row, with_plan, with_plans, with_voucher, with_vouchers, with_count, with_counts}
 use Rattle.sqlite.proofs.StateLemmas.{survives_then}
 use Rattle.portal_tables_rows.proofs.OthersLemmas.{others_none, others_then}
 
@@ -54,6 +54,11 @@ more_items xs at x within is = take_more xs at x within ∙ ap (λ y. take at xs
 
 pub more_mapped : {X Y : Type 0} (f : X → Y) (xs : List X) (at : ℕ) (x : X) → at < length xs → x ≡ get_or xs at x → map f (take (at + 1) xs) ≡ map f (take at xs) ++ f x ∷ []
 more_mapped f xs at x within is = ap (map f) (more_items xs at x within is) ∙ map-append f (take at xs) (x ∷ [])
+
+-- one element more is made of one element more
+pub made_more : {X Y Z : Type 0} (f : X → Z) (h : Y → Z) (made new : List X) (x : X) (ys : List Y) (i : ℕ) (y : Y)
+    → map f made ≡ map h (take i ys) → new ≡ made ++ x ∷ [] → i < length ys → y ≡ get_or ys i y → f x ≡ h y → map f new ≡ map h (take (i + 1) ys)
+made_more f h made new x ys i y so_far grown within is one = ap (map f) grown ∙ map-append f made (x ∷ []) ∙ ap₂ ◌++◌ so_far (ap (λ z. z ∷ []) one) ∙ sym (more_mapped h ys i y within is)
 
 pub plans_none : (a : State) → IsTrue a.in_transaction → MakesRows (with_plans []) a a
 plans_none a inside = steps_same (λ t. t) (with_plans []) a a (λ t. ap (λ ps. record t { plans = ps }) (sym (append-nil t.plans))) (steps_none a inside)

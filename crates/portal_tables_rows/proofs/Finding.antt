@@ -1,8 +1,10 @@
 -- From the first row of a result to the value that is read.
-use Rattle.portal_tables_rows.proofs.Common.{◌≡◌, ℕ, List, map, filter, take, slice_get, Option, Some, None, Result, Ok, Err, is_eq, true, subst, IsPermutation, Value, Row, column, value_cmp, Ghosts, Held, state, HasCleanDisk, number, Finds, FindsLast, IsSelection, by_column, columns, has_key, finds_some, finds_none, finds_last, finds_no_last, reads_fails, Contents, AreOwn, IsOfOwn, Holds, HasTables}
-use Rattle.portal_tables_sql.specs.Looks.{ReadsOnly}
+use Rattle.portal_tables_rows.proofs.Common.{◌≡◌, ℕ, List, map, filter, take, slice_get, Option, Some, None, Result, is_eq, true, IfOk-weaker, IsPermutation, Schema, Shown, IsPlain, understood, looks_weaker, Value, Row, column, value_cmp, Ghosts, Held, state, number, Finds, FindsLast, IsSelection, by_column, columns, has_key, finds_some, finds_none, finds_last, finds_no_last, Contents, AreOwn, IsOfOwn, Holds, HasTables}
+use Rattle.std.specs.Prelude.{MatchOption}
 use Rattle.portal_tables_rows.specs.declared.rows.RowError.{RowError}
-use Rattle.portal_tables_rows.specs.Selects.{ReadsFirstRow, ReadsRow}
+use Rattle.portal_tables_rows.specs.Selects.{ReadsOne, ReadsRow}
+use Rattle.portal_tables_sql.specs.Asks.{Asks}
+use Rattle.portal_tables_sql.proofs.AskLemmas.{plain_asks}
 use Rattle.portal_tables_rows.proofs.Foreign.{of_first, of_last}
 
 -- what the first row gives, if it is read as a value with its cells
@@ -11,19 +13,22 @@ pub record Tells {T : Type 0} (cells : T → Row) (width : ℕ) (own : Row → T
   pub none : slice_get rows 0 ≡ None → Is None
   pub owns : Own → (row : Row) → slice_get rows 0 ≡ Some row → own (columns width row)
 
-module _ {S T : Type 0} (g : Ghosts S) {old new : Held S} {cells : T → Row} {width : ℕ} {proper : T → Type 0} {own : Row → Type 0} {rows : List Row} {Is : Contents → Option T → Type 0} {Own : Contents → Type 0}
-    (looks : ReadsOnly HasTables (state g old) (state g new)) (tells : HasCleanDisk (state g new) → (t : Contents) → Holds (state g old).now t → Tells cells width own rows (Is t) (Own t)) where
-  read_first : (result : Result (Option T) RowError) → ReadsFirstRow cells width proper own rows result → ReadsRow g old new result Is Own
-  read_first (Ok (Some x)) first = record { found = λ clean t h. (tells clean t h).some first.found.0 x first.found.1 first.found.2; looks = looks; foreign = λ clean t h own. tt }
-  read_first (Ok None) first = record { found = λ clean t h. (tells clean t h).none first.found; looks = looks; foreign = λ clean t h own. tt }
-  read_first (Err e) first = record {
-    found = λ clean t h. tt;
-    looks = reads_fails HasTables _ _ looks;
-    foreign = λ clean t h owns. first.own ((tells clean t h).owns owns);
-  }
+-- the row that was found, by what it tells
+told : {T : Type 0} {cells : T → Row} {width : ℕ} {own : Row → Type 0} {rows : List Row} {Is : Option T → Type 0} {Own : Type 0} → Tells cells width own rows Is Own → (found : Option T)
+    → MatchOption found (slice_get rows 0 ≡ None) (λ x. (row : Row) × (slice_get rows 0 ≡ Some row) × (cells x ≡ columns width row)) → Is found
+told tells None none = tells.none none
+told tells (Some x) it = tells.some it.0 x it.1 it.2
 
-  pub finds_first : {shown : List Row} {result : Result (Option T) RowError} → shown ≡ rows → ReadsFirstRow cells width proper own shown result → ReadsRow g old new result Is Own
-  finds_first {result = result} same first = read_first result (subst (λ all. ReadsFirstRow cells width proper own all result) same first)
+-- from what a text means to the row that is read
+pub reads_one : {S T : Type 0} (g : Ghosts S) {old new : Held S} {cells : T → Row} {width : ℕ} {proper : T → Type 0} {own : Row → Type 0} (sql : List ℕ) (params : Row) {result : Result (Option T) RowError}
+    {Is : Contents → Option T → Type 0} {Own : Contents → Type 0} → ((schema : Schema) → HasTables schema → IsPlain (understood schema sql))
+    → ((rows : List Row) → Shown sql params (state g old) (state g new) rows → (t : Contents) → Holds (state g old).now t → Tells cells width own rows (Is t) (Own t))
+    → ReadsOne g cells width proper own sql params old new result → ReadsRow g old new result Is Own
+reads_one g sql params {result = result} plain tells one = record {
+  found = λ clean t h. IfOk-weaker result _ _ (λ found it. told (tells it.0 it.1 t h) found it.2) (one.rows clean);
+  looks = looks_weaker (Asks sql) HasTables (λ schema has. plain_asks sql schema (plain schema has)) result _ _ one.looks;
+  foreign = λ clean t h own. one.own clean (λ rows shown. (tells rows shown t h).owns own);
+}
 
 module _ {P T K : Type 0} (cells : P → Row) (n : ℕ) (all : (p : P) → columns n (cells p) ≡ cells p) (exact : (a b : P) → cells a ≡ cells b → a ≡ b) (read : T → P) (IsOwn : P → Type 0)
     (at : ℕ) (key : P → K) (k : K) (cell : K → Value) (keyed : (p : P) → column (cells p) at ≡ cell (key p))

@@ -15,7 +15,6 @@ pub mod RequestReading
 pub mod RequestSteps
 pub mod RequestTexts
 pub mod SelectTexts
-pub mod SelectsLemmas
 pub mod TableSteps
 pub mod UpdateSteps
 pub mod UpdateTexts

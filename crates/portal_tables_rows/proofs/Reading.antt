@@ -1,5 +1,5 @@
 -- The result of each SELECT, by the rows that the tables hold.
-use Rattle.portal_tables_rows.proofs.Common.{◌≡◌, ℕ, List, [], ◌∷◌, map, filter, take, refl, subst, Equal, lit<, lit≤, IsPermutation, Text, Row, Schema, understood, State, Shown, IsPlain, number, has_key, by_column, IsSelection, selected, first_selected, key_tests, literal_tests, orders_by, orders_down, head, plans, batches, vouchers, sessions, counts, totals, Contents, head_cells, plan_cells, batch_cells, voucher_cells, session_cells, count_cells, total_cells, Holds, HasTables}
+use Rattle.portal_tables_rows.proofs.Common.{◌≡◌, ℕ, List, [], ◌∷◌, map, filter, take, refl, subst, Equal, lit<, lit≤, IsPermutation, Text, Row, Schema, understood, State, Shown, IsPlain, number, has_key, by_column, IsSelection, selected, first_selected, key_tests, literal_tests, orders_down, head, plans, batches, vouchers, sessions, counts, totals, Contents, head_cells, plan_cells, batch_cells, voucher_cells, session_cells, count_cells, total_cells, Holds, HasTables}
 use Rattle.portal_tables_rows.proofs.Cells.{heads_in, plans_in, batches_in, vouchers_in, sessions_in, counts_in, totals_in}
 use Rattle.portal_tables_rows.proofs.SelectTexts as texts
 
@@ -84,15 +84,3 @@ last_session_rows_are old new device rows shown t h =
     let it = first_selected texts.last_session_text table _ _ (Text device ∷ []) old new texts.session_columns (has_key 1 (Text device)) (key_tests table 1 (Text device) [] (lit< tt) refl) (λ a b. by_column 0 b a)
     (orders_down table 0 (Text device ∷ []) (lit< tt)) (texts.last_session_means old.now.schema place.at place.tree h.tables_exist.sessions.exists) rows shown in
     (it.0, subst (λ xs. IsSelection (has_key 1 (Text device)) (λ a b. by_column 0 b a) xs it.0) (sessions_in old.now.trees place.tree t.sessions h.store.sessions) it.1, it.2)
-
-pub batch_vouchers_plain : (schema : Schema) → HasTables schema → IsPlain (understood schema texts.batch_vouchers_text)
-batch_vouchers_plain schema h = let place = h.0.vouchers in (texts.batch_vouchers_means schema place.at place.tree h.1.vouchers.exists).plain
-
-pub batch_vouchers_rows_are : (old new : State) (batch : List ℕ) (rows : List Row) → Shown texts.batch_vouchers_text (Text batch ∷ []) old new rows → (t : Contents) → Holds old.now t
-    → IsSelection (has_key 1 (Text batch)) (by_column 2) (map voucher_cells t.vouchers) rows
-batch_vouchers_rows_are old new batch rows shown t h =
-    let place = h.places.vouchers in
-    let table = vouchers place.tree in
-    let it = selected texts.batch_vouchers_text table _ _ (Text batch ∷ []) old new texts.voucher_columns (has_key 1 (Text batch)) (key_tests table 1 (Text batch) [] (lit< tt) refl) (by_column 2)
-    (orders_by table 2 (Text batch ∷ []) (lit< tt)) (texts.batch_vouchers_means old.now.schema place.at place.tree h.tables_exist.vouchers.exists) rows shown in
-    subst (λ xs. IsSelection (has_key 1 (Text batch)) (by_column 2) xs rows) (vouchers_in old.now.trees place.tree t.vouchers h.store.vouchers) it

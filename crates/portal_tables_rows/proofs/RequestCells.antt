@@ -1,5 +1,5 @@
 -- The rows of portal_requests, as SELECT gives them, are the cells of its values, and these determine the values.
-use Rattle.portal_tables_rows.proofs.Common.{◌≡◌, ℕ, List, ◌∷◌, map, Option, Some, None, refl, ap, Int, Text, column, Trees, Stores, less_rowid, fields, rows_in, opens_keyed, rows_shown, exact_null, RequestRow, requests, request_cells, text_or_null}
+use Rattle.portal_tables_rows.proofs.Common.{◌≡◌, ℕ, List, ◌∷◌, map, Option, Some, None, refl, ap, Int, column, Trees, Stores, less_rowid, fields, rows_in, opens_keyed, rows_shown, exact_null, RequestRow, requests, request_cells, text_or_null}
 use Rattle.sqlite.specs.Values.{bound_value}
 use Rattle.sqlite.specs.Cast.{cast}
 use Rattle.sqlite.specs.Kind.TheVariants as kind

@@ -1,5 +1,5 @@
 -- What the SELECT statements mean, wherever the tables are in the schema.
-use Rattle.portal_tables_rows.proofs.Common.{ℕ, pos, negsuc, List, [], ◌∷◌, codes, Some, None, refl, true, false, Int, lit, col, Schema, Binary, TableExists, drafted, unlimited, IsSelect, all_columns, column_is, by, select_means, where_is, up, down, head, plans, batches, vouchers, sessions, counts, totals, head_name, plans_name, batches_name, vouchers_name, sessions_name, counts_name, totals_name}
+use Rattle.portal_tables_rows.proofs.Common.{ℕ, pos, negsuc, List, [], ◌∷◌, codes, Some, None, refl, true, Int, lit, col, Schema, Binary, TableExists, drafted, unlimited, IsSelect, all_columns, column_is, by, select_means, where_is, down, head, plans, batches, vouchers, sessions, counts, totals, head_name, plans_name, batches_name, vouchers_name, sessions_name, counts_name, totals_name}
 use Rattle.sqlite_tied.specs.Compute.{everything}
 use Rattle.sqlite_ast.specs.declared.Expr.TheVariants as expr
 
@@ -102,14 +102,4 @@ unfolding everything
 last_session_means schema at tree exists =
     select_means schema last_session_text sessions_name session_columns (where_is (codes "device") (expr.Parameter 1)) (down (codes "number")) (Some (expr.Integer (codes "1"))) 1 (lit (Int (pos 1)), lit (Int (pos 0)))
     (drafted tree (column_is (sessions tree) 1 (col 0 0) ∷ []) (all_columns (sessions tree)) (by (sessions tree) 0 true) (pos 1)) (None ∷ Some Binary ∷ Some Binary ∷ Some Binary ∷ Some Binary ∷ Some Binary ∷ []) (record { parsed = _; read = refl; is = refl; timeless = refl; counted = refl }) refl refl
-    (simp (exists.named, exists.there) refl) (simp (exists.low, exists.typed) refl) refl (λ base. refl)
-
-abbrev pub batch_vouchers_text : List ℕ
-batch_vouchers_text = codes "SELECT code, batch_id, place, sold, refunded, amount FROM portal_vouchers WHERE batch_id = ?1 ORDER BY place"
-
-pub batch_vouchers_means : (schema : Schema) (at tree : ℕ) → TableExists schema at (vouchers tree) → IsSelect schema batch_vouchers_text (vouchers tree) (column_is (vouchers tree) 1 (col 0 0) ∷ []) (by (vouchers tree) 2 false) unlimited voucher_columns
-unfolding everything
-batch_vouchers_means schema at tree exists =
-    select_means schema batch_vouchers_text vouchers_name voucher_columns (where_is (codes "batch_id") (expr.Parameter 1)) (up (codes "place")) None 1 (lit (Int (negsuc 0)), lit (Int (pos 0)))
-    (drafted tree (column_is (vouchers tree) 1 (col 0 0) ∷ []) (all_columns (vouchers tree)) (by (vouchers tree) 2 false) unlimited) (Some Binary ∷ Some Binary ∷ Some Binary ∷ Some Binary ∷ Some Binary ∷ Some Binary ∷ []) (record { parsed = _; read = refl; is = refl; timeless = refl; counted = refl }) refl refl
     (simp (exists.named, exists.there) refl) (simp (exists.low, exists.typed) refl) refl (λ base. refl)

@@ -13,18 +13,42 @@ ghost use Rattle.portal_tables_rows.specs.Steps.{ends_row};
 ghost use Rattle.portal_tables_rows.specs.Read.{head_read, voucher_read, session_read, count_read};
 ghost use Rattle.portal_tables_rows.specs.Selects.{ReadsRow};
 
-use crate::column_values::Total;
-use crate::from_row::read_first_row;
-use crate::queries::{
-    select_batch, select_count, select_head, select_last_session, select_plan, select_session,
-    select_total, select_voucher,
-};
+use crate::column_values::{PrintedText, Total};
+use crate::queries::read_one;
 use crate::rows::{CountValue, HeadValue, RowError, SessionValue, VoucherValue};
 use portal_codes::Code;
 use portal_model::name::{Device, Id};
 use portal_model::plan::Plan;
 use portal_model::record::Batch;
-use sqlite::{Alter, Connection};
+use sqlite::{Alter, Connection, params};
+
+/// The head row.
+const HEAD: &str = "SELECT id, layout, last_moment, grants, sessions FROM portal_head WHERE id = 1";
+
+/// The plan with an id.
+const PLAN: &str =
+    "SELECT id, price, uses, seconds, bytes, shelf_days, extend FROM portal_plans WHERE id = ?1";
+
+/// The batch with an id.
+const BATCH: &str = "SELECT id, plan_id, issued, expires, size FROM portal_batches WHERE id = ?1";
+
+/// The voucher with a code.
+const VOUCHER: &str =
+    "SELECT code, batch_id, place, sold, refunded, amount FROM portal_vouchers WHERE code = ?1";
+
+/// The session with a number.
+const SESSION: &str =
+    "SELECT number, device, plan_id, opened, used, closed FROM portal_sessions WHERE number = ?1";
+
+/// How often the voucher with a code was redeemed.
+const COUNT: &str = "SELECT code, redeemed FROM portal_counts WHERE code = ?1";
+
+/// The end and the remaining allowance of the session with a number.
+const TOTAL: &str = "SELECT number, ends, remaining FROM portal_totals WHERE number = ?1";
+
+/// The device's session with the greatest number.
+const LAST_SESSION: &str = "SELECT number, device, plan_id, opened, used, closed \
+         FROM portal_sessions WHERE device = ?1 ORDER BY number DESC LIMIT 1";
 
 /// Reads the head row: the schema version, the time of the last command, and the numbers of redemptions
 /// and sessions.
@@ -33,8 +57,7 @@ pub fn read_head_row<S: Alter>(conn: &mut Connection<S>) -> Result<Option<HeadVa
         (λ t found. Finds (λ (x : HeadRow). x.id) 1 t.heads (option_map head_read found))
         (λ t. AreOwn IsOwnHead t.heads) }
 {
-    let rows = select_head(conn)?;
-    read_first_row(&rows)
+    read_one(conn, HEAD, &[])
 }
 
 /// Reads the plan with this id.
@@ -43,8 +66,7 @@ pub fn read_plan_row<S: Alter>(conn: &mut Connection<S>, id: &Id) -> Result<Opti
         (λ t found. Finds (λ (x : Plan). x.id) id.now t.plans found)
         (λ t. AreOwn IsOwnPlan t.plans) }
 {
-    let rows = select_plan(conn, id)?;
-    read_first_row(&rows)
+    read_one(conn, PLAN, params![id.text()])
 }
 
 /// Reads the batch with this id.
@@ -56,8 +78,7 @@ pub fn read_batch_row<S: Alter>(
         (λ t found. Finds (λ (x : Batch). x.id) id.now t.batches found)
         (λ t. AreOwn IsOwnBatch t.batches) }
 {
-    let rows = select_batch(conn, id)?;
-    read_first_row(&rows)
+    read_one(conn, BATCH, params![id.text()])
 }
 
 /// Reads the row of the voucher with this code.
@@ -71,8 +92,14 @@ pub fn read_voucher_row<S: Alter>(
         (option_map voucher_read found))
         (λ t. AreOwn IsOwnVoucher t.vouchers) }
 {
-    let rows = select_voucher(conn, code)?;
-    read_first_row(&rows)
+    let text = code.text();
+    read_one(
+        conn,
+        VOUCHER,
+        params![PrintedText {
+            bytes: text.as_bytes()
+        }],
+    )
 }
 
 /// Reads the row of the session with this number.
@@ -86,8 +113,7 @@ pub fn read_session_row<S: Alter>(
         (λ t found. Finds (λ (x : SessionRow). x.number) number t.sessions (option_map session_read found))
         (λ t. AreOwn IsOwnSession t.sessions) }
 {
-    let rows = select_session(conn, number)?;
-    read_first_row(&rows)
+    read_one(conn, SESSION, params![number as i64])
 }
 
 /// Reads how often the voucher with this code was redeemed.
@@ -100,8 +126,14 @@ pub fn read_count_row<S: Alter>(
         (option_map count_read found))
         (λ t. AreOwn IsOwnCount t.counts) }
 {
-    let rows = select_count(conn, code)?;
-    read_first_row(&rows)
+    let text = code.text();
+    read_one(
+        conn,
+        COUNT,
+        params![PrintedText {
+            bytes: text.as_bytes()
+        }],
+    )
 }
 
 /// Reads the row of `portal_totals` of the session with this number: its end, and its remaining bytes. None
@@ -115,8 +147,7 @@ pub fn read_total_row<S: Alter>(
         (λ t found. Finds (λ (x : TotalRow). x.number) number t.totals (option_map ends_row found))
         (λ t. AreOwn IsOwnTotal t.totals) }
 {
-    let rows = select_total(conn, number)?;
-    read_first_row(&rows)
+    read_one(conn, TOTAL, params![number as i64])
 }
 
 /// Reads the row of the device's last session: the one with the greatest number.
@@ -131,6 +162,6 @@ pub fn read_last_session_row<S: Alter>(
         (λ (x : SessionRow). x.number) t.sessions (option_map session_read found))
         (λ t. AreOwn IsOwnSession t.sessions) }
 {
-    let rows = select_last_session(conn, device)?;
-    read_first_row(&rows)
+    let text = device.text();
+    read_one(conn, LAST_SESSION, params![PrintedText { bytes: &text }])
 }

@@ -9,7 +9,6 @@ ghost use Rattle.portal_tables_rows.specs.Contents.{session_cells, count_cells, 
 ghost use Rattle.portal_tables_rows.specs.Foreign.{IsOfOwn, IsOwnBatch, IsOwnCount, IsOwnHead, IsOwnPlan};
 ghost use Rattle.portal_tables_rows.specs.Foreign.{IsOwnSession, IsOwnTotal, IsOwnVoucher, NotForeign};
 ghost use Rattle.portal_tables_rows.specs.Read.{head_read, voucher_read, session_read, count_read};
-ghost use Rattle.portal_tables_rows.specs.Selects.{ReadsFirstRow};
 ghost use Rattle.portal_tables_rows.specs.Steps.{ends_row};
 
 use crate::column_values::Total;
@@ -187,15 +186,5 @@ impl FromRow for Total {
             ends: moment_or_null_in(row, 1)?,
             remaining: row.get(2)?,
         })
-    }
-}
-
-/// Reads the first of these rows as a value, or returns `None` if there are no rows.
-pub(crate) fn read_first_row<T: FromRow>(rows: &[Row]) -> Result<Option<T>, RowError>
-    ensures { ReadsFirstRow T.cells T.width T.proper T.own rows.now result }
-{
-    match rows.first() {
-        Some(row) => Ok(Some(T::from_row(row)?)),
-        None => Ok(None),
     }
 }

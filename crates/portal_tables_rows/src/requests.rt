@@ -1,29 +1,31 @@
 //! Inserts and reads the idempotent requests in `portal_requests`, by caller and idempotency key.
 
-ghost use Rattle.std.specs.Prelude.{◌≡◌, ◌<◌, ◌^◌, pos, IfOk, IfSome, IsPermutation, filter, map, option_map};
-ghost use Rattle.sqlite.specs.declared.types.Value.TheVariants.{Text};
+ghost use Rattle.std.specs.Prelude.{◌≡◌, ◌<◌, ◌^◌, pos, IfOk, IfSome, option_map};
 ghost use Rattle.portal_ledger.specs.Ledger.{kept_with};
 ghost use Rattle.portal_ledger.specs.Fingerprint.{IsCaller};
 ghost use Rattle.portal_ledger.specs.RequestRow.{IsKeptTyped, row_of_request, text_of_caller};
 ghost use Rattle.portal_tables_sql.specs.Finds.{Finds};
-ghost use Rattle.portal_tables_rows.specs.Keyed.{has_keys};
 ghost use Rattle.portal_tables_rows.specs.Commands.{FitsAnswer};
-ghost use Rattle.portal_tables_rows.specs.Contents.{request_cells};
-ghost use Rattle.portal_tables_rows.specs.Foreign.{AreOwn, IsOwnRequest, NotForeign};
-ghost use Rattle.portal_tables_rows.specs.Requests.{key_of, request_read};
+ghost use Rattle.portal_tables_rows.specs.Foreign.{AreOwn, IsOwnRequest};
+ghost use Rattle.portal_tables_rows.specs.Requests.{key_of};
 ghost use Rattle.portal_tables_rows.specs.Steps.{Writes, with_request};
-ghost use Rattle.portal_tables_rows.specs.Selects.{ReadsRow, Selects};
+ghost use Rattle.portal_tables_rows.specs.Selects.{ReadsRow};
 
 use crate::answers::{CallerText, answer_row};
 use crate::column_values::PrintedText;
+use crate::queries::read_one;
 use crate::rows::RowError;
-use crate::stored_requests::{StoredRequest, parse_request, stored_request_of};
+use crate::stored_requests::{StoredRequest, parse_kept_request};
 use portal_ledger::caller::Caller;
 use portal_ledger::request::{KeptRequest, RequestMark, RequestNumber};
 use portal_model::change::Answer;
-use portal_tables_sql::query::{read_all, write};
-use sqlite::{Alter, Connection, Error, Row, Transaction, params};
+use portal_tables_sql::query::write;
+use sqlite::{Alter, Connection, Error, Transaction, params};
 use std::alloc::Global;
+
+/// The request with a caller and an idempotency key.
+const REQUEST: &str = "SELECT caller, number, method, path, body, kind, word, n1, n2, n3 \
+         FROM portal_requests WHERE caller = ?1 AND number = ?2";
 
 /// Converts an optional number below 2^63 to the integer in a column. `None` is NULL.
 fn integer_or_null(number: Option<u64>) -> Option<i64>
@@ -71,42 +73,6 @@ pub fn insert_request<S: Alter>(
     )
 }
 
-/// Runs the SELECT of the request with this caller and idempotency key.
-fn select_request<S: Alter>(
-    conn: &mut Connection<S>,
-    caller: &[u8],
-    number: &str,
-) -> Result<Vec<Row>, Error>
-    ensures { Selects S.Store conn.old conn.new result
-        (λ t rows. IsPermutation
-        (filter (has_keys 0 (Text caller.now) 1 (Text number.now)) (map request_cells t.requests))
-        rows.items) }
-{
-    read_all(
-        conn,
-        "SELECT caller, number, method, path, body, kind, word, n1, n2, n3 \
-         FROM portal_requests WHERE caller = ?1 AND number = ?2",
-        params![PrintedText { bytes: caller }, number],
-    )
-}
-
-/// Reads the row of the request with this caller and idempotency key, or `None`.
-fn read_stored_request<S: Alter>(
-    conn: &mut Connection<S>,
-    caller: &[u8],
-    number: &str,
-) -> Result<Option<StoredRequest>, RowError>
-    ensures selects { Selects S.Store conn.old conn.new result
-        (λ t found. Finds key_of (caller.now, number.now) t.requests (option_map request_read found)) }
-    ensures foreign { NotForeign result }
-{
-    let rows = select_request(conn, caller, number)?;
-    match rows.first() {
-        Some(row) => Ok(Some(stored_request_of(row)?)),
-        None => Ok(None),
-    }
-}
-
 /// Reads the request with this caller and idempotency key, with the answer that was given, or `None`.
 /// Fails with `ForeignRow` if the row is not one that this product writes.
 pub fn read_request_row<S: Alter>(
@@ -123,9 +89,18 @@ pub fn read_request_row<S: Alter>(
         (λ t. AreOwn IsOwnRequest t.requests) }
 {
     let text = CallerText::of(caller);
-    let found = read_stored_request(conn, text.as_bytes(), number.text())?;
+    let found: Option<StoredRequest> = read_one(
+        conn,
+        REQUEST,
+        params![
+            PrintedText {
+                bytes: text.as_bytes()
+            },
+            number.text()
+        ],
+    )?;
     match found {
-        Some(row) => Ok(Some(parse_request(alloc, &row)?)),
+        Some(row) => Ok(Some(parse_kept_request(alloc, &row)?)),
         None => Ok(None),
     }
 }

@@ -5,7 +5,6 @@ ghost use Rattle.portal_codes.specs.Code.{IsCode, text_of};
 ghost use Rattle.portal_ledger.specs.Fingerprint.{IsCaller};
 ghost use Rattle.portal_ledger.specs.RequestRow.{IsAnswerTyped, IsKeptTyped, cells, cells_of, row_of_request};
 ghost use Rattle.portal_ledger.specs.RequestRow.{text_of_caller, boolean};
-ghost use Rattle.portal_tables_sql.specs.Finds.{columns};
 ghost use Rattle.portal_tables_rows.specs.Contents.{request_cells};
 ghost use Rattle.portal_model.specs.IdText.{IsIdText};
 ghost use Rattle.portal_tables_rows.specs.Foreign.{
@@ -18,6 +17,7 @@ ghost use Rattle.portal_tables_rows.specs.Foreign.{
 ghost use Rattle.portal_tables_rows.specs.Foreign.{SparesOwn};
 ghost use Rattle.portal_tables_rows.specs.Requests.{request_read};
 
+use crate::from_row::FromRow;
 use crate::rows::RowError;
 use portal_codes::Code;
 use portal_ledger::caller::Caller;
@@ -43,23 +43,31 @@ pub struct StoredRequest {
     pub n3: Option<u64>,
 }
 
-/// Reads the ten columns of a row of `portal_requests`.
-pub(crate) fn stored_request_of(row: &Row) -> Result<StoredRequest, RowError>
-    ensures cells { IfOk result (λ request. request_cells (request_read request) ≡ columns 10 row.now) }
-    ensures own { NotForeign result }
-{
-    Ok(StoredRequest {
-        caller: row.get(0)?,
-        number: row.get(1)?,
-        method: row.get(2)?,
-        path: row.get(3)?,
-        body: row.get(4)?,
-        kind: row.get(5)?,
-        word: row.get(6)?,
-        n1: row.get(7)?,
-        n2: row.get(8)?,
-        n3: row.get(9)?,
-    })
+impl FromRow for StoredRequest {
+    ghost cells = { λ request. request_cells (request_read request) };
+
+    ghost width = { 10 };
+
+    ghost proper = { λ _. Unit {0} };
+
+    // Each row is read: `parse_kept_request` says which are of this product.
+    ghost own = { λ _. Unit {0} };
+
+    /// Reads a row of `portal_requests`. It does not fail with `ForeignRow`.
+    fn from_row(row: &Row) -> Result<StoredRequest, RowError> {
+        Ok(StoredRequest {
+            caller: row.get(0)?,
+            number: row.get(1)?,
+            method: row.get(2)?,
+            path: row.get(3)?,
+            body: row.get(4)?,
+            kind: row.get(5)?,
+            word: row.get(6)?,
+            n1: row.get(7)?,
+            n2: row.get(8)?,
+            n3: row.get(9)?,
+        })
+    }
 }
 
 /// Parses a code in its printed form. Fails with `ForeignRow` for any other text.
@@ -171,7 +179,7 @@ fn parse_answer(row: &StoredRequest) -> Result<Answer, RowError>
 
 /// Parses a row of `portal_requests` as a request with its answer. Fails with `ForeignRow` if the row is
 /// not one that this product writes.
-pub fn parse_request(alloc: Global, row: &StoredRequest) -> Result<KeptRequest, RowError>
+pub fn parse_kept_request(alloc: Global, row: &StoredRequest) -> Result<KeptRequest, RowError>
     ensures row { IfOk result (λ kept. row_of_request kept ≡ request_read row.now) }
     ensures typed { IfOk result IsKeptTyped }
     ensures own { IsOwnRequest (request_read row.now) → NotForeign result }

@@ -14,7 +14,7 @@ pub use Rattle.portal_tables_schema.specs.Creation.{Builds, HasMadeFirst, HasMad
 pub use Rattle.portal_tables_schema.specs.SchemaVersions.{QueryAnswers, IsOneRow, IsNoQuery, GivesSchemaVersion, has_index_on, is_any_name_taken, is_indexed, is_session_index, schema_version_text}
 pub use Rattle.portal_tables_schema.specs.declared.schema_versions.OldSchema.{OldSchema}
 pub use Rattle.portal_tables_schema.specs.declared.schema_versions.OldSchema.TheVariants.{First, Fourth, Second, Third}
-pub use Rattle.portal_tables_queries.specs.Asks.{Anything}
+pub use Rattle.portal_tables_sql.specs.Asks.{Anything}
 pub use Rattle.portal_model.specs.Rows.{CountRow, SessionRow, TotalRow, count_from, total_from}
 pub use Rattle.portal_tables_rows.proofs.Compose.{more_mapped, steps_none, steps_same, steps_then}
 pub use Rattle.portal_tables_rows.proofs.HoldsLemmas.{moved}

@@ -6,7 +6,7 @@ ghost use Rattle.sqlite.specs.Held.{state};
 ghost use Rattle.sqlite.specs.State.{HasCleanDisk, Survives};
 ghost use Rattle.portal_tables_sql.specs.States.{IsUndone};
 ghost use Rattle.portal_tables_sql.specs.Looks.{Looks};
-ghost use Rattle.portal_tables_queries.specs.Asks.{Anything};
+ghost use Rattle.portal_tables_sql.specs.Asks.{Anything};
 ghost use Rattle.portal_tables_rows.specs.Contents.{Contents};
 ghost use Rattle.portal_tables_rows.specs.First.{HoldsFirst};
 ghost use Rattle.portal_tables_rows.specs.Foreign.{

@@ -1,5 +1,6 @@
 pub mod Common
 pub mod Acts
+pub mod AskLemmas
 pub mod FindLemmas
 pub mod Frame
 pub mod HarmlessLemmas
@@ -11,12 +12,12 @@ pub mod LooksLemmas
 pub mod Makes
 pub mod Named
 pub mod Queries
-pub mod ReadLemmas
 pub mod RowLemmas
 pub mod Scan
 pub mod Selects
 pub mod RepresentsLemmas
 pub mod TableExistsLemmas
 pub mod Storing
+pub mod Streaming
 pub mod Texts
 pub mod Writes

@@ -1,3 +1,4 @@
+pub mod Asks
 pub mod Commits
 pub mod Finds
 pub mod Harmless

@@ -1,31 +1,13 @@
-//! Runs queries and writes, and tests whether a connection still answers.
+//! Runs writes, and tests whether a connection still answers.
 
-ghost use Rattle.std.specs.Prelude.{IfOk, IsTrue};
+ghost use Rattle.std.specs.Prelude.{IsTrue};
 ghost use Rattle.sqlite.specs.Held.{state};
-ghost use Rattle.sqlite.specs.State.{HasCleanDisk, Survives, IsUnchanged, Shown};
-ghost use Rattle.sqlite.specs.Given.{IsPlain};
-ghost use Rattle.sqlite.specs.Listing.{understood};
+ghost use Rattle.sqlite.specs.State.{HasCleanDisk, Survives, IsUnchanged};
 ghost use Rattle.sqlite.specs.Values.{bound};
 ghost use Rattle.portal_tables_sql.specs.Inside.{Inside, Runs};
-ghost use Rattle.portal_tables_sql.specs.Looks.{Looks};
 
 use sqlite::types::ValueRef;
-use sqlite::{Alter, Connection, Error, Row, Transaction};
-
-/// Runs a query and returns all rows of its result. It changes nothing if `sql` is a query that only
-/// reads.
-pub fn read_all<S: Alter>(
-    conn: &mut Connection<S>,
-    sql: &str,
-    params: &[ValueRef<'_>],
-) -> Result<Vec<Row>, Error>
-    ensures shown { HasCleanDisk (state S.Store conn.new) → IfOk result (λ rows.
-        Shown sql.now (bound params.now) (state S.Store conn.old) (state S.Store conn.new) rows.items) }
-    ensures looks { Looks (λ schema. IsPlain (understood schema sql.now)) result
-        (state S.Store conn.old) (state S.Store conn.new) }
-{
-    conn.query_all(sql, params)
-}
+use sqlite::{Alter, Connection, Error, Transaction};
 
 /// Executes a statement that writes, inside a transaction. It does not commit.
 pub fn write<S: Alter>(

@@ -1,5 +1,6 @@
 //! The port and the number of connections that the command line of `serve` gives.
-use portal_cli::{Order, parse_command_line};
+use portal_commands::command_line::parse_command_line;
+use portal_commands::order::Order;
 use std::alloc::Global;
 
 /// Arguments, with the port and the number of connections that they give.

@@ -1,6 +1,6 @@
 //! Takings past 64 bits, and their report.
 use portal_core::{Day, DayRange, DayTakings, add_takings};
-use portal_files_print::takings_text;
+use portal_files::takings_text;
 use std::alloc::Global;
 
 /// Adds up the takings of the leap year 2020, of which two days have some: on the second day two sales that

@@ -23,8 +23,12 @@ impl<S: Alter> Tables<S> {
             → (t : Contents) → Holds (state S.Store self.old.conn).now t
             → IfOk result (λ audited. IsTrue audited ↔ IsAudited t) }
     {
-        self.check_working()?;
-        let read = audit(&mut self.conn);
-        self.answer_or_stop(read)
+        if self.is_stopped {
+            return Err(StoreFault::Stopped);
+        }
+        match audit(&mut self.conn) {
+            Ok(found) => Ok(found),
+            Err(fault) => Err(self.stop_on_fault(fault)),
+        }
     }
 }

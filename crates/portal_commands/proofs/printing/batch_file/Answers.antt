@@ -1,5 +1,5 @@
 use Rattle.portal_commands.proofs.Common.{◌≡◌, Some, sym, ◌∙◌, subst, SettingsValue, IsBatchFile}
-use Rattle.portal_files_print.specs.PrintFile.{IsPrintFile}
+use Rattle.portal_files.specs.PrintFile.{IsPrintFile}
 use Rattle.portal_desk.specs.Sheets.{sheet_of}
 use Rattle.portal_commands.proofs.AskLemmas.{reads_also}
 use Rattle.portal_commands.proofs.printing.batch_file.Goals as goal

@@ -1,4 +1,4 @@
-use Rattle.portal_files_print.specs.PrintFile.{IsPrintFile}
+use Rattle.portal_files.specs.PrintFile.{IsPrintFile}
 use Rattle.portal_http_message.specs.declared.responses.ContentType.TheVariants.{Csv}
 use Rattle.portal_http.specs.Replies.{IsSheet}
 use Rattle.portal_http.proofs.ResponseLemmas.{with_text}

@@ -1,5 +1,5 @@
 use Rattle.portal_http.proofs.Common.{string_bytes, PlainText}
-use Rattle.portal_files_print.specs.Report.{IsReport}
+use Rattle.portal_files.specs.Report.{IsReport}
 use Rattle.portal_http.specs.Replies.{IsTakings}
 use Rattle.portal_http.proofs.ResponseLemmas.{with_text}
 use Rattle.portal_http.proofs.responses.takings_response.Goals as goal

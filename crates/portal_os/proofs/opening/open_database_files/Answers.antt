@@ -14,4 +14,5 @@ returns g c =
       found = honest_on opened _ _ _ c.open_connection.ensures.fault_free c.in_ok-check_database.ensures.found;
       from = subst₂ (λ (i : Image) (b : Bool). IfOk opened (λ conn. HasCleanDisk (file_state conn) → ComesFrom i b conn))
           same c.copies_for.ensures c.open_connection.ensures.from;
+      live = c.open_connection.ensures.live;
     }

@@ -1,6 +1,6 @@
 use Rattle.std.proofs.Common.{Ok, Err, Some, inl, refl}
 use Rattle.std.proofs.KnownBytes.{Keeps-refl}
-use Rattle.portal_exit.specs.declared.error.ProgramError.TheVariants.{Cut}
+use Rattle.portal_server.specs.declared.error.ProgramError.TheVariants.{Cut}
 use Rattle.portal_server.proofs.ServingLemmas.{exchange_serves}
 use Rattle.portal_server.proofs.peers.serve_peer.Goals as goal
 

@@ -1,5 +1,5 @@
 use Rattle.std.proofs.Common.{Some, inl, inr, refl}
-use Rattle.portal_exit.specs.declared.error.ProgramError.TheVariants.{Network}
+use Rattle.portal_server.specs.declared.error.ProgramError.TheVariants.{Network}
 use Rattle.portal_server.proofs.ServingLemmas.{is_err, serves_none}
 use Rattle.portal_server.proofs.serving.accept_and_serve.Goals as goal
 

@@ -16,7 +16,7 @@ returns-then-is_indexed-clause-spares g c =
 
 pub returns-clause-done : goal.returns-clause-done
 returns-clause-done g c clean live settled =
-    let did = c.in_ok-migrate_schema.ensures.done clean live in
+    let did = c.in_ok-migrate_database.ensures.done clean live in
     record { holds = inr did.holds; others = did.others; is_open = did.is_open; ended = did.ended; same = did.committed }
 
 pub returns-clause-spares : goal.returns-clause-spares
@@ -28,10 +28,10 @@ pub returns-clause-crash : goal.returns-clause-crash
 returns-clause-crash g c =
     let whole : IsTrue c.is_usable_schema.result = search rules in
     let spared = subst HasNoActionOnOurs c.schema.ensures.value (whole_spares c.schema.result.now (sym c.is_usable_schema.ensures ∙ whole)) in
-    survives_weaker _ _ _ _ (λ _ db may. (spared, may)) c.migrate_schema.ensures.crash
+    survives_weaker _ _ _ _ (λ _ db may. (spared, may)) c.migrate_database.ensures.crash
 
-pub returns-in_err-migrate_schema-clause-crash : goal.returns-in_err-migrate_schema-clause-crash
-returns-in_err-migrate_schema-clause-crash g c =
+pub returns-in_err-migrate_database-clause-crash : goal.returns-in_err-migrate_database-clause-crash
+returns-in_err-migrate_database-clause-crash g c =
     let whole : IsTrue c.is_usable_schema.result = search rules in
     let spared = subst HasNoActionOnOurs c.schema.ensures.value (whole_spares c.schema.result.now (sym c.is_usable_schema.ensures ∙ whole)) in
-    survives_weaker _ _ _ _ (λ _ db may. (spared, may)) c.migrate_schema.ensures.crash
+    survives_weaker _ _ _ _ (λ _ db may. (spared, may)) c.migrate_database.ensures.crash

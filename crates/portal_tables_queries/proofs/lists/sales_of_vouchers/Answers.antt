@@ -1,5 +1,4 @@
-use Rattle.portal_tables_queries.proofs.Common.{ap, ◌∙◌, map, take_all, err_from_is_err_and, has_at, VoucherValue, voucher_read, sale_columns, sale_read, has_mapped}
-use Rattle.portal_tables_queries.proofs.SumLemmas.{made_more}
+use Rattle.portal_tables_queries.proofs.Common.{ap, ◌∙◌, map, take_all, err_from_is_err_and, has_at, VoucherValue, voucher_read, sale_columns, sale_read, has_mapped, made_more}
 use Rattle.portal_tables_queries.proofs.lists.sales_of_vouchers.Goals as goal
 
 pub loop-voucher-preserved : goal.loop-voucher-preserved

@@ -1,5 +1,4 @@
-use Rattle.portal_tables_queries.proofs.Common.{◌≡◌, sym, ap, ◌∙◌, map, take_all, map-map, text_of, count_from, VoucherValue, voucher_read, count_read, grant_read, uses_in}
-use Rattle.portal_tables_queries.proofs.SumLemmas.{made_more}
+use Rattle.portal_tables_queries.proofs.Common.{◌≡◌, sym, ap, ◌∙◌, map, take_all, map-map, text_of, count_from, VoucherValue, voucher_read, count_read, grant_read, uses_in, made_more}
 use Rattle.portal_tables_queries.proofs.sums.sum_counts.Goals as goal
 
 pub loop-voucher-preserved : goal.loop-voucher-preserved

@@ -1,6 +1,5 @@
-use Rattle.portal_tables_queries.proofs.Common.{sym, ap, ◌∙◌, map, subst, ◌<◌, ◌^◌, take_all, map-map, total_from, session_read, ends_row, grant_read, rows_for_sums, err_from_is_err_and, has_at, has_mapped, Given}
+use Rattle.portal_tables_queries.proofs.Common.{sym, ap, ◌∙◌, map, subst, ◌<◌, ◌^◌, take_all, map-map, total_from, session_read, ends_row, grant_read, rows_for_sums, err_from_is_err_and, has_at, has_mapped, Given, made_more}
 use Rattle.portal_tables_rows.specs.declared.rows.SessionValue.{SessionValue}
-use Rattle.portal_tables_queries.proofs.SumLemmas.{made_more}
 use Rattle.portal_tables_queries.proofs.sums.sum_totals.Goals as goal
 
 pub loop-session-preserved : goal.loop-session-preserved

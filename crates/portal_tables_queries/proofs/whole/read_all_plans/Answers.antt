@@ -1,14 +1,10 @@
-use Rattle.portal_tables_queries.proofs.Common.{refl, state, looks_read, plan_cells, HasFirst, HoldsFirst, IsOwnPlan, Anything, exact_plan}
-use Rattle.portal_tables_queries.proofs.WholeValues.{are_whole, whole_own}
+use Rattle.portal_tables_queries.proofs.Common.{refl, plan_cells, IsOwnPlan, exact_plan}
+use Rattle.portal_tables_queries.proofs.ManyValues.{reads_first, tells_whole}
+use Rattle.portal_tables_queries.proofs.WholeAsks.{plans_asked}
+use Rattle.portal_tables_queries.proofs.WholeReading.{all_plans_are, all_plans_simple}
 use Rattle.portal_tables_queries.proofs.whole.read_all_plans.Goals as goal
 
 pub returns : goal.returns
 returns g c =
-    let old = state g.S.Store c.args.conn.now in
-    let new = state g.S.Store c.select_all_plans.new.conn in
-    record {
-      found = are_whole c.read_each_row.result plan_cells 7 (λ x. refl) HoldsFirst (λ t. t.plans) old new c.in_ok-rows.ensures.rows c.deref.ensures.value exact_plan (λ v. v.items) (λ v. refl) c.read_each_row.ensures.cells;
-      looks = looks_read HasFirst c.read_each_row.result old new c.in_ok-rows.ensures.looks;
-      always = looks_read Anything c.read_each_row.result old new c.in_ok-rows.ensures.always;
-      foreign = whole_own c.read_each_row.result plan_cells 7 (λ x. refl) HoldsFirst (λ t. t.plans) old new c.in_ok-rows.ensures.rows c.deref.ensures.value IsOwnPlan c.read_each_row.ensures.own;
-    }
+    reads_first g.S.Store _ _ plans_asked all_plans_simple
+    (λ rows shown t h. tells_whole plan_cells 7 (λ x. refl) exact_plan IsOwnPlan (λ v. v.items) (λ v. refl) t.plans rows (all_plans_are _ _ rows shown t h)) c.read_table.ensures

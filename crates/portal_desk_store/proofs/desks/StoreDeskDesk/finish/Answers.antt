@@ -1,4 +1,5 @@
-use Rattle.portal_desk_store.proofs.Common.{Option, sym, subst, MarkedChanges, Fits, OpenAt}
+use Rattle.portal_desk_store.proofs.Common.{Option, ap, sym, subst, ◌∙◌, MarkedChanges, Fits, OpenAt}
+use Rattle.portal_tables.specs.Faults.{refusal_of}
 use Rattle.portal_desk_store.proofs.KeptLemmas.{FollowsOn, keeps_all, keeps_on}
 use Rattle.portal_desk_store.proofs.ReadLemmas.{cannot_keep}
 use Rattle.portal_desk_store.proofs.StopLemmas.{faulted}
@@ -15,10 +16,10 @@ returns-in-Ok-clause-finish g c = λ honest old at a fits.
 pub returns-clause-finish : goal.returns-clause-finish
 returns-clause-finish g c = λ honest old at a fits.
     let fits' = subst (λ (m : MarkedChanges). Fits old m a) (sym c.into_changes-marked.ensures) fits in
-    keeps_all g.S.Store c.commit.new.self c.args.self.now.open a c.refusal_of_fault.result old at.1
-    (cannot_keep g.S.Store c.commit.new.self a c.in-Err.fault c.refusal_of_fault.result old (c.in-Err.ensures.commit honest old at.0 a fits') c.refusal_of_fault.ensures.memory c.refusal_of_fault.ensures.stopped)
+    keeps_all g.S.Store c.commit.new.self c.args.self.now.open a c.from.result old at.1
+    (cannot_keep g.S.Store c.commit.new.self a c.in-Err.fault c.from.result old (c.in-Err.ensures.commit honest old at.0 a fits') (λ is. c.from.ensures ∙ ap refusal_of is) (λ is. c.from.ensures ∙ ap refusal_of is))
 
 pub returns-clause-stops : goal.returns-clause-stops
 returns-clause-stops g c =
-    faulted c.args.self.now.tables.is_stopped c.commit.new.self.is_stopped c.in-Err.fault c.refusal_of_fault.result
-    c.in-Err.ensures.stops c.refusal_of_fault.ensures.memory c.refusal_of_fault.ensures.stopped
+    faulted c.args.self.now.tables.is_stopped c.commit.new.self.is_stopped c.in-Err.fault c.from.result
+    c.in-Err.ensures.stops (λ is. c.from.ensures ∙ ap refusal_of is) (λ is. c.from.ensures ∙ ap refusal_of is)

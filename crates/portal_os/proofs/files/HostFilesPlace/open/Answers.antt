@@ -1,6 +1,6 @@
-use Rattle.std.proofs.Common.{◌∙◌, inl, inr, sym, subst}
+use Rattle.std.proofs.Common.{◌∙◌, sym, subst}
 use Rattle.portal_commands.specs.Places.{IsDatabaseError}
-use Rattle.portal_os.proofs.OpeningLemmas.{clean_by}
+use Rattle.portal_os.proofs.OpeningLemmas.{clean_by, open_by}
 use Rattle.portal_os.proofs.files.HostFilesPlace.open.Goals as goal
 
 pub returns-in-Ok-attach_store-clause-represents : goal.returns-in-Ok-attach_store-clause-represents
@@ -23,20 +23,24 @@ returns-in-Ok-attach_store-clause-opened g c = λ is.
 
 pub returns-in-Err-attach_store-clause-fails : goal.returns-in-Err-attach_store-clause-fails
 returns-in-Err-attach_store-clause-fails g c =
-    let it = c.in-Err-attach_store.ensures.fails in
-    inr (
-      it.0,
-      c.plain.ensures.error ∙ it.1,
+    let it = c.in-Err-attach_store.ensures in (
+      it.fails.0,
+      c.plain.ensures.error ∙ it.fails.1,
       c.in-Ok.conn,
-      c.in-Err-attach_store._left,
       λ honest.
-          let refused = it.2 honest in
-          let clean = clean_by c.in-Ok.conn refused.0 in
-          (c.in-Ok.ensures.found clean, (c.in-Ok.ensures.from clean).0, refused.1, λ L shown. refused.2 L (c.in-Ok.ensures.opened L shown clean)),
+          let refused = it.fails.2 honest in
+          let clean = clean_by c.in-Ok.conn refused.0 in (
+            c.in-Ok.ensures.found clean,
+            (c.in-Ok.ensures.from clean).0,
+            refused.1,
+            λ L shown. refused.2 L (c.in-Ok.ensures.opened L shown clean),
+            λ other. it.kept honest (open_by c.in-Ok.conn (c.in-Ok.ensures.live clean)) (λ is. other (c.plain.ensures.error ∙ is)),
+          ),
+      it.spares,
     )
 
 pub returns-in-Err-clause-fails : goal.returns-in-Err-clause-fails
-returns-in-Err-clause-fails g c = inl (c.in-Err.unopened, c.trouble_at.ensures.error ∙ c.program_error.ensures)
+returns-in-Err-clause-fails g c = (c.in-Err.error, c.trouble_at.ensures.error ∙ c.program_error.ensures)
 
 pub returns-in-Err-attach_store-clause-why : goal.returns-in-Err-attach_store-clause-why
 returns-in-Err-attach_store-clause-why g c = (subst IsDatabaseError (sym c.plain.ensures.error) c.in-Err-attach_store.ensures.why, rw c.plain.ensures.line tt)

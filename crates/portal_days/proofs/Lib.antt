@@ -1,4 +1,0 @@
-pub mod Common
-pub mod DayLists
-pub mod DaySumLemmas
-pub mod Totals

@@ -1,6 +1,0 @@
-use Rattle.std.proofs.Common.{take, string_bytes}
-use Rattle.portal_files_print.proofs.ReportLines.{IsSoFar}
-use Rattle.portal_files_print.proofs.report.takings_text.Given as goal
-
-abbrev pub invariant-loop-takings : goal.invariant-loop-takings
-invariant-loop-takings l = IsSoFar (take l.takings-index l.days) (string_bytes l.text)

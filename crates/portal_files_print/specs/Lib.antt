@@ -1,5 +1,0 @@
-pub mod Amount
-pub mod Minute
-pub mod PrintFile
-pub mod Private
-pub mod Report

@@ -1,5 +1,0 @@
-pub mod Common
-pub mod HandedBack
-pub mod LifeLemmas
-pub mod RoundLemmas
-pub mod AnsweredLemmas

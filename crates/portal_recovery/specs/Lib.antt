@@ -1,3 +1,0 @@
-pub mod AnsweredAsHeld
-pub mod ExecutionsOverFiles
-pub mod Sessions

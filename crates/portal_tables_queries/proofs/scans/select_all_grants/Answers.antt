@@ -1,6 +1,0 @@
-use Rattle.portal_tables_queries.proofs.WholeReading.{all_grants_are}
-use Rattle.portal_tables_queries.proofs.AskLemmas.{grants_asked, selects_first}
-use Rattle.portal_tables_queries.proofs.scans.select_all_grants.Goals as goal
-
-pub returns : goal.returns
-returns g c = selects_first g.S.Store _ _ c.query_rows.result (λ rows. rows.items) grants_asked (λ rows. all_grants_are _ _ rows.items) c.query_rows.ensures.shown c.query_rows.ensures.always

@@ -1,8 +1,0 @@
-use Rattle.portal_tables_rows.proofs.Common.{w64, to_z_pos}
-use Rattle.portal_tables_rows.proofs.Reading.{session_rows_are, session_plain}
-use Rattle.portal_tables_rows.proofs.SelectsLemmas.{selects_by}
-use Rattle.portal_tables_rows.proofs.queries.select_session.Goals as goal
-
-pub returns : goal.returns
-returns g c =
-    selects_by g.S.Store _ _ c.read_all.result (λ rows. rows.items) session_plain (λ rows. session_rows_are _ _ c.args.number rows.items) (λ clean. rw (c.params-to_sql.ensures, to_z_pos w64 c.args.number c.requires) at (c.read_all.ensures.shown clean)) c.read_all.ensures.looks
