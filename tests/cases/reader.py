@@ -184,12 +184,12 @@ def add_block_line(items: list[Item], number: int, text: str, empty: int) -> Non
         raise BadCase(number, "an indented line belongs to a step, and there is none above it")
     item = items[-1]
     if item.arrow is None:
-        item.block = added(item.block, text, empty)
+        item.block = with_line(item.block, text, empty)
     else:
-        item.wanted = added(item.wanted, text, empty)
+        item.wanted = with_line(item.wanted, text, empty)
 
 
-def added(block: list[str] | None, text: str, empty: int) -> list[str]:
+def with_line(block: list[str] | None, text: str, empty: int) -> list[str]:
     return [text] if block is None else [*block, *[""] * empty, text]
 
 
@@ -221,7 +221,7 @@ def add_item(case: Case, item: Item) -> None:
     elif word == "sql":
         case.steps.append(sql_of(item))
     elif item.text.startswith("file "):
-        case.steps.append(File(item.line, item.shown, item.text[5:], joined(item.block or [])))
+        case.steps.append(File(item.line, item.shown, item.text[5:], join_lines(item.block or [])))
     elif served := SERVED.fullmatch(item.text):
         count = int(served[2]) if served[2] else None
         case.steps.append(Serve(item.line, item.shown, served[1] is not None, count))
@@ -259,10 +259,10 @@ def refuse_rest(step: Step, item: Item) -> None:
 def text_of(item: Item) -> str:
     if item.block is None:
         raise BadCase(item.line, "indented lines are missing")
-    return joined(item.block)
+    return join_lines(item.block)
 
 
-def joined(lines: list[str]) -> str:
+def join_lines(lines: list[str]) -> str:
     return "".join(line + "\n" for line in lines)
 
 
@@ -301,7 +301,7 @@ def caller_field(caller: str) -> list[str]:
 def body_of(item: Item, text: str | None, block: list[str] | None) -> bytes:
     if text and block is not None:
         raise BadCase(item.line, "a body stands in the line or below it, not both")
-    return (text or joined(block or [])).encode()
+    return (text or join_lines(block or [])).encode()
 
 
 def answer_of(item: Item) -> Answer:
@@ -317,10 +317,10 @@ def answer_of(item: Item) -> Answer:
 
 def bytes_of(line: int, block: list[str]) -> bytes:
     """Lines one after another, with nothing between them but what their escapes say."""
-    return b"".join(unescaped(line, text) for text in block)
+    return b"".join(unescape(line, text) for text in block)
 
 
-def unescaped(line: int, text: str) -> bytes:
+def unescape(line: int, text: str) -> bytes:
     parts, at = [], 0
     for match in TIMES.finditer(text):
         parts.append(plain_bytes(line, text[at:match.start()]))
@@ -358,7 +358,7 @@ def call_of(item: Item) -> Call:
 
 
 def sql_of(item: Item) -> Sql:
-    text = item.text[4:] or joined(item.block or [])
+    text = item.text[4:] or join_lines(item.block or [])
     if not text:
         raise BadCase(item.line, "SQL is missing")
     if item.arrow is None:

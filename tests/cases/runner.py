@@ -218,8 +218,8 @@ class Run:
     def call(self, call: Call) -> None:
         before = {name: self.bytes_in(name) for name in call.same}
         done = self.process(call.words, b"")
-        output, errors = lines_of(done.stdout), covered(call.errors, lines_of(done.stderr))
-        wanted = [f"exit {call.code}", *covered(call.output, output), *(f"! {line}" for line in errors)]
+        output, errors = lines_of(done.stdout), cover(call.errors, lines_of(done.stderr))
+        wanted = [f"exit {call.code}", *cover(call.output, output), *(f"! {line}" for line in errors)]
         changed = [f"{name} has changed" for name, data in before.items() if self.bytes_in(name) != data]
         compare(wanted, [*outcome(done, output), *changed])
 
@@ -255,7 +255,7 @@ def lines_of(data: bytes) -> list[str]:
     return lines[:-1] if lines[-1] == "" else [*lines[:-1], lines[-1] + " (no end of line)"]
 
 
-def covered(wanted: list[str], came: list[str]) -> list[str]:
+def cover(wanted: list[str], came: list[str]) -> list[str]:
     """Lines of three dots stand for one line or more, whatever they say; words behind the dots stand in one of them."""
     words = [line[4:] for line in wanted if line == "..." or line.startswith("... ")]
     is_covered = len(words) == len(wanted) > 0 and all(any(word in line for line in came) for word in words)

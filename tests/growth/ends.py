@@ -1,8 +1,9 @@
 #!/usr/bin/env python3
 """What the end of an `answer` costs: the time from its start to the whole response, and from there to its exit.
 
-ends.py PROGRAM [VOUCHERS ..] fills a database with so many vouchers, as growth.py does (1,000, 10,000 and 100,000 where none are named),
-and gives the medians of 30 runs in milliseconds, for a captive state and for a sale. CI does not run it. Python's standard library alone."""
+ends.py PROGRAM [VOUCHERS ..], with tests/outside and tests/cases in PYTHONPATH, fills a database with so many vouchers, as
+growth.py does (1,000, 10,000 and 100,000 where none are named), and gives the medians of 30 runs in milliseconds, for a
+captive state and for a sale. CI does not run it. Python's standard library alone."""
 
 import shutil
 import statistics
@@ -11,17 +12,13 @@ import sys
 import time
 from pathlib import Path
 
-HERE = Path(__file__).resolve().parent
-sys.path.insert(0, str(HERE.parent / "outside"))
-sys.path.insert(0, str(HERE))
-
-from desk import DESK, Desk, codes_of, guest, request  # noqa: E402
-from growth import grown  # noqa: E402
+from desk import DESK, Desk, codes_of, guest, request
+from growth import grow
 
 RUNS = 30
 
 
-def timed(program, folder, now, data):
+def time_to_end(program, folder, now, data):
     """Milliseconds to the end of standard output, and from there to the exit."""
     words = [program, "answer", "--now", str(now), "--seed", "0" * 64, "--db", "portal.db", "--settings", "settings.toml"]
     begun = time.perf_counter()
@@ -40,13 +37,13 @@ def timed(program, folder, now, data):
     return 1000 * (answered - begun), 1000 * (time.perf_counter() - answered)
 
 
-def measured(program, folder, vouchers):
+def measure(program, folder, vouchers):
     desk, now = Desk(program, folder), int(time.time())
     desk.start()
     codes = codes_of(desk, f"b{vouchers // 500}")[-RUNS:]     # growth.py sells from the first on
     desk.kill()
-    captive = [timed(program, folder, now, request("GET", "/captive", guest(1))) for _ in range(RUNS)]
-    sales = [timed(program, folder, now, request("POST", "/desk/sales", DESK, f'{{"code":"{code}"}}')) for code in codes]
+    captive = [time_to_end(program, folder, now, request("GET", "/captive", guest(1))) for _ in range(RUNS)]
+    sales = [time_to_end(program, folder, now, request("POST", "/desk/sales", DESK, f'{{"code":"{code}"}}')) for code in codes]
     return [statistics.median(column) for runs in (captive, sales) for column in zip(*runs)]
 
 
@@ -55,8 +52,8 @@ def main():
     sizes = [int(word) for word in sys.argv[2:]] or [1000, 10000, 100000]
     columns = []
     for size in sizes:
-        _, folder = grown(program, size)
-        columns.append(measured(program, folder, size))
+        _, folder = grow(program, size)
+        columns.append(measure(program, folder, size))
         shutil.rmtree(folder)
     rows = ("captive state: to the response", "and then to the exit", "sale: to the response", "and then to the exit, with the copy")
     print("ms".ljust(36), *(f"{size:>10,}" for size in sizes))

@@ -1,8 +1,8 @@
 """How the time of each route grows with the store, and what sqlite3 would do for each statement of the crates.
 
-growth.py PROGRAM [VOUCHERS ..] fills a store with so many vouchers (1,000, 10,000 and 100,000 where none are named), all of them sold
-and every tenth redeemed, and tells the median time of each route in milliseconds; then the plan of each text. It is no part of the
-gate. Python's standard library alone."""
+growth.py PROGRAM [VOUCHERS ..], with tests/outside and tests/cases in PYTHONPATH, fills a store with so many vouchers
+(1,000, 10,000 and 100,000 where none are named), all of them sold and every tenth redeemed, and prints the median time of
+each route in milliseconds; then the plan of each text. It is no part of the gate. Python's standard library alone."""
 
 import json
 import re
@@ -14,11 +14,9 @@ import tempfile
 import time
 from pathlib import Path
 
+from desk import DESK, GATEWAY, PLANS, Desk, codes_of, guest
+
 HERE = Path(__file__).resolve().parent
-sys.path.insert(0, str(HERE.parent / "outside"))
-
-from desk import DESK, GATEWAY, PLANS, Desk, codes_of, guest  # noqa: E402
-
 TRIES = 15
 YEAR = 365 * 86400
 OPEN_SESSIONS = 200
@@ -64,50 +62,50 @@ def day(moment):
     return time.strftime("%Y-%m-%d", time.gmtime(moment))
 
 
-def measured(desk, now, sessions, codes):
+def measure(desk, now, sessions, codes):
     """The median of each route."""
     codes = iter(codes)
     fresh, turn = [], iter(range(1, 1 << 16))
 
-    def tell(method, path, field, body=""):
-        return lambda: desk.told(method, path, field, body)
+    def request(method, path, field, body=""):
+        return lambda: desk.answer_to(method, path, field, body)
 
     def sell():
         fresh.append(next(codes))
-        desk.told("POST", "/desk/sales", DESK, json.dumps({"code": fresh[-1]}))
+        desk.answer_to("POST", "/desk/sales", DESK, json.dumps({"code": fresh[-1]}))
 
     def redeem():
-        desk.told("POST", "/portal/redeem", guest(next(turn)), json.dumps({"code": fresh.pop()}))
+        desk.answer_to("POST", "/portal/redeem", guest(next(turn)), json.dumps({"code": fresh.pop()}))
 
     def report():
-        desk.told("POST", "/gateway/reports", GATEWAY, json.dumps({"session": sessions, "bytes": next(turn)}))
+        desk.answer_to("POST", "/gateway/reports", GATEWAY, json.dumps({"session": sessions, "bytes": next(turn)}))
 
     first = codes_of(desk, "b0")[0]
     last = f"Portal-Device: {device_of(sessions)}"
-    times = {"captive": median(tell("GET", "/captive", last))}
-    times["voucher"] = median(tell("GET", f"/desk/vouchers/{first}", DESK))
+    times = {"captive": median(request("GET", "/captive", last))}
+    times["voucher"] = median(request("GET", f"/desk/vouchers/{first}", DESK))
     times["sale"], times["redeem"], times["report"] = median(sell), median(redeem), median(report)
-    times["sessions"] = median(tell("GET", "/gateway/sessions", GATEWAY))
-    times["print"] = median(tell("GET", "/desk/batches/b0/print", DESK))
-    times["day"] = median(tell("GET", f"/desk/takings?from={day(now)}&to={day(now)}", DESK), 5)
-    times["year"] = median(tell("GET", f"/desk/takings?from={day(now - YEAR)}&to={day(now)}", DESK), 5)
+    times["sessions"] = median(request("GET", "/gateway/sessions", GATEWAY))
+    times["print"] = median(request("GET", "/desk/batches/b0/print", DESK))
+    times["day"] = median(request("GET", f"/desk/takings?from={day(now)}&to={day(now)}", DESK), 5)
+    times["year"] = median(request("GET", f"/desk/takings?from={day(now - YEAR)}&to={day(now)}", DESK), 5)
     return times
 
 
-def grown(program, vouchers):
+def grow(program, vouchers):
     """A store with so many vouchers: the times, and where its file is."""
     folder = tempfile.mkdtemp()
     desk, now = Desk(program, folder), int(time.time())
     desk.start()
-    desk.told("POST", "/desk/plans", DESK, PLANS)
+    desk.answer_to("POST", "/desk/plans", DESK, PLANS)
     for at in range(vouchers // 500 + 1):
-        desk.told("POST", "/desk/batches", DESK, json.dumps({"batch": f"b{at}", "plan": "hour", "count": 500}))
+        desk.answer_to("POST", "/desk/batches", DESK, json.dumps({"batch": f"b{at}", "plan": "hour", "count": 500}))
     desk.kill()
     sessions = fill(f"{folder}/portal.db", now)
     begun = time.perf_counter()
     desk.start()
     times = {"start": 1000 * (time.perf_counter() - begun)}
-    times.update(measured(desk, now, sessions, codes_of(desk, f"b{vouchers // 500}")))
+    times.update(measure(desk, now, sessions, codes_of(desk, f"b{vouchers // 500}")))
     desk.kill()
     return times, folder
 
@@ -135,7 +133,7 @@ def main():
     sizes = [int(word) for word in sys.argv[2:]] or [1000, 10000, 100000]
     table, folders = [], []
     for size in sizes:
-        times, folder = grown(program, size)
+        times, folder = grow(program, size)
         table.append(times)
         folders.append(folder)
     print("ms".ljust(10), *(f"{size:>10,}" for size in sizes))

@@ -1,5 +1,5 @@
-"""A store of schema version 1 that is adopted while memory is wanting, in one process. One test of portal_store_tests adopts it, again
-and again over the connection that is handed back, and looks at what stands there in the end. Some of its requests for memory are refused
+"""A store of schema version 1 that is adopted while memory is wanting, in one process. One test of portal_tests adopts it, again
+and again over the connection that is returned, and looks at what stands there in the end. Some of its requests for memory are refused
 alone; then some of those that are made while the store is adopted, each with some of those that the next try makes.
 
 usage: adopting.py TESTS LIBRARY
@@ -25,7 +25,7 @@ BLOCK = 16
 
 
 class Came(typing.NamedTuple):
-    """How often the store was handed back, and given up, before it was adopted; and whether the test passed."""
+    """How often the store was returned, and given up, before it was adopted; and whether the test passed."""
 
     handed_back: int
     given_up: int
@@ -50,7 +50,7 @@ class Trial:
         self.program, self.pool, self.passed, self.failed = program, pool, 0, 0
 
     def refuse(self, most, several):
-        """What comes of the test with each of these lists of requests refused. The store is given back or given up so often at most."""
+        """What comes of the test with each of these lists of requests refused. The store is returned or given up so often at most."""
         ends = list(self.pool.map(lambda numbers: came(self.program, *numbers), several))
         for numbers, end in zip(several, ends):
             is_right = end.is_right and end.handed_back + end.given_up <= most
@@ -60,7 +60,7 @@ class Trial:
         return ends
 
     def adopting(self):
-        """The numbers of the requests that are refused alone and have the store handed back: those of the first try."""
+        """The numbers of the requests that are refused alone and have the store returned: those of the first try."""
         found, start = [], 1
         while True:
             several = [[number] for number in range(start, start + STEP * BLOCK, STEP)]
@@ -72,7 +72,7 @@ class Trial:
 
     def refuse_twice(self, found):
         """Refuses requests of the first try, each with some of the next, which makes as many as the first. Answers how often the store
-        was handed back twice, and how often that was tried."""
+        was returned twice, and how often that was tried."""
         many, several = found[-1] - found[0] if found else 0, []
         for place in range(0, len(found), FIRST_STEP):
             several += [[found[place], found[place] + after] for after in range(1 + 7 * place % SECOND_STEP, many, SECOND_STEP)]

@@ -17,7 +17,7 @@ class Server(Desk):
         """Whether it listens."""
         how = {"cwd": self.folder, "stdout": subprocess.PIPE, "stderr": subprocess.PIPE, "text": True}
         words = self.words("serve", "--port", str(self.port))
-        self.process = subprocess.Popen(words, env=environment(at, self.said()), **how)
+        self.process = subprocess.Popen(words, env=environment(at, self.log_path()), **how)
         line = self.process.stdout.readline()
         if line == f"listening 127.0.0.1:{self.port}\n":
             return True
@@ -27,7 +27,7 @@ class Server(Desk):
         self.end()
         return False
 
-    def said(self):
+    def log_path(self):
         return os.path.join(self.folder, "said")
 
     def end(self):
@@ -51,7 +51,7 @@ class Server(Desk):
 
 
 def day(desk):
-    """The requests in their order. Commands are numbered: one that was carried out before it was cut off acts once."""
+    """The requests in their order. Commands are numbered: one that was carried out before it was cut off takes effect once."""
     ask, first_day = desk.ask_twice, datetime.datetime.now(datetime.timezone.utc).date() - datetime.timedelta(1)
     ask('{"plans":1}', "POST", "/desk/plans", DESK, PLANS)
     ask('{"batch":"b1","count":2,', "POST", "/desk/batches", DESK, '{"batch":"b1","plan":"hour","count":2}', number="n1")
@@ -83,7 +83,7 @@ def refuse(program, at):
             day(desk)
         finally:
             desk.end()
-        is_refused = os.path.exists(desk.said())
+        is_refused = os.path.exists(desk.log_path())
         audit = desk.run("check")
         assert (audit.returncode, audit.stdout) == (0, "ok\n"), (at, audit)
         return is_refused

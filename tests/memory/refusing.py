@@ -47,7 +47,7 @@ def bytes_of(room):
 
 
 def rows(room):
-    """All that stands in the database file, told by SQLite over a copy; nothing where there is no file."""
+    """All that the database file holds, read by SQLite over a copy; nothing where there is no file."""
     if not os.path.exists(os.path.join(room, "portal.db")):
         return []
     with folder() as copy:

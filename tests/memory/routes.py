@@ -31,7 +31,7 @@ def answer(now, method, path, field, body="", number=None):
     return words, request(method, path, field, body, number)
 
 
-def told(*words):
+def result(*words):
     return [*words, "--db", "portal.db", "--settings", "settings"], b""
 
 
@@ -61,10 +61,10 @@ CALLS = [
     ("POST /portal/redeem, a second session", "open", answer(2000, "POST", "/portal/redeem", guest(2), SOLD)),
     ("POST /desk/sales, refused", "open", answer(2000, "POST", "/desk/sales", DESK, SOLD)),
     ("no request", "open", NOTHING),
-    ("print", "issued", told("print", "b1")),
-    ("takings", "sold", told("takings", "1970-01-01", "1970-01-31")),
-    ("check", "open", told("check")),
-    ("check, migrating", "old", told("check")),
+    ("print", "issued", result("print", "b1")),
+    ("takings", "sold", result("takings", "1970-01-01", "1970-01-31")),
+    ("check", "open", result("check")),
+    ("check, migrating", "old", result("check")),
 ]
 
 # The calls of which each request for memory is refused, or every so many of them; of the others those after the store is open.
@@ -104,7 +104,7 @@ class Trial:
         """The counters are right, or there is no database yet; then one without commands is made."""
         database = Path(room, "portal.db")
         is_new = not database.exists() or database.stat().st_size == 0
-        audit = run([self.program, *told("check")[0]], room)
+        audit = run([self.program, *result("check")[0]], room)
         assert audit[:3] == ((3, b"", NO_DATABASE) if is_new else (0, b"ok\n", b"")), (self.name, audit)
         if is_new:
             words, data = NOTHING
@@ -178,7 +178,7 @@ def stores(program, room):
         old.executescript(make.text)
 
 
-def opened(program, place):
+def opening(program, place):
     """The requests for memory of an opening of the store, some too few."""
     return Trial(program, "no request", place, NOTHING).count() - 100
 
@@ -199,7 +199,7 @@ def main():
     with folder() as room, concurrent.futures.ThreadPoolExecutor(os.cpu_count() or 2) as pool:
         stores(program, room)
         used = {store for _, store, _ in calls}
-        first = dict(zip(used, pool.map(lambda name: opened(program, os.path.join(room, name)), used)))
+        first = dict(zip(used, pool.map(lambda name: opening(program, os.path.join(room, name)), used)))
         tasks = {}
         for name, store, call in calls:
             start, steps = (1, step) if name in WHOLE else (first[store], 1)

@@ -48,9 +48,9 @@ def serves_by_its_clock(program, folder, idle):
 
 
 def batches_differ(desk):
-    desk.told("POST", "/desk/plans", DESK, PLANS)
+    desk.answer_to("POST", "/desk/plans", DESK, PLANS)
     for name in ("c1", "c2"):
-        desk.told("POST", "/desk/batches", DESK, json.dumps({"batch": name, "plan": "hour", "count": 100}))
+        desk.answer_to("POST", "/desk/batches", DESK, json.dumps({"batch": name, "plan": "hour", "count": 100}))
     first, second = set(codes_of(desk, "c1")), set(codes_of(desk, "c2"))
     if len(first) != 100 or len(second) != 100 or first & second:
         sys.exit(f"outside: two batches of 100 codes that one server issued\n  expected: 200 codes\n  came:     {len(first | second)}")

@@ -5,12 +5,10 @@ import os
 import signal
 import socket
 import subprocess
-import sys
 import threading
 
-sys.path.append(os.path.join(os.path.dirname(os.path.abspath(__file__)), "../cases"))
 
-from reader import SETTINGS  # noqa: E402
+from reader import SETTINGS
 
 PLANS = """[[plan]]
 id = "hour"
@@ -63,8 +61,9 @@ class Desk:
         self.process.stdout.close()
 
     def run(self, *words, data=b""):
-        """A subcommand, with the bytes of its standard input."""
-        done = subprocess.run(self.words(*words), cwd=self.folder, capture_output=True, input=data, check=False)
+        """A subcommand, with the bytes of its standard input. It has to end within two minutes."""
+        how = {"cwd": self.folder, "capture_output": True, "input": data, "check": False, "timeout": 120}
+        done = subprocess.run(self.words(*words), **how)
         done.stdout, done.stderr = done.stdout.decode(), done.stderr.decode()
         return done
 
@@ -80,7 +79,7 @@ class Desk:
         except OSError as fault:
             raise Broken(str(fault)) from fault
 
-    def told(self, *words, **more):
+    def answer_to(self, *words, **more):
         status, body = self.ask(*words, **more)
         assert status == 200, (words, status, body)
         return body
@@ -107,9 +106,9 @@ def answer_of(peer):
 
 
 def codes_of(desk, batch):
-    lines = desk.told("GET", f"/desk/batches/{batch}/print", DESK).splitlines()
+    lines = desk.answer_to("GET", f"/desk/batches/{batch}/print", DESK).splitlines()
     return [line.split(",")[0] for line in lines[1:]]
 
 
 def voucher_of(desk, code):
-    return json.loads(desk.told("GET", f"/desk/vouchers/{code}", DESK))
+    return json.loads(desk.answer_to("GET", f"/desk/vouchers/{code}", DESK))

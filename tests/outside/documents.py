@@ -61,10 +61,10 @@ class Store:
         words = [self.program, "answer", "--db", "db", "--settings", "settings", "--now", str(now), "--seed", seed]
         sent = request(method, path, field, body)
         done = subprocess.run(words, cwd=self.room.name, input=sent, capture_output=True, check=False)
-        head, _, told = done.stdout.partition(b"\r\n\r\n")
+        head, _, response_body = done.stdout.partition(b"\r\n\r\n")
         status = int(head.split(b" ")[1])
         expect(f"the exit code of {method} {path}", (done.returncode, done.stderr), (0 if status == 200 else 1, b""))
-        return status, told.decode()
+        return status, response_body.decode()
 
 
 def code(text: str) -> str:
@@ -96,10 +96,10 @@ def endpoints(program: str, text: str) -> int:
         if asked.startswith("a plans file"):
             body = PLANS
         if target == "/desk/refunds":
-            body, wanted = refunded(store, body, wanted)
+            body, wanted = refund_on_the_way(store, body, wanted)
         status, said = store.ask(int(now), method, target, CALLERS[caller], body)
         expect(f"docs/API.md, status of {method} {target}", status, 200)
-        expect(f"docs/API.md, answer of {method} {target}", shown(said, wanted), wanted)
+        expect(f"docs/API.md, answer of {method} {target}", in_words_of_the_table(said, wanted), wanted)
     return len(rows)
 
 
@@ -114,7 +114,7 @@ def errors(text: str) -> int:
     return len(rows)
 
 
-def refunded(store: Store, body: str, wanted: str) -> tuple[str, str]:
+def refund_on_the_way(store: Store, body: str, wanted: str) -> tuple[str, str]:
     """A voucher of `gig`, sold, and redeemed once on another device, in place of the one that the document names."""
     order = '{"batch":"g1","plan":"gig","count":1}'
     assert store.ask(2000, "POST", "/desk/batches", DESK, order, seed=OTHER)[0] == 200
@@ -126,7 +126,7 @@ def refunded(store: Store, body: str, wanted: str) -> tuple[str, str]:
     return body.replace(named[1], text), wanted.replace(named[1], text)
 
 
-def shown(said: str, wanted: str) -> str:
+def in_words_of_the_table(said: str, wanted: str) -> str:
     """What was answered, in the words of the table: whole, or a print file of one code, or the last line of a report."""
     lines = said.splitlines() or [""]
     if wanted.startswith("`"):

@@ -1,5 +1,5 @@
 """Each word and each exit code of the program, on files that are made for it: settings, database files of others, counters
-that differ, a disk that is full, little memory. In the end each word of the tables of docs/CLI.md must have come up, and no other.
+that differ, a disk that is full, little memory. In the end each word of the tables of docs/CLI.md must have been printed, and no other.
 
     faults.py PROGRAM [--list]      --list: a line for each word and status, with a call that ended so
 """
@@ -28,7 +28,7 @@ DATE = "a date as YYYY-MM-DD, of the years 1969 to 9999"
 NO_TOML = 'is not TOML in UTF-8: a line is KEY = "VALUE", and no key occurs twice'
 ZONE = ("a POSIX TZ rule of 1 to 64 bytes, such as CET-1CEST,M3.5.0,M10.5.0/3, "
         "which is the last line of /usr/share/zoneinfo/Europe/Berlin")
-# Settings that are refused, by the name of their file: its text (in Latin-1), and the cause that is told. No value is in it.
+# Settings that are refused, by the name of their file: its text (in Latin-1), and the cause that is printed. No value is in it.
 REFUSED = {
     "open": (SETTINGS.replace("https:", "http:"), "portal_url is not a URL that begins with https:// and has 9 to 2048 bytes of visible ASCII"),
     "named": (re.sub('zone = .*', 'zone = "Europe/Berlin"', SETTINGS), f"zone is not {ZONE}"),
@@ -79,7 +79,7 @@ def files(folder: str) -> None:
         made.close()
 
 
-def filled(program: str, folder: str) -> None:
+def make_files(program: str, folder: str) -> None:
     """A database file with a batch of one code, and a copy in which a counter is another."""
     answer = ("answer", "--db", "portal.db", "--settings", "settings", "--seed", SEED, "--now")
     run(program, folder, *answer, "0", data=request("POST", "/desk/plans", DESK, PLANS))
@@ -97,12 +97,12 @@ def at(db: str = "portal.db", settings: str = "settings") -> tuple[str, ...]:
 
 
 def file_at(path: str, text: str) -> str:
-    """What is told of a file that is of no use, with what the system says."""
+    """The message for a file that is of no use, with what the system says."""
     return f"portal: file\n  {path}: {text}\n"
 
 
 def usage(text: str) -> str:
-    """What is told of a value on the command line."""
+    """The message for a value on the command line."""
     return f"portal: usage\n  {text}\n"
 
 
@@ -171,15 +171,15 @@ class Shown:
     def note(self, words: tuple[str | bytes, ...], said: Said) -> None:
         self.count += 1
         status, output, errors = said
-        words_told = [line.removeprefix("portal: ") for line in errors.splitlines() if line.startswith("portal: ")]
-        told = (words_told or [""])[0]
-        if told:
-            self.messages.add(told)
+        reasons = [line.removeprefix("portal: ") for line in errors.splitlines() if line.startswith("portal: ")]
+        answer_word = (reasons or [""])[0]
+        if answer_word:
+            self.messages.add(answer_word)
         if output == "differs\n":
-            told = "differs"
+            answer_word = "differs"
         if '"error":' in output:
-            told = output.split('"')[-2]
-        self.words.setdefault((status, told), " ".join(str(word) for word in words))
+            answer_word = output.split('"')[-2]
+        self.words.setdefault((status, answer_word), " ".join(str(word) for word in words))
 
 
 def version(shown: Shown) -> None:
@@ -198,7 +198,7 @@ def everything(shown: Shown) -> None:
         shown.call(words, wanted)
 
 
-def answered(shown: Shown) -> None:
+def answer_statuses(shown: Shown) -> None:
     """The status of `answer` is 0 with a 200 and 1 with a refusal."""
     words = ("answer", "--now", "1000", "--seed", SEED, *at())
     for body, status in (('{"code":"3N55-WA4S-KH5V-JR49"}', 0), ('{"code":"2222-2222-2222"}', 1)):
@@ -218,14 +218,14 @@ def cut(shown: Shown) -> None:
     os.close(folder)
 
 
-def taken(shown: Shown) -> None:
+def port_and_file_in_use(shown: Shown) -> None:
     """A port that another program holds, and a file that another process holds."""
     with socket.socket() as other:
         other.bind(("127.0.0.1", 0))
         other.listen()
         port = str(other.getsockname()[1])
-        told = f"portal: network\n  port {port}: Address already in use (os error 98)\n"
-        shown.call(("serve", *at(), "--port", port), (3, "", told))
+        result = f"portal: network\n  port {port}: Address already in use (os error 98)\n"
+        shown.call(("serve", *at(), "--port", port), (3, "", result))
     how: dict[str, Any] = {"cwd": shown.folder, "stdout": subprocess.PIPE, "stderr": subprocess.DEVNULL}
     with subprocess.Popen([shown.program, "serve", *at(), "--port", free_port()], **how) as holds:
         assert holds.stdout
@@ -241,7 +241,7 @@ def length_of(shown: Shown, name: str) -> int:
                if os.path.exists(os.path.join(shown.folder, name + end)))
 
 
-def stopped(shown: Shown) -> None:
+def full_disk(shown: Shown) -> None:
     """A full disk, here a limit to the length of files: the desk stops and says so, and its file is good afterwards."""
     seed = ("--now", "1000", "--seed", "1" * 64, *at("full.db"))
     order = request("POST", "/desk/batches", DESK, '{"batch":"b1","plan":"hour","count":500}')
@@ -287,7 +287,7 @@ def little_memory(shown: Shown) -> None:
     assert said[0] == 0, said
 
 
-def documented() -> tuple[set[tuple[int, str]], set[str]]:
+def documented_words() -> tuple[set[tuple[int, str]], set[str]]:
     """The words of the document's table of exit codes, each with its code (the word of an error stands for all), and those of its
     table of messages."""
     with open(DOCUMENT, encoding="utf-8") as file:
@@ -302,15 +302,15 @@ def documented() -> tuple[set[tuple[int, str]], set[str]]:
 
 def compare(shown: Shown) -> int:
     """What the document names and what came up are the same words."""
-    words, messages = documented()
+    words, messages = documented_words()
     threes = {pair for pair in shown.words if pair[0] == 3 and pair[1]}
-    faults = [f"named in docs/CLI.md, and did not come up: exit code {status}, word {word!r}"
+    faults = [f"named in docs/CLI.md, and not printed: exit code {status}, word {word!r}"
               for status, word in sorted(words - set(shown.words))]
     faults += [f"came up, and is not in the table of exit codes of docs/CLI.md: {status} {word!r}"
                for status, word in sorted(threes - words)]
     faults += [f"came up, and is not in the table of messages of docs/CLI.md: {word!r}"
                for word in sorted(shown.messages - messages)]
-    faults += [f"in the table of messages of docs/CLI.md, and did not come up: {word!r}"
+    faults += [f"in the table of messages of docs/CLI.md, and not printed: {word!r}"
                for word in sorted(messages - shown.messages)]
     if faults:
         sys.exit("\n".join(f"outside: {fault}" for fault in faults))
@@ -321,9 +321,9 @@ def main() -> None:
     with tempfile.TemporaryDirectory() as folder:
         shown = Shown(sys.argv[1], folder)
         files(folder)
-        filled(shown.program, folder)
+        make_files(shown.program, folder)
         before = [open(os.path.join(folder, name), "rb").read() for name in ("other.db", "later.db", "text")]
-        for part in (version, everything, answered, cut, taken, stopped, little_memory):
+        for part in (version, everything, answer_statuses, cut, port_and_file_in_use, full_disk, little_memory):
             part(shown)
         assert before == [open(os.path.join(folder, name), "rb").read() for name in ("other.db", "later.db", "text")]
     if "--list" in sys.argv:

@@ -1,5 +1,5 @@
 """Kills the server again and again in the middle of its work, and opens the file again: what was acknowledged stands, once, and of
-what was not at most the last request. A request with a number that is sent again after the kill acts once."""
+what was not at most the last request. A request with a number that is sent again after the kill takes effect once."""
 
 import json
 import random
@@ -26,7 +26,7 @@ class Work:
 
     def again(self):
         path, field, body, number, code = self.doubt
-        self.desk.told("POST", path, field, body, number=number)
+        self.desk.answer_to("POST", path, field, body, number=number)
         self.doubt = None
         if path == "/desk/sales":
             self.sold.append(code)
@@ -47,7 +47,7 @@ class Work:
 
 def batch_of(desk, number):
     name = f"b{number}"
-    desk.told("POST", "/desk/batches", DESK, json.dumps({"batch": name, "plan": "hour", "count": 200}))
+    desk.answer_to("POST", "/desk/batches", DESK, json.dumps({"batch": name, "plan": "hour", "count": 200}))
     return codes_of(desk, name)
 
 
@@ -65,7 +65,7 @@ def main():
         desk = Desk(sys.argv[1], folder)
         work, codes, batches, kills = Work(desk), [], 0, 0
         desk.start()
-        desk.told("POST", "/desk/plans", DESK, PLANS)
+        desk.answer_to("POST", "/desk/plans", DESK, PLANS)
         while kills < ROUNDS:
             if len(codes) < 100:
                 batches += 1

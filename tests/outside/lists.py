@@ -13,7 +13,6 @@ import random
 import re
 import sqlite3
 import statistics
-import sys
 import tempfile
 import time
 
@@ -25,7 +24,7 @@ MANY = PLANS.replace('"hour"', '"many"').replace("uses = 3", "uses = 100000").re
 
 
 def code(draw):
-    """A code of 16 signs: the weighted sum with the check sign is divisible by 31."""
+    """A code of 16 signs: the weighted sum with the check character is divisible by 31."""
     values = [draw.randrange(31) for _ in range(15)]
     values.append(-sum(value * weight for weight, value in enumerate(values, 2)) % 31)
     signs = "".join(SIGNS[value] for value in values)
@@ -36,15 +35,15 @@ def device(number):
     return "02:" + ":".join(f"{byte:02x}" for byte in number.to_bytes(5, "big"))
 
 
-def begun(desk):
+def make_first_file(desk):
     """A file of the program's own making with both plans, a voucher of each, and one session."""
     desk.start()
-    desk.told("POST", "/desk/plans", DESK, PLANS + MANY)
+    desk.answer_to("POST", "/desk/plans", DESK, PLANS + MANY)
     for batch, plan in (("first", "hour"), ("open", "many")):
-        desk.told("POST", "/desk/batches", DESK, '{"batch":"%s","plan":"%s","count":1}' % (batch, plan))
-        desk.told("POST", "/desk/sales", DESK, '{"code":"%s"}' % codes_of(desk, batch)[0])
+        desk.answer_to("POST", "/desk/batches", DESK, '{"batch":"%s","plan":"%s","count":1}' % (batch, plan))
+        desk.answer_to("POST", "/desk/sales", DESK, '{"code":"%s"}' % codes_of(desk, batch)[0])
     text = codes_of(desk, "open")[0]
-    desk.told("POST", "/portal/redeem", guest(0xffff), '{"code":"%s"}' % text)
+    desk.answer_to("POST", "/portal/redeem", guest(0xffff), '{"code":"%s"}' % text)
     desk.kill()
     return text
 
@@ -91,17 +90,17 @@ def redeem(file, text, count, now):
     file.execute(head, (now, more, more))
 
 
-def asked(desk, path, caller):
+def time_requests(desk, path, caller):
     """The seconds of five answers, and the last answer."""
     times = []
     for _ in range(ROUNDS + 1):
         start = time.perf_counter()
-        text = desk.told("GET", path, caller)
+        text = desk.answer_to("GET", path, caller)
         times.append(time.perf_counter() - start)
     return times[1:], text
 
 
-def told(what, times):
+def result(what, times):
     span = f"median {statistics.median(times):.3f} s, {min(times):.3f} to {max(times):.3f}"
     print(f"{what}: {span}, load {os.getloadavg()[0]:.0f}", flush=True)
 
@@ -111,14 +110,14 @@ def opened(desk):
     assert (audit.returncode, audit.stdout) == (0, "ok\n"), audit
     start = time.perf_counter()
     desk.start()
-    desk.told("GET", "/captive", guest(1))
+    desk.answer_to("GET", "/captive", guest(1))
     return time.perf_counter() - start
 
 
 def measure(program, kind, count):
     with tempfile.TemporaryDirectory() as folder:
         desk = Desk(program, folder)
-        text, now = begun(desk), int(time.time())
+        text, now = make_first_file(desk), int(time.time())
         with sqlite3.connect(os.path.join(folder, "portal.db")) as file:
             if kind == "sessions":
                 redeem(file, text, count, now)
@@ -128,15 +127,15 @@ def measure(program, kind, count):
         start = opened(desk)
         try:
             if kind == "sessions":
-                times, answer = asked(desk, "/gateway/sessions", GATEWAY)
+                times, answer = time_requests(desk, "/gateway/sessions", GATEWAY)
                 assert answer.count('"session":') == count, answer[:200]
-                told(f"GET /gateway/sessions, {count} open (opened in {start:.1f} s)", times)
+                result(f"GET /gateway/sessions, {count} open (opened in {start:.1f} s)", times)
             else:
                 ends = [time.strftime("%Y-%m-%d", time.gmtime(now - days * DAY)) for days in (DAYS - 1, 0)]
-                times, answer = asked(desk, f"/desk/takings?from={ends[0]}&to={ends[1]}", DESK)
+                times, answer = time_requests(desk, f"/desk/takings?from={ends[0]}&to={ends[1]}", DESK)
                 total = int(re.search(r"^total +([0-9]+) ", answer, re.M)[1])
                 assert total == count + 2, (total, count)
-                told(f"GET /desk/takings of {DAYS} days, {count} sold (opened in {start:.1f} s)", times)
+                result(f"GET /desk/takings of {DAYS} days, {count} sold (opened in {start:.1f} s)", times)
         finally:
             desk.kill()
 

@@ -1,5 +1,5 @@
 """The two files of a database: after each end that is no kill the database file holds everything alone, a log is never lost beside a
-database that is missing or blank, nothing is made where no database is, and what is told of a file that is of no use, and of
+database that is missing or blank, nothing is made where no database is, and the message for a file that is of no use, and of
 connections that fail.
 
     whole.py PROGRAM
@@ -80,13 +80,13 @@ def answers_leave_it_whole(program: str) -> None:
             is_whole_alone(desk, DAY, words[0])
 
 
-def served(desk: Desk, ends: int) -> None:
+def sell_all(desk: Desk, ends: int) -> None:
     """All vouchers are sold by a server, which ends by itself after so many connections, or goes on."""
     desk.start("--count", str(ends))
-    desk.told("POST", "/desk/plans", DESK, PLANS)
-    desk.told("POST", "/desk/batches", DESK, json.dumps({"batch": "b1", "plan": "hour", "count": SALES}))
+    desk.answer_to("POST", "/desk/plans", DESK, PLANS)
+    desk.answer_to("POST", "/desk/batches", DESK, json.dumps({"batch": "b1", "plan": "hour", "count": SALES}))
     for code in codes_of(desk, "b1"):
-        desk.told("POST", "/desk/sales", DESK, json.dumps({"code": code}))
+        desk.answer_to("POST", "/desk/sales", DESK, json.dumps({"code": code}))
 
 
 def today() -> str:
@@ -96,7 +96,7 @@ def today() -> str:
 def serving_leaves_it_whole(program: str) -> None:
     with tempfile.TemporaryDirectory() as folder:
         desk, day = Desk(program, folder), today()
-        served(desk, SALES + 3)
+        sell_all(desk, SALES + 3)
         expect("serve --count", desk.process.wait(timeout=30), 0)
         desk.process.stdout.close()
         if day == today():
@@ -107,7 +107,7 @@ def starting_makes_it_whole(program: str) -> None:
     """A server that was killed leaves its sales in the log; the next one copies them as it starts, and may be killed at once."""
     with tempfile.TemporaryDirectory() as folder:
         desk, day = Desk(program, folder), today()
-        served(desk, 1000000)
+        sell_all(desk, 1000000)
         desk.kill()
         desk.start()
         desk.kill()
@@ -115,10 +115,10 @@ def starting_makes_it_whole(program: str) -> None:
             is_whole_alone(desk, day, "serve, after a kill")
 
 
-def killed(program: str, folder: str) -> Desk:
+def database_with_log(program: str, folder: str) -> Desk:
     """A database whose sales are in its log."""
     desk = Desk(program, folder)
-    served(desk, 1000000)
+    sell_all(desk, 1000000)
     desk.kill()
     return desk
 
@@ -137,7 +137,7 @@ def log_is_kept(program: str) -> None:
     """A log that holds commits beside a database that is missing or blank is `portal: file`, and stays as it is. What asks makes no
     database file either."""
     with tempfile.TemporaryDirectory() as folder:
-        desk = killed(program, folder)
+        desk = database_with_log(program, folder)
         database, log = content(desk, "portal.db"), content(desk, "portal.db-wal")
         text = "  portal.db: the database is empty or missing, and its log holds commits\n"
         for blank in (False, True):
@@ -201,7 +201,7 @@ def asking_makes_nothing(program: str) -> None:
             expect(f"{words[0]} of a database that answer made", (done.returncode, done.stderr), (status, word))
 
 
-def database_in_use_is_told(program: str) -> None:
+def database_in_use_is_named(program: str) -> None:
     """A database that a server has just made is in use, whatever of it is in the file yet."""
     with tempfile.TemporaryDirectory() as folder:
         desk = Desk(program, folder)
@@ -217,7 +217,7 @@ def database_in_use_is_told(program: str) -> None:
 def file_is_explained(program: str) -> None:
     """The line of `portal: file` is followed by one that has the path and what the system says."""
     with tempfile.TemporaryDirectory() as folder:
-        desk = Desk(program, folder)
+        Desk(program, folder)
         words = [program, "check", "--settings", "settings.toml", "--db"]
         cases = [("none/portal.db", NO_DATABASE), ("settings.toml", "file is not a database that obeys its schema"),
                  ("settings.toml/portal.db", "Not a directory (os error 20)"), (".", "unsupported"), ("/dev/null", "unsupported"),
@@ -269,7 +269,7 @@ def failed_close_keeps_the_files(program: str) -> None:
         expect("check after a failed close", desk.run("check").stdout, "ok\n")
 
 
-def told_without_descriptors(desk: Desk) -> None:
+def is_named_without_descriptors(desk: Desk) -> None:
     """Lets the server have no more descriptors than it has, while peers come, and then more again."""
     used = len(os.listdir(f"/proc/{desk.process.pid}/fd"))
     resource.prlimit(desk.process.pid, resource.RLIMIT_NOFILE, (used, 256))
@@ -284,7 +284,7 @@ def told_without_descriptors(desk: Desk) -> None:
 
 
 def accepts_without_descriptors(program: str) -> None:
-    """With no descriptors left the server tells of failed connections, at most 4 times in the first 2 seconds, and then serves on."""
+    """With no descriptors left the server prints failed connections, at most 4 times in the first 2 seconds, and then serves on."""
     with tempfile.TemporaryDirectory() as folder:
         desk = Desk(program, folder)
         with open(os.path.join(folder, "errors"), "wb") as errors:
@@ -293,14 +293,14 @@ def accepts_without_descriptors(program: str) -> None:
         try:
             assert desk.process.stdout
             desk.process.stdout.readline()
-            told_without_descriptors(desk)
+            is_named_without_descriptors(desk)
         finally:
             desk.kill()
 
 
 def main() -> None:
     parts = (answers_leave_it_whole, serving_leaves_it_whole, starting_makes_it_whole, log_is_kept, asking_makes_nothing,
-             database_in_use_is_told, file_is_explained, failed_close_keeps_the_files, accepts_without_descriptors)
+             database_in_use_is_named, file_is_explained, failed_close_keeps_the_files, accepts_without_descriptors)
     chosen = [part for part in parts if not sys.argv[2:] or part.__name__ in sys.argv[2:]]
     for part in chosen:
         part(sys.argv[1])

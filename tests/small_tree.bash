@@ -5,7 +5,7 @@ room=$(mktemp -d)
 trap 'rm -rf "$room"' EXIT
 export FAKE="$room/fake" TMPDIR="$room/tmp" XDG_CACHE_HOME="$room/cache"
 unset PORTAL_KEEP PORTAL_JOBS
-house="$room/a house"
+tree="$room/a tree"
 passed=0 failed=0
 
 is() {
@@ -55,36 +55,36 @@ RT
 }
 
 # A repository with these lines in crates.txt.
-make_house() {
+make_tree() {
   local row name
-  rm -rf "$house"
-  mkdir -p "$house/tests"
-  cp -r "$top/portal" "$top/tools" "$house/"
-  cp "$top/tests/shipped" "$house/tests/"
-  echo 1.0.0 >"$house/VERSION"
+  rm -rf "$tree"
+  mkdir -p "$tree/tests"
+  cp -r "$top/portal" "$top/tools" "$tree/"
+  cp "$top/tests/shipped" "$tree/tests/"
+  echo 1.0.0 >"$tree/VERSION"
   for row; do
     echo "$row"
     name=${row%%:*}
-    mkdir -p "$house/crates/$name"/{src,specs,proofs/a/b,must-fail}
-    echo "spec of $name" >"$house/crates/$name/specs/Lib.antt"
-    echo "proof of $name" >"$house/crates/$name/proofs/a/b/Answers.antt"
-    echo "edit of $name" >"$house/crates/$name/must-fail/one.edit"
-    echo "code of $name" >"$house/crates/$name/src/lib.rt"
-  done >"$house/crates.txt"
-  echo 'the program' >"$house/crates/portal/src/main.rt"
+    mkdir -p "$tree/crates/$name"/{src,specs,proofs/a/b,must-fail}
+    echo "spec of $name" >"$tree/crates/$name/specs/Lib.antt"
+    echo "proof of $name" >"$tree/crates/$name/proofs/a/b/Answers.antt"
+    echo "edit of $name" >"$tree/crates/$name/must-fail/one.edit"
+    echo "code of $name" >"$tree/crates/$name/src/lib.rt"
+  done >"$tree/crates.txt"
+  echo 'the program' >"$tree/crates/portal/src/main.rt"
   rm -f "$FAKE"/{calls,spans,eaten,versions,wrong,during,refuses,slow,ran}
 }
 
 make_small_house() {
-  make_house 'base:' 'aside: base' 'middle: base std' 'portal: middle, clap'
-  sed -i '1i # lowest first' "$house/crates.txt"
+  make_tree 'base:' 'aside: base' 'middle: base std' 'portal: middle, clap'
+  sed -i '1i # lowest first' "$tree/crates.txt"
 }
 
-# The sum of the house's sources, as the scripts take it.
+# The sum of the repository's sources, as the scripts take it.
 sum_of_house() (
-  top=$house
+  top=$tree
   # shellcheck source=tools/program.bash
-  source "$house/tools/program.bash"
+  source "$tree/tools/program.bash"
   read_crates
   sum_of_sources
 )
@@ -95,13 +95,13 @@ sha256() {
   echo "${sum%% *}"
 }
 
-# Puts a stand-in for the shipped program into dist/, built from the house's sources as they are.
+# Puts a stand-in for the shipped program into dist/, built from the repository's sources as they are.
 make_shipped() {
   make_shipped_saying 'the shipped program'
 }
 
 make_shipped_saying() {
-  local dist="$house/dist/x86_64-linux"
+  local dist="$tree/dist/x86_64-linux"
   mkdir -p "$dist"
   cat >"$room/shipped" <<PROGRAM
 #!/usr/bin/env bash
