@@ -29,6 +29,8 @@ from needs import LOOP_DEVICES, ROOT, needs
 from schema_versions import ADDED, LATER, VERSIONS, make_database
 from steady import wait_until
 
+from portal_field.counter.journal import Act, Journal
+
 COPIES = 3
 SLOW_CP = 'touch "$(dirname "$0")/begun"\nexec sleep 20'
 Done = subprocess.CompletedProcess[str]
@@ -59,13 +61,13 @@ def files(folder: pathlib.Path) -> dict[str, bytes]:
 
 class Case(unittest.TestCase):
     def run_it(self, name: str, *words: object, folder: pathlib.Path | None = None) -> Done:
-        line = [sys.executable, str(FIELD / "backup" / name), *map(str, words)]
+        line = [sys.executable, str(FIELD / name), *map(str, words)]
         return subprocess.run(line, capture_output=True, text=True, env=with_stubs(folder) if folder else None)
 
     def backup(self, desk: DeskProcess, *more: object) -> Done:
         return self.run_it("portal-backup", "--pid", desk.job.pid, "--portal", PORTAL, *more, desk.book, desk.folder / "copies")
 
-    def copied(self, desk: DeskProcess, *more: object) -> pathlib.Path:
+    def make_copy(self, desk: DeskProcess, *more: object) -> pathlib.Path:
         done = self.backup(desk, *more)
         self.assertEqual((done.returncode, done.stderr), (0, ""))
         return pathlib.Path(done.stdout.strip())
@@ -79,40 +81,101 @@ class Case(unittest.TestCase):
 
     def has(self, desk: DeskProcess, batch: str) -> bool:
         try:
-            return len(desk.desk.ask(Routes.PRINT, batch).splitlines()) == 2
+            return len(desk.desk.request(Routes.PRINT, batch).splitlines()) == 2
         except Refused:
             return False
 
 
 @needs("procps")
+class Journals(Case):
+    """The counter's journal has a copy of its own."""
+
+    def setUp(self) -> None:
+        self.desk = self.enterContext(DeskProcess())
+        self.desk.load()
+        self.journal = Journal(self.desk.folder / "journal.db")
+        self.copies = self.desk.folder / "copies"
+
+    def names(self) -> list[str]:
+        return sorted(path.name for path in self.copies.iterdir())
+
+    def test_it_lies_beside_that_of_the_database_with_its_sum(self) -> None:
+        self.journal.add("anna", "10.88.0.2", [Act("sell", "s1", "done", "b1", "hour", 1, 300)])
+        copy = self.make_copy(self.desk, "--journal", self.journal.path)
+        other = copy.with_name(f"journal-{copy.name}")
+        self.assertEqual(self.names(), sorted(f"{path.name}{end}" for path in (copy, other) for end in ("", ".sha256")))
+        done = subprocess.run(["sha256sum", "--check", *self.copies.glob("*.sha256")], cwd=self.copies, capture_output=True)
+        self.assertEqual((done.returncode, other.stat().st_mode & 0o777), (0, 0o600))
+        entry, = Journal(other).day(datetime.date.today())
+        self.assertEqual((entry.clerk, entry.act, entry.batch, entry.price), ("anna", "sell", "b1", 300))
+
+    def test_one_that_is_being_written_is_copied_between_two_entries(self) -> None:
+        self.journal.add("anna", "x", [Act("sell", "s1", "done")])
+        with contextlib.closing(sqlite3.connect(self.journal.path, isolation_level=None)) as link:
+            link.execute("BEGIN IMMEDIATE")
+            link.execute("INSERT INTO acts SELECT NULL, moment, 'karl', place, act, batch, plan, codes, price, 's2', answer FROM acts")
+            copy = self.make_copy(self.desk, "--journal", self.journal.path)
+            link.execute("COMMIT")
+        paths = (str(copy.with_name(f"journal-{copy.name}")), self.journal.path)
+        counts = [len(Journal(path).day(datetime.date.today())) for path in paths]
+        self.assertEqual(counts, [1, 2])
+
+    def test_as_many_are_kept_as_of_the_database(self) -> None:
+        self.journal.add("anna", "x", [Act("sell", "s1", "done")])
+        copies = [self.make_copy(self.desk, "--journal", self.journal.path, "--keep", 2) for _ in range(3)]
+        self.assertEqual(self.names(), sorted(f"{begin}{copy.name}{end}" for copy in copies[1:] for begin in ("", "journal-")
+                                              for end in ("", ".sha256")))
+
+    def test_without_one_the_database_is_copied_and_a_damaged_one_is_reported(self) -> None:
+        self.make_copy(self.desk, "--journal", self.journal.path)
+        pathlib.Path(self.journal.path).write_bytes(b"no journal" * 999)
+        done = self.backup(self.desk, "--journal", self.journal.path)
+        self.assertEqual((done.returncode, "the counter's journal" in done.stderr), (1, True))
+        self.assertTrue(pathlib.Path(done.stdout.strip()).exists())
+        self.assertFalse(any(name.startswith("journal-") for name in self.names()))
+
+    def test_a_restore_takes_the_newest_of_the_database_and_leaves_the_journal_as_it_is(self) -> None:
+        self.journal.add("anna", "x", [Act("sell", "s1", "done")])
+        copy = self.make_copy(self.desk, "--journal", self.journal.path)
+        self.journal.add("anna", "x", [Act("sell", "s2", "done")])
+        done = self.restore(self.desk, "--drill", "--folder", self.copies)
+        self.assertEqual((done.returncode, f"{copy} restores and checks" in done.stdout), (0, True), done.stderr)
+        self.end(self.desk)
+        before = pathlib.Path(self.journal.path).read_bytes()
+        self.assertEqual(self.restore(self.desk, copy, self.desk.book).returncode, 0)
+        self.assertEqual(pathlib.Path(self.journal.path).read_bytes(), before)
+        self.assertEqual(self.restore(self.desk, copy.with_name(f"journal-{copy.name}"), self.desk.book).returncode, 1)
+
+
+@needs("procps")
 class Copies(Case):
-    def sells(self, desk: DeskProcess, told: list[str], stop: threading.Event) -> None:
+    def sells(self, desk: DeskProcess, codes: list[str], stop: threading.Event) -> None:
         patient = Desk(desk.port, "desk-token", timeout=60)
         while not stop.is_set():
-            name = f"b{len(told)}"
-            patient.tell(Routes.ISSUE, body={"batch": name, "plan": "hour", "count": 1})
-            told.append(name)
+            name = f"b{len(codes)}"
+            patient.request_json(Routes.ISSUE, body={"batch": name, "plan": "hour", "count": 1})
+            codes.append(name)
             time.sleep(0.005)
 
     def test_copies_under_load(self) -> None:
         with DeskProcess() as desk:
             desk.load()
-            told: list[str] = []
+            codes: list[str] = []
             stop = threading.Event()
-            worker = threading.Thread(target=self.sells, args=(desk, told, stop))
+            worker = threading.Thread(target=self.sells, args=(desk, codes, stop))
             worker.start()
             try:
                 for _ in range(COPIES):
-                    self.waits(told, len(told) + 10)
-                    before = list(told)
-                    self.holds(self.copied(desk, "--check", desk.settings), before)
-                    self.waits(told, len(told) + 1)     # the server goes on
+                    self.waits(codes, len(codes) + 10)
+                    before = list(codes)
+                    self.holds(self.make_copy(desk, "--check", desk.settings), before)
+                    self.waits(codes, len(codes) + 1)     # the server goes on
             finally:
                 stop.set()
                 worker.join()
 
-    def waits(self, told: list[str], count: int) -> None:
-        self.assertTrue(wait_until(lambda: len(told) >= count, 10, 0.01), "the server sells no more")
+    def waits(self, codes: list[str], count: int) -> None:
+        self.assertTrue(wait_until(lambda: len(codes) >= count, 10, 0.01), "the server sells no more")
 
     def holds(self, copy: pathlib.Path, names: list[str]) -> None:
         """Served from a copy of this one file, as opening writes, every batch that was acknowledged is there."""
@@ -151,8 +214,8 @@ class Copies(Case):
                 stub(desk.folder, "cp", f"echo cp >> {desk.folder}/order\n{cp}")
                 done = self.run_it("portal-backup", desk.book, desk.folder / "copies", folder=desk.folder)
                 self.assertEqual(done.returncode, status, done.stderr)
-                asked = ["show", "freeze", *["cp"] * (2 if status == 0 else 1), "thaw"]
-                self.assertEqual(self.order(desk), asked)
+                calls = ["show", "freeze", *["cp"] * (2 if status == 0 else 1), "thaw"]
+                self.assertEqual(self.order(desk), calls)
                 self.assertEqual(len(list((desk.folder / "copies").iterdir())), 2 if status == 0 else 0)
 
     def test_a_backup_that_is_ended_in_the_middle_thaws(self) -> None:
@@ -161,7 +224,7 @@ class Copies(Case):
             with DeskProcess() as desk:
                 systemctl(desk.folder, "active")
                 stub(desk.folder, "cp", SLOW_CP)
-                words = [sys.executable, str(FIELD / "backup/portal-backup"), str(desk.book), str(desk.folder / "copies")]
+                words = [sys.executable, str(FIELD / "portal-backup"), str(desk.book), str(desk.folder / "copies")]
                 job = subprocess.Popen(words, env=with_stubs(desk.folder), stdin=subprocess.DEVNULL)
                 self.comes(lambda: (desk.folder / "begun").exists(), "cp")
                 job.send_signal(number)
@@ -178,7 +241,7 @@ class Copies(Case):
             left = desk.folder / "copies/.part-old"
             left.mkdir(parents=True)
             (left / "copy.db").write_bytes(b"half")
-            self.copied(desk)
+            self.make_copy(desk)
             self.assertFalse(left.exists())
 
     def test_a_server_that_does_not_run_is_not_frozen(self) -> None:
@@ -210,9 +273,9 @@ class Copies(Case):
         with DeskProcess() as desk:
             earlier = desk.folder / "copies/20200101T033000.000000Z"     # by a version that made folders
             earlier.mkdir(parents=True)
-            told = [str(self.copied(desk, "--keep", 2)) for _ in range(4)]
-            kept = sorted(str(path) for path in (desk.folder / "copies").iterdir())
-            self.assertEqual(kept, sorted([*told[2:], *(f"{path}.sha256" for path in told[2:])]))
+            paths = [str(self.make_copy(desk, "--keep", 2)) for _ in range(4)]
+            copies = sorted(str(path) for path in (desk.folder / "copies").iterdir())
+            self.assertEqual(copies, sorted([*paths[2:], *(f"{path}.sha256" for path in paths[2:])]))
 
     def test_a_copy_that_does_not_check_is_not_kept(self) -> None:
         with DeskProcess() as desk:
@@ -220,7 +283,7 @@ class Copies(Case):
             self.assertEqual((done.returncode, done.stdout), (1, ""))
             self.assertEqual(list((desk.folder / "copies").iterdir()), [])
             with self.assertRaises(Refused):        # and the server goes on
-                desk.desk.ask(Routes.PRINT, "b1")
+                desk.desk.request(Routes.PRINT, "b1")
 
     def test_a_database_without_its_log_is_no_copy(self) -> None:
         """To the program it is an empty database, and checks."""
@@ -243,7 +306,7 @@ class CarriedOff(Case):
         assert line
         with DeskProcess() as desk:
             desk.load()
-            copy, far = self.copied(desk), desk.folder / "far"
+            copy, far = self.make_copy(desk), desk.folder / "far"
             words = [{"/var/backups/portal/": f"{copy.parent}/", "HOST:portal/": f"{far}/"}.get(word, word)
                      for word in line[1].split()]
             for _ in range(2):
@@ -271,18 +334,18 @@ class Snapshots(Case):
             subprocess.run([str(word) for word in words], check=True, capture_output=True)
         self.data = place / "there/data"
 
-    def test_a_snapshot_needs_no_freeze_and_holds_what_was_told(self) -> None:
+    def test_a_snapshot_needs_no_freeze_and_holds_what_was_answered(self) -> None:
         with DeskProcess(self.data / "book.db") as desk:
             desk.load()
             systemctl(desk.folder, "active")
             sells, stop = Copies(), threading.Event()
-            told: list[str] = []
-            worker = threading.Thread(target=sells.sells, args=(desk, told, stop))
+            codes: list[str] = []
+            worker = threading.Thread(target=sells.sells, args=(desk, codes, stop))
             worker.start()
             try:
                 for _ in range(COPIES):
-                    sells.waits(told, len(told) + 10)
-                    before = list(told)
+                    sells.waits(codes, len(codes) + 10)
+                    before = list(codes)
                     done = self.run_it("portal-backup", "--portal", PORTAL, "--check", desk.settings, desk.book,
                                        desk.folder / "copies", folder=desk.folder)
                     self.assertEqual((done.returncode, done.stderr), (0, ""))
@@ -298,7 +361,7 @@ class Snapshots(Case):
             subprocess.run(["btrfs", "subvolume", "snapshot", "-r", self.data, self.data / ".snapshot"], check=True,
                            capture_output=True)
             desk.load()
-            desk.issued("hour", "b1")
+            desk.issue_codes("hour", "b1")
             systemctl(desk.folder, "active")
             done = self.run_it("portal-backup", desk.book, desk.folder / "copies", folder=desk.folder)
             self.assertEqual((done.returncode, done.stderr), (0, ""))
@@ -311,30 +374,30 @@ class Restores(Case):
         """With an `nft` and a `systemctl` that only say what they were asked."""
         with DeskProcess() as desk:
             desk.load()
-            copy = self.copied(desk)
-            desk.issued("hour", "later")
+            copy = self.make_copy(desk)
+            desk.issue_codes("hour", "later")
             stub(desk.folder, "nft", f'echo "nft $*" >> {desk.folder}/asked')
             stub(desk.folder, "systemctl", "echo inactive")
             self.end(desk)
             before = files(desk.folder)
             done = self.restore(desk, copy, desk.book, folder=desk.folder)
             self.assertEqual((done.returncode, done.stderr), (0, ""))
-            asked = (desk.folder / "asked").read_text()
+            calls = (desk.folder / "asked").read_text()
             for name in ("inet portal alive", "inet portal up", "netdev portal down"):
-                self.assertIn("flush set " + name, asked)
+                self.assertIn("flush set " + name, calls)
             aside, = desk.folder.glob("book.db.before-*")
             self.assertEqual(files(aside), before)
             self.assertIn(str(aside), done.stdout)
             self.assertEqual(files(desk.folder), {"book.db": copy.read_bytes()})     # and no log of before
             with DeskProcess(desk.book) as again:
                 self.assertFalse(self.has(again, "later"))
-                self.assertEqual(len(again.issued("hour", "b1")), 1)
+                self.assertEqual(len(again.issue_codes("hour", "b1")), 1)
 
     def test_both_files_of_an_earlier_copy_are_restored(self) -> None:
         """A folder with the database and its log, as portal-backup made them before it folded the log in."""
         with DeskProcess() as desk:
             desk.load()
-            desk.issued("hour", "b1")
+            desk.issue_codes("hour", "b1")
             self.end(desk)
             shutil.copytree(desk.folder, desk.folder / "earlier", ignore=lambda _, names: set(names) - {"book.db", "book.db-wal"})
             pathlib.Path(f"{desk.book}-wal").unlink()
@@ -355,7 +418,7 @@ class Restores(Case):
     def test_a_copy_is_checked_before_anything_is_replaced(self) -> None:
         with DeskProcess() as desk:
             desk.load()
-            copy = self.copied(desk)
+            copy = self.make_copy(desk)
             self.end(desk)
             stub(desk.folder, "systemctl", "echo inactive")
             whole, sums = copy.read_bytes(), pathlib.Path(f"{copy}.sha256")
@@ -373,7 +436,7 @@ class Restores(Case):
     def test_nothing_is_restored_under_a_running_desk(self) -> None:
         """Nor under one that systemd starts again each second, nor one that runs without systemd."""
         with DeskProcess() as desk:
-            copy = self.copied(desk)
+            copy = self.make_copy(desk)
             for state, word in (("active", "stop portal.service first"), ("activating", "stop portal.service first"),
                                 ("inactive", "another process has")):
                 stub(desk.folder, "systemctl", f"echo {state}")
@@ -401,7 +464,7 @@ class Restores(Case):
                 self.assertIn(f"takings {day} {day}\n", done.stdout)
                 self.assertIn("20261125T033000.000000Z.db", done.stdout)
 
-    def test_the_package_is_told_the_schema_version_of_what_was_restored(self) -> None:
+    def test_the_package_gets_the_schema_version_of_what_was_restored(self) -> None:
         """The package's file beside the database, where there is one, says what an older version is compared with."""
         with tempfile.TemporaryDirectory() as place:
             folder = pathlib.Path(place)
@@ -433,7 +496,7 @@ class Undone(Case):
         stub(self.folder, "portal", '[ "$1" = check ] && echo ok')
         (self.folder / "settings.toml").write_text('zone = "XST-9"\n')
 
-    def restored(self) -> tuple[str, list[pathlib.Path]]:
+    def run_restore(self) -> tuple[str, list[pathlib.Path]]:
         """What was printed, and the lists that were written; the copy is in the database's place, whatever was there."""
         before, copy = files(self.folder), self.copy.read_bytes()
         done = self.run_it("portal-restore", "--portal", self.folder / "portal", "--settings", self.folder / "settings.toml",
@@ -454,12 +517,12 @@ class Undone(Case):
                 self.copy.unlink(missing_ok=True)
                 make_database(self.book, version, LATER)
                 make_database(self.copy, earlier)
-                told, lists = self.restored()
-                self.assertEqual(len(lists), 1, told)
+                text, lists = self.run_restore()
+                self.assertEqual(len(lists), 1, text)
                 path = lists[0]
-                self.assertIn("sold 2 (8.00), refunded 1 (5.00), redeemed 3 (6.33)\n", told)
-                self.assertIn(f"/{path.name}\n", told)
-                self.assertNotRegex(told, "2222|4444")
+                self.assertIn("sold 2 (8.00), refunded 1 (5.00), redeemed 3 (6.33)\n", text)
+                self.assertIn(f"/{path.name}\n", text)
+                self.assertNotRegex(re.sub(r"/\S*", "", text), "2222|4444")     # a path has the time in it, and digits by chance
                 self.assertEqual(path.stat().st_mode & 0o777, 0o600)
                 self.assertEqual(path.read_text().splitlines(), [
                     "what,time,code,batch,plan,uses,sum,in the copy",
@@ -489,9 +552,9 @@ class Undone(Case):
                 if isinstance(data, str):
                     with contextlib.closing(sqlite3.connect(self.book)) as base:
                         base.executescript(data)
-                told, lists = self.restored()
-                self.assertIn("what this undid is not known", told)
-                self.assertIn(words, told)
+                text, lists = self.run_restore()
+                self.assertIn("what this undid is not known", text)
+                self.assertIn(words, text)
                 self.assertEqual(lists, [])
 
     def test_a_disk_without_room_for_reading_hinders_no_restore(self) -> None:
@@ -499,14 +562,14 @@ class Undone(Case):
         make_database(self.book, 4, LATER)
         make_database(self.copy, 4)
         stub(self.folder, "cp", 'case "$*" in *replaced.db) exit 1 ;; esac\nexec /bin/cp "$@"')
-        told, lists = self.restored()
-        self.assertIn("what this undid is not known", told)
+        text, lists = self.run_restore()
+        self.assertIn("what this undid is not known", text)
         self.assertEqual((lists, list(self.folder.glob(".restore-*"))), ([], []))
 
     def test_a_log_without_its_database_is_said(self) -> None:
         make_database(self.copy, 4)
         pathlib.Path(f"{self.book}-wal").write_bytes(b"a log")
-        self.assertIn("what this undid is not known", self.restored()[0])
+        self.assertIn("what this undid is not known", self.run_restore()[0])
 
     def test_a_damaged_database_is_listed_as_far_as_it_can_be_read(self) -> None:
         """With a row that SQLite's check finds to be wrong."""
@@ -514,15 +577,15 @@ class Undone(Case):
         make_database(self.book, 4, LATER, "CREATE TABLE spare (x INTEGER); INSERT INTO spare VALUES (NULL);"
                       "PRAGMA writable_schema = ON; UPDATE sqlite_master SET sql = 'CREATE TABLE spare (x INTEGER NOT NULL)'"
                       " WHERE name = 'spare'")
-        told, lists = self.restored()
-        self.assertIn("sold 2 (8.00)", told)
-        self.assertIn("more may be undone: what was there before is damaged: NULL value in spare.x", told)
+        text, lists = self.run_restore()
+        self.assertIn("sold 2 (8.00)", text)
+        self.assertIn("more may be undone: what was there before is damaged: NULL value in spare.x", text)
         self.assertEqual([len(path.read_text().splitlines()) for path in lists], [6])
 
     def test_a_copy_that_has_all_of_it_undoes_nothing(self) -> None:
         make_database(self.book, 4)
         make_database(self.copy, 4, LATER)
-        self.assertIn("sold 0 (0.00), refunded 0 (0.00), redeemed 0 (0.00)\n", self.restored()[0])
+        self.assertIn("sold 0 (0.00), refunded 0 (0.00), redeemed 0 (0.00)\n", self.run_restore()[0])
 
 
 @needs("procps")
@@ -536,7 +599,7 @@ class UndoneByTheProgram(Case):
         if not self.portal and subprocess.run(line, shell=True, capture_output=True).returncode == 0:
             self.portal = f"{folder}/portal"
 
-    def paid(self, desk: DeskProcess, book: pathlib.Path) -> list[int]:
+    def takings(self, desk: DeskProcess, book: pathlib.Path) -> list[int]:
         """What the program's takings have in all: vouchers sold, hundredths, vouchers refunded, hundredths."""
         days = [str(datetime.date.today() + datetime.timedelta(days)) for days in (-2, 2)]
         words = [*shlex.split(self.portal), "takings", *days, "--db", str(book), "--settings", str(desk.settings)]
@@ -546,7 +609,7 @@ class UndoneByTheProgram(Case):
 
     def refund(self, book: pathlib.Path, code: str) -> int:
         with DeskProcess(book, self.portal) as desk:
-            return int(desk.desk.tell(Routes.REFUND, body={"code": code})["amount"])
+            return int(desk.desk.request_json(Routes.REFUND, body={"code": code})["amount"])
 
     def test_a_restore_undoes_what_the_program_counts(self) -> None:
         """A refund, a redemption of one of three uses, and two sales, one of a voucher that was issued since the copy. Money is
@@ -555,14 +618,14 @@ class UndoneByTheProgram(Case):
             return
         with DeskProcess(portal=self.portal) as desk:
             desk.load()
-            refunded, unsold = desk.issued("hour", "b1", 2)
-            redeemed, = desk.sold("gigabyte", "b2")
-            desk.desk.tell(Routes.SELL, body={"code": refunded})
-            copy = self.copied(desk)
-            desk.desk.tell(Routes.REFUND, body={"code": refunded})
-            desk.desk.tell(Routes.REDEEM, body={"code": redeemed}, device="02:00:00:00:00:01")
-            desk.desk.tell(Routes.SELL, body={"code": unsold})
-            issued, = desk.sold("day", "b3")
+            refunded, unsold = desk.issue_codes("hour", "b1", 2)
+            redeemed, = desk.sell_codes("gigabyte", "b2")
+            desk.desk.request_json(Routes.SELL, body={"code": refunded})
+            copy = self.make_copy(desk)
+            desk.desk.request_json(Routes.REFUND, body={"code": refunded})
+            desk.desk.request_json(Routes.REDEEM, body={"code": redeemed}, device="02:00:00:00:00:01")
+            desk.desk.request_json(Routes.SELL, body={"code": unsold})
+            issued, = desk.sell_codes("day", "b3")
             self.end(desk)
             systemctl(desk.folder, "inactive")
             there = files(desk.folder)
@@ -571,7 +634,7 @@ class UndoneByTheProgram(Case):
             aside, = desk.folder.glob("book.db.before-*")
             before = aside / "book.db"
             self.assertTrue(files(aside) == there)      # (the difference of two databases is long)
-            sold, sales, refunds, money = (a - b for a, b in zip(self.paid(desk, before), self.paid(desk, desk.book)))
+            sold, sales, refunds, money = (a - b for a, b in zip(self.takings(desk, before), self.takings(desk, desk.book)))
             worth = self.refund(desk.book, redeemed) - self.refund(before, redeemed)
             words = f"sold {sold} ({decimal(sales)}), refunded {refunds} ({decimal(money)}), redeemed 1 ({decimal(worth)})\n"
             self.assertIn(words, done.stdout)
@@ -594,11 +657,12 @@ class Units(unittest.TestCase):
 class Logs(unittest.TestCase):
     def test_logs_are_in_a_folder_that_no_other_rotation_names(self) -> None:
         """Debian's nginx rotates /var/log/nginx/*.log; a file that two rotations name is rotated by neither."""
-        folders = {str(pathlib.Path(path).parent) for name in ("front/nginx-guests.conf", "counter/nginx-counter.conf")
+        folders = {str(pathlib.Path(path).parent) for name in (
+            "guests/nginx-guests.conf", "counter/nginx-counter.conf", "counter/nginx-main.conf")
                    for path in re.findall(r"(?:access|error)_log (/\S+)", (FIELD / name).read_text())}
         rotated = re.findall(r"(?m)^(/\S+) \{", (FIELD / "units/logrotate.conf").read_text())
-        made = re.findall(r"(?m)^d (/\S+) 0755 ", (FIELD / "units/tmpfiles.conf").read_text())
-        self.assertEqual((folders, rotated, made), ({"/var/log/portal"}, ["/var/log/portal/*.log"], ["/var/log/portal"]))
+        folder_paths = re.findall(r"(?m)^d (/\S+) 0755 ", (FIELD / "units/tmpfiles.conf").read_text())
+        self.assertEqual((folders, rotated, folder_paths), ({"/var/log/portal"}, ["/var/log/portal/*.log"], ["/var/log/portal"]))
 
 
 if __name__ == "__main__":

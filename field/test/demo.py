@@ -5,7 +5,7 @@ packages that `demo`, which starts it, looks for.
 
 It prints what to open in a browser on this machine, and ends with Ctrl-C. No other machine sees it, and nothing is left
 behind, whatever ends it. The program is the shipped one, unless --portal names another. --port: the first of three ports
-of 127.0.0.1, 8443 if not given. --once redeems a voucher as a browser would, tells how long all took, and ends.
+of 127.0.0.1, 8443 if not given. --once redeems a voucher as a browser would, prints how long all took, and ends.
 """
 
 from __future__ import annotations
@@ -24,6 +24,7 @@ import signal
 import socket
 import subprocess
 import sys
+import tempfile
 import threading
 import time
 from typing import Any
@@ -128,27 +129,39 @@ class Browser:
     def status(self, *words: str) -> str:
         return self.ask("-o", "/dev/null", "-w", "%{http_code} %{redirect_url}", *words).strip()
 
+    def look_up(self, code: str) -> str:
+        """The page of a voucher at the counter, after a log-in."""
+        def sent(path: str, *fields: str) -> str:
+            words = [word for field in fields for word in ("--data-urlencode", field)]
+            return self.ask("-L", "-b", jar, "-c", jar, "-H", f"Origin: {self.counter}", *words, self.counter + path)
+
+        with tempfile.NamedTemporaryFile() as file:
+            jar = file.name
+            page = sent("/login", "request=look", "name=clerk", "password=clerk")
+            token = re.findall('name="token" value="([0-9a-f]+)"', page)
+            return sent("/voucher", f"code={code}", f"token={token[0] if token else ''}")
+
     def outside(self) -> str:
         return self.ask(f"http://localhost:{self.port + 2}/")
 
 
 def once(browser: Browser, code: str, start: float) -> int:
-    """A voucher redeemed on the guests' page, and a look at the counter; what was seen."""
+    """A voucher redeemed on the guests' page, and a look at the counter; what it saw."""
     before = browser.status(f"http://localhost:{browser.port + 2}/")
     page = browser.ask(f"{browser.portal}/portal")
     fields = {"code": code, **dict(re.findall(r'type="hidden" name="(\w+)" value="([^"]*)"', page))}
     form = [word for name, value in fields.items() for word in ("--data-urlencode", f"{name}={value}")]
-    told = browser.status(f"{browser.portal}/portal", *form)
+    status = browser.status(f"{browser.portal}/portal", *form)
     redeemed = time.monotonic() - start
     end = time.monotonic() + 5
     while "You are through" not in (after := browser.outside()) and time.monotonic() < end:
         time.sleep(0.05)
     through = time.monotonic() - start
-    state = browser.ask("-u", "clerk:clerk", "--data-urlencode", f"code={code}", "-G", f"{browser.counter}/voucher")
-    print(f"before: {before}; the form's answer: {told}; the counter knows the voucher: {code in state}; "
+    state = browser.look_up(code)
+    print(f"before: {before}; the form's answer: {status}; the counter knows the voucher: {code in state}; "
           f"after: {'the outside' if 'You are through' in after else after[:60]!r}")
     print(f"redeemed {redeemed:.2f} s after the start, the outside's page after {through:.2f} s")
-    good = told.startswith("303") and "You are through" in after and code in state and before.startswith("302")
+    good = status.startswith("303") and "You are through" in after and code in state and before.startswith("302")
     return 0 if good else 1
 
 
@@ -157,17 +170,16 @@ def once(browser: Browser, code: str, start: float) -> int:
 def make_venue(portal: str, port: int) -> Any:
     """The tests' lab with names and ports that a browser on this machine can open."""
     sys.dont_write_bytecode = True
-    sys.path[:0] = [str(FIELD / "lib")]
-    import house
     import lab
+    import network
 
-    class Venue(house.House):
+    class Venue(lab.Lab):
         def authority(self) -> None:
             """A certificate that only this demo knows."""
-            names = ",".join(f"DNS:{name}" for name in (NAME, COUNTER, lab.NAME, lab.COUNTER))
-            lab.run("openssl", "req", "-newkey", "ec", "-pkeyopt", "ec_paramgen_curve:P-256", "-nodes", "-x509", "-days", "2",
-                    "-subj", "/CN=" + NAME, "-addext", "subjectAltName=" + names, "-keyout", self.root / "key.pem",
-                    "-out", self.root / "cert.pem")
+            names = ",".join(f"DNS:{name}" for name in (NAME, COUNTER, network.NAME, network.COUNTER))
+            network.run("openssl", "req", "-newkey", "ec", "-pkeyopt", "ec_paramgen_curve:P-256", "-nodes", "-x509", "-days", "2",
+                        "-subj", "/CN=" + NAME, "-addext", "subjectAltName=" + names, "-keyout", self.root / "key.pem",
+                        "-out", self.root / "cert.pem")
             shutil.copy(self.root / "cert.pem", self.root / "ca.pem")
 
         def files(self) -> None:
@@ -185,7 +197,7 @@ def inside(args: argparse.Namespace, start: float) -> int:
     for kind in (signal.SIGINT, signal.SIGHUP):
         signal.signal(kind, lambda got, _: sys.exit(128 + got))
     with make_venue(args.portal, args.port) as venue:
-        venue.open_house()
+        venue.start_services()
         venue.lease("guest1")
         serve_outside(venue.ns("outside"))
         codes = venue.codes("hour", 3)
@@ -202,7 +214,7 @@ def inside(args: argparse.Namespace, start: float) -> int:
 
   a guest's phone    http://localhost:{args.port + 2}/     any page of the outside: leads to the portal until a code is typed
                      {browser.portal}/portal
-  the counter        {browser.counter}/     clerk, password clerk
+  the counter        {browser.counter}/     name clerk, password clerk
 
   sold vouchers, an hour each:  {'  '.join(codes)}
 
@@ -228,7 +240,7 @@ def read_words() -> argparse.Namespace:
     words = argparse.ArgumentParser("demo", description="A venue on one machine, in network namespaces. Needs root.")
     words.add_argument("--portal", help="the program, as a command line; else the shipped one")
     words.add_argument("--port", type=int, default=8443, metavar="N", help="the first of three ports (8443)")
-    words.add_argument("--once", action="store_true", help="redeem a voucher, tell how long it took, and end")
+    words.add_argument("--once", action="store_true", help="redeem a voucher, print how long it took, and end")
     words.add_argument("--inside", type=int, help=argparse.SUPPRESS)       # this machine's network, by its descriptor
     words.add_argument("--start", type=float, help=argparse.SUPPRESS)
     return words.parse_args()

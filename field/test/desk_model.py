@@ -22,23 +22,25 @@ class No(Exception):
 
 
 def need(holds: bool, word: str) -> None:
+    """Raises No with this word unless the condition holds."""
     if not holds:
         raise No(word)
 
 
 # Codes
 
-def checked(body: list[int]) -> str:
-    """The printed code of 11 or 15 body values: the weighted sum with the check sign is divisible by 31."""
+def with_check_character(body: list[int]) -> str:
+    """The printed code of 11 or 15 body values: the weighted sum with the check character is divisible by 31."""
     values = [*body, -sum(value * weight for weight, value in enumerate(body, 2)) % 31]
     signs = "".join(SIGNS[value] for value in values)
     return "-".join(signs[i:i + 4] for i in range(0, len(signs), 4))
 
 
 def read_code(text: str) -> str:
+    """A code as it is printed, from what was typed. No: it is none."""
     signs = "".join(s.upper() if s.isascii() else s for s in text if s not in " -")
     need(len(signs) in (12, 16) and all(s in SIGNS for s in signs), "bad_code")
-    code = checked([SIGNS.index(s) for s in signs[:-1]])
+    code = with_check_character([SIGNS.index(s) for s in signs[:-1]])
     need(code.replace("-", "") == signs, "bad_code")
     return code
 
@@ -60,6 +62,7 @@ class Plan:
 
     @classmethod
     def read(cls, row: Any) -> Plan:
+        """A plan of a row of the plans file. No: a key or a value is wrong."""
         need(isinstance(row, dict) and row.keys() == {*cls.LIMITS, "id", "extend"}, "bad_plans")
         need(isinstance(row["id"], str) and ID.fullmatch(row["id"]) is not None, "bad_plans")
         need(isinstance(row["extend"], bool), "bad_plans")
@@ -89,12 +92,14 @@ class Session:
     closed: bool = False
 
     def is_open(self, at: int) -> bool:
+        """Whether the session is open at this moment."""
         in_time = not self.plan.seconds or at < self.ends
         return not self.closed and in_time and (not self.plan.bytes or self.used < self.allowance)
 
-    def left(self, at: int) -> Json:
-        left = {"bytes-remaining": self.allowance - self.used} if self.plan.bytes else {}
-        return left | ({"seconds-remaining": self.ends - at} if self.plan.seconds else {})
+    def remaining(self, at: int) -> Json:
+        """What is left at a moment, as the answers of the API have it."""
+        remaining = {"bytes-remaining": self.allowance - self.used} if self.plan.bytes else {}
+        return remaining | ({"seconds-remaining": self.ends - at} if self.plan.seconds else {})
 
 
 @dataclass
@@ -111,17 +116,20 @@ class Model:
     refunds: list[tuple[int, int]] = field(default_factory=list)
 
     def act(self, kind: str, words: Json, at: int) -> Json:
-        answer = getattr(self, "do_" + kind)(at, **words)
+        """Carries out a command of this kind at this moment; its answer."""
+        answer: Json = getattr(self, "do_" + kind)(at, **words)
         self.last = at
         return answer
 
     def do_plans(self, at: int, plans: list[Json]) -> Json:
+        """Loads plans; a plan that is loaded never changes."""
         listed = [Plan(**row) for row in plans]
         need(all(self.plans.get(plan.id, plan) == plan for plan in listed), "plan_differs")
         self.plans.update({plan.id: plan for plan in listed})
         return {"plans": len(listed)}
 
     def do_issue(self, at: int, batch: str, plan: str, codes: list[str]) -> Json:
+        """Issues a batch of new codes of a plan."""
         need(plan in self.plans, "unknown_plan")
         need(batch not in self.batches, "batch_exists")
         expires = at + self.plans[plan].shelf_days * 86_400
@@ -132,10 +140,12 @@ class Model:
         return {"batch": batch, "count": len(codes), "expires": expires}
 
     def voucher(self, code: str) -> Voucher:
+        """The voucher with this code. No: there is none."""
         need(code in self.vouchers, "unknown_code")
         return self.vouchers[code]
 
     def do_sell(self, at: int, code: str) -> Json:
+        """Sells a voucher."""
         v = self.voucher(code)
         need(v.sold is None, "sold_already")
         need(at < v.expires, "expired")
@@ -144,6 +154,7 @@ class Model:
         return {"code": code, "price": v.plan.price}
 
     def do_redeem(self, at: int, device: str, code: str) -> Json:
+        """Redeems a voucher for a device: opens a session, or extends the open one."""
         v, s = self.voucher(code), self.of_device.get(device)
         need(v.sold is not None, "not_sold")
         need(v.refund is None, "refunded")
@@ -168,15 +179,18 @@ class Model:
         return {"extended": open_one is not None, "session": s.number, "uses_left": v.plan.uses - v.redeemed}
 
     def session(self, number: int) -> Session:
+        """The session with this number. No: there is none."""
         need(1 <= number <= len(self.sessions), "unknown_session")
         return self.sessions[number - 1]
 
     def do_report(self, at: int, session: int, bytes: int) -> Json:
+        """Takes the greatest count of bytes of a session."""
         s = self.session(session)
         s.used = max(s.used, bytes)
         return {"open": s.is_open(at), "session": session, "used": s.used}
 
     def do_refund(self, at: int, code: str) -> Json:
+        """Refunds the unused uses of a sold voucher."""
         v = self.voucher(code)
         need(v.sold is not None, "not_sold")
         need(v.refund is None, "refunded")
@@ -186,6 +200,7 @@ class Model:
         return {"amount": v.refund, "code": code}
 
     def do_close(self, at: int, session: int) -> Json:
+        """Closes a session."""
         s = self.session(session)
         need(not s.closed, "closed_already")
         s.closed = True
@@ -195,10 +210,12 @@ class Model:
 # Texts
 
 def money(hundredths: int) -> str:
+    """Hundredths as an amount, such as 12.50."""
     return f"{hundredths // 100}.{hundredths % 100:02}"
 
 
 def print_file(model: Model, batch: str) -> str:
+    """The print file of a batch: a line for each code, as the server writes it."""
     need(batch in model.batches, "unknown_batch")
     lines = ["code,plan,seconds,bytes,price,expires"]
     for code in model.batches[batch]:
@@ -210,10 +227,13 @@ def print_file(model: Model, batch: str) -> str:
 
 
 def takings(model: Model, first: datetime.date, last: datetime.date) -> str:
+    """The takings of these days, in lines, as the server writes them."""
     def line(name: str, sold: list[int], back: list[int]) -> str:
+        """A line of the table."""
         return f"{name:<10} {len(sold):>8} {money(sum(sold)):>17} {len(back):>8} {money(sum(back)):>17}\n"
 
     def within(pairs: list[tuple[int, int]], low: int, high: int) -> list[int]:
+        """The amounts of these days."""
         return [sum_ for at, sum_ in pairs if low <= at // 86_400 <= high]
 
     days = range((first - datetime.date(1970, 1, 1)).days, (last - datetime.date(1970, 1, 1)).days + 1)

@@ -2,6 +2,7 @@
 
 from __future__ import annotations
 
+import contextlib
 import os
 import pathlib
 import shlex
@@ -13,11 +14,9 @@ import threading
 import time
 from typing import Any
 
-FIELD = pathlib.Path(__file__).resolve().parent.parent
-for part in ("lib", "gateway", "front", "counter"):
-    sys.path.insert(0, str(FIELD / part))
-from desk_client import Desk, NoAnswer, Refused, Routes  # noqa: E402
+from portal_field.lib.desk_client import Desk, NoAnswer, Refused, Routes
 
+FIELD = pathlib.Path(__file__).resolve().parent.parent
 # FIELD_PORTAL names the program; else it is the stand-in, and then a test says nothing of the program.
 PORTAL = os.environ.get("FIELD_PORTAL") or f"{sys.executable} {FIELD / 'test/desk_stand_in.py'}"
 SETTINGS = ('zone = "UTC0"\nportal_url = "https://wifi.example/portal"\n'
@@ -26,8 +25,9 @@ PLANS = (FIELD / "settings/plans.toml").read_bytes()
 
 
 def free_port() -> int:
+    """A port of loopback that nothing has now."""
     with socket.create_server(("127.0.0.1", 0)) as door:
-        return door.getsockname()[1]
+        return int(door.getsockname()[1])
 
 
 class DeskProcess:
@@ -47,7 +47,7 @@ class DeskProcess:
         self.job = subprocess.Popen(words, stdout=subprocess.DEVNULL)
         for _ in range(600):
             try:
-                self.gateway.tell(Routes.SESSIONS)
+                self.gateway.request_json(Routes.SESSIONS)
                 return self
             except NoAnswer:
                 time.sleep(0.05)
@@ -60,21 +60,25 @@ class DeskProcess:
         self.place.cleanup()
 
     def load(self) -> None:
-        self.desk.tell(Routes.PLANS, body=PLANS)
+        """Loads the plans of the settings."""
+        self.desk.request_json(Routes.PLANS, body=PLANS)
 
-    def issued(self, plan: str, batch: str, count: int = 1) -> list[str]:
-        self.desk.tell(Routes.ISSUE, body={"batch": batch, "plan": plan, "count": count})
-        lines = self.desk.ask(Routes.PRINT, batch).decode().splitlines()[1:]
+    def issue_codes(self, plan: str, batch: str, count: int = 1) -> list[str]:
+        """Issues a new batch. Its codes, as the print file has them."""
+        self.desk.request_json(Routes.ISSUE, body={"batch": batch, "plan": plan, "count": count})
+        lines = self.desk.request(Routes.PRINT, batch).decode().splitlines()[1:]
         return [line.partition(",")[0] for line in lines]
 
-    def sold(self, plan: str, batch: str, count: int = 1) -> list[str]:
-        codes = self.issued(plan, batch, count)
+    def sell_codes(self, plan: str, batch: str, count: int = 1) -> list[str]:
+        """Issues a new batch and sells each of its codes. The codes."""
+        codes = self.issue_codes(plan, batch, count)
         for code in codes:
-            self.desk.tell(Routes.SELL, body={"code": code})
+            self.desk.request_json(Routes.SELL, body={"code": code})
         return codes
 
     def voucher(self, code: str) -> dict[str, Any]:
-        return self.desk.tell(Routes.VOUCHER, code)
+        """What the desk says of a voucher."""
+        return self.desk.request_json(Routes.VOUCHER, code)
 
 
 class Relay:
@@ -87,14 +91,15 @@ class Relay:
         threading.Thread(target=self.work, daemon=True).start()
 
     def work(self) -> None:
+        """Hands requests on, one after another, until the socket is closed."""
         while True:
             try:
                 link, _ = self.door.accept()
             except OSError:
                 return
-            with link:
+            with link, contextlib.suppress(OSError):        # of a desk that was killed, too
                 request = self.whole(link)
-                if self.drops:
+                if self.drops or not request:
                     continue
                 with socket.create_connection(("127.0.0.1", self.goal)) as far:
                     far.sendall(request)
@@ -103,6 +108,7 @@ class Relay:
                     link.sendall(answer)
 
     def whole(self, link: socket.socket) -> bytes:
+        """The bytes of a request, once its head and its whole body are there; nothing where it ended before."""
         data = b""
         while True:
             head, end, body = data.partition(b"\r\n\r\n")
@@ -111,10 +117,11 @@ class Relay:
                 return data
             piece = link.recv(65536)
             if not piece:
-                return data
+                return b""
             data += piece
 
     def close(self) -> None:
+        """Stops listening."""
         self.door.close()
 
 

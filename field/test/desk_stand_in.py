@@ -4,7 +4,7 @@
     desk_stand_in.py serve --db FILE --settings FILE [--port N]
     desk_stand_in.py check --db FILE --settings FILE
 
-It keeps the list of accepted commands in one SQLite table, and everything else in memory, told again at each start.
+It keeps the list of accepted commands in one SQLite table, and everything else in memory, drawn again at each start.
 It reads heads with CRLF alone, and knows the zone UTC0 alone. Nothing in it is proved.
 """
 
@@ -25,9 +25,9 @@ import tomllib
 from dataclasses import dataclass
 from typing import Any
 
-sys.path.insert(0, str(pathlib.Path(__file__).resolve().parent.parent / "lib"))
-from desk_model import ID, Json, Model, No, Plan, checked, need, print_file, read_code, takings  # noqa: E402
-from refusals import BY_WORD  # noqa: E402
+from desk_model import ID, Json, Model, No, Plan, with_check_character, need, print_file, read_code, takings
+
+from portal_field.lib.refusals import BY_WORD
 
 NUMBER = re.compile(r"[A-Za-z0-9-]{1,36}")
 DEVICE = re.compile(r"[0-9a-f]{2}([:-])[0-9a-f]{2}(\1[0-9a-f]{2}){4}", re.I)
@@ -56,6 +56,7 @@ class Request:
 
     @classmethod
     def read(cls, data: bytes) -> Request:
+        """A request of these bytes. No: it is malformed."""
         head, end, _ = data[:8192].partition(b"\r\n\r\n")
         first, *lines = head.split(b"\r\n")
         line, found = REQUEST_LINE.fullmatch(first), [FIELD_LINE.fullmatch(text) for text in lines]
@@ -75,21 +76,24 @@ class Request:
         return request
 
     def values(self, name: str) -> list[str]:
+        """The values of all header fields of this name."""
         return [value for key, value in self.fields if key == name]
 
 
 def whole(given: Json, key: str, low: int, high: int) -> int:
+    """A number of the request's body, within these limits. No: it is none."""
     need(type(given.get(key)) is int and low <= given[key] <= high, "bad_request")
-    return given[key]
+    return int(given[key])
 
 
 def text(given: Json, key: str, shape: re.Pattern[str]) -> str:
+    """A text of the request's body that has this shape. No: it has not."""
     need(isinstance(given.get(key), str) and shape.fullmatch(given[key]) is not None, "bad_request")
-    return given[key]
+    return str(given[key])
 
 
 def command(kind: str, body: bytes, device: str) -> Json:
-    """What a body asks for."""
+    """The values of the command that a body asks for. No: the body is not what it must be."""
     if kind == "plans":
         try:
             rows = tomllib.loads(body.decode())
@@ -106,7 +110,7 @@ def command(kind: str, body: bytes, device: str) -> Json:
     need(isinstance(given, dict), "bad_request")
     if kind == "issue":
         count = whole(given, "count", 1, 500)
-        codes = [checked([secrets.randbits(32) % 31 for _ in range(15)]) for _ in range(count)]
+        codes = [with_check_character([secrets.randbits(32) % 31 for _ in range(15)]) for _ in range(count)]
         return {"batch": text(given, "batch", ID), "plan": text(given, "plan", ID), "codes": codes}
     if kind in ("report", "close"):
         more = {"bytes": whole(given, "bytes", 0, 2**63 - 1)} if kind == "report" else {}
@@ -116,6 +120,7 @@ def command(kind: str, body: bytes, device: str) -> Json:
 
 
 def response(status: int, kind: str, body: bytes, now: int, allow: str = "") -> bytes:
+    """A response of HTTP/1.1, with its headers."""
     allowed = f"Allow: {allow}\r\n" if allow else ""
     return (f"HTTP/1.1 {status} {PHRASES[status]}\r\nDate: {email.utils.formatdate(now, usegmt=True)}\r\n"
             f"Content-Type: {kind}\r\nContent-Length: {len(body)}\r\nCache-Control: no-store\r\n{allowed}"
@@ -123,6 +128,7 @@ def response(status: int, kind: str, body: bytes, now: int, allow: str = "") -> 
 
 
 def compact(value: Json) -> bytes:
+    """A value as JSON without blanks, its keys sorted."""
     return json.dumps(value, sort_keys=True, separators=(",", ":")).encode()
 
 
@@ -134,14 +140,20 @@ class StandIn:
         for pragma in ("locking_mode=EXCLUSIVE", "journal_mode=WAL", "synchronous=FULL"):
             self.book.execute("PRAGMA " + pragma)
         self.book.execute("CREATE TABLE IF NOT EXISTS accepted (n INTEGER PRIMARY KEY, at INTEGER, kind, words, mark)")
+        # as in the program's database, the time of the last entry
+        self.book.execute("CREATE TABLE IF NOT EXISTS portal_head AS SELECT 0 AS layout, 0 AS last_moment")
+        self.book.execute("CREATE TRIGGER IF NOT EXISTS goes_on AFTER INSERT ON accepted "
+                          "BEGIN UPDATE portal_head SET last_moment = NEW.at; END")
         for at, kind, words, mark in self.book.execute("SELECT at, kind, words, mark FROM accepted ORDER BY n"):
             self.keep(json.loads(mark), self.model.act(kind, json.loads(words), at))
 
     def keep(self, mark: list[Any] | None, answer: Json) -> None:
+        """Keeps the answer of a request that has an idempotency key."""
         if mark:
             self.kept[mark[0], mark[1]] = mark[2:], answer
 
     def respond(self, now: int, data: bytes) -> bytes:
+        """The bytes of the response to a request at this moment."""
         allow = ""
         try:
             request = Request.read(data)
@@ -157,12 +169,12 @@ class StandIn:
                 words, mark = command(kind, request.body, who), [number, method, path, request.body.hex()]
                 answer = self.act(kind, words, max(now, self.model.last), who, mark)
                 return response(200, "application/json", compact(answer), now)
-            return response(200, *self.ask(route, part, request, who, max(now, self.model.last)), now)
+            return response(200, *self.answer_to(route, part, request, who, max(now, self.model.last)), now)
         except No as no:
             return response(BY_WORD[str(no)].status, "application/json", compact({"error": str(no)}), now, allow)
 
     def caller(self, request: Request, caller: str, kind: str) -> tuple[str, str | None]:
-        """Who asks, and with which request number."""
+        """Who asks, and with which idempotency key."""
         if caller == "guest":
             devices = request.values("portal-device")
             need(len(devices) == 1 and DEVICE.fullmatch(devices[0]) is not None, "bad_device")
@@ -175,6 +187,7 @@ class StandIn:
         return who, numbers[0] if numbers else None
 
     def act(self, kind: str, words: Json, at: int, who: str, mark: list[Any]) -> Json:
+        """Carries out a command, or gives the kept answer where the key was used for it."""
         number, *what = mark
         if (who, number) in self.kept:
             was, answer = self.kept[who, number]
@@ -187,27 +200,27 @@ class StandIn:
         self.keep(held, answer)
         return answer
 
-    def ask(self, route: str, part: tuple[str, ...], request: Request, who: str, at: int) -> tuple[str, bytes]:
-        """The type and bytes of what is asked for."""
+    def answer_to(self, route: str, part: tuple[str, ...], request: Request, who: str, at: int) -> tuple[str, bytes]:
+        """The type and the body of the answer to a request for what the desk holds."""
         model = self.model
         if route == "/captive":
             s = model.of_device.get(who)
-            told = {"captive": True, "user-portal-url": self.settings["portal_url"]}
+            result = {"captive": True, "user-portal-url": self.settings["portal_url"]}
             if "venue_url" in self.settings:
-                told["venue-info-url"] = self.settings["venue_url"]
+                result["venue-info-url"] = self.settings["venue_url"]
             if s and s.is_open(at):
-                told |= {"captive": False, "can-extend-session": s.plan.extend, **s.left(at)}
-            return "application/captive+json", compact(told)
+                result |= {"captive": False, "can-extend-session": s.plan.extend, **s.remaining(at)}
+            return "application/captive+json", compact(result)
         if route == "/gateway/sessions":
             rows = sorted((s for s in model.of_device.values() if s.is_open(at)), key=lambda s: s.number)
-            told = {"sessions": [{"device": s.device, "session": s.number, **s.left(at)} for s in rows]}
-            return "application/json", compact(told)
+            result = {"sessions": [{"device": s.device, "session": s.number, **s.remaining(at)} for s in rows]}
+            return "application/json", compact(result)
         if route == "/desk/vouchers/{}":
             code = read_code(part[0])
             v = model.voucher(code)
-            told = {"batch": v.batch, "code": code, "expires": v.expires, "plan": v.plan.id, "redeemed": v.redeemed,
-                    "refund": v.refund, "sold": v.sold, "uses": v.plan.uses}
-            return "application/json", compact(told)
+            result = {"batch": v.batch, "code": code, "expires": v.expires, "plan": v.plan.id, "redeemed": v.redeemed,
+                      "refund": v.refund, "sold": v.sold, "uses": v.plan.uses}
+            return "application/json", compact(result)
         if route == "/desk/batches/{}/print":
             return "text/csv; charset=utf-8", print_file(model, part[0]).encode()
         pairs = [pair.partition("=")[::2] for pair in request.target.decode("latin-1").partition("?")[2].split("&")]
@@ -219,6 +232,7 @@ class StandIn:
 
 
 def read_day(text: str) -> datetime.date:
+    """A day of a query. No: it is none."""
     need(re.fullmatch(r"\d{4}-\d\d-\d\d", text, re.A) is not None, "bad_request")
     try:
         return datetime.date.fromisoformat(text)
@@ -227,7 +241,8 @@ def read_day(text: str) -> datetime.date:
 
 
 def receive(link: socket.socket) -> bytes:
-    """What comes until the head and as many bytes as it declares are there, or the input ends."""
+    """The bytes of a request: until the head and as many bytes as it declares are there, or the input
+    ends."""
     data = b""
     while len(data) < 73_728:
         head, end, body = data.partition(b"\r\n\r\n")
@@ -242,7 +257,7 @@ def receive(link: socket.socket) -> bytes:
 
 
 def serve(desk: StandIn, port: int) -> None:
-    """One connection at a time, as the desk does it, with no time limit."""
+    """Serves one connection at a time, as the desk does it, with no time limit."""
     with socket.create_server(("127.0.0.1", port), backlog=128) as door:
         print(f"listening 127.0.0.1:{port}", flush=True)
         while True:
@@ -255,8 +270,10 @@ def serve(desk: StandIn, port: int) -> None:
 
 
 def main() -> int:
+    """Serves, checks the database or prints takings, with the words of the program's command line."""
     words = argparse.ArgumentParser()
-    words.add_argument("what", choices=("serve", "check"))
+    words.add_argument("what", choices=("serve", "check", "takings"))
+    words.add_argument("days", nargs="*", type=datetime.date.fromisoformat, help="of `takings`: the first and the last")
     words.add_argument("--db", required=True)
     words.add_argument("--settings", required=True, type=pathlib.Path)
     words.add_argument("--port", type=int, default=8080)
@@ -266,8 +283,8 @@ def main() -> int:
     except (No, sqlite3.Error):
         print("portal: file", file=sys.stderr)
         return 3
-    if args.what == "check":
-        print("ok")
+    if args.what != "serve":
+        sys.stdout.write("ok\n" if args.what == "check" else takings(desk.model, *args.days))
         return 0
     try:
         serve(desk, args.port)

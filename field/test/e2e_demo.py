@@ -1,17 +1,8 @@
-#!/usr/bin/python3
 """The demo: a voucher redeemed by itself within some seconds of its start, one sold and refunded by the counter's forms,
-the packages that it names where they are missing, and nothing left behind however it ends. Needs root and the packages
-that README.md names.
-
-    e2e_demo.py [--portal "CMD .."] [--port N]
-
-Each line: ok or FAIL, the check, what was seen. The last line: 'N passed, M failed'.
-"""
+the packages that it names where they are missing, and nothing left behind however it ends."""
 
 from __future__ import annotations
 
-import argparse
-import base64
 import html.parser
 import http.client
 import os
@@ -21,24 +12,26 @@ import signal
 import socket
 import ssl
 import subprocess
-import sys
 import tempfile
 import threading
 import urllib.parse
+from collections.abc import Iterator
 
-from e2e import Checks
-from lab import FIELD, STAND_IN
+import pytest
+from network import FIELD, STAND_IN
 from steady import Span, wait_until
 
+PORT = 18_443               # the first of the demo's three
 SECONDS = 10                # from the start to a redeemed voucher, on a machine that is not held up
 # A machine without the packages: Python's command, those in sbin, and all fonts are hidden; $1 has what is left of the path.
 WITHOUT_PACKAGES = """mount --bind /dev/null /usr/bin/python3 && mount -t tmpfs none /usr/sbin &&
 mount -t tmpfs none /usr/share/fonts && PATH=$1 exec /bin/sh "$2" """
+pytestmark = pytest.mark.packets
 ENDS = {"Ctrl-C": signal.SIGINT, "TERM": signal.SIGTERM, "HUP": signal.SIGHUP, "kill": signal.SIGKILL}
 
 
 def children() -> dict[int, list[int]]:
-    """The processes of this machine below each other."""
+    """The children of each process of this machine."""
     found: dict[int, list[int]] = {}
     for path in pathlib.Path("/proc").glob("[0-9]*/stat"):
         try:
@@ -50,9 +43,10 @@ def children() -> dict[int, list[int]]:
 
 
 def below(pid: int) -> set[int]:
-    known, found, todo = children(), set(), [pid]
+    """The processes that a process has started, and those that these have."""
+    children_of, found, todo = children(), set(), [pid]
     while todo:
-        todo.extend(more := known.get(todo.pop(), []))
+        todo.extend(more := children_of.get(todo.pop(), []))
         found.update(more)
     return found
 
@@ -69,37 +63,48 @@ def spaces(pids: set[int]) -> set[str]:
 
 
 def all_spaces() -> set[str]:
+    """The network namespaces of all processes."""
     return spaces({int(path.name) for path in pathlib.Path("/proc").glob("[0-9]*")})
 
 
-def left_behind(port: int) -> list[str]:
-    """Files, names of namespaces and ports that are the demo's."""
+def left_behind() -> list[str]:
+    """Files, names of network namespaces and ports that the demo has left behind."""
     lists = pathlib.Path("/run/netns")
     found = [str(path) for path in (*pathlib.Path(os.environ["TMPDIR"]).iterdir(), *pathlib.Path("/run").glob("lab"))]
     # in its own process namespace the demo's number is a small one
     found += [path.name for path in (lists.iterdir() if lists.is_dir() else ()) if re.fullmatch(r"fk\d{1,2}[a-z]+\d?", path.name)]
-    for number in range(port, port + 3):
+    for number in range(PORT, PORT + 3):
         with socket.socket() as one:
             if one.connect_ex(("127.0.0.1", number)) == 0:
                 found.append(f"port {number}")
     return found
 
 
-def once(words: list[str], check: Checks, port: int) -> None:
+@pytest.fixture
+def demo(portal: str, monkeypatch: pytest.MonkeyPatch) -> Iterator[list[str]]:
+    """The demo's command line, with a folder of its own for what it makes."""
+    with tempfile.TemporaryDirectory() as folder:
+        monkeypatch.setenv("TMPDIR", folder)
+        yield [str(FIELD / "demo"), "--portal", portal or STAND_IN, "--port", str(PORT)]
+
+
+def test_once(demo: list[str]) -> None:
     span = Span()
-    done = subprocess.run([*words, "--once"], capture_output=True, text=True, timeout=120)
+    done = subprocess.run([*demo, "--once"], capture_output=True, text=True, timeout=120)
     found = re.search(r"redeemed ([0-9.]+) s after the start", done.stdout)
     took = float(found[1]) if found else None
-    check("--once redeems a voucher, and the outside's page comes", done.returncode == 0 and took is not None,
-          done.stdout.strip()[-260:] + done.stderr.strip()[-260:])
-    check(f"within {SECONDS} s of the start", took is not None and (took <= SECONDS or span.held_up() > 0.3), f"{took} s")
-    check("three codes are printed", len(re.findall(r"[0-9A-Z]{4}(?:-[0-9A-Z]{4}){3}", done.stdout)) == 3)
-    check("nothing is left behind", not left_behind(port), left_behind(port))
+    assert done.returncode == 0 and took is not None, (
+        "--once redeems a voucher, and the outside's page comes  "
+        f"[{done.stdout.strip()[-260:]}{done.stderr.strip()[-260:]}]")
+    assert took <= SECONDS or span.held_up() > 0.3, (
+        f"within {SECONDS} s of the start  [{took} s]")
+    assert len(re.findall(r"[0-9A-Z]{4}(?:-[0-9A-Z]{4}){3}", done.stdout)) == 3, "three codes are printed"
+    assert not left_behind(), "nothing is left behind"
 
 
-def opened_by(words: list[str]) -> tuple[subprocess.Popen[str], list[str]]:
-    """The demo, once it is open, and what it prints."""
-    job = subprocess.Popen(words, stdout=subprocess.PIPE, stderr=subprocess.STDOUT, text=True, start_new_session=True)
+def opened_by(demo: list[str]) -> tuple[subprocess.Popen[str], list[str]]:
+    """Starts the demo, and waits until it is open. The demo and what it prints."""
+    job = subprocess.Popen(demo, stdout=subprocess.PIPE, stderr=subprocess.STDOUT, text=True, start_new_session=True)
     assert job.stdout
     lines: list[str] = []
     for line in job.stdout:
@@ -121,153 +126,152 @@ class Forms(html.parser.HTMLParser):
         self.feed(page)
 
     def handle_starttag(self, tag: str, attrs: list[tuple[str, str | None]]) -> None:
-        given = {name: value or "" for name, value in attrs}
+        """Keeps a form's action, and its fields with the values that they have."""
+        values = {name: value or "" for name, value in attrs}
         if tag == "form":
-            self.fields = self.found.setdefault(given["action"], {})
+            self.fields = self.found.setdefault(values["action"], {})
         elif tag == "select":
-            self.menu = given["name"]
+            self.menu = values["name"]
         elif tag == "option":
-            self.fields.setdefault(self.menu, given["value"])
-        elif tag == "input" and "name" in given:
-            self.fields[given["name"]] = given.get("value", "")
+            self.fields.setdefault(self.menu, values["value"])
+        elif tag == "input" and "name" in values:
+            self.fields[values["name"]] = values.get("value", "")
 
 
 class Clerk:
     """A clerk's browser: the host, and the origin of each form that is sent, are those of the counter's address."""
 
-    def __init__(self, port: int) -> None:
-        self.port, self.host = port, f"counter.localhost:{port}"
+    def __init__(self) -> None:
+        self.host = f"counter.localhost:{PORT + 1}"
         self.forms: dict[str, dict[str, str]] = {}
+        self.cookie = ""
+
+    def log_in(self) -> None:
+        """Types name and password on the page that the counter shows first."""
+        self.ask("/")
+        self.send("/login", name="clerk", password="clerk")
 
     def ask(self, path: str, fields: dict[str, str] | None = None, origin: str = "") -> tuple[int, str]:
         """A page, or the answer to a form; its forms can be sent next."""
-        head = {"Host": self.host, "Authorization": "Basic " + base64.b64encode(b"clerk:clerk").decode()}
+        head = {"Host": self.host, **({"Cookie": self.cookie} if self.cookie else {})}
         if fields is not None:
             head |= {"Origin": origin or f"https://{self.host}", "Content-Type": "application/x-www-form-urlencoded"}
-        link = http.client.HTTPSConnection("127.0.0.1", self.port, context=ssl._create_unverified_context(), timeout=30)
+        link = http.client.HTTPSConnection("127.0.0.1", PORT + 1, context=ssl._create_unverified_context(), timeout=30)
         link.request("GET" if fields is None else "POST", path, urllib.parse.urlencode(fields or {}), head)
         answer = link.getresponse()
+        if cookie := answer.headers["Set-Cookie"]:
+            self.cookie = cookie.partition(";")[0]
+        if place := answer.headers["Location"]:
+            link.close()
+            return self.ask(place)
         page = answer.read().decode("latin-1" if path.startswith("/fonts/") else "utf-8")
         link.close()
         self.forms = Forms(page).found
         return answer.status, page
 
+    def look_up(self, code: str) -> tuple[int, str]:
+        """Types a code on the first page of the counter."""
+        self.ask("/")
+        return self.send("/voucher", code=code)
+
     def send(self, action: str, **filled_in: str) -> tuple[int, str]:
-        """A form of the page."""
+        """Sends a form of the page; the answer."""
         return self.ask(action, self.forms[action] | filled_in)
 
 
-def counter_works(words: list[str], check: Checks, port: int) -> None:
+def test_counter_works(demo: list[str]) -> None:
     """The forms of the counter's page, as its own page sends them, and as others do."""
-    job, _ = opened_by(words)
+    job, _ = opened_by(demo)
     try:
-        clerk = Clerk(port + 1)
+        clerk = Clerk()
+        clerk.log_in()
         first = clerk.ask("/")
-        check("the counter's page comes", first[0] == 200 and {"/now", "/issue"} <= clerk.forms.keys(), first[0])
-        if codes := issued(clerk, check):
-            sold_and_refunded(clerk, check, codes[0])
-            only_from_its_own_page(clerk, check, codes[1], port)
+        assert first[0] == 200 and "/now" in clerk.forms, "the counter's page comes"
+        codes = issue(clerk)
+        sold_and_refunded(clerk, codes[0])
+        only_from_its_own_page(clerk, codes[1])
     finally:
         job.terminate()
         job.wait(20)
 
 
-def issued(clerk: Clerk, check: Checks) -> list[str]:
-    """The codes of a batch, from its sheet; none where something is wrong."""
+def issue(clerk: Clerk) -> list[str]:
+    """Issues a batch. Its codes, from the sheet."""
+    clerk.ask("/vouchers")
     status, page = clerk.send("/issue", plan="day", batch="demo-1", count="2")
     sheet = clerk.ask("/sheet?batch=demo-1")[1]
     codes = re.findall(r"<b>([0-9A-Z-]{19})</b>", sheet)
-    check("a batch is issued by its form, and has a sheet", status == 200 and "demo-1" in page and len(codes) == 2, status)
+    assert status == 200 and "demo-1" in page and len(codes) == 2, (
+        "a batch is issued by its form, and has a sheet")
     found = {path: clerk.ask(path)[0] for path in re.findall(r"/[a-z]+\.css", sheet)}
     found |= {path: clerk.ask(path)[0] for path in re.findall(r'url\("(.*?)"\)', clerk.ask("/sheet.css")[1])}
-    check("the sheet comes with its styles and fonts", len(found) == 5 and set(found.values()) == {200}, found)
-    return codes if len(codes) == 2 else []
+    assert len(found) == 6 and set(found.values()) == {200}, "the sheet comes with its styles and fonts"
+    return codes
 
 
-def sold_and_refunded(clerk: Clerk, check: Checks, code: str) -> None:
-    clerk.ask(f"/voucher?code={code}")
+def sold_and_refunded(clerk: Clerk, code: str) -> None:
+    """A clerk sells a voucher by the forms of its page, and refunds it."""
+    clerk.look_up(code)
     status, page = clerk.send("/sell")
-    check("a voucher is looked up, and sold by its form", status == 200 and "Take €9.00" in page, status)
-    clerk.ask(f"/voucher?code={code}")
-    clerk.ask("/refund?" + urllib.parse.urlencode(clerk.forms["/refund"]))
+    assert status == 200 and "Take €9.00" in page, "a voucher is looked up, and sold by its form"
+    clerk.look_up(code)
+    clerk.send("/next")     # Enter on the empty field
     status, page = clerk.send("/refund")
-    check("it is looked up again, and refunded", status == 200 and "Give back €9.00" in page, status)
+    assert status == 200 and "Give back €9.00" in page, "it is looked up again, and refunded"
     clerk.ask("/")
     status, page = clerk.send("/now", plan="hour")
-    check("another one is issued and sold at one press", status == 200 and "Take €3.00" in page, status)
+    assert status == 200 and "Take €3.00" in page, "another one is issued and sold at one press"
 
 
-def only_from_its_own_page(clerk: Clerk, check: Checks, code: str, port: int) -> None:
-    for origin in ("https://counter.localhost", f"https://wifi.localhost:{port}", "null"):
-        clerk.ask(f"/voucher?code={code}")
+def only_from_its_own_page(clerk: Clerk, code: str) -> None:
+    """A form that another page sent sells nothing."""
+    for origin in ("https://counter.localhost", f"https://wifi.localhost:{PORT}", "null"):
+        clerk.look_up(code)
         status = clerk.ask("/sell", clerk.forms["/sell"], origin)[0]
-        clerk.ask(f"/voucher?code={code}")
-        check(f"a form that was sent from {origin} sells nothing", status == 403 and "/sell" in clerk.forms, status)
+        clerk.look_up(code)
+        assert status == 403 and "/sell" in clerk.forms, f"a form that was sent from {origin} sells nothing"
 
 
-def packages_are_named(check: Checks) -> None:
+def test_packages_are_named() -> None:
     """Without any of them, Python too: those that README's command installs, and no others."""
     with tempfile.TemporaryDirectory() as folder:
         for name in ("readlink", "dirname"):
             pathlib.Path(folder, name).symlink_to(f"/usr/bin/{name}")
         words = ["unshare", "--mount", "sh", "-c", WITHOUT_PACKAGES, "sh", folder, str(FIELD / "demo")]
         done = subprocess.run(words, capture_output=True, text=True)
-    told = re.fullmatch("demo: (apt install .*)\n", done.stderr)
+    result = re.fullmatch("demo: (apt install .*)\n", done.stderr)
     line, = re.findall("^apt install .*", (FIELD.parent / "README.md").read_text(), re.M)
     wanted = subprocess.run(["bash", "-c", f"echo {line}"], capture_output=True, text=True).stdout.split()
-    check("without its packages it names those that README names", done.returncode == 1 and told is not None
-          and sorted(told[1].split()) == sorted(wanted), f"{done.stderr.strip()[-300:]}; README: {' '.join(wanted)}")
+    assert done.returncode == 1 and result is not None and sorted(result[1].split()) == sorted(wanted), (
+        f"without its packages it names those that README names  [{done.stderr.strip()[-300:]}; README: "
+        f"{' '.join(wanted)}]")
 
-def ended(words: list[str], check: Checks, name: str, port: int) -> None:
+
+@pytest.mark.parametrize("name", ENDS)
+def test_ended(demo: list[str], name: str) -> None:
     """The demo is open, and then it gets the signal; a Ctrl-C goes to the whole process group."""
-    job, lines = opened_by(words)
+    job, lines = opened_by(demo)
     pids = below(job.pid)
-    held = spaces(pids)
-    opened = len(held) >= 3 and len(left_behind(port)) == 3       # its ports
+    namespaces = spaces(pids)
+    opened = len(namespaces) >= 3 and len(left_behind()) == 3       # its ports
     if name == "Ctrl-C":
         os.killpg(job.pid, ENDS[name])
     else:
         os.kill(job.pid, ENDS[name])
     gone = wait_until(lambda: job.poll() is not None and not any(os.path.exists(f"/proc/{pid}") for pid in pids), 10)
-    check(f"{name}: the demo was open, and ends", opened and gone, f"{len(held)} namespaces, {len(pids)} processes; "
-          f"status {job.returncode}; {''.join(lines[-3:]).strip()[-200:]}")
-    left = [*left_behind(port), *(all_spaces() & held)]
-    check(f"{name}: nothing is left behind: processes, namespaces, files, ports", gone and not left, left)
+    left = [*left_behind(), *(all_spaces() & namespaces)]
     for pid in below(job.pid) | pids:
         if os.path.exists(f"/proc/{pid}"):
             os.kill(pid, signal.SIGKILL)
+    assert opened and gone, (
+        f"{name}: the demo was open, and ends  [{len(namespaces)} namespaces, {len(pids)} processes; status "
+        f"{job.returncode}; {''.join(lines[-3:]).strip()[-200:]}]")
+    assert gone and not left, f"{name}: nothing is left behind: processes, namespaces, files, ports"
 
 
-def taken(words: list[str], check: Checks, port: int) -> None:
-    with socket.create_server(("127.0.0.1", port + 1)):
-        done = subprocess.run([*words, "--once"], capture_output=True, text=True, timeout=120)
-    check("a port that another program has is said", done.returncode == 1 and f"port {port + 1}" in done.stderr,
-          done.stderr.strip()[-200:])
-    check("and nothing is left behind", not left_behind(port), left_behind(port))
-
-
-def main() -> int:
-    words = argparse.ArgumentParser(description="The demo: what it shows, and that nothing is left behind.")
-    words.add_argument("--portal", default=STAND_IN, help="the program, as a command line; else the stand-in")
-    words.add_argument("--port", type=int, default=18443, help="the first of three ports")
-    args = words.parse_args()
-    check = Checks()
-    packages_are_named(check)
-    with tempfile.TemporaryDirectory() as folder:
-        os.environ["TMPDIR"] = folder
-        tell(check, args)
-    print(f"{check.passed} passed, {check.failed} failed")
-    return int(check.failed > 0)
-
-
-def tell(check: Checks, args: argparse.Namespace) -> None:
-    line = [str(FIELD / "demo"), "--portal", args.portal, "--port", str(args.port)]
-    once(line, check, args.port)
-    counter_works(line, check, args.port)
-    for name in ENDS:
-        ended(line, check, name, args.port)
-    taken(line, check, args.port)
-
-
-if __name__ == "__main__":
-    sys.exit(main())
+def test_port_taken(demo: list[str]) -> None:
+    with socket.create_server(("127.0.0.1", PORT + 1)):
+        done = subprocess.run([*demo, "--once"], capture_output=True, text=True, timeout=120)
+    assert done.returncode == 1 and f"port {PORT + 1}" in done.stderr, (
+        f"a port that another program has is said  [{done.stderr.strip()[-200:]}]")
+    assert not left_behind(), "and nothing is left behind"

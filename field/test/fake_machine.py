@@ -7,19 +7,18 @@ import os
 import pathlib
 import shlex
 import subprocess
-import sys
 import time
 from typing import Any
 
-FIELD = pathlib.Path(__file__).resolve().parent.parent
-sys.path[:0] = [str(FIELD / part) for part in ("checks", "lib", "backup", "server")]
-from findings import CannotTell, Done, Machine  # noqa: E402
-from venue import Field  # noqa: E402
+from portal_field.doctor.findings import CannotTell, Done, Machine
+from portal_field.settings.venue import Field
 
+FIELD = pathlib.Path(__file__).resolve().parent.parent
 SAMPLE = (FIELD / "settings/field.toml").read_text()
 UNITS = ("portal.service", "portal-gateway.service", "portal-leases.service", "portal-front.service",
-         "portal-counter.service", "portal-rules@lan0.service", "portal-backup.timer", "portal-restarts.timer",
-         "nginx.service", "dnsmasq.service")
+         "portal-counter.service", "portal-counter-nginx.service", "portal-rules@lan0.service", "portal-backup.timer",
+         "portal-restarts.timer", "nginx.service", "dnsmasq.service")
+STATIC = ("portal-counter-nginx.service",)       # portal-counter.service starts it
 Devices = dict[str, tuple[list[str], list[str]]]        # flags and addresses
 NETWORKS: Devices = {"lo": (["LOOPBACK", "UP", "LOWER_UP"], ["127.0.0.1/8"]),
                      "lan0": (["BROADCAST", "UP", "LOWER_UP"], ["10.77.0.1/22"]),
@@ -32,15 +31,26 @@ udp UNCONN 0 0      [fe80::1]%lan0:53      [::]:* users:(("dnsmasq",pid=53,fd=11
 tcp LISTEN 0 32         10.77.0.1:53   0.0.0.0:* users:(("dnsmasq",pid=53,fd=7))
 tcp LISTEN 0 511        10.77.0.1:80   0.0.0.0:* users:(("nginx",pid=80,fd=6),("nginx",pid=81,fd=6))
 tcp LISTEN 0 511        10.77.0.1:443  0.0.0.0:* users:(("nginx",pid=80,fd=7),("nginx",pid=81,fd=7))
-tcp LISTEN 0 511        10.88.0.1:443  0.0.0.0:* users:(("nginx",pid=80,fd=8),("nginx",pid=81,fd=8))
+tcp LISTEN 0 511        10.88.0.1:443  0.0.0.0:* users:(("nginx",pid=84,fd=6),("nginx",pid=85,fd=6))
 tcp LISTEN 0 128        127.0.0.1:8080 0.0.0.0:* users:(("portal",pid=90,fd=5))
 tcp LISTEN 0 128          0.0.0.0:22   0.0.0.0:* users:(("sshd",pid=22,fd=3))
 """
+NGINX = """\
+# configuration file /etc/nginx/nginx.conf:
+user www-data;
+worker_processes 2;
+events {
+	worker_connections 2048;
+	# worker_connections 9;
+}
+http { include /etc/nginx/conf.d/*.conf; }
+"""
+PHONE = "02:00:00:00:00:50"
 ALIVE = {"family": "inet", "name": "alive", "table": "portal", "type": "ifname", "handle": 6, "flags": ["timeout"]}
 
 
-def as_ip_tells(devices: Devices) -> str:
-    """`ip -j address show`."""
+def as_ip_prints(devices: Devices) -> str:
+    """What `ip -j address show` prints of these devices."""
     rows = []
     for name, (flags, addresses) in devices.items():
         own = [{"family": "inet", "local": text.split("/")[0], "prefixlen": int(text.split("/")[1])} for text in addresses]
@@ -49,20 +59,27 @@ def as_ip_tells(devices: Devices) -> str:
     return json.dumps(rows)
 
 
-def as_nft_tells(*running: str) -> str:
-    """`nft -j list set inet portal alive`, with the devices whose timer runs."""
-    told: dict[str, Any] = dict(ALIVE)
+def as_nft_prints(*running: str) -> str:
+    """What `nft -j list set inet portal alive` prints, with the devices whose timer runs."""
+    result: dict[str, Any] = dict(ALIVE)
     if running:
-        told["elem"] = [{"elem": {"val": name, "timeout": 5, "expires": 4}} for name in running]
-    return json.dumps({"nftables": [{"metainfo": {"version": "1.0.6", "json_schema_version": 1}}, {"set": told}]})
+        result["elem"] = [{"elem": {"val": name, "timeout": 5, "expires": 4}} for name in running]
+    return json.dumps({"nftables": [{"metainfo": {"version": "1.0.6", "json_schema_version": 1}}, {"set": result}]})
 
 
-def as_systemd_tells(**changed: dict[str, str]) -> str:
-    """`systemctl show` of all units; a unit's change under its name with _ for each other sign."""
+def as_nft_prints_set(name: str, *elements: Any) -> str:
+    """What `nft -j list set inet portal NAME` prints, with these elements."""
+    result = {"family": "inet", "name": name, "table": "portal", "handle": 7, **({"elem": list(elements)} if elements else {})}
+    return json.dumps({"nftables": [{"metainfo": {"version": "1.0.6", "json_schema_version": 1}}, {"set": result}]})
+
+
+def as_systemd_prints(**changed: dict[str, str]) -> str:
+    """What `systemctl show` prints of all units; a unit's change under its name with _ for each other
+    sign."""
     blocks = []
     for unit in UNITS:
         row = {"Id": unit, "LoadState": "loaded", "ActiveState": "active", "SubState": "running", "Result": "success",
-               "UnitFileState": "enabled", **changed.get("".join(s if s.isalnum() else "_" for s in unit), {})}
+               "UnitFileState": "static" if unit in STATIC else "enabled", **changed.get("".join(s if s.isalnum() else "_" for s in unit), {})}
         blocks.append("\n".join(f"{key}={value}" for key, value in row.items()) + "\n")
     return "\n".join(blocks)
 
@@ -70,24 +87,30 @@ def as_systemd_tells(**changed: dict[str, str]) -> str:
 def answers() -> dict[str, str | tuple[int, str]]:
     """What the commands of a good machine say, by the beginning of their lines; a status where it is not 0."""
     return {
-        "ip -j address show": as_ip_tells(NETWORKS),
+        "ip -j address show": as_ip_prints(NETWORKS),
         "ip -j route show default": '[{"dst":"default","gateway":"203.0.113.2","dev":"wan0","flags":[]}]',
         "ss ": LISTENERS, "timedatectl ": "yes\n", "nft list table inet portal": "", "nft list table netdev portal": "",
         "nft -j list ruleset": '{"nftables": []}',
-        "nft -j list set inet portal alive": as_nft_tells("lan0"), "systemd-escape -- lan0": "lan0\n",
-        "systemctl show ": as_systemd_tells(), "journalctl ": "", "uname -r": "6.1.0-28-amd64\n",
+        "nft list set inet portal bound": "", "nft -j list set inet portal bound_ready":
+            as_nft_prints_set("bound_ready", {"elem": {"val": "lan0", "comment": "700 1"}}),
+        "nft -j list set inet portal bound": as_nft_prints_set("bound", {"concat": [PHONE, "10.77.0.50"]}),
+        "ip -j -4 neigh show dev lan0 nud permanent":
+            json.dumps([{"dst": "10.77.0.50", "lladdr": PHONE, "extern_learn": None, "state": ["PERMANENT"]}]),
+        "nft -j list set inet portal alive": as_nft_prints("lan0"), "systemd-escape -- lan0": "lan0\n",
+        "systemctl show ": as_systemd_prints(), "journalctl ": "", "uname -r": "6.1.0-28-amd64\n",
         "/usr/bin/portal --version": "portal 1.0.0 (database schema version 4)\n", "nft --version": "nftables v1.0.6\n",
-        "nginx -v": "nginx version: nginx/1.22.1\n", "dnsmasq --version": "Dnsmasq version 2.90  Copyright (c) 2000\n",
+        "nginx -T": NGINX, "nginx -v": "nginx version: nginx/1.22.1\n", "dnsmasq --version": "Dnsmasq version 2.90  Copyright (c) 2000\n",
         "dpkg-query ": "portal 1.0.0 installed\npython3-nftables 1.0.6-2+deb12u2 installed\n"
-                       "python3-pyroute2 0.7.2-2 installed\npython3-segno 1.5.2-1 installed\n"
-                       "python3-flask 2.2.2-3 installed\npython3-babel 2.10.3-1 installed\npython3-waitress 2.1.2-2 installed\n"}
+                       "python3-pyroute2 0.7.2-2 installed\npython3-qrencode 1.2-5.1 installed\npython3-pil 9.4.0-1.1 installed\n"
+                       "python3-flask 2.2.2-3 installed\npython3-babel 2.10.3-1 installed\npython3-waitress 2.1.2-2 installed\n"
+                       "python3-markdown-it 2.1.0-5 installed\n"}
 
 
 class FakeMachine(Machine):
     """`says`: the answers of commands; None: it is not installed. What it does not know is really run."""
 
-    def __init__(self, folder: pathlib.Path, text: str = SAMPLE, installed: bool = True) -> None:
-        super().__init__(folder, Field.read(text), installed=installed)
+    def __init__(self, folder: pathlib.Path, text: str = SAMPLE, is_installed: bool = True) -> None:
+        super().__init__(folder, Field.read(text), is_installed=is_installed)
         self.says: dict[str, Any] = dict(answers())
         self.root_user = True
         self.put("/proc/sys/net/ipv4/ip_forward", "1\n")
@@ -95,6 +118,7 @@ class FakeMachine(Machine):
         self.put("/proc/sys/net/ipv4/neigh/default/gc_thresh3", "4096\n")
 
     def put(self, name: str, text: str, age: float = 0.0, mode: int = 0o644) -> pathlib.Path:
+        """Writes a file of the machine, as old as `age` says in seconds."""
         path = self.path(name)
         path.parent.mkdir(parents=True, exist_ok=True)
         path.write_text(text)
@@ -103,15 +127,17 @@ class FakeMachine(Machine):
         return path
 
     def is_root(self) -> bool:
+        """What the test says of the user."""
         return self.root_user
 
     def run(self, *words: str) -> Done:
+        """What a command says: by `says`, or else as it is really run."""
         line = " ".join(words)
-        for start, told in self.says.items():
+        for start, result in self.says.items():
             if line.startswith(start):
-                if told is None:
+                if result is None:
                     raise CannotTell(f"`{words[0]}` cannot be run: No such file or directory")
-                status, text = told if isinstance(told, tuple) else (0, told)
+                status, text = result if isinstance(result, tuple) else (0, result)
                 return subprocess.CompletedProcess(words, status, text, text if status else "")
         return super().run(*words)
 
@@ -119,8 +145,8 @@ class FakeMachine(Machine):
         """A PATH on which the commands are scripts with the same answers."""
         for name in {start.split()[0] for start in self.says if not start.startswith("/")}:
             script = ["#!/bin/sh", f'line="{name} $*"']
-            for start, told in self.says.items():
-                status, text = told if isinstance(told, tuple) else (0, told or "")
+            for start, result in self.says.items():
+                status, text = result if isinstance(result, tuple) else (0, result or "")
                 script.append(f'case "$line" in {shlex.quote(start)}*) printf %s {shlex.quote(text)}; exit {status};; esac')
             (folder / name).write_text("\n".join([*script, "exit 99", ""]))
             (folder / name).chmod(0o755)
@@ -137,13 +163,16 @@ class Certificates:
 
     @staticmethod
     def new_key(path: pathlib.Path) -> tuple[object, ...]:
+        """The words of openssl's command line that make a key in this file."""
         return "-newkey", "ec", "-pkeyopt", "ec_paramgen_curve:P-256", "-nodes", "-keyout", path
 
     def openssl(self, *words: object) -> None:
+        """Runs openssl; it must not fail."""
         subprocess.run(["openssl", *map(str, words)], check=True, capture_output=True)
 
     def sign(self, cert: pathlib.Path, key: pathlib.Path, hosts: tuple[str, ...] = ("wifi.example", "counter.example"),
              days: int = 90) -> None:
+        """Makes a key and a certificate of these hosts, signed by the authority."""
         request = self.folder / "request.pem"
         names = ",".join(f"DNS:{host}" for host in hosts)
         self.openssl("req", *self.new_key(key), "-subj", f"/CN={hosts[0]}", "-addext", f"subjectAltName={names}",
@@ -154,4 +183,5 @@ class Certificates:
 
 
 def in_days(days: float) -> float:
+    """The time in so many days from now; before now where it is negative."""
     return time.time() + days * 86400

@@ -1,251 +1,231 @@
-"""A house of network namespaces: two guests and the gateway on one bridge, a counter, the outside.
-
-All traffic stays on this machine. Namespaces carry the test's process id and are removed at the end, so that several
-houses may stand side by side.
-"""
+"""What guests and clerks do in the lab, and what can be seen of it."""
 
 from __future__ import annotations
 
+import contextlib
 import json
-import os
-import pathlib
 import re
-import shlex
-import shutil
-import signal
+import sqlite3
 import subprocess
-import sys
-import tempfile
-from collections.abc import Callable
+import time
 from typing import Any
 
-from steady import wait_until
+from network import COUNTER, FIELD, MACS, NAME, OUTSIDE, PYTHON, Network
 
-FIELD = pathlib.Path(__file__).resolve().parent.parent
-PYTHON = "/usr/bin/python3"     # Debian's, which has nftables and segno
-STAND_IN = f"{PYTHON} {FIELD / 'test/desk_stand_in.py'}"
-NAME, COUNTER, OUTSIDE = "wifi.example", "counter.example", "203.0.113.2"
-MACS = {"guest1": "02:aa:00:00:00:01", "guest2": "02:aa:00:00:00:02",
-        "outside": "02:aa:00:00:00:10", "clerk": "02:aa:00:00:00:20"}
-PORTS = {"guest1": "lan1", "guest2": "lan2", "outside": "wan0", "clerk": "ctr0"}
-SPACES = ("gw", *PORTS)
-USERS = {"desk": (7000, 7000, ""), "gateway": (7001, 7001, ""), "front": (7002, 33, "7001"),
-         "counter": (7003, 33, "7001"), "leases": (7004, 7004, "")}
-SERVICES = {"gateway": "gateway/portal_gateway.py", "leases": "gateway/portal_leases.py",
-            "front": "front/portal_front.py", "counter": "counter/portal_counter.py"}
-CAPABLE, WITH_A_SOCKET = ("gateway", "leases"), ("front", "counter")
-SMALL_PLAN = """
-[[plan]]
-id = "small"
-price = 50
-uses = 1
-seconds = 0
-bytes = 3000000
-shelf_days = 9
-extend = true
-"""
-UDHCPC = """#!/bin/sh
-[ "$1" = bound ] || exit 0
-ip addr replace $ip/$mask dev $interface; ip route replace default via $router
-env > {0}/lease-$interface-$ip
-"""
-NGINX = """user www-data; worker_processes 1; pid {0}/nginx.pid; error_log {0}/nginx-error.log;
-events {{ worker_connections 512; }}
-http {{ access_log off; include {0}/etc/nginx/conf.d/*.conf;
-client_body_temp_path {0}/tmp/body; proxy_temp_path {0}/tmp/proxy; fastcgi_temp_path {0}/tmp/fastcgi;
-uwsgi_temp_path {0}/tmp/uwsgi; scgi_temp_path {0}/tmp/scgi; }}
-"""
+PEER = FIELD / "test/peer.py"
+PORTAL = f"https://{NAME}/portal"
+API = f"https://{NAME}/captive"
+ORIGIN = ("-H", f"Origin: https://{COUNTER}")
+WITNESS = ("add table inet w; add chain inet w i { type filter hook input priority 0; }; "
+           "add rule inet w i ip saddr { 203.0.113.1, 10.77.0.0/22 } counter; "
+           "add rule inet w i ip6 saddr { 2001:db8:77::/64, 2001:db8:1::1 } icmpv6 type echo-request counter")
+Answer = tuple[int, str, str]       # status, body, head
 
 
-def run(*words: object, check: bool = True, **more: Any) -> subprocess.CompletedProcess[str]:
-    return subprocess.run([str(word) for word in words], check=check, capture_output=True, text=True, **more)
-
-
-class Lab:
-    def __init__(self, portal: str = STAND_IN, changed: dict[str, Any] | None = None, offload: bool = False) -> None:
-        self.portal, self.changed, self.offload = shlex.split(portal), changed or {}, offload
-        self.jobs: dict[str, subprocess.Popen[bytes]] = {}
-        os.umask(0o022)     # the services' users read what root makes here
-        self.root = pathlib.Path(tempfile.mkdtemp(prefix="portal-lab-"))
-        self.root.chmod(0o755)
-        self.tag = f"fk{os.getpid()}"
-
+class Lab(Network):
     def __enter__(self) -> Lab:
-        signal.signal(signal.SIGTERM, lambda *_: sys.exit(143))     # so that all is removed then, too
-        try:
-            self.wires()
-            self.files()
-            self.rules()
-            return self
-        except BaseException:
-            self.__exit__()
-            raise
+        super().__enter__()
+        self.sheets = 0
+        self.cookie = self.token = ""       # of the clerk, once logged in
+        self.shown: dict[str, dict[str, str]] = {}      # by guest: hidden fields of the last page
+        self.within("outside", "nft", WITNESS)
+        return self
 
-    def __exit__(self, *_: object) -> None:
-        for name in list(self.jobs):
-            self.stop(name)
-        for space in SPACES:
-            run("ip", "netns", "del", self.ns(space), check=False)
-        if not os.environ.get("KEEP_LAB"):
-            shutil.rmtree(self.root, ignore_errors=True)
+    def curl(self, space: str, url: str, *words: object) -> Answer:
+        """Status, body and header of an answer to curl as a guest, or in another namespace; status 0 where
+        there was none."""
+        done = self.within(space, "curl", "-s", "-i", "--max-time", "12", "--cacert", self.root / "ca.pem",
+                           "--resolve", NAME + ":443:10.77.0.1", "--resolve", COUNTER + ":443:10.88.0.1",
+                           "--resolve", "outside.example:80:" + OUTSIDE, *words, url, check=False)
+        head, _, body = done.stdout.replace("\r\n", "\n").partition("\n\n")
+        parts = head.split(None, 2)
+        return (int(parts[1]) if len(parts) > 1 else 0), body, head
 
-    def ns(self, space: str) -> str:
-        return self.tag + space
+    # The desk, asked from the gateway itself
 
-    def within(self, space: str, *words: object, **more: Any) -> subprocess.CompletedProcess[str]:
-        return run("ip", "netns", "exec", self.ns(space), *words, **more)
+    def ask_desk(self, token: str | None, method: str, path: str, *words: object) -> dict[str, Any]:
+        """What the server answers to a request, with the token of this name."""
+        if token:
+            secret = (self.root / "etc/portal/credentials" / token).read_text().strip()
+            words = ("-H", "Portal-Token: " + secret, *words)
+        done = self.within("gw", "curl", "-s", "--max-time", "5", "-X", method, *words, "http://127.0.0.1:8080" + path)
+        return dict(json.loads(done.stdout))
 
-    def begin(self, space: str, *words: object, feed: bool = False) -> subprocess.Popen[str]:
-        """A command whose output is read later, and which may be given its input."""
-        line = ["ip", "netns", "exec", self.ns(space), *map(str, words)]
-        return subprocess.Popen(line, stdin=subprocess.PIPE if feed else None, stdout=subprocess.PIPE, text=True)
+    def desk_bytes(self, session: int) -> int:
+        """The bytes that the desk holds for a session."""
+        question = json.dumps({"session": session, "bytes": 0})
+        return int(self.ask_desk("gateway_token", "POST", "/gateway/reports", "-d", question)["used"])
 
-    # Wires, addresses, files
+    def session_of(self, guest: str) -> int | None:
+        """The number of a guest's open session; None where it has none."""
+        rows = self.ask_desk("gateway_token", "GET", "/gateway/sessions")["sessions"]
+        return next((row["session"] for row in rows if row["device"] == MACS[guest]), None)
 
-    def wires(self) -> None:
-        for space in SPACES:
-            run("ip", "netns", "add", self.ns(space))
-            self.within(space, "ip", "link", "set", "lo", "up")
-        self.within("gw", "ip", "link", "add", "lan0", "type", "bridge")
-        for space, port in PORTS.items():
-            run("ip", "link", "add", "eth0", "netns", self.ns(space), "address", MACS[space],
-                "type", "veth", "peer", "name", port, "netns", self.ns("gw"))
-            if port.startswith("lan"):
-                self.within("gw", "ip", "link", "set", port, "master", "lan0")
-                self.within("gw", "bridge", "link", "set", "dev", port, "isolated", "on")
-            for where, device in (("gw", port), (space, "eth0")):
-                if not self.offload:
-                    self.within(where, "ethtool", "-K", device, "tso", "off", "gso", "off", "gro", "off")
-                self.within(where, "ip", "link", "set", device, "up")
-        guests = str(self.changed.get("guests", "10.77.0.1/22"))
-        for space, device, address in (("gw", "lan0", guests), ("gw", "wan0", "203.0.113.1/24"),
-                                       ("gw", "ctr0", "10.88.0.1/24"), ("outside", "eth0", OUTSIDE + "/24"),
-                                       ("clerk", "eth0", "10.88.0.2/24")):
-            self.within(space, "ip", "addr", "add", address, "dev", device)
-            self.within(space, "ip", "link", "set", device, "up")
-        self.within("clerk", "ip", "route", "add", "default", "via", "10.88.0.1")
-        self.within("gw", "sysctl", "-q", "-w", "net.ipv4.ip_forward=1")
+    # A clerk
 
-    def rules(self) -> None:
-        """As the unit of the rules loads them; the users are this test's numbers."""
-        path = self.root / "etc/portal/rules.nft"
-        text = re.sub(r"define desk_users = .*", "define desk_users = { 0, 33, 7001, 7002, 7003 }", path.read_text())
-        path.write_text(text)
-        self.within("gw", "nft", "-f", path)
+    def log_in(self, name: str, password: str, *words: object) -> tuple[Answer, str]:
+        """The answer to a log-in at the counter's page, and the cookie that it sets, or nothing."""
+        form = [f"request=t-{time.monotonic_ns()}", f"name={name}", f"password={password}"]
+        sent = [word for field in form for word in ("--data-urlencode", field)]
+        answer = self.curl("clerk", f"https://{COUNTER}/login", *ORIGIN, *sent, *words)
+        found = re.search(r"(?mi)^set-cookie: ([^;\n]*)", answer[2])
+        return answer, found[1] if found else ""
 
-    def files(self) -> None:
-        root, etc = self.root, self.root / "etc/portal"
-        self.authority()
-        given = (FIELD / "settings/field.toml").read_text().replace("/etc/portal/tls", str(root))
-        for key, value in self.changed.items():
-            given = re.sub(rf"(?m)^{key} = .*$", f"{key} = {json.dumps(value)}", given)
-        (root / "field.toml").write_text(given)
-        run(PYTHON, FIELD / "setup", "--root", root, root / "field.toml")
-        with open(etc / "plans.toml", "a") as plans:
-            plans.write(SMALL_PLAN)
-        (etc / "counter.passwords").write_text("clerk:{PLAIN}clerk\n")
-        (root / "var/lib/misc").mkdir(parents=True)
-        (root / "log").mkdir()      # nginx's logs, apart from what the services say
-        (root / "tmp").mkdir()
-        for conf in (root / "etc/nginx/conf.d").iterdir():
-            conf.write_text(conf.read_text().replace("/var/log/portal", str(root / "log")))
-        for name, (user, group, _) in USERS.items():
-            for folder in (root / f"creds-{name}", root / f"run/portal-{name}"):
-                folder.mkdir(parents=True)
-                os.chown(folder, user, group)
-                folder.chmod(0o750)
-        for name, secret in (("gateway", "gateway_token"), ("counter", "desk_token"), ("front", "form_key")):
-            goal = root / f"creds-{name}" / secret
-            shutil.copy(etc / "credentials" / secret, goal)
-            os.chown(goal, USERS[name][0], 0)
-            goal.chmod(0o400)
-        os.chown(etc / "portal.toml", USERS["desk"][0], 0)
-        (root / "nginx.conf").write_text(NGINX.format(root))
-        (root / "udhcpc.sh").write_text(UDHCPC.format(root))
-        (root / "udhcpc.sh").chmod(0o755)
+    def as_clerk(self) -> tuple[str, ...]:
+        """The words of curl of a clerk who is logged in."""
+        if not self.cookie:
+            self.cookie = self.log_in("clerk", "clerk")[1]
+            page = self.curl("clerk", f"https://{COUNTER}/account", "-H", f"Cookie: {self.cookie}")[1]
+            self.token = re.findall('name="token" value="([0-9a-f]+)"', page)[0]
+        return ("-H", f"Cookie: {self.cookie}", *ORIGIN)
 
-    def authority(self) -> None:
-        """A certificate that only this test knows."""
-        root = self.root
-        new = ("openssl", "req", "-newkey", "ec", "-pkeyopt", "ec_paramgen_curve:P-256", "-nodes")
-        run(*new, "-x509", "-days", "2", "-subj", "/CN=lab", "-keyout", root / "ca-key.pem", "-out", root / "ca.pem")
-        run(*new, "-subj", "/CN=" + NAME, "-addext", f"subjectAltName=DNS:{NAME},DNS:{COUNTER}",
-            "-keyout", root / "key.pem", "-out", root / "csr.pem")
-        run("openssl", "x509", "-req", "-in", root / "csr.pem", "-CA", root / "ca.pem", "-CAkey", root / "ca-key.pem",
-            "-CAcreateserial", "-copy_extensions", "copy", "-days", "2", "-out", root / "cert.pem")
+    def send_as_clerk(self, page: str, **form: object) -> Answer:
+        """Sends a form of the counter's page; without a number given it carries a new one."""
+        clerk = self.as_clerk()
+        form = {"request": f"t-{time.monotonic_ns()}", "token": self.token, **form}
+        words = [word for name, value in form.items() for word in ("--data-urlencode", f"{name}={value}")]
+        return self.curl("clerk", f"https://{COUNTER}/{page}", *clerk, *words)
 
-    def limitless(self, connections: int) -> None:
-        """nginx counts no guest's requests, and holds so many connections."""
-        conf = self.root / "etc/nginx/conf.d/portal-guests.conf"
-        conf.write_text(re.sub("rate=[0-9]+r/[ms]", "rate=10000r/s", conf.read_text()))
-        main = self.root / "nginx.conf"
-        text = main.read_text().replace("worker_connections 512;", f"worker_connections {connections};")
-        main.write_text(text.replace("user www-data;", f"user www-data; worker_rlimit_nofile {connections};"))
+    def look_up(self, code: str) -> Answer:
+        """Types a code on the counter's page; the page that comes."""
+        head = self.send_as_clerk("voucher", code=code)[2]
+        place = re.search(r"^location: (/\S+)$", head, re.M | re.I)
+        return self.curl("clerk", f"https://{COUNTER}{place[1] if place else '/nowhere'}", *self.as_clerk())
 
-    # Programs
+    def codes(self, plan: str, count: int) -> list[str]:
+        """Issues, prints and sells codes as a clerk does it; the codes of the sheet."""
+        self.sheets += 1
+        batch = f"{plan}-{self.sheets}"
+        self.send_as_clerk("issue", plan=plan, batch=batch, count=count)
+        body = self.curl("clerk", f"https://{COUNTER}/sheet?batch={batch}", *self.as_clerk())[1]
+        codes = re.findall(r"<b>([0-9A-Z-]{14,19})</b>", body)
+        for code in codes:
+            self.send_as_clerk("sell", code=code)
+        return codes
 
-    def start(self, name: str, *words: object, space: str = "gw", user: str | None = None, caps: bool = False,
-              env: dict[str, str] | None = None) -> None:
-        before = ["ip", "netns", "exec", self.ns(space)]
-        if user:
-            number, group, groups = USERS[user]
-            before += ["setpriv", f"--reuid={number}", f"--regid={group}"]
-            before += [f"--groups={groups}"] if groups else ["--clear-groups"]
-            before += ["--inh-caps=+net_admin", "--ambient-caps=+net_admin"] if caps else []
-        with open(self.root / f"{name}.log", "ab") as log:
-            self.jobs[name] = subprocess.Popen([*before, *map(str, words)], stdout=log, stderr=log, cwd=self.root,
-                                               env={**os.environ, "PYTHONDONTWRITEBYTECODE": "1", **(env or {})})
+    def journal(self) -> list[tuple[object, ...]]:
+        """The acts that the counter's journal has."""
+        with contextlib.closing(sqlite3.connect(self.root / "run/portal-counter/journal.db")) as link:
+            return link.execute("SELECT clerk, place, act, batch, plan, price, answer FROM acts ORDER BY number").fetchall()
 
-    def stop(self, name: str, kill: bool = False) -> None:
-        job = self.jobs.pop(name, None)
-        if job is None:
-            return
-        if kill:
-            job.kill()
-        else:
-            job.terminate()
-        try:
-            job.wait(5)
-        except subprocess.TimeoutExpired:
-            job.kill()
-            job.wait()
+    # A guest
 
-    def until(self, true: Callable[[], object], seconds: float = 10.0, what: str = "something") -> None:
-        if not wait_until(true, seconds):
-            raise TimeoutError("waited in vain for " + what)
+    def lease(self, guest: str) -> tuple[str, dict[str, str]]:
+        """Asks for an address by DHCP as a guest: the address, and the options that it got, by udhcpc's
+        names."""
+        self.within(guest, "busybox", "udhcpc", "-i", "eth0", "-f", "-q", "-n", "-t", "5", "-O", "114",
+                    "-s", self.root / "udhcpc.sh")
+        address = self.address(guest)
+        lines = (self.root / f"lease-eth0-{address}").read_text().splitlines()
+        return address, dict(line.split("=", 1) for line in lines if "=" in line)
 
-    def listening(self, port: int) -> bool:
-        return bool(self.within("gw", "ss", "-Hltn", "sport", "=", f":{port}").stdout)
+    def give_leases(self) -> None:
+        """Gives both guests their leases."""
+        for guest in ("guest1", "guest2"):
+            self.lease(guest)
 
-    def desk(self) -> None:
-        folder = self.root / "book"
-        folder.mkdir(exist_ok=True)
-        os.chown(folder, USERS["desk"][0], 0)
-        settings = self.root / "etc/portal/portal.toml"
-        self.start("desk", *self.portal, "serve", "--port", 8080, "--db", folder / "book.db", "--settings", settings,
-                   user="desk")
-        self.until(lambda: self.listening(8080), what="the desk")
+    def address(self, guest: str) -> str:
+        """The IPv4 address that a guest has."""
+        shown = json.loads(self.within(guest, "ip", "-j", "-4", "addr", "show", "eth0").stdout)
+        return str(shown[0]["addr_info"][0]["local"])
 
-    def service(self, name: str) -> None:
-        env = {"FIELD_SETTINGS": f"{self.root}/etc/portal/{name}.toml", "STATE_DIRECTORY": f"{self.root}/run/portal-{name}",
-               "CREDENTIALS_DIRECTORY": f"{self.root}/creds-{name}"}
-        self.start(name, PYTHON, FIELD / SERVICES[name], user=name, caps=name in CAPABLE, env=env)
-        if name in WITH_A_SOCKET:
-            self.until((self.root / f"run/portal-{name}/socket").exists, what=name)
+    def number(self, guest: str) -> str:
+        """The idempotency key in the form for a code, also of a guest that is online. Its other hidden fields are kept for
+        `send_form`."""
+        fields = dict(re.findall(r'type="hidden" name="(\w+)" value="([^"]+)"', self.curl(guest, PORTAL + "?add=1")[1]))
+        number = str(fields.pop("request", ""))
+        self.shown[guest] = fields
+        return number
 
-    def web(self) -> None:
-        self.start("nginx", "nginx", "-p", self.root, "-c", self.root / "nginx.conf", "-g", "daemon off;")
-        self.dnsmasq()
-        self.until(lambda: self.listening(443), what="nginx")
+    def send_form(self, guest: str, code: str, number: str, *words: object) -> Answer:
+        """Sends the portal page's form; a guest that has to be slower waits and tries again."""
+        if guest not in self.shown:
+            self.number(guest)
+        fields = {"code": code, "request": number, **self.shown[guest]}
+        form = [word for name, value in fields.items() for word in ("--data-urlencode", f"{name}={value}")]
+        for _ in range(8):
+            answer = self.curl(guest, PORTAL, *form, *words)
+            if answer[0] != 429:
+                break
+            time.sleep(5)
+        return answer
 
-    def dnsmasq(self) -> None:
-        self.start("dnsmasq", "dnsmasq", "-k", "-C", self.root / "etc/dnsmasq.d/portal.conf", "--user=root",
-                   "--pid-file=", "--no-resolv", "--no-hosts", f"--address=/outside.example/{OUTSIDE}")
+    def redeem(self, guest: str, code: str) -> Answer:
+        """Redeems a code by the page's form; the page's answer."""
+        return self.send_form(guest, code, self.number(guest))
 
-    def open_house(self) -> None:
-        """Everything but the guests' leases."""
-        self.start("peer", PYTHON, FIELD / "test/peer.py", "serve", space="outside")
-        self.desk()
-        for name in SERVICES:
-            self.service(name)
-        self.web()
+    def online(self, guest: str, plan: str = "hour") -> int:
+        """Gives a guest a session of its own, and waits until its packets pass; the session's number."""
+        session = self.session_of(guest)
+        if session is None:
+            self.redeem(guest, self.codes(plan, 1)[0])
+            session = self.session_of(guest)
+        self.until(lambda: self.reaches(guest), 6, f"packets of {guest}")
+        assert session is not None
+        return session
+
+    def captive(self, guest: str, *words: object) -> dict[str, Any]:
+        """A guest's answer of the captive API (RFC 8908); with another status than 200 status and body."""
+        status, body, _ = self.curl(guest, API, *words)
+        return dict(json.loads(body)) if status == 200 else {"status": status, "body": body}
+
+    # Packets
+
+    def reaches(self, guest: str, seconds: float = 0.3, host: str = OUTSIDE) -> bool:
+        """Whether a guest's packet comes back from outside within so many seconds."""
+        return self.within(guest, PYTHON, PEER, "first", host, seconds, check=False).returncode == 0
+
+    def packets_outside(self, family: str = "ip") -> int:
+        """Packets that left the venue so far: what a guest sends must not get out even unanswered."""
+        text = self.within("outside", "nft", "list", "table", "inet", "w").stdout
+        found = re.search(rf"{family} saddr [^\n]* counter packets (\d+)", text)
+        assert found, text
+        return int(found[1])
+
+    def tcp(self, guest: str, verb: str, count: int) -> float | None:
+        """Seconds that so many bytes of payload took; None where they did not pass."""
+        done = self.within(guest, PYTHON, PEER, "tcp", OUTSIDE, verb, count, check=False)
+        return float(done.stdout) if done.returncode == 0 else None
+
+    def first(self, guest: str, seconds: float) -> subprocess.Popen[str]:
+        """Starts to send packets of a guest until the first one comes back from outside."""
+        return self.begin(guest, PYTHON, PEER, "first", OUTSIDE, seconds)
+
+    def stream(self, guest: str, seconds: float) -> subprocess.Popen[str]:
+        """Starts a stream of a guest's packets, and prints when each comes back from outside."""
+        return self.begin(guest, PYTHON, PEER, "stream", OUTSIDE, seconds)
+
+    def shut_after(self, guest: str, limit: float) -> float | None:
+        """Seconds until nothing passes any more."""
+        start = time.time()
+        while time.time() - start < limit:
+            if not self.reaches(guest, 0.1):
+                return time.time() - start
+        return None
+
+    def frames(self, guest: str) -> int:
+        """IP-layer bytes that a guest's device has sent and received, by its own statistics: each frame less
+        its head. ARP is in it, 28 bytes each."""
+        def read(name: str) -> int:
+            """A counter of the guest's device."""
+            return int(self.within(guest, "cat", "/sys/class/net/eth0/statistics/" + name).stdout)
+        return sum(read(way + "_bytes") - 14 * read(way + "_packets") for way in ("tx", "rx"))
+
+    def neighbours(self, state: str) -> None:
+        """Has the gateway and the first guest know each other: `permanent`, so that neither asks, or
+        `reachable`."""
+        hard = self.within("gw", "cat", "/sys/class/net/lan0/address").stdout.strip()
+        for space, device, address, mac in (("gw", "lan0", self.address("guest1"), MACS["guest1"]),
+                                            ("guest1", "eth0", "10.77.0.1", hard)):
+            self.within(space, "ip", "neigh", "replace", address, "lladdr", mac, "dev", device, "nud", state)
+
+    def gateway_list(self) -> list[dict[str, Any]]:
+        """The gateway's own list after one more poll."""
+        path = self.root / "run/portal-gateway/sessions.json"
+        before = path.stat().st_mtime_ns
+        self.until(lambda: path.stat().st_mtime_ns != before, 5, "a poll")
+        return list(json.loads(path.read_text())["sessions"])
+
+    def gateway_bytes(self, guest: str) -> int:
+        """The gateway's own count after one more poll."""
+        return int(next(row["used"] for row in self.gateway_list() if row["device"] == MACS[guest]))

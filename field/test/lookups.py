@@ -1,7 +1,7 @@
 """The device look-up as a guest's phone meets it; each runs within a guest's namespace.
 
     lookups.py ask CA COUNT         times GET /captive over one TLS connection: milliseconds, sorted, one a line
-    lookups.py idle CA COUNT        opens so many connections that say nothing, tells so, and holds them until its input ends
+    lookups.py idle CA COUNT        opens so many connections that say nothing, prints so, and holds them until its input ends
 """
 
 from __future__ import annotations

@@ -30,15 +30,15 @@ import threading
 import time
 from collections.abc import Callable
 
-from crowd import OPEN, crowd, spent, written
+from crowd import NO_LEASES, OPEN, bind, crowd, processor_seconds, written
 from desk_process import DeskProcess, Routes
-from house import CLERK, PEER, House
-from lab import COUNTER, FIELD, NAME, OUTSIDE, PYTHON, STAND_IN
+from lab import PEER, Lab
+from network import COUNTER, FIELD, NAME, OUTSIDE, PYTHON, STAND_IN
 
 MANY = "[[plan]]\nid = '{}'\nprice = 0\nuses = 100000\nseconds = {}\nbytes = 0\nshelf_days = 9\nextend = true\n"
 
 
-def told(what: str, numbers: list[float], unit: str = "ms") -> None:
+def print_figures(what: str, numbers: list[float], unit: str = "ms") -> None:
     print(f"{what}: median {statistics.median(numbers):.1f} {unit}, {min(numbers):.1f} to {max(numbers):.1f}, "
           f"{len(numbers)} times, load {os.getloadavg()[0]:.0f}", flush=True)
 
@@ -48,138 +48,139 @@ def mac(number: int) -> str:
 
 
 def first(args: argparse.Namespace) -> None:
-    with House(args.portal) as house:
-        house.open_house()
-        house.lease("guest1")
-        codes = house.codes("hour", 2 * args.rounds)
+    with Lab(args.portal) as lab:
+        lab.start_services()
+        lab.lease("guest1")
+        codes = lab.codes("hour", 2 * args.rounds)
         for way in ("form", "json"):
             answers, packets = [], []
             for i in range(args.rounds):
-                number, code, watch = house.number("guest1"), codes.pop(), house.first("guest1", 5)
+                number, code, watch = lab.number("guest1"), codes.pop(), lab.first("guest1", 5)
                 time.sleep(0.25 + 0.07 * (i % 9))       # at another moment of the poll each time
                 start = time.time()
                 if way == "form":
-                    house.send_form("guest1", code, number)
+                    lab.send_form("guest1", code, number)
                 else:
-                    house.curl("guest1", f"https://{NAME}/portal/redeem", "-d", json.dumps({"code": code}))
+                    lab.curl("guest1", f"https://{NAME}/portal/redeem", "-d", json.dumps({"code": code}))
                 answers.append((time.time() - start) * 1e3)
                 packets.append((float(watch.communicate()[0]) - start) * 1e3)
-                house.clerk("close", session=house.session_of("guest1"))
-                house.until(lambda: not house.reaches("guest1", 0.1), 5, "the close")
+                lab.send_as_clerk("close", session=lab.session_of("guest1"))
+                lab.until(lambda: not lab.reaches("guest1", 0.1), 5, "the close")
                 time.sleep(4.5)     # the front end's limit of tries a minute
-            told(f"{way}: to the answer", answers)
-            told(f"{way}: to the first packet's answer", packets)
+            print_figures(f"{way}: to the answer", answers)
+            print_figures(f"{way}: to the first packet's answer", packets)
 
 
 def agent(args: argparse.Namespace) -> None:
     """Each session's packets are one a second, from a device of its own; reports come by themselves."""
     seconds, many = 30, args.sessions or OPEN
-    with House(args.portal) as house:
-        with open(house.root / "etc/portal/plans.toml", "a") as plans:
+    with Lab(args.portal) as lab:
+        with open(lab.root / "etc/portal/plans.toml", "a") as plans:
             plans.write(MANY.format("many", 86400))
-        house.open_house()
-        house.lease("guest1")
-        code, = house.codes("many", 1)
+        lab.start_services()
+        lab.lease("guest1")
+        code, = lab.codes("many", 1)
         for i in range(many):
             words = ("-H", "Portal-Device: " + mac(i), "-d", json.dumps({"code": code}))
-            house.ask_desk(None, "POST", "/portal/redeem", *words)
+            lab.ask_desk(None, "POST", "/portal/redeem", *words)
         for what in ("at rest", "each with a packet a second"):
             if what != "at rest":
-                hard = house.within("gw", "cat", "/sys/class/net/lan0/address").stdout.strip()
-                house.start("many", PYTHON, PEER, "many", OUTSIDE, hard, many, house.address("guest1"), space="guest1")
-            house.until(lambda: len(house.polled()) == many, 60, "the first reports")
+                hard = lab.within("gw", "cat", "/sys/class/net/lan0/address").stdout.strip()
+                bind(lab, many, NO_LEASES)
+                lab.start("many", PYTHON, PEER, "many", OUTSIDE, hard, many, NO_LEASES, space="guest1")
+            lab.until(lambda: len(lab.gateway_list()) == many, 60, "the first reports")
             time.sleep(3)
-            jobs = {name: house.jobs[name].pid for name in ("gateway", "desk")}
-            before, out = {name: spent(pid) for name, pid in jobs.items()}, house.arrived()
+            jobs = {name: lab.jobs[name].pid for name in ("gateway", "desk")}
+            before, out = {name: processor_seconds(pid) for name, pid in jobs.items()}, lab.packets_outside()
             time.sleep(seconds)
-            used = {name: 100 * (spent(pid) - before[name]) / seconds for name, pid in jobs.items()}
+            used = {name: 100 * (processor_seconds(pid) - before[name]) / seconds for name, pid in jobs.items()}
             print(f"{many} sessions {what}: agent {used['gateway']:.2f} % of one core, desk {used['desk']:.2f} %, "
-                  f"{(house.arrived() - out) / seconds:.0f} packets a second came out; {seconds} s, "
+                  f"{(lab.packets_outside() - out) / seconds:.0f} packets a second came out; {seconds} s, "
                   f"load {os.getloadavg()[0]:.0f}", flush=True)
 
 
 def shut(args: argparse.Namespace) -> None:
-    with House(args.portal) as house:
-        house.open_house()
-        house.lease("guest1")
+    with Lab(args.portal) as lab:
+        lab.start_services()
+        lab.lease("guest1")
 
         def stop_desk() -> None:
-            house.stop("desk")
-            house.start("stopped", PYTHON, PEER, "stopped")
+            lab.stop("desk")
+            lab.start("stopped", PYTHON, PEER, "stopped")
 
         def desk_back() -> None:
-            house.stop("stopped")
-            house.desk()
+            lab.stop("stopped")
+            lab.desk()
 
         def flush() -> None:
             """On a network where guests' packets would find their way back untranslated."""
-            house.within("outside", "ip", "route", "replace", "10.77.0.0/22", "via", "203.0.113.1")
-            house.within("gw", "nft", "flush", "ruleset")
+            lab.within("outside", "ip", "route", "replace", "10.77.0.0/22", "via", "203.0.113.1")
+            lab.within("gw", "nft", "flush", "ruleset")
 
         cases: tuple[tuple[str, Callable[[], object], Callable[[], object]], ...] = (
-            ("the agent killed", lambda: house.stop("gateway", kill=True), lambda: house.service("gateway")),
-            ("the desk killed", lambda: house.stop("desk", kill=True), house.desk),
-            ("the desk held still", lambda: os.kill(house.jobs["desk"].pid, signal.SIGSTOP),
-             lambda: os.kill(house.jobs["desk"].pid, signal.SIGCONT)),
+            ("the agent killed", lambda: lab.stop("gateway", kill=True), lambda: lab.service("gateway")),
+            ("the desk killed", lambda: lab.stop("desk", kill=True), lab.desk),
+            ("the desk held still", lambda: os.kill(lab.jobs["desk"].pid, signal.SIGSTOP),
+             lambda: os.kill(lab.jobs["desk"].pid, signal.SIGCONT)),
             ("a desk that says stopped", stop_desk, desk_back),
-            ("rules flushed", flush, house.rules))
+            ("rules flushed", flush, lab.rules))
         for what, harm, mend in cases:
             times = []
             for i in range(args.rounds):
-                house.online("guest1")
+                lab.online("guest1")
                 time.sleep(0.3 + 0.17 * (i % 6))        # at another moment of the poll each time
                 start = time.time()
                 harm()
-                took = house.shut_after("guest1", 12)
+                took = lab.shut_after("guest1", 12)
                 times.append((time.time() - start) if took is not None else 99.0)
                 mend()
-                house.until(lambda: house.reaches("guest1"), 10, "packets")
-            told(f"shut after {what}", times, "s")
+                lab.until(lambda: lab.reaches("guest1"), 10, "packets")
+            print_figures(f"shut after {what}", times, "s")
 
 
-def settled(house: House, session: int) -> int:
+def settled_bytes(lab: Lab, session: int) -> int:
     """What the desk holds for a session that has ended, once it grows no more."""
-    held = -1
-    while held != (now := house.held(session)):
-        held = now
+    before = -1
+    while before != (now := lab.desk_bytes(session)):
+        before = now
         time.sleep(1.5)
-    return held
+    return before
 
 
 def late(args: argparse.Namespace) -> None:
     limit = 3_000_000
-    with House(args.portal) as house:
-        house.open_house()
-        house.lease("guest1")
-        codes, over, seconds = house.codes("small", args.rounds), [], []
+    with Lab(args.portal) as lab:
+        lab.start_services()
+        lab.lease("guest1")
+        codes, over, seconds = lab.codes("small", args.rounds), [], []
         for code in codes:
-            house.redeem("guest1", code)
-            session = house.session_of("guest1") or 0
-            arrivals = [float(word) for word in house.stream("guest1", 8).communicate()[0].split()]
+            lab.redeem("guest1", code)
+            session = lab.session_of("guest1") or 0
+            arrivals = [float(word) for word in lab.stream("guest1", 8).communicate()[0].split()]
             rate = 1000 * (len(arrivals) - 1) / (arrivals[-1] - arrivals[0])
-            held = settled(house, session)
-            over.append((held - limit) / 1e3)
-            seconds.append((held - limit) / rate)
+            count = settled_bytes(lab, session)
+            over.append((count - limit) / 1e3)
+            seconds.append((count - limit) / rate)
             time.sleep(5)
-        told(f"a session of {limit} bytes at some {rate * 8 / 1e6:.0f} Mbit/s: more than its limit", over, "kB")
-        told("the same in seconds of that stream", seconds, "s")
+        print_figures(f"a session of {limit} bytes at some {rate * 8 / 1e6:.0f} Mbit/s: more than its limit", over, "kB")
+        print_figures("the same in seconds of that stream", seconds, "s")
 
 
 def offload(args: argparse.Namespace) -> None:
     for on in (False, True):
-        with House(args.portal, offload=on) as house:
-            house.open_house()
-            house.lease("guest1")
-            house.online("guest1")
-            house.neighbours("permanent")
+        with Lab(args.portal, offload=on) as lab:
+            lab.start_services()
+            lab.lease("guest1")
+            lab.online("guest1")
+            lab.neighbours("permanent")
             for verb, way in (("take", "sends"), ("send", "gets")):
                 counts, devices = [], []
                 for _ in range(args.rounds):
-                    before, frames = house.counted("guest1"), house.frames("guest1")
-                    house.tcp("guest1", verb, 40_000_000)
+                    before, frames = lab.gateway_bytes("guest1"), lab.frames("guest1")
+                    lab.tcp("guest1", verb, 40_000_000)
                     time.sleep(0.5)
-                    devices.append(house.frames("guest1") - frames)
-                    counts.append(house.counted("guest1") - before)
+                    devices.append(lab.frames("guest1") - frames)
+                    counts.append(lab.gateway_bytes("guest1") - before)
                 off = [count - device for count, device in zip(counts, devices)]
                 more = [count / 4e5 - 100 for count in counts]
                 print(f"offloading {'on' if on else 'off'}, guest {way} 40,000,000 bytes {args.rounds} times: gateway "
@@ -190,21 +191,21 @@ def offload(args: argparse.Namespace) -> None:
 def sessions(args: argparse.Namespace) -> None:
     many = args.sessions or 100_000
     with DeskProcess(portal=args.portal) as desk:
-        desk.desk.tell(Routes.PLANS, body=(MANY.format("brief", 1) + MANY.format("long", 86400)).encode())
-        brief, long = desk.sold("brief", "b1")[0], desk.sold("long", "b2")[0]
+        desk.desk.request_json(Routes.PLANS, body=(MANY.format("brief", 1) + MANY.format("long", 86400)).encode())
+        brief, long = desk.sell_codes("brief", "b1")[0], desk.sell_codes("long", "b2")[0]
         start = time.monotonic()
         for i in range(many):
             code = long if i % (many // OPEN) == 0 else brief
-            desk.desk.tell(Routes.REDEEM, body={"code": code}, device=mac(i))
+            desk.desk.request_json(Routes.REDEEM, body={"code": code}, device=mac(i))
         print(f"{many} redemptions, one after another, in {time.monotonic() - start:.0f} s")
         time.sleep(2)
-        times, rows, before, rounds = [], 0, spent(desk.job.pid), args.rounds * 10
+        times, rows, before, rounds = [], 0, processor_seconds(desk.job.pid), args.rounds * 10
         for _ in range(rounds):
             start = time.perf_counter()
-            rows = len(desk.gateway.tell(Routes.SESSIONS)["sessions"])
+            rows = len(desk.gateway.request_json(Routes.SESSIONS)["sessions"])
             times.append((time.perf_counter() - start) * 1e3)
-        used = (spent(desk.job.pid) - before) / rounds * 1e3
-        told(f"GET /gateway/sessions, {rows} open among {many}", times)
+        used = (processor_seconds(desk.job.pid) - before) / rounds * 1e3
+        print_figures(f"GET /gateway/sessions, {rows} open among {many}", times)
         print(f"of the desk's processor {used:.1f} ms each")
 
 
@@ -213,21 +214,21 @@ def copies(args: argparse.Namespace) -> None:
     with DeskProcess(portal=args.portal) as desk:
         desk.load()
         for i in range(many // 500):
-            desk.issued("hour", f"book-{i}", 500)
+            desk.issue_codes("hour", f"book-{i}", 500)
         waits: list[float] = []
         stop = threading.Event()
 
         def sells() -> None:
             while not stop.is_set():
                 start = time.perf_counter()
-                desk.desk.tell(Routes.ISSUE, body={"batch": f"b{len(waits)}", "plan": "hour", "count": 1})
+                desk.desk.request_json(Routes.ISSUE, body={"batch": f"b{len(waits)}", "plan": "hour", "count": 1})
                 waits.append((time.perf_counter() - start) * 1e3)
 
         worker = threading.Thread(target=sells)
         worker.start()
         time.sleep(2)
         calm, wholes, longest = list(waits), [], []
-        words = [PYTHON, str(FIELD / "backup/portal-backup"), "--pid", str(desk.job.pid), "--portal", args.portal,
+        words = [PYTHON, str(FIELD / "portal-backup"), "--pid", str(desk.job.pid), "--portal", args.portal,
                  "--check", str(desk.settings), str(desk.book), str(desk.folder / "copies")]
         try:
             for _ in range(args.rounds):
@@ -240,33 +241,33 @@ def copies(args: argparse.Namespace) -> None:
             stop.set()
             worker.join()
         size = sum(path.stat().st_size for path in desk.folder.glob("book.db*")) / 1e6
-        told("a batch of one code, no copy being made", calm)
-        told(f"a copy of a book of {many} vouchers ({size:.0f} MB), made and checked", wholes)
-        told("the longest wait of a batch of one code meanwhile", longest)
+        print_figures("a batch of one code, no copy being made", calm)
+        print_figures(f"a copy of a book of {many} vouchers ({size:.0f} MB), made and checked", wholes)
+        print_figures("the longest wait of a batch of one code meanwhile", longest)
 
 
 def lookup(args: argparse.Namespace) -> None:
     many, words = args.sessions or 4500, (PYTHON, FIELD / "test/lookups.py")
-    with House(args.portal) as house:
-        house.limitless(2 * many)
-        house.open_house()
+    with Lab(args.portal) as lab:
+        lab.limitless(2 * many)
+        lab.start_services()
         for guest in ("guest1", "guest2"):
-            house.lease(guest)
-        authority = house.root / "ca.pem"
+            lab.lease(guest)
+        authority = lab.root / "ca.pem"
 
         def times(what: str) -> None:
             lines: list[float] = []
-            before = spent(house.jobs["front"].pid)
+            before = processor_seconds(lab.jobs["front"].pid)
             for _ in range(args.rounds):
-                lines += map(float, house.within("guest1", *words, "ask", authority, 500).stdout.split())
+                lines += map(float, lab.within("guest1", *words, "ask", authority, 500).stdout.split())
             lines.sort()
-            took = (spent(house.jobs["front"].pid) - before) / len(lines) * 1e3
-            told(what, lines)
+            took = (processor_seconds(lab.jobs["front"].pid) - before) / len(lines) * 1e3
+            print_figures(what, lines)
             print(f"95 of 100 within {lines[len(lines) * 95 // 100]:.2f} ms; median {statistics.median(lines):.3f} ms; "
                   f"the helper's processor {took:.2f} ms each", flush=True)
 
         times("GET /captive")
-        job = house.begin("guest2", *words, "idle", authority, many, feed=True)
+        job = lab.begin("guest2", *words, "idle", authority, many, feed=True)
         assert job.stdout and job.stdin
         job.stdout.readline()
         times(f"GET /captive beside {many} connections that say nothing")
@@ -275,17 +276,17 @@ def lookup(args: argparse.Namespace) -> None:
 
 
 def sheet(args: argparse.Namespace) -> None:
-    with House(args.portal) as house:
-        house.open_house()
-        house.clerk("issue", plan="hour", batch="b500", count=500)
-        waits, before = [], spent(house.jobs["counter"].pid)
+    with Lab(args.portal) as lab:
+        lab.start_services()
+        lab.send_as_clerk("issue", plan="hour", batch="b500", count=500)
+        waits, before = [], processor_seconds(lab.jobs["counter"].pid)
         for _ in range(args.rounds):
             start = time.perf_counter()
-            status, body, _ = house.curl("clerk", f"https://{COUNTER}/sheet?batch=b500", *CLERK)
+            status, body, _ = lab.curl("clerk", f"https://{COUNTER}/sheet?batch=b500", *lab.as_clerk())
             waits.append((time.perf_counter() - start) * 1e3)
             assert (status, body.count("<svg")) == (200, 500), status
-        told("a sheet of 500 vouchers", waits)
-        took = (spent(house.jobs["counter"].pid) - before) / args.rounds
+        print_figures("a sheet of 500 vouchers", waits)
+        took = (processor_seconds(lab.jobs["counter"].pid) - before) / args.rounds
         print(f"the page's processor {took:.2f} s each", flush=True)
 
 

@@ -1,7 +1,7 @@
 """What a test needs of the machine, and the one reason why it is skipped where that is not there.
 
-`./test` takes no other reasons for a skip than 'not installed: ..' with Debian packages and the three below, and
-looks whether each holds.
+`./test` takes no other reasons for a skip than 'not installed: ..' with Debian packages and the four below, and looks
+whether each holds.
 """
 
 from __future__ import annotations
@@ -15,17 +15,40 @@ from collections.abc import Callable
 from typing import Any
 
 ROOT, LOOP_DEVICES, NAMESPACES = "it needs root", "it needs loop devices", "it needs network namespaces"
-COMMANDS = {"btrfs-progs": "mkfs.btrfs", "chromium": "chromium", "chromium-driver": "chromedriver", "iproute2": "ip",
-            "nftables": "nft", "openssl": "openssl", "procps": "sysctl", "rsync": "rsync",
-            "systemd": "systemd-analyze"}
-MODULES = {f"python3-{name}": name for name in (
-    "babel", "flask", "jsonschema", "pyroute2", "segno", "selenium", "waitress", "yaml")}
-FILES = {"fonts-dejavu-extra": "/usr/share/fonts/truetype/dejavu/DejaVuSansCondensed.ttf"}
+NFTABLES = "it needs network namespaces with nftables"
+COMMANDS = {"btrfs-progs": "mkfs.btrfs", "busybox": "busybox", "chromium": "chromium", "chromium-driver": "chromedriver",
+            "binutils": "readelf", "git": "git", "lintian": "lintian", "man-db": "man", "openssh-client": "ssh-keygen",
+            "curl": "curl", "dnsmasq-base": "dnsmasq", "dpkg": "dpkg-deb", "ethtool": "ethtool", "freeradius": "freeradius",
+            "freeradius-utils": "radclient", "iproute2": "ip", "iputils-ping": "ping", "mmdebstrap": "mmdebstrap",
+            "nftables": "nft", "nginx": "nginx", "openssl": "openssl", "poppler-utils": "pdftoppm", "procps": "sysctl", "prometheus": "promtool",
+            "rsync": "rsync", "systemd": "systemd-analyze", "systemd-container": "systemd-nspawn", "util-linux": "setpriv",
+            "zbar-tools": "zbarimg", "zint": "zint"}
+MODULES = {"python3-prometheus-client": "prometheus_client", "python3-markdown-it": "markdown_it", "python3-pil": "PIL", "weasyprint": "weasyprint", **{f"python3-{name}": name for name in (
+    "babel", "flask", "jsonschema", "nftables", "pyroute2", "pytest", "qrencode", "selenium", "waitress", "yaml")}}
+FILES = {"faketime": "/usr/lib/x86_64-linux-gnu/faketime/libfaketime.so.1",
+         "fonts-dejavu-extra": "/usr/share/fonts/truetype/dejavu/DejaVuSansCondensed.ttf",
+         "freeradius-python3": "/usr/lib/freeradius/rlm_python3.so"}
+PAGES = ("python3-flask", "python3-babel", "python3-waitress", "python3-qrencode", "python3-pil", "python3-markdown-it")
+# What tests of each kind need, by their markers; of the last two kinds are scripts.
+NEEDS: dict[str, tuple[str, ...]] = {
+    "quick": PAGES, "browser": (*PAGES, "chromium", "chromium-driver", "python3-selenium"),
+    "packets": (ROOT, "nginx", "nftables", "dnsmasq-base", "busybox", "curl", "ethtool", "iputils-ping", "openssl", "iproute2",
+                "util-linux", "procps", "fonts-dejavu-extra", "python3-nftables", "python3-pyroute2", "python3-pytest", *PAGES, NFTABLES),
+    "radius": (ROOT, "freeradius", "freeradius-utils", "freeradius-python3", "prometheus", "python3-prometheus-client",
+               "python3-pytest", *PAGES),
+    "package": ("lintian", "man-db", "git", "openssh-client", "binutils", "python3-babel", "python3-pytest", "dpkg"),
+    "container": (ROOT, "systemd-container", "mmdebstrap", "openssl", "dpkg", "python3-babel"),
+    "environments": (ROOT, "mmdebstrap", "util-linux")}
 NEW_NAMESPACE = ["unshare", "-n", "ip", "link", "add", "one", "type", "veth", "peer", "name", "two"]
+# A bridge, and the rules that the kit needs most of the kernel for.
+NEW_RULES = ["unshare", "-n", "sh", "-c", """ip link add lan0 type bridge && nft 'add table netdev t;
+add chain netdev t c { type filter hook egress device lan0 priority 0; }; add table inet t { flags owner; };
+add table inet u; add chain inet u c { type nat hook postrouting priority srcnat; }'"""]
 os.environ["PATH"] += ":/usr/sbin:/sbin"        # an ordinary user's path has neither, nor has root's after `su`
 
 
 def is_installed(package: str) -> bool:
+    """Whether what a Debian package brings is there."""
     if package in MODULES:
         return importlib.util.find_spec(MODULES[package]) is not None
     if package in FILES:
@@ -34,16 +57,16 @@ def is_installed(package: str) -> bool:
 
 
 def is_there(need: str) -> bool:
+    """Whether this user is root, has loop devices, or can make namespaces or rules."""
     if need == ROOT:
         return os.geteuid() == 0
     if need == LOOP_DEVICES:
         return os.path.exists("/dev/loop-control")
-    assert need == NAMESPACES, need
-    return subprocess.run(NEW_NAMESPACE, capture_output=True).returncode == 0
+    return subprocess.run({NAMESPACES: NEW_NAMESPACE, NFTABLES: NEW_RULES}[need], capture_output=True).returncode == 0
 
 
 def lacks(*needs: str) -> str:
-    """Why a test that needs these Debian packages, and these of the three above, cannot run here; else nothing.
+    """Why a test that needs these Debian packages, and these of the four above, cannot run here; else nothing.
 
     Root comes first: what else is missing is of no use to an ordinary user.
     """

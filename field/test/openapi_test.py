@@ -14,7 +14,7 @@ from typing import Any
 from desk_process import FIELD, PLANS, DeskProcess, Refused, Routes
 from needs import needs
 
-from refusals import BY_WORD, TABLE
+from portal_field.lib.refusals import BY_WORD, TABLE
 
 DESCRIPTION = FIELD.parent / "docs/openapi.yaml"        # of the repository; a kit that is installed alone has none
 ANYWHERE = {"no_route", "bad_method"}       # answers to what is no route of the table
@@ -37,7 +37,7 @@ class Described(unittest.TestCase):
 
     @classmethod
     def setUpClass(cls) -> None:
-        import yaml     # type: ignore[import]
+        import yaml
         cls.api = yaml.safe_load(DESCRIPTION.read_text())
         cls.seen = {}
 
@@ -51,7 +51,8 @@ class Described(unittest.TestCase):
 
     def operation(self, route: Routes) -> dict[str, Any]:
         paths = {path.replace("{id}", "{}").replace("{code}", "{}"): item for path, item in self.api["paths"].items()}
-        return paths[route.path][route.method.lower()]
+        operation: dict[str, Any] = paths[route.path][route.method.lower()]
+        return operation
 
     def check(self, schema: Any, value: Any) -> None:
         import jsonschema
@@ -94,16 +95,16 @@ class Described(unittest.TestCase):
     def test_the_table_of_refusals(self) -> None:
         described = self.api["components"]["schemas"]["Refusal"]["properties"]["error"]["enum"]
         self.assertEqual(described, [refusal.word for refusal in TABLE])
-        told = set(ANYWHERE)
+        result = set(ANYWHERE)
         for route in Routes:
             for status, node in self.operation(route)["responses"].items():
                 words = self.target(node).get("x-refusals", [])
                 self.assertEqual({BY_WORD[word].status for word in words}, {int(status)} if words else set(), route)
                 self.assertEqual(bool(words), status != "200")
-                told |= set(words)
+                result |= set(words)
             self.assertIn("bad_request", self.target(self.operation(route)["responses"]["400"])["x-refusals"])
             self.assertEqual("409" in self.operation(route)["responses"], route.acts, route)
-        self.assertEqual(told, set(described))
+        self.assertEqual(result, set(described))
 
     # A desk's answers
 
@@ -119,7 +120,7 @@ class Described(unittest.TestCase):
         asker = desk.desk if token == "desk" else desk.gateway
         asker = type(asker)(desk.port, asker.token if token else None)
         try:
-            self.fits(route, 200, asker.ask(route, *part, **more))
+            self.fits(route, 200, asker.request(route, *part, **more))
         except Refused as refused:
             self.fits(route, refused.status, json.dumps({"error": refused.word}).encode())
 
@@ -141,7 +142,7 @@ class Described(unittest.TestCase):
             self.ask(desk, "desk", Routes.ISSUE, body={"batch": batch, "plan": plan, "count": 2})
         for batch in ("b1", "b9", "B"):
             self.ask(desk, "desk", Routes.PRINT, batch)
-        lines = desk.desk.ask(Routes.PRINT, "b1").decode().splitlines()
+        lines = desk.desk.request(Routes.PRINT, "b1").decode().splitlines()
         self.one, self.two = (line.partition(",")[0] for line in lines[1:])
         for code in (self.one, self.one, self.two, UNKNOWN, "x"):
             self.ask(desk, "desk", Routes.SELL, body={"code": code})
@@ -149,7 +150,7 @@ class Described(unittest.TestCase):
                              ("x", None)):
             self.ask(desk, None, Routes.REDEEM, body={"code": code}, device=ONE, number=number)
         self.ask(desk, None, Routes.REDEEM, body={"code": self.two}, number="n1")
-        code = desk.sold("gigabyte", "b4")[0]
+        code = desk.sell_codes("gigabyte", "b4")[0]
         self.ask(desk, None, Routes.REDEEM, body={"code": code}, device=TWO)
 
     def look_and_close(self, desk: DeskProcess) -> None:

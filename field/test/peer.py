@@ -5,14 +5,15 @@
     peer.py stopped                 answers 503 stopped at 127.0.0.1:8080
     peer.py door ADDRESS [PORT]     takes TCP connections there, or at port 443
     peer.py knock ADDRESS [PORT]    connects there, or to port 443; status 1 where it cannot within a second
-    peer.py names HOST N            asks N questions of a name server within a second; prints the number of answers
+    peer.py names HOST N [NAME]     asks N questions for that name, or for outside.example, of a name server within a
+                                    second; prints the number of answers
     peer.py tcp HOST send|take N    moves N bytes of payload; prints seconds
     peer.py first HOST SECONDS      tries UDP echo every 5 ms; prints the time of the first answer
     peer.py stream HOST SECONDS     asks for the stream, sends nothing more; prints the time of each packet's arrival
     peer.py gap HOST SECONDS        asks for the stream; prints how many packets came, and the longest time without one
-    peer.py many HOST MAC N ADDRESS sends, until it is ended, a packet a second from each of N devices, by frames to MAC
-    peer.py crowd HOST MAC N FIRST  the same from addresses of their own, FIRST and those after it, to the echo's port;
-                                    says to who asks at which devices they are
+    peer.py many HOST MAC N FIRST   sends, until it is ended, a packet a second from each of N devices, by frames to MAC;
+                                    their addresses are FIRST and those after it
+    peer.py crowd HOST MAC N FIRST  the same to the echo's port; says to who asks at which devices they are
     peer.py slow HOST N SECONDS     N guests that send part of a head or body over TLS and wait; prints how many may
 """
 
@@ -32,6 +33,7 @@ RECEIVE_BUFFER = 33     # SO_RCVBUFFORCE of Linux, which Python does not name
 
 
 def talk(link: socket.socket) -> None:
+    """Serves one connection of the measurements: sends so many bytes, or takes them and confirms that."""
     with link:
         link.settimeout(20)
         verb, count = link.makefile("rb").readline().split()
@@ -46,6 +48,7 @@ def talk(link: socket.socket) -> None:
 
 
 def echo(udp: socket.socket) -> None:
+    """Sends each datagram back to where it came from."""
     while True:
         data, who = udp.recvfrom(2000)
         try:
@@ -107,6 +110,7 @@ def tcp(host: str, verb: str, count: str) -> None:
 
 
 def first(host: str, seconds: str) -> None:
+    """Prints when the first echo came; an error where none came in that time."""
     with socket.socket(socket.AF_INET, socket.SOCK_DGRAM) as s:
         s.settimeout(0.005)
         end = time.time() + float(seconds)
@@ -123,6 +127,7 @@ def first(host: str, seconds: str) -> None:
 
 
 def stream(host: str, seconds: str) -> None:
+    """Asks for a stream of datagrams, and prints when each of them came."""
     with listener() as s:
         s.sendto(b"%d" % (float(seconds) * 900), (host, 7002))
         end = time.time() + float(seconds)
@@ -134,8 +139,9 @@ def stream(host: str, seconds: str) -> None:
                 pass
 
 
-def names(host: str, count: str) -> None:
-    question = b"\0\7\1\0\0\1\0\0\0\0\0\0\4wifi\7example\0\0\1\0\1"
+def names(host: str, count: str, name: str = "outside.example") -> None:
+    labels = b"".join(bytes([len(label)]) + label.encode() for label in name.split("."))
+    question = b"\0\7\1\0\0\1\0\0\0\0\0\0" + labels + b"\0\0\1\0\1"
     with socket.socket(socket.AF_INET, socket.SOCK_DGRAM) as s:
         s.connect((host, 53))
         s.settimeout(0.5)
@@ -182,18 +188,6 @@ def packet(host: str, address: str, source: int = 9, port: int = 9) -> bytes:
     return head[:10] + struct.pack(">H", ~total & 0xffff) + head[12:] + struct.pack(">HHHH", source, port, 108, 0) + b"m" * 100
 
 
-def many(host: str, mac: str, count: str, address: str) -> None:
-    goal, data = bytes.fromhex(mac.replace(":", "")), packet(host, address)
-    with socket.socket(socket.AF_PACKET, socket.SOCK_RAW) as s:
-        s.bind(("eth0", 0))
-        due = time.monotonic()
-        while True:
-            for i in range(int(count)):
-                s.send(goal + b"\2" + i.to_bytes(5, "big") + b"\x08\0" + data)
-                due += 1 / int(count)
-                time.sleep(max(0.0, due - time.monotonic()))
-
-
 def address_of(first: str, number: int) -> str:
     return socket.inet_ntoa((int.from_bytes(socket.inet_aton(first)) + number).to_bytes(4))
 
@@ -211,11 +205,19 @@ def answer_who_has(count: int, first: str) -> None:
                 s.send(asker[:6] + mac + b"\x08\6\0\1\x08\0\6\4\0\2" + mac + target + asker)
 
 
+def many(host: str, mac: str, count: str, first: str) -> None:
+    send_in_turn(mac, [packet(host, address_of(first, i)) for i in range(int(count))])
+
+
 def crowd(host: str, mac: str, count: str, first: str) -> None:
     threading.Thread(target=answer_who_has, args=(int(count), first), daemon=True).start()
+    send_in_turn(mac, [packet(host, address_of(first, i), 20_000 + i, 7001) for i in range(int(count))])
+
+
+def send_in_turn(mac: str, packets: list[bytes]) -> None:
+    """One of each device a second."""
     goal = bytes.fromhex(mac.replace(":", ""))
-    frames = [goal + b"\2" + i.to_bytes(5) + b"\x08\0" + packet(host, address_of(first, i), 20_000 + i, 7001)
-              for i in range(int(count))]
+    frames = [goal + b"\2" + i.to_bytes(5) + b"\x08\0" + data for i, data in enumerate(packets)]
     with socket.socket(socket.AF_PACKET, socket.SOCK_RAW) as s:
         s.bind(("eth0", 0))
         due = time.monotonic()

@@ -46,7 +46,7 @@ INSERT INTO portal_grants VALUES (4, '4444-4444-444A', 2, 90000, 3600, 0);
 
 
 def make_database(path: pathlib.Path, version: int, *more: str) -> None:
-    """With the rows above, and then what these statements do."""
+    """Makes a database of an earlier version with the rows above, and then does what these statements do."""
     tables = "".join(ADDED[number] for number in VERSIONS[:version])
     with contextlib.closing(sqlite3.connect(path)) as base:
         base.executescript(f"{tables} INSERT INTO portal_head VALUES (1, {version}, 1000, 0, 0); {ROWS} {''.join(more)}")

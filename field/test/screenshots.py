@@ -18,13 +18,14 @@ import re
 from collections.abc import Callable
 from unittest import mock
 
-from browser import DARK, LIGHT, MAC, Browser, By, Venue
+from browser import DARK, LIGHT, MAC, Browser, By, Keys, Venue
 from desk_process import FIELD, Routes
 
-from clerk import Acts, Notice
-from desk_client import new_number
-from forms import Form
-from journal import Sums
+from portal_field.counter.clerk import Acts, Notice
+from portal_field.counter.journal import Sums
+from portal_field.counter.receipt_numbers import Till
+from portal_field.lib.desk_client import new_number
+from portal_field.lib.forms import Form
 
 from e2e_demo import opened_by
 
@@ -63,8 +64,8 @@ def guests(venue: Venue, camera: Camera, codes: list[str]) -> None:
     camera.take("guest-ar-online")
 
 
-def sold(venue: Venue, code: str) -> Acts:
-    acts: Acts = []
+def sell(venue: Venue, code: str) -> Acts:
+    acts = Acts()
     venue.counter.sell(Form(code=code), new_number(), acts)
     return acts
 
@@ -74,9 +75,9 @@ def clerks_work(venue: Venue) -> list[str]:
     counter = venue.counter
 
     def does(clerk: str, act: Callable[[Form, str, Acts], Notice], **fields: str) -> None:
-        acts: Acts = []
+        acts = Acts()
         act(Form(fields), new_number(), acts)
-        counter.journal.add(clerk, "10.88.0.2", acts)
+        counter.journal.add(clerk, "10.88.0.2", acts, Till(new_number(), "cash", "", lambda _: 1900))
 
     does("anna", counter.issue, batch="gigabyte-1", plan="gigabyte", count="16")
     codes = [row["code"] for row in counter.batch(Form(batch="gigabyte-1"))]
@@ -96,15 +97,18 @@ def a_month(first: str, last: str) -> list[Sums]:
 
 def counter(venue: Venue, camera: Camera, codes: list[str]) -> None:
     browser, clerks = camera.browser, venue.clerks
-    venue.desk.desk.tell(Routes.REDEEM, body={"code": codes[1]}, device=MAC)
+    venue.desk.desk.request_json(Routes.REDEEM, body={"code": codes[1]}, device=MAC)
     fresh = clerks_work(venue)
-    for name, page in (("counter", ""), ("voucher", f"voucher?code={fresh[0]}"), ("counter-refused", "voucher?code=2222"),
-                       ("sheet", "sheet?batch=gigabyte-1"), ("refund", f"refund?code={codes[2]}"), ("cash-up", "cash-up"),
-                       ("batches", "batches"), ("sell-batch", "sell-batch?batch=gigabyte-1")):
+    for name, page in (("counter", ""), ("vouchers", "vouchers"), ("sessions", "sessions"), ("money", "money"), ("venue", "venue"),
+                       ("voucher", f"voucher?{venue.look(fresh[0])}"), ("counter-refused", f"voucher?{venue.look('2222')}"),
+                       ("sheet", "sheet?batch=gigabyte-1"), ("refund", f"refund?{venue.look(codes[2])}"), ("cash-up", "cash-up"),
+                       ("batches", "batches"), ("sell-batch", "sell-batch?batch=gigabyte-1"),
+                       ("several", f"several?{venue.look(' '.join(fresh[5:9] + codes[1:2]))}"), ("refund-batch", "refund-batch?batch=gigabyte-1"),
+                       ("scanner", "scanner"), ("drawer", "shift"), ("receipts", "receipts"), ("receipt", "receipt?number=1")):
         venue.gateway_tells()
         browser.open(clerks + page)
         camera.take(name)
-    browser.open(f"{clerks}voucher?code={fresh[4]}")
+    browser.open(f"{clerks}voucher?{venue.look(fresh[4])}")
     browser.enter()
     camera.take("sold")
     browser.driver.refresh()
@@ -124,7 +128,10 @@ def take_the_demo(browser: Browser, folder: pathlib.Path) -> None:
         browser.driver.find_element(By.ID, "code").send_keys(re.findall(r"[0-9A-Z-]{19}", text)[0])
         browser.enter()
         browser.shape(*SCREEN)
-        browser.open(f"https://clerk:clerk@{counter}")
+        browser.open(f"https://{counter}")
+        for words in ("clerk", "clerk"):
+            browser.type(words + Keys.TAB)
+        browser.press("Log in")
         browser.shape(SCREEN[0], browser.ask("return document.documentElement.scrollHeight"))
         browser.picture(folder / "demo-counter.png")
     finally:
@@ -143,9 +150,9 @@ def main() -> None:
         return
     venue, browser = Venue(), Browser()
     try:
-        codes = venue.desk.issued("hour", "hour-1", 3)
+        codes = venue.desk.issue_codes("hour", "hour-1", 3)
         for code in codes:
-            venue.counter.journal.add("anna", "10.88.0.2", sold(venue, code))
+            venue.counter.journal.add("anna", "10.88.0.2", sell(venue, code))
         camera = Camera(browser, args.folder)
         with contextlib.redirect_stderr(io.StringIO()):
             guests(venue, camera, codes)

@@ -15,7 +15,7 @@ BUSY = 0.3 if PRESSURE.exists() else 0.9
 MOST_TIMES = 4      # a measurement is made anew while the machine is held up, and a wait lasts so many times as long
 
 
-def waited() -> float:
+def seconds_waited() -> float:
     """Seconds so far in which something that could run waited for a processor. Where the kernel keeps no such account:
     seconds of work, shared by the processors."""
     try:
@@ -29,14 +29,15 @@ class Span:
     """A time that began when this was made."""
 
     def __init__(self) -> None:
-        self.start, self.before = time.monotonic(), waited()
+        self.start, self.before = time.monotonic(), seconds_waited()
 
     def seconds(self) -> float:
+        """How long it lasts so far."""
         return time.monotonic() - self.start
 
     def held_up(self) -> float:
         """The part of it in which the machine was held up."""
-        return (waited() - self.before) / max(self.seconds(), 0.01)
+        return (seconds_waited() - self.before) / max(self.seconds(), 0.01)
 
     def allows(self, took: float, seconds: float) -> bool:
         """Whether a time that was taken meanwhile is at most so many seconds, or MOST_TIMES as many on a machine that is
@@ -50,7 +51,7 @@ class Span:
 
 
 def wait_until(true: Callable[[], object], seconds: float, pause: float = 0.05) -> bool:
-    """Whether it was so before that time was over."""
+    """Waits until it is so. Whether that came about before the time was over."""
     span = Span()
     while not true():
         if span.over(seconds):
@@ -59,9 +60,9 @@ def wait_until(true: Callable[[], object], seconds: float, pause: float = 0.05) 
     return True
 
 
-def measured(check: Callable[[str, bool, object], None], what: str, measure: Callable[[], tuple[bool, Any]]) -> None:
-    """A check of a time. One that fails while the machine is held up is made anew, MOST_TIMES times in all; the last
-    one counts, and each before it is told."""
+def assert_measured(what: str, measure: Callable[[], tuple[bool, Any]]) -> None:
+    """Asserts what looks at a time, and prints what it saw. A measurement that fails while the machine is held up is made
+    anew, MOST_TIMES times in all; the last one counts, and each before it is printed."""
     good, note = False, None
     for turn in range(MOST_TIMES):
         span = Span()
@@ -77,4 +78,5 @@ def measured(check: Callable[[str, bool, object], None], what: str, measure: Cal
             break
         print(f"note {what}: no [{note}], while for {busy:.0%} of the time something waited for a processor: once more",
               flush=True)
-    check(what, good, note)
+    assert good, f"{what}  [{note}]"
+    print(f"note {what}  [{note}]", flush=True)

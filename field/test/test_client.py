@@ -10,16 +10,17 @@ import unittest
 from typing import Any
 
 from desk_process import Desk, DeskProcess, NoAnswer, Refused, Routes
-from desk_client import REQUEST_NUMBER, new_number
-from forms import BadForm, Form
-from languages import Language
-from words import clock, use_zone
+
+from portal_field.lib.desk_client import REQUEST_NUMBER, new_number
+from portal_field.lib.forms import BadForm, Form
+from portal_field.lib.languages import Language
+from portal_field.lib.local_time import clock, use_zone
 
 HEAD = b"HTTP/1.1 %d X\r\nContent-Length: %d\r\nConnection: close\r\n\r\n%s"
 
 
 class Answers(unittest.TestCase):
-    def told(self, answer: bytes, wait: float = 0.0) -> Any:
+    def answer_to(self, answer: bytes, wait: float = 0.0) -> Any:
         """What the client makes of one answer."""
         door = socket.create_server(("127.0.0.1", 0))
         held = threading.Event()
@@ -33,7 +34,7 @@ class Answers(unittest.TestCase):
         worker = threading.Thread(target=work)
         worker.start()
         try:
-            return Desk(door.getsockname()[1], timeout=0.3 if wait else 10).tell(Routes.SESSIONS)
+            return Desk(door.getsockname()[1], timeout=0.3 if wait else 10).request_json(Routes.SESSIONS)
         except (Refused, NoAnswer) as fault:
             return fault
         finally:
@@ -41,18 +42,18 @@ class Answers(unittest.TestCase):
             worker.join()
 
     def test_answers_and_what_is_none(self) -> None:
-        self.assertEqual(self.told(HEAD % (200, 13, b'{"open":true}')), {"open": True})
-        refused = self.told(HEAD % (409, 21, b'{"error":"used_up"}  '))
+        self.assertEqual(self.answer_to(HEAD % (200, 13, b'{"open":true}')), {"open": True})
+        refused = self.answer_to(HEAD % (409, 21, b'{"error":"used_up"}  '))
         self.assertEqual((refused.status, refused.word, refused.in_doubt), (409, "used_up", False))
-        self.assertTrue(self.told(HEAD % (503, 19, b'{"error":"stopped"}')).in_doubt)
+        self.assertTrue(self.answer_to(HEAD % (503, 19, b'{"error":"stopped"}')).in_doubt)
         for answer in (b"", b"HTTP/1.1 200 OK\r\n", HEAD % (200, 99, b"{}"), HEAD % (200, 12, b'{"open":true'),
                        HEAD % (200, 2, b"[]"), HEAD % (502, 2, b"{}"), HEAD % (502, 1, b"x"), b"\0\0\0"):
-            self.assertIsInstance(self.told(answer), NoAnswer, answer)
+            self.assertIsInstance(self.answer_to(answer), NoAnswer, answer)
 
     def test_silence_has_an_end(self) -> None:
         start = time.monotonic()
         for answer in (b"", b"HTTP/1.1 200 OK\r\n"):
-            self.assertIsInstance(self.told(answer, wait=3), NoAnswer)
+            self.assertIsInstance(self.answer_to(answer, wait=3), NoAnswer)
         self.assertLess(time.monotonic() - start, 2.5)
         self.assertEqual(Desk().timeout, 5)     # what README.md says of the parts
 
@@ -60,12 +61,12 @@ class Answers(unittest.TestCase):
         with DeskProcess() as desk:
             for part in ("a/b", "..", "2222 2222 2222", "?x"):
                 with self.assertRaises(Refused) as caught:
-                    desk.desk.tell(Routes.VOUCHER, part)
+                    desk.desk.request_json(Routes.VOUCHER, part)
                 self.assertEqual(caught.exception.word, "bad_code", part)
 
     def test_line_ends_never_make_a_field(self) -> None:
         with self.assertRaises(ValueError):
-            Desk(1, timeout=0.1).tell(Routes.SELL, body={}, number="a\r\nPortal-Token: x")
+            Desk(1, timeout=0.1).request_json(Routes.SELL, body={}, number="a\r\nPortal-Token: x")
 
     def test_numbers_are_new_and_well_formed(self) -> None:
         numbers = {new_number() for _ in range(100)}
@@ -77,17 +78,17 @@ class Words(unittest.TestCase):
     def test_words(self) -> None:
         english, german = Language("en"), Language("de")
         span, volume, money = english.span, english.volume, english.money
-        for told, words in ((span(0), "0 seconds"), (span(1), "1 second"), (span(59), "59 seconds"),
-                            (span(60), "1 minute"), (span(3599), "59 minutes"), (span(3600), "1 hour"),
-                            (span(7500), "2 hours, 5 minutes"),
-                            (span(86400), "1 day"), (span(100000), "1 day, 3 hours"), (volume(0), "0 bytes"),
-                            (volume(1), "1 byte"), (volume(999), "999 bytes"), (volume(1000), "1.0 kB"),
-                            (volume(999_999), "999.9 kB"), (volume(10**9), "1.0 GB"), (volume(10**15), "1,000,000.0 GB"),
-                            (money(5), "0.05"), (money(300), "3.00"), (money(123456, "EUR"), "\u20ac1,234.56"),
-                            (money(500, "JPY"), "\u00a55"), (money(550, "JPY"), "\u00a55.50"),
-                            (german.span(100000), "1 Tag, 3 Stunden"), (german.volume(1_234_567), "1,2 MB"),
-                            (german.money(123456), "1.234,56"), (german.money(500, "EUR"), "5,00\u00a0\u20ac")):
-            self.assertEqual(told, words)
+        for answer_to, words in ((span(0), "0 seconds"), (span(1), "1 second"), (span(59), "59 seconds"),
+                                 (span(60), "1 minute"), (span(3599), "59 minutes"), (span(3600), "1 hour"),
+                                 (span(7500), "2 hours, 5 minutes"),
+                                 (span(86400), "1 day"), (span(100000), "1 day, 3 hours"), (volume(0), "0 bytes"),
+                                 (volume(1), "1 byte"), (volume(999), "999 bytes"), (volume(1000), "1.0 kB"),
+                                 (volume(999_999), "999.9 kB"), (volume(10**9), "1.0 GB"), (volume(10**15), "1,000,000.0 GB"),
+                                 (money(5), "0.05"), (money(300), "3.00"), (money(123456, "EUR"), "\u20ac1,234.56"),
+                                 (money(500, "JPY"), "\u00a55"), (money(550, "JPY"), "\u00a55.50"),
+                                 (german.span(100000), "1 Tag, 3 Stunden"), (german.volume(1_234_567), "1,2 MB"),
+                                 (german.money(123456), "1.234,56"), (german.money(500, "EUR"), "5,00\u00a0\u20ac")):
+            self.assertEqual(answer_to, words)
 
     def test_local_times_are_those_of_the_desks_zone(self) -> None:
         self.addCleanup(use_zone, os.environ.get("TZ", "UTC0"))

@@ -17,41 +17,41 @@ class Promises(unittest.TestCase):
         self.desk.load()
 
     def report(self, session: int, count: int) -> tuple[bool, int]:
-        told = self.desk.gateway.tell(Routes.REPORT, body={"session": session, "bytes": count})
-        return told["open"], told["used"]
+        result = self.desk.gateway.request_json(Routes.REPORT, body={"session": session, "bytes": count})
+        return result["open"], result["used"]
 
     def redeem(self, code: str, device: str = ONE, number: str | None = None) -> dict[str, object]:
-        return self.desk.desk.tell(Routes.REDEEM, body={"code": code}, device=device, number=number)
+        return self.desk.desk.request_json(Routes.REDEEM, body={"code": code}, device=device, number=number)
 
     def test_a_report_of_0_changes_no_used_and_tells_what_is_held(self) -> None:
-        code, = self.desk.sold("gigabyte", "b1")
+        code, = self.desk.sell_codes("gigabyte", "b1")
         self.redeem(code)
         self.assertEqual([self.report(1, count) for count in (0, 777, 0, 5, 0)],
                          [(True, 0), (True, 777), (True, 777), (True, 777), (True, 777)])
-        left = self.desk.desk.tell(Routes.CAPTIVE, device=ONE)["bytes-remaining"]
+        left = self.desk.desk.request_json(Routes.CAPTIVE, device=ONE)["bytes-remaining"]
         self.assertEqual(left, 10**9 - 777)
 
     def test_also_for_closed_sessions(self) -> None:
-        self.redeem(self.desk.sold("gigabyte", "b1")[0])
+        self.redeem(self.desk.sell_codes("gigabyte", "b1")[0])
         self.report(1, 777)
-        self.desk.desk.tell(Routes.CLOSE, body={"session": 1})
+        self.desk.desk.request_json(Routes.CLOSE, body={"session": 1})
         self.assertEqual([self.report(1, count) for count in (0, 888, 0)], [(False, 777), (False, 888), (False, 888)])
 
     def test_a_numbered_request_acts_once_across_a_kill(self) -> None:
-        one, two = self.desk.sold("gigabyte", "b1", 2)
-        told = self.redeem(one, number="n-1")
+        one, two = self.desk.sell_codes("gigabyte", "b1", 2)
+        result = self.redeem(one, number="n-1")
         self.desk.job.kill()
         self.desk.job.wait()
         with DeskProcess(self.desk.book) as again:
             asker = again.desk
-            self.assertEqual(asker.tell(Routes.REDEEM, body={"code": one}, device=ONE, number="n-1"), told)
+            self.assertEqual(asker.request_json(Routes.REDEEM, body={"code": one}, device=ONE, number="n-1"), result)
             self.assertEqual(again.voucher(one)["redeemed"], 1)
             with self.assertRaises(Refused) as caught:
-                asker.tell(Routes.REDEEM, body={"code": two}, device=ONE, number="n-1")
+                asker.request_json(Routes.REDEEM, body={"code": two}, device=ONE, number="n-1")
             self.assertEqual((caught.exception.word, again.voucher(two)["redeemed"]), ("id_reused", 0))
 
     def test_the_request_of_a_peer_that_gave_up_is_carried_out(self) -> None:
-        code, = self.desk.issued("hour", "b1")
+        code, = self.desk.issue_codes("hour", "b1")
         body = b'{"code": "%s"}' % code.encode()
         head = f"POST /desk/sales HTTP/1.0\r\nPortal-Token: desk-token\r\nContent-Length: {len(body)}\r\n\r\n"
         with socket.create_connection(("127.0.0.1", self.desk.port)) as link:
@@ -62,15 +62,15 @@ class Promises(unittest.TestCase):
         self.desk.gateway.timeout = 0.3
         with socket.create_connection(("127.0.0.1", self.desk.port)):
             with self.assertRaises(NoAnswer):
-                self.desk.gateway.tell(Routes.SESSIONS)
+                self.desk.gateway.request_json(Routes.SESSIONS)
         self.desk.gateway.timeout = 5
-        self.assertEqual(self.desk.gateway.tell(Routes.SESSIONS), {"sessions": []})
+        self.assertEqual(self.desk.gateway.request_json(Routes.SESSIONS), {"sessions": []})
 
-    def test_open_sessions_are_told_by_number_with_what_is_left(self) -> None:
-        hour, data = self.desk.sold("hour", "b1")[0], self.desk.sold("gigabyte", "b2")[0]
+    def test_open_sessions_are_listed_by_number_with_what_is_left(self) -> None:
+        hour, data = self.desk.sell_codes("hour", "b1")[0], self.desk.sell_codes("gigabyte", "b2")[0]
         self.redeem(hour, TWO)
         self.redeem(data, ONE)
-        rows = self.desk.gateway.tell(Routes.SESSIONS)["sessions"]
+        rows = self.desk.gateway.request_json(Routes.SESSIONS)["sessions"]
         self.assertEqual([(row["session"], row["device"]) for row in rows], [(1, TWO), (2, ONE)])
         self.assertEqual(sorted(rows[0]), ["device", "seconds-remaining", "session"])
         self.assertEqual(rows[1]["bytes-remaining"], 10**9)

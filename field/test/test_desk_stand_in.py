@@ -1,9 +1,9 @@
-"""The stand-in's answers to the desk's worked cases, moment by moment."""
+"""The stand-in's answers to the desk's test vectors, moment by moment."""
 
 import json
 import unittest
 
-from desk_model import checked
+from desk_model import with_check_character
 from desk_stand_in import StandIn
 
 SETTINGS = {"zone": "UTC0", "portal_url": "https://wifi.example/portal", "desk_token": "desk-token",
@@ -21,8 +21,8 @@ class Worked(unittest.TestCase):
 
     def raw(self, now: int, method: str, target: str, body: str = "", *fields: str) -> tuple[str, str]:
         lines = [f"{method} {target} HTTP/1.1", "Host: api", f"Content-Length: {len(body)}", *fields]
-        told = self.desk.respond(now, ("\r\n".join(lines) + "\r\n\r\n" + body).encode()).decode()
-        head, _, text = told.partition("\r\n\r\n")
+        result = self.desk.respond(now, ("\r\n".join(lines) + "\r\n\r\n" + body).encode()).decode()
+        head, _, text = result.partition("\r\n\r\n")
         return head, text
 
     def ask(self, now: int, method: str, target: str, body: object = "", device: str = GUEST,
@@ -47,16 +47,16 @@ class Worked(unittest.TestCase):
 
     def test_unknown_device(self) -> None:
         fields = (b"GET /captive HTTP/1.1", b"Host: api", b"Portal-Device: " + GUEST.encode(), b"", b"")
-        told = self.desk.respond(1583125693, b"\r\n".join(fields))
-        self.assertEqual(len(told), 224)
-        self.assertTrue(told.startswith(b"HTTP/1.1 200 OK\r\nDate: Mon, 02 Mar 2020 05:08:13 GMT\r\nContent-Type: "))
-        self.assertTrue(told.endswith(b'{"captive":true,"user-portal-url":"https://wifi.example/portal"}'))
+        result = self.desk.respond(1583125693, b"\r\n".join(fields))
+        self.assertEqual(len(result), 224)
+        self.assertTrue(result.startswith(b"HTTP/1.1 200 OK\r\nDate: Mon, 02 Mar 2020 05:08:13 GMT\r\nContent-Type: "))
+        self.assertTrue(result.endswith(b'{"captive":true,"user-portal-url":"https://wifi.example/portal"}'))
 
     def test_codes(self) -> None:
         seed = [1, 19, 3, 3, 27, 8, 2, 23, 17, 15, 3]
         for body, code in (([0] * 11, "2222-2222-2222"), ([0] * 10 + [1], "2222-2222-223N"), (seed, "3N55-WA4S-KH53"),
                            (seed + [26, 16, 22, 2], "3N55-WA4S-KH5V-JR49"), ([0] * 14 + [1], "2222-2222-2222-223H")):
-            self.assertEqual(checked(body), code)
+            self.assertEqual(with_check_character(body), code)
         for code, answer in ((" 2222 2222 223n", "unknown_code"), ("2222-2222-22N3", "bad_code"),
                              ("222222222", "bad_code"), ("3n55wa4skh53", "unknown_code"),
                              ("2222-2222-2222-22H3", "bad_code")):
@@ -67,10 +67,10 @@ class Worked(unittest.TestCase):
         self.assertEqual(len(code), 19)
         self.assertEqual(self.redeem(1000, code), (200, '{"extended":false,"session":1,"uses_left":0}'))
         url = '"user-portal-url":"https://wifi.example/portal"}'
-        for now, told in ((4599, '{"can-extend-session":true,"captive":false,"seconds-remaining":1,' + url),
-                          (900, '{"can-extend-session":true,"captive":false,"seconds-remaining":3600,' + url),
-                          (4600, '{"captive":true,' + url)):
-            self.assertEqual(self.ask(now, "GET", "/captive"), (200, told))
+        for now, result in ((4599, '{"can-extend-session":true,"captive":false,"seconds-remaining":1,' + url),
+                            (900, '{"can-extend-session":true,"captive":false,"seconds-remaining":3600,' + url),
+                            (4600, '{"captive":true,' + url)):
+            self.assertEqual(self.ask(now, "GET", "/captive"), (200, result))
         self.assertEqual(self.redeem(2000, code), (409, '{"error":"used_up"}'))
         self.assertEqual(self.ask(2000, "GET", "/gateway/sessions")[1],
                          '{"sessions":[{"device":"%s","seconds-remaining":2600,"session":1}]}' % GUEST)
@@ -80,12 +80,12 @@ class Worked(unittest.TestCase):
                          '"sold":1000,"uses":1}' % code)
 
     def test_extended_before_end_and_new_at_end(self) -> None:
-        for last, told in ((4599, '{"extended":true,"session":1,"uses_left":0}'),
-                           (4600, '{"extended":false,"session":2,"uses_left":0}')):
+        for last, result in ((4599, '{"extended":true,"session":1,"uses_left":0}'),
+                             (4600, '{"extended":false,"session":2,"uses_left":0}')):
             self.setUp()
             first, second = self.bought(1000, "hour", "b1", 2)
             self.redeem(1000, first)
-            self.assertEqual(self.redeem(last, second), (200, told))
+            self.assertEqual(self.redeem(last, second), (200, result))
             self.assertIn('"seconds-remaining":3600,', self.ask(4600, "GET", "/captive")[1])
 
     def test_bytes_counted_and_a_report_of_nothing(self) -> None:
@@ -93,8 +93,8 @@ class Worked(unittest.TestCase):
         self.redeem(1000, code, OTHER)
         for count, is_open, used in ((0, True, 0), (2**30 - 1, True, 2**30 - 1), (0, True, 2**30 - 1),
                                      (2**30, False, 2**30), (5, False, 2**30)):
-            told = self.ask(1000, "POST", "/gateway/reports", {"session": 1, "bytes": count})[1]
-            self.assertEqual(json.loads(told), {"open": is_open, "session": 1, "used": used})
+            result = self.ask(1000, "POST", "/gateway/reports", {"session": 1, "bytes": count})[1]
+            self.assertEqual(json.loads(result), {"open": is_open, "session": 1, "used": used})
 
     def test_refusals_of_an_open_session(self) -> None:
         hour, gig, gig2 = *self.bought(9, "hour", "h"), *self.bought(9, "gig", "g", 2)
@@ -106,8 +106,8 @@ class Worked(unittest.TestCase):
     def test_refund_and_takings(self) -> None:
         code, = self.bought(1000, "gig", "b1")
         self.redeem(1000, code)
-        for told in (f'{{"amount":333,"code":"{code}"}}', '{"error":"refunded"}'):
-            self.assertEqual(self.ask(86400, "POST", "/desk/refunds", {"code": code})[1], told)
+        for result in (f'{{"amount":333,"code":"{code}"}}', '{"error":"refunded"}'):
+            self.assertEqual(self.ask(86400, "POST", "/desk/refunds", {"code": code})[1], result)
         self.assertEqual(self.redeem(86400, code)[1], '{"error":"refunded"}')
         self.assertEqual(self.ask(9, "GET", "/desk/takings?from=1970-01-02&to=1970-01-02")[1], """\
 day            sold             sales refunded           refunds
@@ -128,9 +128,9 @@ net -3.33
     def test_close_session(self) -> None:
         code, = self.bought(1000, "hour", "b1")
         self.redeem(1000, code)
-        for session, told in ((1, '{"session":1}'), (1, '{"error":"closed_already"}'),
-                              (9, '{"error":"unknown_session"}')):
-            self.assertEqual(self.ask(2000, "POST", "/desk/closes", {"session": session})[1], told)
+        for session, result in ((1, '{"session":1}'), (1, '{"error":"closed_already"}'),
+                                (9, '{"error":"unknown_session"}')):
+            self.assertEqual(self.ask(2000, "POST", "/desk/closes", {"session": session})[1], result)
         self.assertEqual(self.ask(2000, "POST", "/gateway/reports", {"session": 1, "bytes": 7})[1],
                          '{"open":false,"session":1,"used":7}')
 

@@ -11,8 +11,9 @@ from collections.abc import Callable, Iterable
 from typing import Any, cast
 
 from desk_process import Desk, NoAnswer, Refused, Routes
-from passing import Passing, RulesAreGone
-from portal_gateway import Agent
+
+from portal_field.gateway.agent import Agent
+from portal_field.gateway.passing import NotReady, Passing, RulesAreGone
 
 A, B = "02:00:00:00:00:0a", "02:00:00:00:00:0b"
 
@@ -28,7 +29,7 @@ class MemoryDesk:
         self.more: list[str] = []       # what else a request carried
         self.work: Callable[[], None] = lambda: None    # what a report costs
 
-    def tell(self, route: Routes, body: dict[str, int] | None = None, **more: str) -> dict[str, Any]:
+    def request_json(self, route: Routes, body: dict[str, int] | None = None, **more: str) -> dict[str, Any]:
         self.more += more
         if route is Routes.SESSIONS:
             return self.sessions()
@@ -55,9 +56,9 @@ class MemoryDesk:
 
 class MemoryGate:
     def __init__(self, clock: Callable[[], float]) -> None:
-        self.clock, self.wound = clock, [0.0]       # when the switch was wound
+        self.clock, self.renewed_at = clock, [0.0]       # when the switch was renewed_at
         self.now: dict[str, Passing] = {}
-        self.is_open = self.is_gone = self.is_barred = self.loads = False
+        self.is_open = self.is_gone = self.is_barred = self.loads = self.is_empty = False
 
     def guard(self) -> None:
         pass
@@ -67,9 +68,11 @@ class MemoryGate:
             raise RulesAreGone("no file")
         self.is_gone = False
 
-    def stands(self) -> None:
+    def check_rules(self) -> None:
         if self.is_gone:
             raise RulesAreGone("gone")
+        if self.is_empty:
+            raise NotReady("`bound` is empty")
 
     def bar(self) -> None:
         self.is_barred = True
@@ -78,13 +81,13 @@ class MemoryGate:
         self.is_barred = False
 
     def passing(self) -> dict[str, Passing]:
-        return {mac: Passing(p.session, p.base, p.counted) for mac, p in self.now.items()}
+        return {mac: Passing(p.session, p.base, p.count) for mac, p in self.now.items()}
 
     def change(self, gone: Iterable[str], come: dict[str, Passing]) -> None:
         for mac in gone:
             del self.now[mac]
-        self.now.update({mac: Passing(p.session, p.base, p.counted) for mac, p in come.items()})
-        self.wound.append(self.clock())
+        self.now.update({mac: Passing(p.session, p.base, p.count) for mac, p in come.items()})
+        self.renewed_at.append(self.clock())
         self.is_open = True
 
     def shut(self) -> None:
@@ -103,28 +106,28 @@ class Polls(unittest.TestCase):
         self.time += seconds
         return self.agent.try_poll()
 
-    def opened(self, session: int = 1, mac: str = A, counted: int = 0) -> None:
+    def open_session(self, session: int = 1, mac: str = A, counted: int = 0) -> None:
         self.desk.open[session] = mac
         self.poll()
-        self.gate.now[mac].counted = counted
+        self.gate.now[mac].count = counted
 
     def test_who_has_a_session_passes_and_nobody_else(self) -> None:
-        self.opened()
+        self.open_session()
         self.assertEqual(set(self.gate.now), {A})
         self.desk.open = {2: B}
         self.poll()
         self.assertEqual(set(self.gate.now), {B})
 
     def test_the_last_count_of_an_ended_session_is_reported(self) -> None:
-        self.opened(counted=777)
+        self.open_session(counted=777)
         self.desk.open = {}
         self.poll()
         self.assertEqual(self.desk.used[1], 777)
 
-    def test_a_last_count_that_the_desk_did_not_hear_is_told_later(self) -> None:
-        self.opened(1, A, 777)
-        self.opened(2, B, 888)
-        self.gate.now[A].counted = 777
+    def test_a_last_count_that_the_desk_did_not_hear_is_reported_later(self) -> None:
+        self.open_session(1, A, 777)
+        self.open_session(2, B, 888)
+        self.gate.now[A].count = 777
         self.desk.open, self.desk.deaf = {}, True
         self.assertFalse(self.poll())
         self.assertEqual(self.gate.now, {})
@@ -133,44 +136,44 @@ class Polls(unittest.TestCase):
         self.assertEqual(self.desk.used, {1: 777, 2: 888})
 
     def test_want_of_memory_at_the_desk_does_not_shut_at_once(self) -> None:
-        self.opened()
+        self.open_session()
         self.desk.fault = Refused(503, "no_memory")
         self.assertFalse(self.poll())
         self.assertTrue(self.gate.is_open)
 
     def test_a_new_session_of_a_device_begins_at_nought(self) -> None:
-        self.opened(counted=777)
+        self.open_session(counted=777)
         self.desk.open = {2: A}
         self.poll()
         self.assertEqual((self.desk.used[1], self.desk.used[2], self.gate.now[A]), (777, 0, Passing(2, 0, 0)))
 
     def test_bytes_that_end_a_session_shut_it_in_the_same_poll(self) -> None:
         self.desk.allowance = {1: 1000}
-        self.opened(counted=1000)
+        self.open_session(counted=1000)
         self.poll()
         self.assertEqual(self.gate.now, {})
 
     def test_a_gateway_that_lost_its_counts_goes_on_from_what_the_desk_holds(self) -> None:
         self.desk.used = {1: 5000}
-        self.opened()
+        self.open_session()
         self.assertEqual(self.gate.now[A], Passing(1, 5000, 0))
-        self.gate.now[A].counted = 10
+        self.gate.now[A].count = 10
         self.poll(601)
         self.assertEqual(self.desk.used[1], 5010)
 
     def test_an_agent_started_again_counts_nothing_twice(self) -> None:
-        self.opened(counted=300)
+        self.open_session(counted=300)
         self.agent = self.fresh()
         self.poll()
-        self.gate.now[A].counted = 400
+        self.gate.now[A].count = 400
         self.poll(601)
         self.assertEqual(self.desk.used[1], 400)
 
     def test_reports_are_few_while_much_is_left(self) -> None:
         self.desk.allowance = {1: 10**9}
-        self.opened()
+        self.open_session()
         for i in range(1, 21):
-            self.gate.now[A].counted = i * 1000
+            self.gate.now[A].count = i * 1000
             self.poll()
         self.assertEqual(len(self.desk.asked), 1)
         self.poll(11)
@@ -180,8 +183,8 @@ class Polls(unittest.TestCase):
         self.desk.allowance = {1: 8000}
         for counted, reports in ((999, 1), (1000, 2), (1800, 2), (1875, 3)):
             if not self.gate.now:
-                self.opened()
-            self.gate.now[A].counted = counted
+                self.open_session()
+            self.gate.now[A].count = counted
             self.poll()
             self.assertEqual(len(self.desk.asked), reports, counted)
 
@@ -194,14 +197,14 @@ class Polls(unittest.TestCase):
 
     def busy(self, seconds: float) -> list[int]:
         """Polls a second apart; how many reports each made."""
-        end, made = self.time + seconds, []
+        end, reports = self.time + seconds, []
         while self.time < end:
             for passing in self.gate.now.values():
-                passing.counted += 1000
+                passing.count += 1000
             before = len(self.desk.asked)
             self.assertTrue(self.poll())
-            made.append(len(self.desk.asked) - before)
-        return made
+            reports.append(len(self.desk.asked) - before)
+        return reports
 
     def test_a_poll_that_takes_long_winds_the_switch_meanwhile(self) -> None:
         def slow() -> None:
@@ -209,24 +212,24 @@ class Polls(unittest.TestCase):
 
         self.crowd(40, 10**5)
         self.desk.work = slow
-        self.gate.wound = [self.time]
+        self.gate.renewed_at = [self.time]
         self.assertGreater(max(self.busy(60)), 3)
-        gaps = [after - before for before, after in zip(self.gate.wound, self.gate.wound[1:])]
+        gaps = [after - before for before, after in zip(self.gate.renewed_at, self.gate.renewed_at[1:])]
         self.assertLessEqual(max(gaps), 2.0)
 
     def test_a_poll_makes_a_bounded_number_of_reports(self) -> None:
         self.crowd(500, 10**6)
         self.time += 60
-        self.assertEqual((self.busy(1), self.agent.more), ([50], True), "the next comes at once")
-        made = self.busy(60)
-        self.assertEqual(max(made), 50)
+        self.assertEqual((self.busy(1), self.agent.has_postponed), ([50], True), "the next comes at once")
+        reports = self.busy(60)
+        self.assertEqual(max(reports), 50)
         self.assertEqual({session for session, _ in self.desk.asked[-1500:]}, set(range(1, 501)), "each in its turn")
 
     def test_who_needs_it_most_is_reported_first(self) -> None:
         self.crowd(120, 10**6)
         self.busy(29)
         last = self.gate.now[self.desk.open[120]]
-        last.counted = 900_000
+        last.count = 900_000
         self.time, before = self.time + 5, len(self.desk.asked)
         self.poll()
         self.assertEqual(self.desk.asked[before], (120, 900_000))
@@ -234,15 +237,15 @@ class Polls(unittest.TestCase):
     def test_sessions_without_a_byte_limit_are_reported_each_ten_minutes_spread_over_time(self) -> None:
         self.crowd(200)
         for agent in ("the first", "one started again"):
-            made = self.busy(1200)
-            self.assertLessEqual(max(made), 3, agent)
-            self.assertTrue(380 <= sum(made) <= 420, (agent, sum(made)))
+            reports = self.busy(1200)
+            self.assertLessEqual(max(reports), 3, agent)
+            self.assertTrue(380 <= sum(reports) <= 420, (agent, sum(reports)))
             for i in range(0, 1200, 60):
-                self.assertTrue(10 <= sum(made[i:i + 60]) <= 30, (agent, i, sum(made[i:i + 60])))
+                self.assertTrue(10 <= sum(reports[i:i + 60]) <= 30, (agent, i, sum(reports[i:i + 60])))
             self.agent = self.fresh()
 
     def test_a_session_without_a_byte_limit_is_reported_at_its_end(self) -> None:
-        self.opened(counted=777)
+        self.open_session(counted=777)
         self.poll()
         self.assertEqual(self.desk.used[1], 0)
         self.desk.open = {}
@@ -251,18 +254,18 @@ class Polls(unittest.TestCase):
 
     def test_reports_carry_no_number(self) -> None:
         """The desk keeps the greatest report, and numbers for good."""
-        self.opened(counted=777)
+        self.open_session(counted=777)
         self.poll(601)
         self.assertEqual((self.desk.used[1], self.desk.more), (777, []))
 
     def test_a_number_given_anew_to_another_device_is_not_reported_to(self) -> None:
-        self.opened(counted=900)
+        self.open_session(counted=900)
         self.desk.open, self.desk.used = {1: B}, {}
         self.poll()
         self.assertEqual(self.desk.used.get(1, 0), 0)
 
     def test_a_desk_that_stopped_shuts_the_gate_and_silence_leaves_it_to_the_switch(self) -> None:
-        self.opened()
+        self.open_session()
         for fault, is_open in ((NoAnswer("x"), True), (Refused(503, "stopped"), False)):
             self.desk.fault = fault
             self.assertFalse(self.poll())
@@ -270,24 +273,24 @@ class Polls(unittest.TestCase):
         self.desk.fault = None
         self.assertTrue(self.poll() and self.gate.is_open)
 
-    def test_whether_guests_pass_is_told_for_the_metrics(self) -> None:
+    def test_whether_guests_pass_is_written_for_the_metrics(self) -> None:
         with tempfile.TemporaryDirectory() as folder:
             self.agent, path = self.fresh(str(pathlib.Path(folder) / "sessions.json")), pathlib.Path(folder) / "gate.json"
-            self.opened()
-            told = []
+            self.open_session()
+            states = []
             for fault, gone in ((None, False), (NoAnswer("x"), False), (Refused(503, "no_memory"), False),
                                 (Refused(503, "stopped"), False), (None, False), (KeyError("x"), False), (None, False),
                                 (None, True)):
                 self.desk.fault, self.gate.is_gone = fault, gone
                 self.poll()
-                told.append(json.loads(path.read_text())["open"])
-            # silence leaves it as it was: it shuts by itself, and so does what is told, once its grace is over
-            self.assertEqual(told, [True, True, True, False, True, False, True, False])
+                states.append(json.loads(path.read_text())["open"])
+            # silence leaves it as it was: it shuts by itself, and so does what the metrics say, once its grace is over
+            self.assertEqual(states, [True, True, True, False, True, False, True, False])
             self.assertAlmostEqual(json.loads(path.read_text())["at"], time.time(), delta=5)
             self.assertEqual(path.stat().st_mode & 0o777, 0o640)
 
     def test_without_its_rules_nothing_is_forwarded_until_they_are_back(self) -> None:
-        self.opened()
+        self.open_session()
         self.desk.fault, self.gate.is_gone = NoAnswer("x"), True
         self.assertFalse(self.poll())
         self.assertTrue(self.gate.is_barred)
@@ -298,8 +301,17 @@ class Polls(unittest.TestCase):
         self.assertTrue(self.poll())
         self.assertFalse(self.gate.is_barred)
 
+    def test_before_devices_and_addresses_are_in_the_rules_nothing_is_opened_nor_barred(self) -> None:
+        self.open_session()
+        self.gate.is_empty, self.gate.is_open, renewed_at = True, False, list(self.gate.renewed_at)
+        self.assertFalse(self.poll())
+        self.assertEqual((self.gate.is_open, self.gate.is_barred, self.gate.renewed_at), (False, False, renewed_at))
+        self.gate.is_empty = False
+        self.assertTrue(self.poll())
+        self.assertTrue(self.gate.is_open)
+
     def test_rules_that_somebody_flushed_are_loaded_again(self) -> None:
-        self.opened()
+        self.open_session()
         self.gate.is_gone = self.gate.loads = True
         self.assertFalse(self.poll())
         self.assertTrue(self.gate.is_barred, "not before a good poll")
@@ -310,13 +322,14 @@ class Polls(unittest.TestCase):
         with tempfile.TemporaryDirectory() as folder:
             path = pathlib.Path(folder) / "sessions.json"
             self.agent = self.fresh(str(path))
-            self.opened(counted=55)
+            self.open_session(counted=55)
             self.poll()
-            self.assertEqual(self.listed(path), {"device": A, "session": 1, "used": 55, "reported": 0})
+            self.assertEqual(self.session_in_list(path), {"device": A, "session": 1, "used": 55, "reported": 0})
             self.assertEqual(path.stat().st_mode & 0o777, 0o640)
 
-    def listed(self, path: pathlib.Path, age: int | None = 1) -> dict[str, Any]:
+    def session_in_list(self, path: pathlib.Path, age: int | None = 1) -> dict[str, Any]:
         """The one session of the list, whose count at the desk is so many seconds old."""
+        row: dict[str, Any]
         row, = json.loads(path.read_text())["sessions"]
         at = row.pop("reported-at", None)
         self.assertIn(at if at is None else round(time.time()) - at, (None,) if age is None else range(age - 1, age + 2))
@@ -326,15 +339,15 @@ class Polls(unittest.TestCase):
         with tempfile.TemporaryDirectory() as folder:
             path = pathlib.Path(folder) / "sessions.json"
             self.agent = self.fresh(str(path))
-            self.opened(counted=55)
+            self.open_session(counted=55)
             self.poll(100)
-            self.assertEqual(self.listed(path, 100)["reported"], 0)
-            self.gate.now[A].counted = 77
+            self.assertEqual(self.session_in_list(path, 100)["reported"], 0)
+            self.gate.now[A].count = 77
             self.poll(601)
-            self.assertEqual(self.listed(path, 0)["reported"], 77)
-            self.agent = self.fresh(str(path))      # which does not know when the desk was told
+            self.assertEqual(self.session_in_list(path, 0)["reported"], 77)
+            self.agent = self.fresh(str(path))      # which does not know when it was reported
             self.poll()
-            self.assertEqual(self.listed(path, None), {"device": A, "session": 1, "used": 77})
+            self.assertEqual(self.session_in_list(path, None), {"device": A, "session": 1, "used": 77})
 
 
 if __name__ == "__main__":

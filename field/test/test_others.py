@@ -9,8 +9,9 @@ import unittest
 from typing import Any
 
 from fake_machine import FakeMachine
-from findings import CannotTell, Finding, State
-from others import others
+
+from portal_field.doctor.findings import CannotTell, Finding, State
+from portal_field.doctor.others import others
 
 Row = dict[str, Any]
 
@@ -29,69 +30,69 @@ class Others(unittest.TestCase):
     def setUp(self) -> None:
         folder = tempfile.TemporaryDirectory()
         self.addCleanup(folder.cleanup)
-        self.machine = FakeMachine(pathlib.Path(folder.name), installed=False)
+        self.machine = FakeMachine(pathlib.Path(folder.name), is_installed=False)
         self.rules()
 
     def rules(self, *rows: Row) -> None:
         self.machine.says["nft -j list ruleset"] = json.dumps({"nftables": [{"metainfo": {}}, *rows]})
 
-    def found(self) -> list[Finding]:
+    def findings(self) -> list[Finding]:
         return list(others(self.machine))
 
-    def refused(self, *words: str) -> None:
-        bad = [finding for finding in self.found() if finding.state is State.WRONG]
+    def assert_refused(self, *words: str) -> None:
+        bad = [finding for finding in self.findings() if finding.state is State.WRONG]
         self.assertEqual(len(bad), 1, bad)
         for word in words:
             self.assertIn(word, bad[0].what + bad[0].do)
 
-    def taken(self) -> None:
-        self.assertNotIn(State.WRONG, [finding.state for finding in self.found()])
+    def assert_taken(self) -> None:
+        self.assertNotIn(State.WRONG, [finding.state for finding in self.findings()])
 
     def test_a_machine_of_its_own(self) -> None:
         self.machine.put("/etc/dnsmasq.conf", "# all of it\n#interface=\n")
         self.machine.put("/etc/dnsmasq.d/README", "# nothing\n")
         self.machine.put("/etc/dnsmasq.d/portal.conf", "interface=lan0\nbind-dynamic\n")
         self.machine.put("/etc/dnsmasq.d/shop.conf.dpkg-old", "bind-interfaces\n")
-        self.assertEqual([finding.state for finding in self.found()], [State.GOOD] * 2)
+        self.assertEqual([finding.state for finding in self.findings()], [State.GOOD] * 2)
 
     def test_lines_of_dnsmasq_that_do_not_go_with_the_venues(self) -> None:
         for line, word in (("bind-interfaces", "bind-dynamic"), ("dhcp-leasefile=/tmp/x", "once"), ("port=0", "no names"),
                            ("dhcp-lease-max=5", "once"), ("no-dhcp-interface=eth9,lan0", "lan0"),
                            ("except-interface=lan0", "lan0"), ("dhcp-range=10.77.1.5,10.77.1.9,1h", "guests' network")):
             self.machine.put("/etc/dnsmasq.d/shop.conf", f"interface=shop0\n  {line}  # as it was\n")
-            self.refused("/etc/dnsmasq.d/shop.conf", line, word)
+            self.assert_refused("/etc/dnsmasq.d/shop.conf", line, word)
 
     def test_a_dnsmasq_for_every_network(self) -> None:
         self.machine.put("/etc/dnsmasq.conf", "server=192.0.2.1\n")
-        self.refused("/etc/dnsmasq.conf", "interface=DEVICE")
+        self.assert_refused("/etc/dnsmasq.conf", "interface=DEVICE")
 
     def test_a_dnsmasq_for_other_networks_goes_on(self) -> None:
         self.machine.put("/etc/dnsmasq.d/shop.conf", "interface=shop0\nbind-dynamic\ndhcp-range=10.9.0.5,10.9.0.9,1h\nport=53\n")
-        self.taken()
-        self.assertIn("/etc/dnsmasq.d/shop.conf", self.found()[0].what)
+        self.assert_taken()
+        self.assertIn("/etc/dnsmasq.d/shop.conf", self.findings()[0].what)
 
     def test_a_machine_that_asks_its_own_dnsmasq(self) -> None:
         self.machine.put("/etc/resolv.conf", "nameserver 127.0.0.1\n")
-        self.refused("resolv.conf")
+        self.assert_refused("resolv.conf")
         self.machine.put("/etc/resolv.conf", "nameserver 127.0.0.53\n")     # systemd-resolved
-        self.taken()
+        self.assert_taken()
 
     def test_rules_that_drop_guests(self) -> None:
         for hook, word in (("forward", "oifname wan0 accept"), ("input", "iifname lan0 accept")):
             self.rules(chain(hook))
-            self.refused(f"chain {hook}", word)
+            self.assert_refused(f"chain {hook}", word)
 
     def test_rules_that_know_the_guests_device(self) -> None:
         self.rules(chain("forward"), rule("lan0"))
-        self.taken()
+        self.assert_taken()
         self.rules(chain("forward"), rule("lan1"))
-        self.refused("chain forward")
+        self.assert_refused("chain forward")
 
     def test_rules_that_are_not_in_the_way(self) -> None:
         self.rules(chain("forward", policy="accept"), chain("output"), chain("forward", table="portal"))
-        self.taken()
+        self.assert_taken()
 
     def test_without_root_the_rules_are_not_seen(self) -> None:
         self.machine.root_user = False
         with self.assertRaises(CannotTell):
-            self.found()
+            self.findings()

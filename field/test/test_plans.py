@@ -14,16 +14,15 @@ import unittest
 from typing import Any
 from unittest import mock
 
-from desk_process import FIELD, Desk, DeskProcess, Refused, Routes     # which says where the parts stand
+from desk_process import FIELD, Desk, DeskProcess, Refused, Routes
 from test_counter import AtCounter
 
-import plans
-import samples
-import web
-from clerk import Counter
-from plans import BadFile
-from portal_counter import pages
-from test_front import served
+from portal_field.counter.clerk import Counter
+from portal_field.counter.page import pages
+from portal_field.lib import plans, web
+from portal_field.lib.plans import BadFile
+from portal_field.settings import samples
+from test_front import serve_during_test
 
 SHIPPED = (FIELD / "settings/plans.toml").read_text()
 PLAN = '[[plan]]\nid = "{}"\nprice = {}\nuses = 1\nseconds = 3600\nbytes = 0\nshelf_days = 90\nextend = true\n'
@@ -48,15 +47,15 @@ class Files(unittest.TestCase):
                  (good.replace("3600", "0"), "seconds and bytes are both 0"), (good, ""), (SHIPPED, ""), (OF_BEFORE, ""),
                  (PLAN.format("a", 0) + PLAN.format("b", 100_000_000), ""), ("plan = []", "tables [[plan]]"))
         with DeskProcess() as desk:
-            for text, told in cases:
+            for text, result in cases:
                 try:
-                    desk.desk.tell(Routes.PLANS, body=text.encode())
+                    desk.desk.request_json(Routes.PLANS, body=text.encode())
                     word = ""
                 except Refused as fault:
                     word = fault.word
-                self.assertEqual(word, "bad_plans" if told else "", text)
-                if told:
-                    with self.assertRaisesRegex(BadFile, re.escape(told), msg=text):
+                self.assertEqual(word, "bad_plans" if result else "", text)
+                if result:
+                    with self.assertRaisesRegex(BadFile, re.escape(result), msg=text):
                         plans.check_plans(text.encode())
                 else:
                     plans.check_plans(text.encode())
@@ -117,11 +116,11 @@ class Offered(AtCounter):
         self.counter = Counter(Desk(self.relay.port, "desk-token"), self.conf, self.journal)
         self.counter.load_plans()
         self.path = self.folder / f"socket-{time.monotonic_ns()}"
-        served(self, pages(self.counter), web.listening(str(self.path)))
+        serve_during_test(self, pages(self.counter), web.listening(str(self.path)))
 
     def menus(self) -> list[str]:
         """What can be chosen, in each of the two menus."""
-        text = self.ask("/")[1]
+        text = self.ask("/")[1] + self.ask("/vouchers")[1]
         both = re.findall(r'<select name="plan">(.*?)</select>', text, re.S)
         listed = [re.findall("<option [^>]*>([^<]*)</option>", one) for one in both]
         self.assertTrue(len(listed) in (0, 2) and listed[:1] == listed[1:], listed)
@@ -183,14 +182,14 @@ class Offered(AtCounter):
     def test_a_server_that_is_short_of_memory_is_asked_again(self) -> None:
         """Also where it is by the second question, whether this is the database that took the kept file."""
         self.file.write_text(SHIPPED.replace("price = 300", "price = 200"))
-        tell = Desk.tell
+        request_json = Desk.request_json
 
         def short(desk: Desk, route: Any, *part: str, **more: Any) -> Any:
             if route is Routes.CLOSE:
                 raise Refused(503, "no_memory")
-            return tell(desk, route, *part, **more)
+            return request_json(desk, route, *part, **more)
 
-        with mock.patch.object(Desk, "tell", short):
+        with mock.patch.object(Desk, "request_json", short):
             self.starts()
             self.assertEqual((self.menus(), self.counter.offers.outcome.answer), (self.ALL, "no_answer"))
         self.assertEqual((self.menus(), self.counter.offers.outcome.answer), (self.ALL, "plan_differs"))
@@ -209,7 +208,7 @@ class Offered(AtCounter):
         self.assertEqual(self.menus(), self.ALL, "loaded once it is mended")
 
     def test_where_nothing_is_known_nothing_is_offered_and_codes_are_sold(self) -> None:
-        code, = self.desk.issued("hour", "b1")      # by another program: the journal does not have it
+        code, = self.desk.issue_codes("hour", "b1")      # by another program: the journal does not have it
         (self.folder / "accepted-plans.toml").unlink()
         self.file.write_text(SHIPPED.replace("price = 300", "price = 200"))
         self.starts()
@@ -227,7 +226,7 @@ class Offered(AtCounter):
         self.starts()
         self.assertEqual(self.menus(), [])
         with self.assertRaisesRegex(Refused, "unknown_plan"):
-            self.desk.issued("hour", "b2")
+            self.desk.issue_codes("hour", "b2")
         self.file.write_text(SHIPPED.replace("price = 300", "price = 200"))
         self.assertEqual(self.menus(), ["hour, 2.00", *self.ALL[1:]])
 
@@ -235,13 +234,13 @@ class Offered(AtCounter):
         self.file.write_text(SHIPPED.replace("price = 300", "price = 200"))
         self.starts()
         asked: list[str] = []
-        tell = self.counter.desk.tell
+        request_json = self.counter.desk.request_json
 
         def heard(route: Any, **more: Any) -> Any:
             asked.append(route.path)
-            return tell(route, **more)
+            return request_json(route, **more)
 
-        with mock.patch.object(self.counter.desk, "tell", heard):
+        with mock.patch.object(self.counter.desk, "request_json", heard):
             for _ in range(3):
                 self.ask("/")
             self.assertEqual(asked, [])
@@ -280,7 +279,7 @@ class Offered(AtCounter):
         self.relay.drops = True
         self.starts()
         threading.Thread(target=self.counter.follow, daemon=True).start()
-        with mock.patch("clerk.FOLLOWS", 0.02):
+        with mock.patch("portal_field.counter.clerk.FOLLOWS", 0.02):
             self.relay.drops = False
             self.notes.write("state", **{"is": "serves", "since": 7})
             end = time.monotonic() + 20
@@ -292,12 +291,12 @@ class Offered(AtCounter):
 
     def test_what_is_not_offered_is_in_no_menu_and_can_be_sold(self) -> None:
         self.issue("day", "b1")
-        row = self.desk.desk.ask(Routes.PRINT, "b1").decode().splitlines()[1]
+        row = self.desk.desk.request(Routes.PRINT, "b1").decode().splitlines()[1]
         code = row.partition(",")[0]
         self.offers.write_text("[day]\noffered = false\n[hour]\noffered = true\n")
         self.starts()
         self.assertEqual(self.menus(), [self.ALL[0], self.ALL[2]])
-        self.assertIn("Sell for 9.00", self.ask(f"/voucher?code={code}")[1])
+        self.assertIn("Sell for 9.00", self.see(f"/voucher?code={code}")[1])
         self.assertIn("Take 9.00.", self.ask("/sell", code=code, request="s1")[1])
         self.offers.unlink()
         self.starts()
@@ -306,8 +305,8 @@ class Offered(AtCounter):
     def test_a_mistake_in_it_is_said_and_what_it_said_before_counts(self) -> None:
         self.offers.write_text("[day]\noffered = false\n")
         self.starts()
-        for text, words in (("[day", "it is not TOML"), ("[day]\noffered = 0\n", "[day] has one line, offered = true or"),
-                            ("[hour]\nofferd = false\n", "[hour] has one line")):
+        for text, words in (("[day", "it is not TOML"), ("[day]\noffered = 0\n", "[day] has the lines offered = true or"),
+                            ("[hour]\nofferd = false\n", "[hour] has the lines")):
             self.offers.write_text(text)
             self.starts()
             self.assertEqual(self.menus(), [self.ALL[0], self.ALL[2]])

@@ -1,38 +1,23 @@
-"""docs/PROMISES.md against the wrong kits."""
+"""docs/PROMISES.md against the mutants of the kit."""
 
 from __future__ import annotations
 
 import re
-import sys
 import unittest
 
 from desk_process import FIELD
-from must_fail import UNITS
-from mutants import DESCRIPTION, DEVICES, GATEWAY, PACKETS
-
-sys.path.append(str(FIELD / "radius/test"))
-from radius_must_fail import RADIUS  # noqa: E402
-
-EVERY = (*UNITS, *DEVICES, *GATEWAY, *PACKETS, *RADIUS)
+from mutant_tables import read_all
 
 
 class Promises(unittest.TestCase):
-    def test_each_promise_has_a_wrong_kit_and_each_wrong_kit_a_promise(self) -> None:
-        rows = re.findall(r"^\| (.*) \| (`.*`) \|$", (FIELD / "docs/PROMISES.md").read_text(), re.M)
-        lines = (FIELD / "docs/PROMISES.md").read_text().count("\n| ") - 1
-        self.assertEqual(len(rows), lines, "a promise without a wrong kit")
-        named = [name for _, kits in rows for name in re.findall(r"`([a-z0-9_]+)`", kits)]
-        self.assertEqual(sorted(named), sorted(edit.name for edit in EVERY))
-
-    def test_each_edit_fits(self) -> None:
-        for edit in EVERY:
-            if edit.file == DESCRIPTION and not (FIELD / DESCRIPTION).is_file():
-                continue        # the kit stands outside its repository
-            texts = {edit.file: (FIELD / edit.file).read_text()}
-            for file, old, new in edit.changes():
-                text = texts.get(file) or (FIELD / file).read_text()
-                self.assertIn(old, text, edit.name)
-                texts[file] = text.replace(old, new)
+    def test_each_promise_has_a_mutant_and_each_mutant_a_promise(self) -> None:
+        text, _, others = (FIELD / "docs/PROMISES.md").read_text().partition("\n## What is not promised\n")
+        self.assertIn("\n|---|---|\n", others)
+        rows = re.findall(r"^\| (.*) \| (`.*`) \|$", text, re.M)
+        lines = text.count("\n| ") - 1
+        self.assertEqual(len(rows), lines, "a promise without a mutant")
+        named = [name for _, mutants in rows for name in re.findall(r"`([a-z0-9_]+)`", mutants)]
+        self.assertEqual(sorted(named), sorted(mutant.name for mutant in read_all() if not mutant.run))
 
 
 if __name__ == "__main__":

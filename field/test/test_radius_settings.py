@@ -13,15 +13,14 @@ import unittest
 
 from desk_process import FIELD, DeskProcess
 
-sys.path += [str(FIELD / "checks"), str(FIELD / "radius")]
-from classes import device_of  # noqa: E402
-from counts import Counts  # noqa: E402
-from findings import Machine  # noqa: E402
-from languages import Language  # noqa: E402
-from logins import Logins  # noqa: E402
-from open_sessions import OpenSessions  # noqa: E402
-from optional import optional  # noqa: E402
-from venue import BadSettings, Field  # noqa: E402
+from portal_field.doctor.findings import Machine
+from portal_field.doctor.optional import optional
+from portal_field.lib.counts import Counts
+from portal_field.lib.languages import Language
+from portal_field.radius.classes import device_of
+from portal_field.radius.logins import Logins
+from portal_field.radius.open_sessions import OpenSessions
+from portal_field.settings.venue import BadSettings, Field
 
 SAMPLE = (FIELD / "settings/field.toml").read_text()
 TABLE = '[radius]\nlisten = "10.88.0.1"\n[radius.nas.lobby]\naddress = "10.88.0.20"\n'
@@ -74,21 +73,21 @@ class Installed(unittest.TestCase):
     def setUp(self) -> None:
         self.root = pathlib.Path(self.enterContext(tempfile.TemporaryDirectory()))
 
-    def found(self, text: str) -> list[tuple[str, str]]:
+    def findings_of(self, text: str) -> list[tuple[str, str]]:
         return [(f.state.value, f.what) for f in optional(Machine(self.root, Field.read(text)))]
 
     def test_a_part_that_is_set_and_not_installed_is_wrong(self) -> None:
         both = SAMPLE.replace(*METRICS) + TABLE
-        self.assertEqual(self.found(SAMPLE), [])
-        told = self.found(both)
-        self.assertEqual([state for state, _ in told], ["wrong", "wrong"])
-        self.assertIn("freeradius, freeradius-python3, freeradius-utils is not installed", told[0][1])
-        self.assertIn("python3-prometheus-client is not installed", told[1][1])
+        self.assertEqual(self.findings_of(SAMPLE), [])
+        findings = self.findings_of(both)
+        self.assertEqual([state for state, _ in findings], ["wrong", "wrong"])
+        self.assertIn("freeradius, freeradius-python3, freeradius-utils is not installed", findings[0][1])
+        self.assertIn("python3-prometheus-client is not installed", findings[1][1])
         for name in ("usr/sbin/freeradius", "usr/lib/freeradius/rlm_python3.so", "usr/bin/radclient",
                      "usr/lib/python3/dist-packages/prometheus_client/x"):
             (self.root / name).parent.mkdir(parents=True, exist_ok=True)
             (self.root / name).touch()
-        self.assertEqual([state for state, _ in self.found(both)], ["good", "good"])
+        self.assertEqual([state for state, _ in self.findings_of(both)], ["good", "good"])
 
 
 class Words(unittest.TestCase):
@@ -96,10 +95,12 @@ class Words(unittest.TestCase):
 
     def test_a_refusal_is_in_the_language_of_the_settings_and_fits_into_an_attribute(self) -> None:
         with DeskProcess() as desk:
-            for tag, words in (("en", "That is no code of ours"), ("de", "kein Code von uns"), ("uk", ""), ("ja", "")):
+            for tag, name, words in (("en", "x", "1 of 16 signs"), ("de", "x", "1 von 16 Zeichen"), ("uk", "x", "1 із 16"),
+                                     ("en", "dux8.a3eq.ubn8", "That is no code of ours"), ("en", "0", "There is no 0 in a code"),
+                                     ("uk", "0 1 O I L", "7, J чи T."), ("ja", "x", "")):
                 sessions = OpenSessions(desk.gateway, desk.gateway, lambda rows: None)
                 rules = Logins(desk.gateway, sessions, lambda *words: "", 60, Language(tag), Counts())
-                accepted, reply = rules.decide("x", "02-00-00-00-00-01", "lobby")
+                accepted, reply = rules.decide(name, "02-00-00-00-00-01", "lobby")
                 text = dict(reply)["Reply-Message"]
                 self.assertFalse(accepted)
                 self.assertIn(words, text)
@@ -128,10 +129,10 @@ class Made(unittest.TestCase):
         return (self.root / f"etc/systemd/system/{name}.service").read_text()
 
     def test_off_until_it_is_set_up_and_again_when_the_table_goes(self) -> None:
-        made = [self.etc / name for name in ("radius.toml", "radius.env", "credentials/radius/clients.conf")]
+        paths = [self.etc / name for name in ("radius.toml", "radius.env", "credentials/radius/clients.conf")]
         for text, there in ((SAMPLE, False), (SAMPLE + TABLE, True), (SAMPLE, False)):
             self.make(text)
-            self.assertEqual([path.exists() for path in made], [there] * 3)
+            self.assertEqual([path.exists() for path in paths], [there] * 3)
         for name in ("portal-radius", "portal-radius-agent"):
             self.assertIn("\nConditionPathExists=/etc/portal/radius.toml\n", self.unit(name))
             self.assertIn("\nUser=portal-radius\n", self.unit(name))
@@ -189,14 +190,14 @@ class Made(unittest.TestCase):
 
     def test_what_the_metrics_read_is_where_the_units_put_it(self) -> None:
         self.make(SAMPLE.replace(*METRICS) + TABLE)
-        told = tomllib.loads((self.etc / "metrics.toml").read_text())
+        settings = tomllib.loads((self.etc / "metrics.toml").read_text())
         front, radius = (tomllib.loads((self.etc / name).read_text()) for name in ("front.toml", "radius.toml"))
         gateway = tomllib.loads((self.etc / "gateway.toml").read_text())
-        self.assertEqual((told["page"], told["radius"]), (front["refusals"], radius["refusals"]))
-        self.assertEqual(pathlib.Path(told["gate"]).parent, pathlib.Path(gateway["snapshot"]).parent)
-        for name, folder in (("portal-front", told["page"]), ("portal-radius", told["radius"])):
+        self.assertEqual((settings["page"], settings["radius"]), (front["refusals"], radius["refusals"]))
+        self.assertEqual(pathlib.Path(settings["gate"]).parent, pathlib.Path(gateway["snapshot"]).parent)
+        for name, folder in (("portal-front", settings["page"]), ("portal-radius", settings["radius"])):
             self.assertIn(f"\nRuntimeDirectory={pathlib.Path(folder).parent.name}\n", self.unit(name))
-        copied = "/" + str(pathlib.Path(told["copied"]).relative_to(self.root))
+        copied = "/" + str(pathlib.Path(settings["copied"]).relative_to(self.root))
         self.assertIn(f"\nExecStartPost=/usr/bin/touch {copied}\n", self.unit("portal-backup"))
         self.assertIn(f"\nStateDirectory={pathlib.Path(copied).parent.name}\n", self.unit("portal-backup"))
 

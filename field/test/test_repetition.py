@@ -11,12 +11,11 @@ import unittest
 from typing import Any
 from unittest import mock
 
-from desk_process import Routes     # which says where the parts stand
+from desk_process import Routes
 from test_counter import AtCounter
-from test_front import UnixLink
 
-from answers import Answers
-from desk_client import Route
+from portal_field.counter.answers import Answers
+from portal_field.lib.desk_client import Route
 
 NAVIGATES = {"Sec-Fetch-Mode": "navigate", "X-User": "anna"}     # as a browser sends a form
 TAKE_NOTHING, GIVE_NOTHING = "It is not a new one. Take nothing.", "It is not a new one. Give nothing back."
@@ -26,13 +25,13 @@ class Repeated(AtCounter):
     def setUp(self) -> None:
         super().setUp()
         self.commands: list[str] = []
-        tell = self.counter.desk.tell
+        request_json = self.counter.desk.request_json
 
         def heard(route: Route, *part: str, **more: Any) -> Any:
             self.commands += [route.path] if route.acts else []
-            return tell(route, *part, **more)
+            return request_json(route, *part, **more)
 
-        self.enterContext(mock.patch.object(self.counter.desk, "tell", heard))
+        self.enterContext(mock.patch.object(self.counter.desk, "request_json", heard))
 
     def send(self, action: str, **form: str) -> str:
         return self.ask("/" + action, head={"X-User": "anna"}, **form)[1]
@@ -46,13 +45,13 @@ class Repeated(AtCounter):
 
     def forms(self) -> list[tuple[str, dict[str, str], str, tuple[str, ...]]]:
         """Each action with a form, what the first answer says, and what a repetition says."""
-        codes = self.desk.issued("hour", "b1", 2)
-        whole, (used,) = self.desk.issued("hour", "b2", 2), self.desk.sold("gigabyte", "b3")
-        self.desk.desk.tell(Routes.REDEEM, body={"code": used}, device="02:00:00:00:00:01")
+        codes = self.desk.issue_codes("hour", "b1", 2)
+        whole, (used,) = self.desk.issue_codes("hour", "b2", 2), self.desk.sell_codes("gigabyte", "b3")
+        self.desk.desk.request_json(Routes.REDEEM, body={"code": used}, device="02:00:00:00:00:01")
         sale = "This sale was made at "
         return [
             ("sell", {"code": codes[0]}, "Take 3.00.",
-             (sale, TAKE_NOTHING, ">b1<", ">3.00<", f"/voucher?code={codes[0]}")),
+             (sale, TAKE_NOTHING, ">b1<", ">3.00<", f">Look up {codes[0]}</a>", "/voucher?look=")),
             ("now", {"batch": "one-1", "plan": "day"}, "Take 9.00.", (sale, TAKE_NOTHING, ">one-1<", ">9.00<")),
             ("sell-batch", {"batch": "b2", "count": str(len(whole))}, "Take 6.00.",
              (sale, TAKE_NOTHING, ">b2<", ">2<", ">6.00<")),
@@ -66,7 +65,7 @@ class Repeated(AtCounter):
         for number, (action, form, first, again) in enumerate(self.forms()):
             text = self.send(action, request=f"f{number}", **form)
             self.assertEqual((self.kind(text), first in text), ("good", True), action)
-            before = self.desk.desk.ask(Routes.TAKINGS, query={"from": day, "to": day})
+            before = self.desk.desk.request(Routes.TAKINGS, query={"from": day, "to": day})
             acts = len(self.journal.day(datetime.date.today()))
             self.commands.clear()
             for _ in range(2):
@@ -75,15 +74,15 @@ class Repeated(AtCounter):
                 for words in (*again, ">anna<", time.strftime("%H:")):
                     self.assertIn(words, text, action)
             self.assertEqual(self.commands, [], action)
-            self.assertEqual(self.desk.desk.ask(Routes.TAKINGS, query={"from": day, "to": day}), before)
+            self.assertEqual(self.desk.desk.request(Routes.TAKINGS, query={"from": day, "to": day}), before)
             self.assertEqual(len(self.journal.day(datetime.date.today())), acts)
 
     def test_it_says_when_and_the_day_where_that_was_not_today(self) -> None:
-        code, = self.desk.issued("hour", "b1")
+        code, = self.desk.issue_codes("hour", "b1")
         noon = time.mktime((*time.localtime()[:3], 12, 34, 56, 0, 0, -1))
         for number, (moment, words) in enumerate(((noon, "made at 12:34."), (
                 noon - 86400, time.strftime("made at %Y-%m-%d 12:34.", time.localtime(noon - 86400))))):
-            with mock.patch("journal.time.time", lambda moment=moment: moment):
+            with mock.patch("portal_field.counter.journal.time.time", lambda moment=moment: moment):
                 self.send("now", batch=f"one-{number}", plan="hour", request=f"n{number}")
             text = self.send("now", batch=f"one-{number}", plan="hour", request=f"n{number}")
             self.assertIn("This sale was " + words, text)
@@ -102,7 +101,7 @@ class Repeated(AtCounter):
         self.assertEqual([self.desk.voucher(code)["plan"] for code in codes], ["hour", "day"])
 
     def test_what_was_in_doubt_is_sent_again_and_is_no_repetition(self) -> None:
-        code, = self.desk.issued("hour", "b1")
+        code, = self.desk.issue_codes("hour", "b1")
         for action, form in (("sell", {"code": code}), ("now", {"batch": "one-1", "plan": "hour"})):
             self.relay.cuts = True
             text = self.send(action, request=action, **form)
@@ -112,8 +111,8 @@ class Repeated(AtCounter):
             self.assertIn("Take 3.00.", text)
             self.assertEqual(self.kind(self.send(action, request=action, **form)), "repetition")
 
-    def test_without_its_line_in_the_journal_it_is_told_as_new(self) -> None:
-        code, = self.desk.issued("hour", "b1")
+    def test_without_its_line_in_the_journal_it_is_shown_as_new(self) -> None:
+        code, = self.desk.issue_codes("hour", "b1")
         form = {"code": code, "request": "s1"}
         self.assertEqual([self.kind(self.send("sell", **form)) for _ in range(2)], ["good", "repetition"])
         pathlib.Path(self.journal.path).unlink()
@@ -124,7 +123,7 @@ class Repeated(AtCounter):
 
     def test_a_form_with_the_number_of_one_of_other_words_is_none(self) -> None:
         """Nothing is said to be sold that was not."""
-        codes = [*self.desk.issued("hour", "b1", 2), *self.desk.issued("hour", "b2", 2), "2222-2222-2222", "x"]
+        codes = [*self.desk.issue_codes("hour", "b1", 2), *self.desk.issue_codes("hour", "b2", 2), "2222-2222-2222", "x"]
         self.send("sell", code=codes[0], request="s1")
         for code in codes[1:]:
             text = self.send("sell", code=code, request="s1")
@@ -133,8 +132,8 @@ class Repeated(AtCounter):
         text = self.send("issue", batch="b5", plan="hour", count="3", request="i1")
         self.assertIn("This form was sent before with other words", text)
 
-    def test_a_repetition_is_told_while_the_server_is_away(self) -> None:
-        code, = self.desk.issued("hour", "b1")
+    def test_a_repetition_is_shown_while_the_server_is_away(self) -> None:
+        code, = self.desk.issue_codes("hour", "b1")
         forms: tuple[tuple[str, dict[str, str]], ...] = (
             ("sell", {"code": code}), ("now", {"batch": "one-1", "plan": "hour"}))
         for action, form in forms:
@@ -172,7 +171,7 @@ class Repeated(AtCounter):
         for later, kind in ((0, "good"), (59, "good"), (59, "good"), (60, "repetition")):
             moments[0] += later
             self.assertEqual(self.kind(text := self.press("n1")), kind)
-        self.assertIn("Only if no page told you so before, as after a lost connection: take 3.00.", text)
+        self.assertIn("Only if no page said so before, as after a lost connection: take 3.00.", text)
 
     def test_two_presses_at_once_are_answered_alike(self) -> None:
         texts: list[str] = []
@@ -185,21 +184,14 @@ class Repeated(AtCounter):
         self.assertEqual(len({re.findall(r"Sold: ([0-9A-Z-]+)\.", text)[0] for text in texts}), 1)
 
     def test_enter_after_an_answer_leads_to_the_next_customer(self) -> None:
-        code, = self.desk.issued("hour", "b1")
+        code, = self.desk.issue_codes("hour", "b1")
         sales = [self.send("sell", code=code, request="s1") for _ in range(2)]
         for text in (*sales, self.press("n1")):
-            form = text.partition('<form action="/next">')[2].partition("</form>")[0]
+            form = text.partition('<form method="post" action="/next">')[2].partition("</form>")[0]
             self.assertRegex(form, 'id="code" name="code" [^>]*autofocus><button>Next customer</button>')
             self.assertEqual((text.count("autofocus"), " required" in text), (1, False))
-        for path, place in (("/next", "/"), ("/next?code=", "/"), (f"/next?code={code}", f"/voucher?code={code}")):
-            self.assertEqual(self.leads(path), (303, place))
-
-    def leads(self, path: str) -> tuple[int, str]:
-        link = UnixLink(self.path)
-        link.request("GET", path, headers={"Host": "counter.example"})
-        answer = link.getresponse()
-        link.close()
-        return answer.status, answer.headers["Location"]
+        self.assertEqual([self.place_of("/next"), self.place_of("/next", code="")], ["/", "/"])
+        self.assertIn(f"<title>{code} ", self.ask(self.place_of("/next", code=code))[1])
 
 
 class Turns(unittest.TestCase):

@@ -14,48 +14,52 @@ import steady
 class Times(unittest.TestCase):
     def setUp(self) -> None:
         self.now = 0.0
-        self.enterContext(mock.patch.object(steady.time, "monotonic", lambda: self.now))
+        self.enterContext(mock.patch("time.monotonic", lambda: self.now))
 
     def busy(self, part: float) -> None:
         """For this part of the time something waits for a processor."""
-        self.enterContext(mock.patch.object(steady, "waited", lambda: part * self.now))
+        self.enterContext(mock.patch.object(steady, "seconds_waited", lambda: part * self.now))
 
-    def measured(self, *answers: Any) -> tuple[list[tuple[bool, Any]], int, str]:
-        """What is checked, how often it was measured, and what is told meanwhile."""
-        checks: list[tuple[bool, Any]] = []
-        left = list(answers)
+    def outcome_of(self, *answers: Any) -> tuple[str, int, str]:
+        """What fails, how often it was measured, and what is printed."""
+        left, fault = list(answers), ""
 
         def measure() -> tuple[bool, Any]:
             self.now += 1
             answer = left.pop(0)
             if isinstance(answer, Exception):
                 raise answer
-            return answer
+            is_good, time_seen = answer
+            return is_good, time_seen
 
-        with contextlib.redirect_stdout(io.StringIO()) as said:
-            steady.measured(lambda what, good, note: checks.append((good, note)), "a time", measure)
-        return checks, len(answers) - len(left), said.getvalue()
+        with contextlib.redirect_stdout(io.StringIO()) as printed:
+            try:
+                steady.assert_measured("a time", measure)
+            except AssertionError as failed:
+                fault = str(failed)
+        return fault, len(answers) - len(left), printed.getvalue()
 
     def test_what_fails_on_a_calm_machine_has_failed(self) -> None:
         self.busy(steady.BUSY / 2)
-        self.assertEqual(self.measured((False, 9), (True, 1)), ([(False, 9)], 1, ""))
+        self.assertEqual(self.outcome_of((False, 9), (True, 1)), ("a time  [9]", 1, ""))
 
-    def test_on_a_busy_machine_it_is_measured_anew_and_that_is_told(self) -> None:
+    def test_on_a_busy_machine_it_is_measured_anew_and_that_is_printed(self) -> None:
         self.busy(0.95)
-        checks, count, said = self.measured((False, 9), (False, 8), (True, 1))
-        self.assertEqual((checks, count), ([(True, 1)], 3))
-        self.assertRegex(said, r"note a time: no \[9\].* 95% .*: once more\nnote a time: no \[8\].*: once more\n$")
+        fault, count, printed = self.outcome_of((False, 9), (False, 8), (True, 1))
+        self.assertEqual((fault, count), ("", 3))
+        self.assertRegex(printed, r"note a time: no \[9\].* 95% .*: once more\nnote a time: no \[8\].*: once more\n"
+                                  r"note a time  \[1\]\n$")
 
     def test_the_fourth_counts(self) -> None:
         self.busy(0.95)
-        checks, count, said = self.measured(*((False, i) for i in range(9)))
-        self.assertEqual((checks, count, said.count("once more")), ([(False, 3)], 4, 3))
+        fault, count, printed = self.outcome_of(*((False, i) for i in range(9)))
+        self.assertEqual((fault, count, printed.count("once more")), ("a time  [3]", 4, 3))
 
     def test_where_it_cannot_be_measured_anew_it_has_failed(self) -> None:
         self.busy(0.95)
-        self.assertEqual(self.measured((False, 9), TimeoutError("in vain"))[0], [(False, "9; then in vain")])
+        self.assertEqual(self.outcome_of((False, 9), TimeoutError("in vain"))[0], "a time  [9; then in vain]")
         with self.assertRaises(TimeoutError):
-            self.measured(TimeoutError("in vain"))
+            self.outcome_of(TimeoutError("in vain"))
 
     def test_a_time_that_was_taken_may_be_longer_on_a_busy_machine(self) -> None:
         for part, most in ((steady.BUSY / 2, 10), (0.95, 10 * steady.MOST_TIMES)):
@@ -85,10 +89,10 @@ class Times(unittest.TestCase):
             self.assertEqual(steady.wait_until(true, 1.0), good)
 
     def test_the_kernel_keeps_an_account(self) -> None:
-        before = steady.waited()
-        self.assertTrue(0 <= before <= steady.waited())
+        before = steady.seconds_waited()
+        self.assertTrue(0 <= before <= steady.seconds_waited())
         with mock.patch.object(steady, "PRESSURE", steady.PRESSURE / "not"):
-            self.assertGreater(steady.waited(), 0)
+            self.assertGreater(steady.seconds_waited(), 0)
 
 
 if __name__ == "__main__":

@@ -1,17 +1,11 @@
-"""The guests' helper as a process: page_process.py KIT. An address is its device here; nginx and leases are not tested."""
+"""The guests' helper as a process: page_process.py. An address is its device here; nginx and leases are not tested."""
 
 from __future__ import annotations
 
-import pathlib
-import sys
-
-sys.dont_write_bytecode = True
-KIT = pathlib.Path(sys.argv[1])
-sys.path[:0] = [str(KIT / part) for part in ("lib", "front")]
-import web  # noqa: E402
-from counts import Counts  # noqa: E402
-from desk_client import Desk, credential, settings  # noqa: E402
-from portal_front import Front, pages  # noqa: E402
+from portal_field.guests.page import Front, pages
+from portal_field.lib import web
+from portal_field.lib.counts import Counts
+from portal_field.lib.desk_client import Desk, credential, settings
 
 
 def main() -> None:

@@ -12,18 +12,15 @@ import argparse
 import os
 import pathlib
 import statistics
-import sys
 import time
 from collections.abc import Callable, Iterable
 from concurrent import futures
 from typing import TypeVar
 
-sys.dont_write_bytecode = True
-from scripted_nas import ACCEPT, DISCONNECT  # noqa: E402
-from steps_login import PLANS  # noqa: E402
-from venue_lab import STAND_IN, Lab, plan  # noqa: E402
+from scripted_nas import ACCEPT, DISCONNECT
+from venue_lab import PLANS, STAND_IN, Venue, plan
 
-from desk_client import Routes  # noqa: E402
+from portal_field.lib.desk_client import Routes
 
 Item = TypeVar("Item")
 ALL_PLANS = (*PLANS, plan("day", seconds=86_400), plan("crowd", uses=100_000, seconds=86_400))
@@ -31,7 +28,7 @@ AT_ONCE = 8
 FEW, MANY, TURNS, EACH = 100, 10_000, 7, 150    # open sessions of the two venues; turns of so many logins each
 
 
-def told(what: str, figure: str) -> None:
+def print_figures(what: str, figure: str) -> None:
     print(f"{what}: {figure}, load {os.getloadavg()[0]:.0f}", flush=True)
 
 
@@ -41,7 +38,7 @@ def for_each(items: Iterable[Item], call: Callable[[Item], object]) -> None:
         list(pool.map(call, items))
 
 
-def logins(lab: Lab, pairs: list[tuple[str, str]]) -> tuple[float, list[float], set[int]]:
+def logins(lab: Venue, pairs: list[tuple[str, str]]) -> tuple[float, list[float], set[int]]:
     """So many logins: how many a second, the time of each, the codes of the replies."""
     nas, waits, codes = lab.nas(), [], set()
 
@@ -55,48 +52,48 @@ def logins(lab: Lab, pairs: list[tuple[str, str]]) -> tuple[float, list[float], 
     return len(pairs) / (time.monotonic() - start), waits, codes
 
 
-def tell_logins(lab: Lab, what: str, pairs: list[tuple[str, str]]) -> None:
+def print_logins(lab: Venue, what: str, pairs: list[tuple[str, str]]) -> None:
     rate, waits, codes = logins(lab, pairs)
     late = sorted(waits)[len(waits) * 99 // 100]
-    told(what, f"{rate:.0f} a second, {len(pairs)} times, median {statistics.median(waits) * 1000:.0f} ms, 99 % below "
-               f"{late * 1000:.0f} ms, replies {sorted(codes)}")
+    print_figures(what, f"{rate:.0f} a second, {len(pairs)} times, median {statistics.median(waits) * 1000:.0f} ms, "
+                        f"99 % below {late * 1000:.0f} ms, replies {sorted(codes)}")
 
 
-def measure_logins(lab: Lab, count: int) -> None:
+def measure_logins(lab: Venue, count: int) -> None:
     pairs = [(code, lab.device()) for at in range(0, count, 500) for code in lab.codes("hour", min(500, count - at))]
-    tell_logins(lab, "first logins", pairs)
-    tell_logins(lab, f"the same codes again, {count} sessions open", pairs)
-    tell_logins(lab, "MAC authentication of the same devices", [(device, device) for _, device in pairs])
+    print_logins(lab, "first logins", pairs)
+    print_logins(lab, f"the same codes again, {count} sessions open", pairs)
+    print_logins(lab, "MAC authentication of the same devices", [(device, device) for _, device in pairs])
     strangers = [lab.device() for _ in range(count)]
-    tell_logins(lab, "MAC authentication of strangers", [(device, device) for device in strangers])
+    print_logins(lab, "MAC authentication of strangers", [(device, device) for device in strangers])
 
 
-def opened(lab: Lab, count: int) -> None:
+def open_sessions(lab: Venue, count: int) -> None:
     """So many open sessions, of one voucher."""
     code, = lab.codes("crowd", 1)
     for_each([lab.device() for _ in range(count)], lambda device: lab.redeem(code, device))
 
 
-def turn_of(lab: Lab, rates: dict[str, list[float]]) -> None:
+def turn_of(lab: Venue, rates: dict[str, list[float]]) -> None:
     """First logins; the same codes again, and the same devices by their addresses, for a second or so. Then all are closed."""
     pairs = [(code, lab.device()) for code in lab.codes("day", EACH)]
-    for what, asked in (("first logins", pairs), ("the same codes again", pairs * 4),
+    for what, turns in (("first logins", pairs), ("the same codes again", pairs * 4),
                         ("MAC authentication", [(device, device) for _, device in pairs] * 6)):
-        rate, _, codes = logins(lab, asked)
+        rate, _, codes = logins(lab, turns)
         assert codes == {ACCEPT}, codes
         rates.setdefault(what, []).append(rate)
     numbers = lab.sessions()
-    for_each(pairs, lambda pair: lab.counter.ask(Routes.CLOSE, body={"session": numbers[pair[1]]["session"]}))
+    for_each(pairs, lambda pair: lab.counter.request(Routes.CLOSE, body={"session": numbers[pair[1]]["session"]}))
 
 
-def measure_crowd(few: Lab, _: int) -> None:
-    many = Lab(few.command)
+def measure_crowd(few: Venue, _: int) -> None:
+    many = Venue(few.command)
     rates: tuple[dict[str, list[float]], dict[str, list[float]]] = {}, {}
     try:
         many.start_all()
         many.load(*ALL_PLANS)
-        opened(few, FEW)
-        opened(many, MANY)
+        open_sessions(few, FEW)
+        open_sessions(many, MANY)
         for _ in range(TURNS):
             turn_of(few, rates[0])
             turn_of(many, rates[1])
@@ -104,10 +101,10 @@ def measure_crowd(few: Lab, _: int) -> None:
         many.close()
     for what in rates[0]:
         one, other = (statistics.median(found[what]) for found in rates)
-        told(f"{what}, eight at a time", f"{one:.0f} a second with {FEW} open, {other:.0f} with {MANY:,}: {other / one:.2f} of it")
+        print_figures(f"{what}, eight at a time", f"{one:.0f} a second with {FEW} open, {other:.0f} with {MANY:,}: {other / one:.2f} of it")
 
 
-def measure_ends(lab: Lab, _: int) -> None:
+def measure_ends(lab: Venue, _: int) -> None:
     nas, waits = lab.nas(), []
     for i, code in enumerate(lab.codes("hour", 30)):
         device = lab.device()
@@ -115,11 +112,11 @@ def measure_ends(lab: Lab, _: int) -> None:
         time.sleep(0.7 + i % 10 / 20)
         at = time.time()
         lab.close_session(device)
-        lab.until(lambda: nas.asked(DISCONNECT, f"m{i}"), "a Disconnect-Request")
-        waits.append(nas.asked(DISCONNECT, f"m{i}")[0].at - at)
+        lab.until(lambda: nas.requests_for(DISCONNECT, f"m{i}"), what="a Disconnect-Request")
+        waits.append(nas.requests_for(DISCONNECT, f"m{i}")[0].at - at)
         nas.account("Stop", f"m{i}", code, device, None)
-    told("from a close to the Disconnect-Request", f"median {statistics.median(waits):.2f} s, {min(waits):.2f} to "
-                                                   f"{max(waits):.2f} s, {len(waits)} times")
+    print_figures("from a close to the Disconnect-Request", f"median {statistics.median(waits):.2f} s, {min(waits):.2f} to "
+                                                            f"{max(waits):.2f} s, {len(waits)} times")
 
 
 def processor(pid: int) -> float:
@@ -127,7 +124,7 @@ def processor(pid: int) -> float:
     return (int(fields[11]) + int(fields[12])) / os.sysconf("SC_CLK_TCK")
 
 
-def measure_rest(lab: Lab, _: int) -> None:
+def measure_rest(lab: Venue, _: int) -> None:
     """200 sessions with an interim report each."""
     nas, codes = lab.nas(), lab.codes("gig", 200)
     devices = [lab.device() for _ in codes]
@@ -140,7 +137,7 @@ def measure_rest(lab: Lab, _: int) -> None:
     time.sleep(20)
     took = time.monotonic() - start
     parts = {name: f"{(processor(job.pid) - before[name]) / took:.1%}" for name, job in lab.jobs.items()}
-    told("200 sessions at rest, part of one core", str(parts))
+    print_figures("200 sessions at rest, part of one core", str(parts))
 
 
 MEASURES = {"logins": measure_logins, "crowd": measure_crowd, "ends": measure_ends, "rest": measure_rest}
@@ -153,7 +150,7 @@ def main() -> None:
     words.add_argument("names", nargs="*", choices=[*MEASURES, []], default=[])
     args = words.parse_args()
     for name in args.names or MEASURES:
-        lab = Lab(args.portal)
+        lab = Venue(args.portal)
         try:
             lab.start_all()
             lab.load(*ALL_PLANS)

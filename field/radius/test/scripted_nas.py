@@ -37,10 +37,12 @@ Values = dict[str, object]
 
 
 def pair(number: int, value: bytes) -> bytes:
+    """An attribute of a RADIUS packet: number, length, value (RFC 2865 section 5)."""
     return bytes([number, len(value) + 2]) + value
 
 
-def encoded(values: Values) -> bytes:
+def encode(values: Values) -> bytes:
+    """Attributes by their names, as the bytes of a packet."""
     text = b""
     for name, value in values.items():
         vendor, number, kind = ATTRIBUTES[name]
@@ -55,7 +57,7 @@ def encoded(values: Values) -> bytes:
 
 
 def attributes(text: bytes, vendor: int = 0) -> Values:
-    """Names and values; an attribute of no name here by vendor and number."""
+    """Names and values of a packet's attributes; one of no name here by vendor and number."""
     found: Values = {}
     while text:
         number, size = text[0], text[1]
@@ -76,10 +78,11 @@ class Reply(NamedTuple):
 
     @property
     def words(self) -> str:
+        """The text of the Reply-Message; empty where there is none."""
         return str(self.values.get("Reply-Message", ""))
 
 
-class Heard(NamedTuple):
+class ServerRequest(NamedTuple):
     at: float
     code: int
     signed: bool
@@ -88,7 +91,7 @@ class Heard(NamedTuple):
 
 @dataclass(frozen=True)
 class Maker:
-    """How one maker's access servers speak. `limit`: the attributes that tell bytes, the low 32 bits first."""
+    """How one maker's access servers speak. `limit`: the attributes that limit bytes, the low 32 bits first."""
     name: str
     calling: str            # the device's address: the sign between octets, and "upper" or "lower"
     called: str
@@ -101,6 +104,7 @@ class Maker:
     more: Values = field(default_factory=dict)
 
     def device(self, device: str) -> str:
+        """A device's address as access servers of this maker write it."""
         sign, _, case = self.calling.partition(" ")
         text = device.replace(":", sign)
         return text.upper() if case == "upper" else text
@@ -127,7 +131,7 @@ class Nas:
                  port: int | None = None) -> None:
         self.address, self.secret, self.maker = address, secret.encode(), maker
         self.host, self.auth_port, self.acct_port = server
-        self.heard: list[Heard] = []
+        self.requests: list[ServerRequest] = []
         self.deaf = False
         self.ident = 0
         self.lock = threading.Lock()
@@ -137,11 +141,13 @@ class Nas:
         threading.Thread(target=self.listen, daemon=True).start()
 
     def close(self) -> None:
+        """Closes the socket for packets from the server."""
         self.door.close()
 
     # RFC 5176
 
     def listen(self) -> None:
+        """Takes the server's requests (RFC 5176), and answers each with an ACK unless it is deaf."""
         while True:
             try:
                 data, peer = self.door.recvfrom(4096)
@@ -152,7 +158,7 @@ class Nas:
             signed = self.is_signed(data[:4] + bytes(16) + data[20:size])
             if not good:
                 continue
-            self.heard.append(Heard(time.time(), code, signed, attributes(data[20:size])))
+            self.requests.append(ServerRequest(time.time(), code, signed, attributes(data[20:size])))
             if not self.deaf:
                 head = struct.pack("!BBH", code + 1, ident, 20)
                 self.door.sendto(head + hashlib.md5(head + data[4:20] + self.secret).digest(), peer)
@@ -183,10 +189,12 @@ class Nas:
         return pair(2, hidden)
 
     def access_request(self, ident: int, values: Values, word: bytes, sign: bool) -> bytes:
+        """An Access-Request with the hidden password, and with a Message-Authenticator where `sign` says so."""
         authenticator = secrets.token_bytes(16)
-        return self.access_packet(ident, encoded(values) + self.password(word, authenticator), authenticator, sign)
+        return self.access_packet(ident, encode(values) + self.password(word, authenticator), authenticator, sign)
 
     def access_packet(self, ident: int, body: bytes, authenticator: bytes, sign: bool) -> bytes:
+        """An Access-Request of these attributes as they are, and with a Message-Authenticator where `sign` says so."""
         head = struct.pack("!BBH", ACCESS_REQUEST, ident, 20 + len(body) + 18 * sign) + authenticator
         if not sign:
             return head + body
@@ -194,11 +202,13 @@ class Nas:
         return blank[:-16] + hmac.new(self.secret, blank, hashlib.md5).digest()
 
     def accounting_packet(self, ident: int, body: bytes) -> bytes:
-        """Its authenticator is made of the packet and the secret (RFC 2866 section 3)."""
+        """An Accounting-Request, whose authenticator is made of the packet and the secret (RFC 2866 section
+        3)."""
         head = struct.pack("!BBH", ACCOUNTING, ident, 20 + len(body))
         return head + hashlib.md5(head + bytes(16) + body + self.secret).digest() + body
 
     def next_ident(self) -> int:
+        """The identifier of the next packet."""
         with self.lock:
             self.ident = (self.ident + 1) % 256
             return self.ident
@@ -222,6 +232,7 @@ class Nas:
 
     def login(self, code: str | bytes, device: str, sign: bool | None = None, wait: float = 8.0,
               more: Values | None = None) -> Reply:
+        """The reply to a login with a code; one of code 0 where none came."""
         values: Values = {"User-Name": code, "NAS-IP-Address": self.address, "NAS-Port": 1,
                           "Called-Station-Id": self.maker.called, "Framed-IP-Address": "10.5.50.9", **self.maker.more}
         if device:
@@ -244,14 +255,15 @@ class Nas:
                 values |= {"Acct-Input-Gigawords": octets[0] >> 32, "Acct-Output-Gigawords": octets[1] >> 32}
             if klass and self.maker.gives_class:
                 values["Class"] = klass
-        packet = self.accounting_packet(self.next_ident(), encoded({**values, **(more or {})}) + after)
+        packet = self.accounting_packet(self.next_ident(), encode({**values, **(more or {})}) + after)
         reply = self.exchange(packet, self.acct_port, 5.0)
         return reply is not None and reply.code == RESPONSE
 
     # What was heard
 
-    def asked(self, code: int, session: str) -> list[Heard]:
-        return [h for h in self.heard if h.code == code and h.signed and h.values.get("Acct-Session-Id") == session]
+    def requests_for(self, code: int, session: str) -> list[ServerRequest]:
+        """The signed requests of a kind that came for an accounting session."""
+        return [h for h in self.requests if h.code == code and h.signed and h.values.get("Acct-Session-Id") == session]
 
 
 def at_once(count: int, call: Callable[[], object]) -> list[object]:
@@ -260,6 +272,7 @@ def at_once(count: int, call: Callable[[], object]) -> list[object]:
     start = threading.Barrier(count)
 
     def go() -> None:
+        """Waits for the start, and keeps what the call returned."""
         start.wait()
         results.append(call())
 

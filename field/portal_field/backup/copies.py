@@ -1,0 +1,159 @@
+"""What portal-backup and portal-restore share: one file out of a database and its log, and what is checked of
+it."""
+
+from __future__ import annotations
+
+import contextlib
+import fcntl
+import hashlib
+import os
+import pathlib
+import shutil
+import sqlite3
+import subprocess
+import urllib.parse
+from collections.abc import Iterator
+
+UNIT = "portal.service"
+ENDS = ("", "-wal")             # the database and its log belong together
+SHARED, SIZE = 0x40000002, 510  # the bytes of a database file that SQLite locks
+
+
+class BadCopy(Exception):
+    """No copy that a venue could go on with, and why."""
+
+
+class InUse(Exception):
+    """The server runs, or another process has the database open."""
+
+
+def server_state() -> str:
+    """systemd's word for the server: active, activating (also between two starts), inactive, failed; or
+    nothing."""
+    with contextlib.suppress(OSError):
+        words = ["systemctl", "show", "-p", "ActiveState", "--value", UNIT]
+        return subprocess.run(words, capture_output=True, text=True).stdout.strip()
+    return ""
+
+
+@contextlib.contextmanager
+def nobody_has_it_open(database: pathlib.Path) -> Iterator[None]:
+    """Keeps everybody from opening the database inside: a server that is started meanwhile ends, and systemd
+    starts it again. InUse: another process has it open."""
+    with open(database, "rb") as file:
+        try:
+            fcntl.lockf(file, fcntl.LOCK_SH | fcntl.LOCK_NB, SIZE, SHARED)
+        except BlockingIOError as fault:
+            raise InUse(f"another process has {database} open") from fault
+        yield
+
+
+def copy_both(database: pathlib.Path, goal: pathlib.Path) -> None:
+    """Copies the database and its log, as they are."""
+    if not database.exists():
+        raise BadCopy(f"there is no file {database}")
+    for end in ENDS:
+        if os.path.exists(f"{database}{end}"):
+            words = ["cp", "--reflink=auto", "--preserve=timestamps", f"{database}{end}", f"{goal}{end}"]
+            subprocess.run(words, check=True, timeout=120)
+
+
+def fold(path: pathlib.Path) -> None:
+    """Brings the log into the database, so that one file holds all."""
+    try:
+        with contextlib.closing(sqlite3.connect(path, isolation_level=None)) as base:
+            busy = base.execute("PRAGMA wal_checkpoint(TRUNCATE)").fetchone()[0]
+    except sqlite3.Error as fault:
+        raise BadCopy(f"SQLite cannot read it: {fault}") from fault
+    log = pathlib.Path(f"{path}-wal")
+    if busy or (log.exists() and log.stat().st_size > 0):
+        raise BadCopy("SQLite did not fold the log in")
+    for end in ("-wal", "-shm"):
+        pathlib.Path(f"{path}{end}").unlink(missing_ok=True)
+    path.chmod(0o600)
+
+
+def address_of(path: pathlib.Path) -> str:
+    """SQLite's address of a file that has no log and that nobody writes, to read it."""
+    return f"file:{urllib.parse.quote(str(path))}?mode=ro&immutable=1"
+
+
+def read_only(path: pathlib.Path) -> sqlite3.Connection:
+    """A connection to a database that changes neither its file nor its log."""
+    return sqlite3.connect(address_of(path), uri=True)
+
+
+def copy_open(database: pathlib.Path, goal: pathlib.Path) -> None:
+    """Copies a database that others write to, at one moment between two of their transactions."""
+    try:
+        address = f"file:{urllib.parse.quote(str(database))}?mode=ro"
+        with contextlib.closing(sqlite3.connect(address, uri=True, timeout=30)) as base, \
+                contextlib.closing(sqlite3.connect(goal)) as copy:
+            base.backup(copy)
+    except sqlite3.Error as fault:
+        raise BadCopy(f"SQLite cannot read it: {fault}") from fault
+    goal.chmod(0o600)
+
+
+def look(path: pathlib.Path) -> None:
+    """BadCopy: SQLite finds no whole database in this file; one without tables is a database whose log was
+    lost."""
+    try:
+        with contextlib.closing(read_only(path)) as base:
+            answer = base.execute("PRAGMA integrity_check").fetchone()[0]
+            tables = base.execute("SELECT count(*) FROM sqlite_master").fetchone()[0]
+    except sqlite3.Error as fault:
+        raise BadCopy(f"SQLite cannot read it: {fault}") from fault
+    if answer != "ok":
+        raise BadCopy(f"SQLite's integrity check says {answer}")
+    if tables == 0:
+        raise BadCopy("the database is empty: its log is missing")
+
+
+def ask_portal(portal: list[str], settings: pathlib.Path, path: pathlib.Path, *words: str) -> str:
+    """What the program says over a copy of the copy, as opening writes."""
+    trial = path.with_name("trial.db")
+    shutil.copy(path, trial)
+    try:
+        line = [*portal, *words, "--db", str(trial), "--settings", str(settings)]
+        done = subprocess.run(line, capture_output=True, text=True)
+    finally:
+        for file in path.parent.glob("trial.db*"):
+            file.unlink()
+    if done.returncode != 0:
+        raise BadCopy(f"`portal {words[0]}` says {(done.stdout + done.stderr).strip() or done.returncode}")
+    return done.stdout
+
+
+def check_by_portal(portal: list[str], settings: pathlib.Path, path: pathlib.Path) -> None:
+    """The program's own check of a copy. BadCopy: it finds something."""
+    answer = ask_portal(portal, settings, path, "check")
+    if answer != "ok\n":
+        raise BadCopy(f"`portal check` says {answer.strip()}")
+
+
+def sum_of(path: pathlib.Path) -> str:
+    """The SHA-256 of a file."""
+    with open(path, "rb") as file:
+        return hashlib.file_digest(file, "sha256").hexdigest()
+
+
+def head_of(path: pathlib.Path) -> tuple[int, int] | None:
+    """The schema version and the last moment that the database holds."""
+    try:
+        with contextlib.closing(read_only(path)) as base:
+            row: tuple[int,
+                       int] | None = base.execute("SELECT layout, last_moment FROM portal_head").fetchone()
+            return row
+    except sqlite3.Error:
+        return None
+
+
+def to_disk(*paths: pathlib.Path) -> None:
+    """Has the kernel write files or folders to the disk."""
+    for path in paths:
+        handle = os.open(path, os.O_RDONLY)
+        try:
+            os.fsync(handle)
+        finally:
+            os.close(handle)

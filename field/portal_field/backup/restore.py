@@ -1,0 +1,188 @@
+"""Puts a copy in the database's place. The server must not run.
+
+    portal-restore FILE [DATABASE]      FILE: a copy that portal-backup made (or a folder, from an earlier
+    one) portal-restore --drill [FILE]       restores into a scratch folder and prints the takings of the last
+    day
+
+The copy is checked before anything is replaced, and what was there is kept beside the database. Everything
+after the copy is lost: vouchers redeemed or refunded since are good again, those sold since are not, and
+numbers of sessions are given anew. So the gateway's counts are dropped too, or they would be counted on other
+devices' sessions. Counts and sums of what was sold, refunded and redeemed since are printed, and a list with
+the codes is kept beside what was replaced.
+"""
+
+from __future__ import annotations
+
+import argparse
+import contextlib
+import datetime
+import os
+import pathlib
+import shlex
+import shutil
+import subprocess
+import sys
+import tempfile
+import time
+import tomllib
+from collections.abc import Iterator
+
+from portal_field.backup.copies import (
+    UNIT, BadCopy, InUse, ask_portal, check_by_portal, copy_both, fold, head_of, look, nobody_has_it_open,
+    server_state, sum_of, to_disk)
+from portal_field.backup.undone_entries import undone_entries, write_list
+
+FLUSH = "flush set inet portal alive; flush set inet portal up; flush set netdev portal down"
+
+
+@contextlib.contextmanager
+def server_stopped(database: pathlib.Path) -> Iterator[None]:
+    """InUse: the server runs, or another process has the database open; nobody opens it inside. `activating`
+    is a server that systemd starts again each second."""
+    if server_state() not in ("", "inactive", "failed"):
+        raise InUse(f"stop {UNIT} first")
+    with nobody_has_it_open(database) if database.exists() else contextlib.nullcontext():
+        yield
+
+
+def scratch_copy(args: argparse.Namespace, scratch: pathlib.Path) -> pathlib.Path:
+    """The copy as one file in a scratch folder, checked as it came there."""
+    source = args.file / "book.db" if args.file.is_dir() else args.file
+    sums = pathlib.Path(f"{source}.sha256")
+    one = scratch / "restored.db"
+    copy_both(source, one)
+    if sums.exists() and sum_of(one) != sums.read_text().split()[0]:
+        raise BadCopy(f"its SHA-256 is not that of {sums.name}")
+    fold(one)
+    look(one)
+    # the program would make its tables beside those of another, as of the counter's journal
+    if not head_of(one):
+        raise BadCopy("it is no copy of the server's database")
+    check_by_portal(shlex.split(args.portal), args.settings, one)
+    return one
+
+
+def keep_what_is_there(database: pathlib.Path) -> pathlib.Path:
+    """Gives the database's files a second name in a folder of their own, which needs no room on a disk that
+    is full."""
+    aside = pathlib.Path(f"{database}.before-{datetime.datetime.now(datetime.UTC):%Y%m%dT%H%M%S.%fZ}")
+    aside.mkdir(mode=0o700)
+    for end in ("", "-wal", "-shm"):
+        if os.path.exists(f"{database}{end}"):
+            os.link(f"{database}{end}", aside / f"{database.name}{end}")
+    to_disk(aside, aside.parent)
+    return aside
+
+
+def replace(database: pathlib.Path, one: pathlib.Path) -> None:
+    """Puts a copy in the database's place; it belongs to whom the folder belongs to."""
+    owner = database.parent.stat()
+    os.chown(one, owner.st_uid, owner.st_gid)
+    to_disk(one)
+    for end in ("-wal", "-shm"):        # the old log over the new database would damage it
+        pathlib.Path(f"{database}{end}").unlink(missing_ok=True)
+    one.rename(database)
+    mark, head = database.with_name("schema"), head_of(database)
+    if mark.exists() and head:          # the package compares it with what the program knows
+        mark.write_text(f"{head[0]}\n")
+    to_disk(database.parent)
+
+
+def drop_counts() -> None:
+    """Empties the gateway's sets, whose counts belong to sessions of the replaced database."""
+    if not shutil.which("nft"):
+        return
+    if subprocess.run(["nft", "list", "set", "inet", "portal", "up"], capture_output=True).returncode == 0:
+        subprocess.run(["nft", FLUSH], check=True)
+
+
+def use_zone(settings: pathlib.Path) -> None:
+    """Takes the venue's zone from the server's settings for local times."""
+    os.environ["TZ"] = tomllib.loads(settings.read_text())["zone"]
+    time.tzset()
+
+
+def list_what_is_undone(args: argparse.Namespace, one: pathlib.Path, aside: pathlib.Path) -> list[str]:
+    """Writes the list of what the copy undoes beside what it replaces; the lines to print."""
+    if not any(aside.iterdir()):
+        return []
+    try:
+        use_zone(args.settings)
+        undone = undone_entries(args.database, one, one.parent)
+        lines = [undone.counts(), f"each with its code: {write_list(undone, aside)}"]
+    except Exception as fault:      # whatever is wrong with what is replaced hinders no restore
+        return [f"what this undid is not known: what was there before cannot be read: {fault}"]
+    if undone.damage:
+        lines.append(f"more may be undone: what was there before is damaged: {undone.damage}")
+    return lines
+
+
+def restore(args: argparse.Namespace) -> None:
+    """Puts a checked copy in the database's place, and prints what that undid."""
+    folder = args.database.parent
+    with server_stopped(args.database):
+        for rest in folder.glob(".restore-*"):      # by a restore that was killed
+            shutil.rmtree(rest, ignore_errors=True)
+        with tempfile.TemporaryDirectory(prefix=".restore-", dir=folder) as scratch:
+            one = scratch_copy(args, pathlib.Path(scratch))
+            aside = keep_what_is_there(args.database)
+            lines = list_what_is_undone(args, one, aside)
+            replace(args.database, one)
+    drop_counts()
+    print(f"restored; what was there before is in {aside}", *lines, sep="\n")
+
+
+def last_day(path: pathlib.Path, settings: pathlib.Path) -> str:
+    """The day of the last command that the database holds, in the venue's zone."""
+    head = head_of(path)
+    if not head:
+        raise BadCopy("it holds no last moment")
+    use_zone(settings)
+    return time.strftime("%Y-%m-%d", time.localtime(head[1]))
+
+
+def drill(args: argparse.Namespace) -> None:
+    """Restores into a scratch folder, and prints the takings of the copy's last day."""
+    with tempfile.TemporaryDirectory() as scratch:
+        one = scratch_copy(args, pathlib.Path(scratch))
+        day = last_day(one, args.settings)
+        takings = ask_portal(shlex.split(args.portal), args.settings, one, "takings", day, day)
+    print(f"{args.file} restores and checks; the takings of its last day:")
+    print(takings, end="")
+
+
+def newest(folder: pathlib.Path) -> pathlib.Path:
+    """The newest copy of a folder. BadCopy: there is none."""
+    copies = [path for path in sorted(folder.glob("[0-9]*Z*")) if path.suffix != ".sha256"]
+    if not copies:
+        raise BadCopy(f"there is none in {folder}")
+    return copies[-1]
+
+
+def main() -> int:
+    """Restores, or tries to with --drill; 0 where that was done."""
+    words = argparse.ArgumentParser(description="Puts a copy in the database's place. The server must not "
+                                                "run.")
+    words.add_argument("--drill", action="store_true",
+                       help="only try it: print the takings of the copy's last day")
+    words.add_argument("--settings", type=pathlib.Path, default="/etc/portal/portal.toml",
+                       help="the server's settings")
+    words.add_argument("--portal", default="/usr/bin/portal", help="the program, as a command line")
+    words.add_argument("--folder", type=pathlib.Path, default="/var/backups/portal",
+                       help="where --drill takes the newest")
+    words.add_argument("file", type=pathlib.Path, nargs="?", metavar="FILE")
+    words.add_argument("database", type=pathlib.Path, nargs="?", default="/var/lib/portal/book.db",
+                       metavar="DATABASE")
+    args = words.parse_args()
+    if not args.file and not args.drill:
+        words.error("which FILE?")
+    try:
+        args.file = args.file or newest(args.folder)
+        drill(args) if args.drill else restore(args)
+    except BadCopy as fault:
+        print(f"portal-restore: the copy is not used: {fault}", file=sys.stderr)
+        return 1
+    except (InUse, OSError, subprocess.SubprocessError) as fault:
+        print("portal-restore:", fault, file=sys.stderr)
+        return 1
+    return 0

@@ -1,0 +1,1 @@
+"""The counter's page: sales, refunds, vouchers, takings, and the journal of the clerks."""

@@ -1,0 +1,28 @@
+"""Parts that not every venue has: whether what they need is installed, where field.toml turns them on."""
+
+from __future__ import annotations
+
+from collections.abc import Iterator
+
+from portal_field.doctor.findings import Finding, Machine, good, wrong
+
+RADIUS = {"/usr/sbin/freeradius": "freeradius", "/usr/lib/freeradius/rlm_python3.so": "freeradius-python3",
+          "/usr/bin/radclient": "freeradius-utils"}
+BARS = {"/usr/bin/zint": "zint"}
+METRICS = {"/usr/lib/python3/dist-packages/prometheus_client": "python3-prometheus-client"}
+
+
+def optional(machine: Machine) -> Iterator[Finding]:
+    """Whether parts that the settings turn on have what they need."""
+    field = machine.field
+    parts = (("[radius]", field.radius, RADIUS), ("metrics", field.metrics, METRICS),
+             ("voucher_barcode", field.voucher_barcode, BARS))
+    for name, is_on, needed in parts:
+        if not is_on:
+            continue
+        missing = [package for path, package in needed.items() if not machine.path(path).exists()]
+        if missing:
+            yield wrong(f"{name} is set, and {', '.join(missing)} is not installed: nothing of it runs",
+                        f"`apt install {' '.join(missing)}`, then `portal-setup`")
+        else:
+            yield good(f"{name} is set, and what it needs is installed")

@@ -1,0 +1,1 @@
+"""The gateway: which devices pass, by which address, and how many bytes they used."""

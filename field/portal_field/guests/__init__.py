@@ -1,0 +1,1 @@
+"""The guests' page, and the look-up of a device."""

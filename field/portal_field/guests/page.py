@@ -1,0 +1,389 @@
+"""The guests' helper behind nginx: which device has an address, and the page on which a code is typed."""
+
+from __future__ import annotations
+
+import hashlib
+import hmac
+import pathlib
+import socket
+import time
+import urllib.parse
+from collections.abc import Callable
+from dataclasses import dataclass, field
+from typing import Any
+
+import flask
+import itsdangerous
+
+from portal_field.guests import texts
+from portal_field.guests.agreed import Agreed
+from portal_field.guests.left import Left, MostData, left_of
+from portal_field.guests.prices import prices
+from portal_field.lib import refusals, web
+from portal_field.lib.counts import Counts
+from portal_field.lib.desk_client import (
+    REQUEST_NUMBER, Desk, NoAnswer, Refused, Routes, credential, new_number, settings)
+from portal_field.lib.forms import BadForm, Form
+from portal_field.lib.guest_refusals import refusal_text
+from portal_field.lib.languages import GUESTS, Language, preferred_language
+from portal_field.lib.local_time import use_zone
+from portal_field.lib.machine_time import Notes
+from portal_field.lib.message_marks import guest_words
+from portal_field.lib.one_use import Forms, numbers
+from portal_field.lib.typed_codes import LONGEST_TYPED, plain_code
+
+HERE = pathlib.Path(__file__).resolve().parent
+ONCE_MORE = 0.05        # seconds until a device is looked for again: DHCP may just be renewing its entry
+COOKIE, CHOICE_COOKIE, COOKIE_DAYS = "portal_session", "portal_lang", 30
+NO_DESK = guest_words("We cannot ask our server just now. Please try again in a minute.")
+CLOCK_WAITS = guest_words("Our server waits until somebody at the counter confirms the time. Please ask at "
+                          "the counter.")
+TIME_ENDED = guest_words("Your time has ended. To go online again, type another code.")
+NOT_AGREED = refusals.Refusal(0, "not_agreed", 400, "", "", guest_words(
+    "Please accept the terms of use first. Your code was not used."))
+# The venue's pages, by the ends of their addresses.
+PAGES = {"prices": guest_words("Prices"), texts.TERMS: guest_words("Terms of use"),
+         texts.PRIVACY: guest_words("Privacy notice")}
+ENDED = guest_words("Your session has ended: its data is used up, or it was closed at the counter.")
+
+
+@dataclass(frozen=True)
+class Last:
+    """What the page of a device knew last: its session, and until when that runs where its time is
+    limited."""
+    device: str
+    session: int
+    until: int | None = None
+
+
+@dataclass
+class State:
+    """What the desk says of a device: what is left where it is online. `ended`: what was before."""
+    left: Left | None = None
+    fault: str = ""
+    session: int | None = None
+    ended: str = ""
+
+
+@dataclass
+class Front:
+    """What the page needs: the desk, the venue's words and zone, where the gateway's agent hears knocks,
+    which device holds the lease of an address, the key of its forms and of its cookie, the forms that were
+    sent of late, how often each refusal was shown, and what data each device had."""
+    desk: Desk
+    conf: dict[str, Any]
+    device_at: Callable[[str], str | None]
+    key: str
+    forms: Forms = field(default_factory=Forms)
+    counts: Counts = field(default_factory=Counts)
+    most_data: MostData = field(default_factory=MostData)
+
+    def __post_init__(self) -> None:
+        if "zone" in self.conf:     # the file may be of before
+            use_zone(self.conf["zone"])
+        self.agreed = Agreed(self.conf.get("agreed", ""), self.conf.get("terms_days", 90))
+
+    @property
+    def terms_version(self) -> str:
+        """The version of the terms that a guest has to accept; empty where there are none to accept."""
+        return str(self.conf.get("terms_version", ""))
+
+    @property
+    def notes(self) -> Notes:
+        """What the server and the counter say for this page."""
+        return Notes(self.conf.get("notes", "/run/portal-clock"))
+
+    def text(self, name: str, language: Language) -> texts.Text | None:
+        """A text of the venue, where it has that."""
+        return texts.text(self.conf.get("texts", "/etc/portal/texts"), name, language)
+
+    def prices(self, language: Language) -> list[tuple[str, str]]:
+        """What the counter offers, where the venue shows that to guests."""
+        shown = self.conf.get("prices", False)
+        return list(prices(self.notes, self.conf.get("currency", ""), language)) if shown else []
+
+    def silence(self) -> str:
+        """What is said of a server that does not answer: what it waits for, where it says so."""
+        return CLOCK_WAITS if self.notes.read("state").get("is") == "waits" else NO_DESK
+
+    def device(self, address: str) -> str | None:
+        """The device that has an address; it is looked for twice, as DHCP may just renew its entry."""
+        device = self.device_at(address)
+        if device is None:
+            time.sleep(ONCE_MORE)
+            device = self.device_at(address)
+        return device
+
+    def signature(self, device: str) -> str:
+        """What only this page can write beside the name of a device, before a restart and after it."""
+        return hmac.new(self.key.encode(), device.encode(), hashlib.sha256).hexdigest()
+
+    def device_of(self, form: Form) -> str | None:
+        """The device that a form's page showed, if it was a page of ours."""
+        device = form.get("device", "")
+        good = hmac.compare_digest(self.signature(device).encode(), form.get("sign", "").encode())
+        return device if device and good else None
+
+    @property
+    def cookies(self) -> itsdangerous.URLSafeSerializer:
+        """Signs the cookie of a device with the key of the forms."""
+        return itsdangerous.URLSafeSerializer(self.key, salt="session",
+                                              signer_kwargs={"digest_method": hashlib.sha256})
+
+    def last(self, cookie: str, device: str | None) -> Last | None:
+        """What a cookie of ours says, if it is of this device."""
+        try:
+            last = Last(*self.cookies.loads(cookie))
+        except (itsdangerous.BadData, TypeError):
+            return None
+        return last if device and last.device == device else None
+
+    def knock(self) -> None:
+        """Has the agent look at once; if it does not hear, its next poll will do."""
+        with socket.socket(socket.AF_UNIX, socket.SOCK_DGRAM) as s:
+            s.setblocking(False)
+            try:
+                s.sendto(b"r", self.conf["knock"])
+            except OSError:
+                pass
+
+
+class Visit:
+    """One request of a guest: the device, the language, and what the page said before."""
+
+    def __init__(self, front: Front, request: flask.Request) -> None:
+        self.front = front
+        try:
+            self.form = Form.from_body(request) if request.method == "POST" else Form.from_query(request)
+        except BadForm:
+            self.form = Form()
+        self.choice = self.form.get("lang", "") if self.form.get("lang") in GUESTS else ""
+        kept = request.cookies.get(CHOICE_COOKIE, "")
+        self.language = Language(preferred_language(request.accept_languages, self.choice, kept))
+        self.device = front.device(request.headers.get("X-Real-IP", ""))
+        self.last = front.last(request.cookies.get(COOKIE, ""), self.device)
+        self.typed = self.form.get("code", "")[:LONGEST_TYPED]
+        self.code = plain_code(self.typed)
+        self.keep: Last | None = None       # what the next page is to know
+
+    def state(self) -> State:
+        """What the page of this device says: what is left, or what is wrong."""
+        say = self.language.say
+        if self.device is None:
+            return State(fault=refusal_text(refusals.NO_LEASE, self.language))
+        try:
+            reply = self.front.desk.request_json(Routes.CAPTIVE, device=self.device)
+        except (NoAnswer, Refused):
+            return State(fault=say(self.front.silence()))
+        if reply["captive"]:
+            self.front.most_data.forget(self.device)
+            return State(ended=self.end_text())
+        seconds = reply.get("seconds-remaining")
+        most = self.front.most_data.seen(self.device, reply.get("bytes-remaining", 0))
+        if self.last:
+            self.keep = Last(self.device, self.last.session,
+                             None if seconds is None else round(time.time()) + seconds)
+        return State(left_of(reply, most, self.language), session=self.last.session if self.last else None)
+
+    def end_text(self) -> str:
+        """What became of the session that the device had."""
+        if self.last is None:
+            return ""
+        over = self.last.until is not None and time.time() >= self.last.until - 1
+        return self.language.say(TIME_ENDED if over else ENDED)
+
+    def good_text(self) -> str:
+        """What the page says of a form that was sent before: that its code is good, and how often it can
+        be used."""
+        try:
+            self.form.whole("done")
+            left = self.form.whole("left")
+        except BadForm:
+            return ""
+        good = self.language.say("Your code is good.")
+        more = self.language.say_plural("It can be used %(num)s more time.",
+                                        "It can be used %(num)s more times.", left)
+        return f"{good} {more}" if left else good
+
+    def page(self, status: int = 200, bad: str = "", number: str = "", shown: str | None = None,
+             sent: str = "", wrong: str = "code") -> flask.Response:
+        """The portal page. That a code is good is shown to a device that is online alone; the form gets
+        `number`, or a new one, and what it `sent` if that is in doubt. It is for the device; a form for
+        another one, which was `shown` before, stays so and says nothing of this one. What is bad is about the
+        field `wrong`."""
+        silent = bool(shown or sent)
+        state = State() if silent else self.state()
+        device, has_form = shown or self.device or "", self.has_form(state, bad)
+        text = flask.render_template(
+            "portal.html", language=self.language, _=self.language.say, choice=self.choice, languages=GUESTS,
+            conf=self.front.conf, links=self.links(), greeting=self.front.text(texts.GREETING, self.language),
+            terms=self.front.terms_version, wrong=wrong, has_ticked=bool(self.form.get("terms")),
+            address=self.address, bad=bad, good=self.good_text() if state.left and not bad else "",
+            state=state, silent=silent, device=device, has_form=has_form, typed=self.typed,
+            sign=self.front.signature(device), number=number or new_number(), sent=sent)
+        response = flask.make_response(text, status)
+        if state.left and not has_form:
+            response.headers["Refresh"] = f"{state.left.wait}; url={self.address()}"
+        return self.with_session(response)
+
+    def has_form(self, state: State, bad: str) -> bool:
+        """Whether the page has the form. One that says what is left renews itself, which would empty a field:
+        there the form is a step away, and on a page that has a code."""
+        return not state.left or bool(bad or self.typed or self.form.get("add"))
+
+    def address(self, end: str = "", **more: str) -> str:
+        """The address of a page in the language that was chosen: of the portal page, or of one of `PAGES`."""
+        query = urllib.parse.urlencode({**more, **({"lang": self.choice} if self.choice else {})})
+        return "/portal" + (f"/{end}" if end else "") + (f"?{query}" if query else "")
+
+    def links(self) -> list[tuple[str, str]]:
+        """The venue's pages that there are: address and name of each."""
+        front, language = self.front, self.language
+        return [(self.address(end), language.say(words)) for end, words in PAGES.items()
+                if (front.prices(language) if end == "prices" else front.text(end, language))]
+
+    def venue_page(self, end: str) -> flask.Response:
+        """One of `PAGES`; the portal page instead of one that there is not."""
+        is_prices = end == "prices"
+        rows = self.front.prices(self.language) if is_prices else []
+        text = None if is_prices else self.front.text(end, self.language)
+        if not rows and text is None:
+            return flask.make_response(flask.redirect(self.address(), 302))
+        return self.with_session(flask.make_response(flask.render_template(
+            "text.html", language=self.language, _=self.language.say, conf=self.front.conf, text=text,
+            prices=rows, name=self.language.say(PAGES[end]), address=self.address)))
+
+    def with_session(self, response: flask.Response) -> flask.Response:
+        """The response with its language, and with the cookies of a new session and of a choice. Nothing
+        needs them: nginx's own answers and a page without the choice in its address follow it."""
+        response.headers["Content-Language"] = self.language.tag
+        response.headers["Vary"] = "Accept-Language, Cookie"
+        cookies = {CHOICE_COOKIE: self.choice} if self.choice else {}
+        if self.keep:
+            words = [self.keep.device, self.keep.session, self.keep.until]
+            cookies[COOKIE] = str(self.front.cookies.dumps(words))
+        for name, text in cookies.items():
+            response.set_cookie(name, text, 86_400 * COOKIE_DAYS, path="/portal", secure=True, httponly=True,
+                                samesite="Lax")
+        return response
+
+    def refuse(self, status: int, refusal: refusals.Refusal | None, **more: Any) -> flask.Response:
+        """The page again, with nothing done."""
+        self.front.counts.add(refusal.word if refusal else refusals.NO_LEASE.word)
+        words = refusal_text(refusal, self.language, self.code) if refusal else ""
+        return self.page(status, words, **more)
+
+    def answer(self) -> flask.Response:
+        """The answer to a form that was sent."""
+        number, shown = self.form.get("request", ""), self.front.device_of(self.form)
+        if self.device is None:
+            return self.refuse(403, None)
+        # nothing acts without: the form comes back with it
+        if shown is None or not REQUEST_NUMBER.fullmatch(number):
+            return self.refuse(400, refusals.of_word("id_reused"))
+        if shown != self.device:    # the form stays one for the device that its page showed
+            return self.refuse(409, refusals.OTHER_DEVICE, shown=shown)
+        if self.front.forms.is_of_another_code(number, self.device, self.code):
+            return self.refuse(409, refusals.of_word("id_reused"))
+        if self.front.terms_version and self.form.get("terms") != self.front.terms_version:
+            return self.refuse(400, NOT_AGREED, wrong="terms")
+        return self.redeem(self.device, number)
+
+    def redeem(self, device: str, form: str) -> flask.Response:
+        """Sends the numbers of this code and device one after another, until the device is online: the code
+        may have been typed at a RADIUS server before. A form that was sent before sends its own number
+        alone."""
+        front, reply = self.front, {}
+        again = front.forms.again(form, device, self.code, self.form.get("sent", ""))
+        for number in again or numbers(device, self.code):
+            front.forms.remember(form, device, self.code, number)
+            try:
+                reply = front.desk.request_json(Routes.REDEEM, body={"code": self.code},
+                                                device=device, number=number)
+            except Refused as fault:
+                if fault.in_doubt:
+                    return self.refuse(fault.status, refusals.of_word(fault.word), number=form, sent=number)
+                front.forms.forget(form, device)
+                return self.refuse(fault.status, refusals.of_word(fault.word))
+            except NoAnswer:
+                return self.no_answer(form, number)
+            if again or not self.is_over(device):
+                break
+        return self.online(device, reply) if reply else self.refuse(409, refusals.of_word("used_up"))
+
+    def no_answer(self, form: str, number: str) -> flask.Response:
+        """The page after no answer: to be sent again, or what the server waits for."""
+        why = self.front.silence()
+        if why == NO_DESK:
+            return self.refuse(504, refusals.NO_ANSWER, number=form, sent=number)
+        self.front.counts.add(refusals.NO_ANSWER.word)
+        return self.page(504, self.language.say(why), number=form, sent=number)
+
+    def is_over(self, device: str) -> bool:
+        """Whether the session of the last answer is over; where the desk does not say so, it is not."""
+        try:
+            return bool(self.front.desk.request_json(Routes.CAPTIVE, device=device)["captive"])
+        except (NoAnswer, Refused, KeyError):
+            return False
+
+    def online(self, device: str, reply: dict[str, Any]) -> flask.Response:
+        """The answer to a code that was accepted: it leads to the page."""
+        front = self.front
+        front.knock()
+        if front.terms_version:
+            front.agreed.add(reply["session"], front.terms_version)
+        if not reply["extended"]:
+            front.most_data.forget(device)
+        self.keep = Last(device, reply["session"])
+        # Another page than the answer to the form, so that loading it again does not send the code again.
+        response = flask.Response(status=303)
+        response.headers["Location"] = self.address(done=str(reply["session"]), left=str(reply["uses_left"]))
+        return self.with_session(response)
+
+
+def pages(front: Front) -> web.Application:
+    """The page, and before it the look-up that nginx makes for each request of a program."""
+    app = web.pages("front", HERE)
+
+    @app.route("/portal", methods=["GET", "POST"])
+    def portal() -> flask.Response:
+        """The page, or the answer to its form."""
+        visit = Visit(front, flask.request)
+        return visit.answer() if flask.request.method == "POST" else visit.page()
+
+    @app.route("/portal/<any(prices, terms, privacy):end>")
+    def venue_page(end: str) -> flask.Response:
+        """A page of the venue."""
+        return Visit(front, flask.request).venue_page(end)
+
+    def answer(environ: dict[str, Any], start: Callable[..., Any]) -> web.Answer:
+        """The application of WSGI: nginx's look-up of a device, or the pages."""
+        if environ["PATH_INFO"] != "/device":
+            page: web.Answer = app(environ, start)
+            return page
+        device = front.device(environ.get("HTTP_X_REAL_IP", ""))
+        # nginx takes the head alone; without a length waitress would hang up
+        head = [("Content-Length", "0")]
+        start("403 Forbidden", head) if device is None else start("200 OK",
+                                                                  [*head, ("Portal-Device", device)])
+        return []
+
+    return answer
+
+
+def main() -> None:
+    """Serves the guests' page and the look-up of devices."""
+    conf = settings("/etc/portal/front.toml")
+    door = web.listening(conf["socket"])    # requests wait here from now on
+    # takes its time; needs python3-pyroute2, which the page's tests do not
+    from portal_field.lib.neighbours import Neighbours
+
+    for tag in GUESTS:
+        Language(tag)       # the catalogues are read once
+    front = Front(Desk(conf["desk_port"]), conf, Neighbours(conf["lan"]).device, credential("form_key"),
+                  counts=Counts(conf.get("refusals")))
+    web.serve(pages(front), door, threads=32)
+
+
+if __name__ == "__main__":
+    main()

@@ -1,0 +1,1 @@
+"""What several parts use: the client of the server, languages, forms, pages behind nginx."""

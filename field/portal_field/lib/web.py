@@ -1,0 +1,96 @@
+"""Pages behind nginx: a WSGI application on a socket in the file system, by waitress.
+
+nginx has read the whole request before it calls, and keeps the log.
+"""
+
+from __future__ import annotations
+
+import contextlib
+import logging
+import os
+import pathlib
+import socket
+import threading
+import time
+from collections.abc import Callable, Iterable
+from typing import Any
+
+import flask
+import jinja2
+import waitress
+
+from portal_field.lib.notify import notify_systemd
+
+LIB = pathlib.Path(__file__).resolve().parent
+Answer = Iterable[bytes]
+Application = Callable[[dict[str, Any], Callable[..., Any]], Answer]
+ALIVE = 5.0         # seconds between two looks of the watchdog
+
+
+def listening(path: str) -> socket.socket:
+    """The socket that systemd holds for this service; without it a new one, which its user and group alone
+    may open."""
+    if os.environ.get("LISTEN_PID") == str(os.getpid()):
+        return socket.socket(fileno=3)
+    pathlib.Path(path).unlink(missing_ok=True)
+    door, mask = socket.socket(socket.AF_UNIX), os.umask(0o117)
+    try:
+        door.bind(path)
+    finally:
+        os.umask(mask)
+    door.listen(64)
+    return door
+
+
+def pages(name: str, folder: pathlib.Path) -> flask.Flask:
+    """An application whose templates are in the folder, or are of both pages, and whose answers nobody
+    keeps."""
+    app = flask.Flask(name, root_path=str(folder), static_folder=None)
+    app.jinja_options = {"trim_blocks": True, "lstrip_blocks": True, "undefined": jinja2.StrictUndefined}
+    app.jinja_loader = jinja2.FileSystemLoader([folder / "templates", LIB / "templates"])
+
+    @app.after_request
+    def no_store(response: flask.Response) -> flask.Response:
+        """Marks an answer as one that nobody keeps."""
+        response.headers.setdefault("Cache-Control", "no-store")
+        return response
+
+    return app
+
+
+def server(app: Application, door: socket.socket, threads: int) -> Any:
+    """A server that works on so many requests at a time; `run` takes them for ever."""
+    logging.getLogger("waitress.queue").setLevel(logging.ERROR)
+
+    def alive(environ: dict[str, Any], start: Callable[..., Any]) -> Answer:
+        """The application, and before it the answer at /alive, by which `watch` knows that requests are
+        worked on."""
+        if environ["PATH_INFO"] == "/alive":
+            start("204 No Content", [])
+            return []
+        return app(environ, start)
+
+    return waitress.create_server(alive, sockets=[door], threads=threads, ident=None, connection_limit=1000,
+                                  asyncore_use_poll=True, log_socket_errors=False,
+                                  max_request_body_size=65536,
+                                  clear_untrusted_proxy_headers=False)
+
+
+def watch(path: str) -> None:
+    """Reports the start as over with the first answer; a page that then does not answer within its time is
+    ended by systemd and started again."""
+    while True:
+        with contextlib.suppress(OSError), socket.socket(socket.AF_UNIX) as link:
+            link.settimeout(ALIVE)
+            link.connect(path)
+            link.sendall(b"GET /alive HTTP/1.0\r\n\r\n")
+            if link.recv(12).endswith(b" 204"):
+                notify_systemd(b"READY=1\nWATCHDOG=1")
+        time.sleep(ALIVE)
+
+
+def serve(app: Application, door: socket.socket, threads: int) -> None:
+    """Serves an application for ever, with systemd's watchdog where that asks for it."""
+    if os.environ.get("NOTIFY_SOCKET"):
+        threading.Thread(target=watch, args=(door.getsockname(),), daemon=True).start()
+    server(app, door, threads).run()

@@ -1,0 +1,1 @@
+"""Metrics of a venue for Prometheus."""

@@ -1,0 +1,1 @@
+"""Sheets of vouchers as PDF, in a unit of its own."""

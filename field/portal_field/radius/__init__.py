@@ -1,0 +1,1 @@
+"""Logins at access servers: what FreeRADIUS calls, and the agent that reports and disconnects."""

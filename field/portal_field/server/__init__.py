@@ -1,0 +1,1 @@
+"""The parent of the server, and what reports parts that fail."""

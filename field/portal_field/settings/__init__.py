@@ -1,0 +1,1 @@
+"""The settings of a venue, field.toml, and the set-up that makes every other file from them."""
