@@ -36,9 +36,9 @@ _portal_command() {
     if [[ $cur == -* ]]; then
         local options=--help
         case ${words[0]##*/} in
-            portal-setup) options+=' --ask --clerk --first-look --prices-as-shipped --renew' ;;
+            portal-setup) options+=' --ask --clerk --role --first-look --prices-as-shipped --renew' ;;
             portal-doctor) options+=' --all --json' ;;
-            portal-backup) options+=' --pid --still --check --keep --name' ;;
+            portal-backup) options+=' --pid --still --check --keep --name --journal' ;;
             portal-restore) options+=' --drill --folder --settings' ;;
         esac
         mapfile -t COMPREPLY < <(compgen -W "$options" -- "$cur")

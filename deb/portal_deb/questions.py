@@ -11,7 +11,7 @@ from collections.abc import Callable
 from dataclasses import dataclass
 from typing import Any
 
-from zones import ZONES, rule_in, rule_of
+from portal_field.lib.zones import ZONES, rule_in, rule_of
 
 Lines = dict[str, Any]      # keys of field.toml and their values
 VALUE = r'"(?:[^"\\]|\\.)*"|\[[^\]]*\]|[^#\s][^#\n]*?'
@@ -21,10 +21,10 @@ LOCAL_TIME = pathlib.Path("/etc/localtime")
 def with_lines(text: str, lines: Lines) -> str:
     """The text with these values in the places of those that it has; its comments stay."""
     for key, value in lines.items():
-        told = f"{key} = {json.dumps(value, ensure_ascii=False)}"
-        text, count = re.subn(rf"(?m)^{key} = (?:{VALUE})(?=[ \t]*(?:#|$))", lambda _: told, text)
+        line = f"{key} = {json.dumps(value, ensure_ascii=False)}"
+        text, count = re.subn(rf"(?m)^{key} = (?:{VALUE})(?=[ \t]*(?:#|$))", lambda _: line, text)
         if count == 0:
-            text = text.rstrip("\n") + f"\n{told}\n"
+            text = text.rstrip("\n") + f"\n{line}\n"
     return text
 
 
@@ -35,34 +35,45 @@ def leases_in(address: str) -> list[str]:
     if own.network.num_addresses >= 256:        # some stay free, for access points and printers
         first, last = first + 49, last - 4
     if first <= int(own.ip) <= last:            # the longer side of this machine's own address
-        first, last = max((first, int(own.ip) - 1), (int(own.ip) + 1, last), key=lambda pair: pair[1] - pair[0])
+        first, last = max((first, int(own.ip) - 1), (int(own.ip) + 1, last),
+                          key=lambda pair: pair[1] - pair[0])
     return [str(ipaddress.IPv4Address(first)), str(ipaddress.IPv4Address(last)), "1h"]
 
 
 class Here:
-    """What this machine can tell by itself."""
+    """What can be read from this machine."""
 
     def __init__(self) -> None:
-        self.devices = {row["ifname"]: row for row in self.told("ip", "-j", "address", "show") if row.get("ifname") != "lo"}
-        self.way_out = next((str(row["dev"]) for row in self.told("ip", "-j", "route", "show", "default")), "")
+        self.devices = {row["ifname"]: row for row in self.json_of("ip", "-j", "address", "show")
+                        if row.get("ifname") != "lo"}
+        self.way_out = next((str(row["dev"]) for row in self.json_of("ip", "-j", "route", "show", "default")),
+                            "")
 
     @staticmethod
-    def told(*words: str) -> list[dict[str, Any]]:
+    def json_of(*words: str) -> list[dict[str, Any]]:
+        """What `ip` prints as JSON; nothing where it fails."""
         done = subprocess.run(words, capture_output=True, text=True)
         return list(json.loads(done.stdout)) if done.returncode == 0 and done.stdout.strip() else []
 
     def address(self, device: str) -> str:
+        """The first IPv4 address of a device, with the network's length; empty where it has none."""
         rows = self.devices.get(device, {}).get("addr_info", ())
         return next((f"{row['local']}/{row['prefixlen']}" for row in rows if row.get("family") == "inet"), "")
 
+    def another_address(self, *taken: str) -> str:
+        """The address of the first device that is none of these and has one."""
+        return next(filter(None, map(self.address, self.others(*taken))), "")
+
     def others(self, *taken: str) -> list[str]:
+        """The devices that are none of these."""
         return [name for name in self.devices if name not in taken]
 
     @staticmethod
     def clock() -> str:
+        """The value of `clock` that fits: `kernel` where a time service keeps the clock, else `clerk`."""
         words = ("timedatectl", "show", "-p", "NTPSynchronized", "--value")
-        told = subprocess.run(words, capture_output=True, text=True)
-        return "kernel" if told.stdout.strip() == "yes" else "clerk"
+        process = subprocess.run(words, capture_output=True, text=True)
+        return "kernel" if process.stdout.strip() == "yes" else "clerk"
 
     @staticmethod
     def zone() -> str:
@@ -76,6 +87,7 @@ class Here:
 
 @dataclass(frozen=True)
 class Question:
+    """A key of field.toml, the words that ask for it, and the answer that an empty line takes."""
     key: str
     words: str
     default: Callable[[Here, Lines], str]
@@ -83,20 +95,23 @@ class Question:
 
 QUESTIONS = (
     Question("house", "The venue's name, as guests read it", lambda here, so_far: str(so_far["house"])),
-    Question("zone", "The venue's time zone, such as Europe/Berlin, or its POSIX rule", lambda here, so_far: here.zone()),
-    Question("clock", "Who says that its clock is right: kernel (a time service), host (of a virtual machine), clerk",
+    Question("zone", "The venue's time zone, such as Europe/Berlin, or its POSIX rule",
+             lambda here, so_far: here.zone()),
+    Question("clock",
+             "Who says that its clock is right: kernel (a time service), host (of a virtual machine), clerk",
              lambda here, so_far: here.clock()),
-    Question("wan", "The network device to the outside ({devices})", lambda here, so_far: here.way_out or so_far["wan"]),
+    Question("wan", "The network device to the outside ({devices})",
+             lambda here, so_far: here.way_out or so_far["wan"]),
     Question("lan", "The guests' network device ({devices})",
              lambda here, so_far: next(iter(here.others(so_far["wan"])), so_far["lan"])),
     Question("guests", "This machine's address on it, with the network's length",
              lambda here, so_far: here.address(so_far["lan"]) or so_far["guests"]),
     Question("counter", "This machine's address on the counter's network, with its length",
-             lambda here, so_far: next((here.address(name) for name in here.others(so_far["wan"], so_far["lan"])
-                                        if here.address(name)), so_far["counter"])),
+             lambda here, so_far: here.another_address(so_far["wan"], so_far["lan"]) or so_far["counter"]),
     Question("name", "The portal's name (your own: a name that a certificate can be had for)",
-             lambda here, so_far: so_far["name"]),
-    Question("counter_name", "The name of the counter's page", lambda here, so_far: so_far["counter_name"]))
+             lambda here, so_far: str(so_far["name"])),
+    Question("counter_name", "The name of the counter's page",
+             lambda here, so_far: str(so_far["counter_name"])))
 
 
 def lines_of(key: str, answer: str) -> Lines:
@@ -110,7 +125,8 @@ def lines_of(key: str, answer: str) -> Lines:
 
 def ask_all(text: str, read: Callable[[str], object], so_far: Lines, here: Here,
             say: Callable[[str], None] = print, hear: Callable[[str], str] = input) -> str:
-    """The text with the answers in it. `read` raises ValueError where a line is not what it must be."""
+    """Asks the questions. The text with the answers in it. `read` raises ValueError where a line is not what
+    it must be."""
     say("An empty answer takes what is in [ ].")
     so_far = dict(so_far)
     for question in QUESTIONS:

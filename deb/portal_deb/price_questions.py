@@ -5,9 +5,9 @@ from __future__ import annotations
 import re
 from collections.abc import Callable
 
-from languages import Language
-from plans import LIMITS, Plan, plans_in
-from samples import mark_as_chosen
+from portal_field.lib.languages import Language
+from portal_field.lib.plans import LIMITS, Plan, plans_in
+from portal_field.settings.samples import mark_as_chosen
 
 LEAVE_OUT = "-"
 AMOUNT = re.compile(r"(\d{1,7})(?:[.,](\d{1,2}))?")
@@ -15,8 +15,8 @@ AMOUNT = re.compile(r"(\d{1,7})(?:[.,](\d{1,2}))?")
 
 def hundredths(answer: str) -> int:
     """An amount such as 3, 3.5 or 3,50. ValueError: it is none, or more than a plan may cost."""
-    found = AMOUNT.fullmatch(answer)
-    amount = int(found[1]) * 100 + int((found[2] or "").ljust(2, "0")) if found else -1
+    match = AMOUNT.fullmatch(answer)
+    amount = int(match[1]) * 100 + int((match[2] or "").ljust(2, "0")) if match else -1
     if not LIMITS["price"][0] <= amount <= LIMITS["price"][1]:
         raise ValueError(f"an amount such as 3 or 3.50, at most {LIMITS['price'][1] // 100}, or {LEAVE_OUT}")
     return amount
@@ -31,11 +31,13 @@ def worth(plan: Plan) -> str:
 
 
 def with_price(block: str, amount: int) -> str:
+    """A plan's lines with that price."""
     return re.sub(r"(?m)^price = .*$", f"price = {amount}", block)
 
 
 def ask(text: str, say: Callable[[str], None] = print, hear: Callable[[str], str] = input) -> str:
-    """A sample of plans.toml with the prices that were answered, without the plans that were left out."""
+    """Asks for the price of each plan of a sample. The sample with the answers, without the plans that were
+    left out."""
     say("What does a voucher cost? Choose now: a plan that was loaded never changes. "
         f"{LEAVE_OUT} leaves a plan out.")
     head, *blocks = text.split("[[plan]]")
@@ -47,7 +49,7 @@ def ask(text: str, say: Callable[[str], None] = print, hear: Callable[[str], str
 
 
 def ask_one(block: str, say: Callable[[str], None], hear: Callable[[str], str]) -> str:
-    """One plan's lines with the price that was answered, or nothing where it is left out."""
+    """Asks for the price of one plan. Its lines with that price, or nothing where it is left out."""
     (name, plan), = plans_in(f"[[plan]]{block}".encode()).items()
     default = f"{plan['price'] // 100}.{plan['price'] % 100:02}"
     while True:

@@ -1,4 +1,5 @@
-"""A certificate that only this machine vouches for, for a first look; and how to have one that every phone takes."""
+"""A certificate that only this machine vouches for, for a first look; and how to have one that every phone
+takes."""
 
 from __future__ import annotations
 
@@ -8,15 +9,17 @@ import subprocess
 from typing import Any
 
 DAYS = 30
-OPENSSL = ("openssl", "req", "-x509", "-newkey", "ec", "-pkeyopt", "ec_paramgen_curve:P-256", "-nodes", "-days", str(DAYS))
+OPENSSL = ("openssl", "req", "-x509", "-newkey", "ec", "-pkeyopt", "ec_paramgen_curve:P-256", "-nodes",
+           "-days", str(DAYS))
 
 
 def is_needed(field: Any) -> bool:
+    """Whether neither file of the certificate is there."""
     return not os.path.exists(field.cert) and not os.path.exists(field.key)
 
 
 def make(field: Any) -> None:
-    """Both files of field.toml, where neither is there."""
+    """Makes both files of field.toml's certificate, where neither is there."""
     cert, key = pathlib.Path(field.cert), pathlib.Path(field.key)
     for folder in {cert.parent, key.parent}:
         folder.mkdir(parents=True, exist_ok=True)
@@ -33,16 +36,18 @@ def make(field: Any) -> None:
 def is_own(field: Any) -> bool:
     """Whether the certificate signs itself, so that no browser takes it without a question."""
     words = ("openssl", "x509", "-noout", "-subject", "-issuer", "-in", field.cert)
-    told = subprocess.run(words, capture_output=True, text=True).stdout.splitlines()
-    return len(told) == 2 and told[0].partition("=")[2].strip() == told[1].partition("=")[2].strip()
+    names = subprocess.run(words, capture_output=True, text=True).stdout.splitlines()
+    return len(names) == 2 and names[0].partition("=")[2].strip() == names[1].partition("=")[2].strip()
 
 
 def real_one(field: Any) -> str:
-    """How to have one of an authority, by a record in the DNS of the name: nobody needs to reach this machine."""
+    """How to get a certificate of an authority, by a record in the DNS of the name: nobody needs to reach
+    this machine."""
     names = f"-d {field.name} -d {field.counter_name}"
     return f"""\
-    Each browser warns of this certificate: it is for a first look, and ends after {DAYS} days. One that phones take,
-    by a DNS challenge (not tried; PROVIDER is who has your names; more in /usr/share/doc/portal/INSTALL.md):
+    Each browser warns of this certificate: it is for a first look, and ends after {DAYS} days. One that
+    phones take, by a DNS challenge (not tried; PROVIDER is who has your names; more in
+    /usr/share/doc/portal/INSTALL.md):
         apt install certbot python3-certbot-dns-PROVIDER
         certbot certonly --dns-PROVIDER --dns-PROVIDER-credentials /etc/letsencrypt/dns.ini {names} \\
             --deploy-hook 'systemctl reload nginx'

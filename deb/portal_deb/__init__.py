@@ -1,0 +1,1 @@
+"""What the Debian package adds to the kit: the command portal-setup."""

@@ -1,0 +1,177 @@
+"""A release without publishing it: what it refuses, what it has, its sums and its signature."""
+
+from __future__ import annotations
+
+import json
+import os
+import pathlib
+import re
+import subprocess
+from collections.abc import Iterator
+
+import pytest
+from tree import TOP, copy_tree, run, output
+
+VERSION = (TOP / "VERSION").read_text().strip()
+NAMES = sorted(["BUILT", "SHA256SUMS", "SHA256SUMS.sig", f"portal-{VERSION}-x86_64-linux", f"portal-{VERSION}.spdx.json",
+                f"portal-{VERSION}.tar.gz", f"portal_{VERSION}_amd64.deb"])
+pytestmark = pytest.mark.package
+
+
+def git(top: pathlib.Path, *words: str) -> None:
+    day = "2026-01-02T03:04:05Z"
+    run("git", "-C", top, "-c", "user.name=x", "-c", "user.email=x@example.com", *words, ok=True,
+        env={**os.environ, "GIT_AUTHOR_DATE": day, "GIT_COMMITTER_DATE": day, "GIT_CONFIG_GLOBAL": "/dev/null"})
+
+
+def make_repository(goal: pathlib.Path) -> pathlib.Path:
+    """A copy that is clean, and whose program is taken for shipped."""
+    top = copy_tree(goal)
+    (top / "tests").mkdir()
+    (top / "tests/shipped").write_text("#!/bin/sh\necho \"$(cat \"$0.says\")\"\ntest ! -s \"$0.says\"\n")
+    (top / "tests/shipped").chmod(0o755)
+    (top / "tests/shipped.says").write_text("")
+    (top / ".gitignore").write_text("out/\n__pycache__/\n")
+    (top / "CHANGELOG.md").write_text(f"# Changelog\n\n## Unreleased\n\n## {VERSION}\n\n### Added\n\n- all\n")
+    git(top, "init", "-q", "-b", "main")
+    git(top, "add", "-A")
+    git(top, "commit", "-q", "-m", "all")
+    return top
+
+
+@pytest.fixture(scope="module")
+def one_repository(room: pathlib.Path) -> pathlib.Path:
+    return make_repository(room / "release")
+
+
+@pytest.fixture
+def repository(one_repository: pathlib.Path) -> Iterator[pathlib.Path]:
+    """As it is committed; a test may change it."""
+    first = run("git", "-C", one_repository, "rev-parse", "HEAD", ok=True).stdout.strip()
+    yield one_repository
+    git(one_repository, "reset", "-q", "--hard", first)
+    git(one_repository, "clean", "-q", "-f", "-d")
+
+
+@pytest.fixture(scope="module")
+def key(room: pathlib.Path) -> pathlib.Path:
+    run("ssh-keygen", "-q", "-t", "ed25519", "-N", "", "-C", "thrown away", "-f", room / "key", ok=True)
+    return room / "key"
+
+
+@pytest.fixture(scope="module")
+def made(room: pathlib.Path, one_repository: pathlib.Path, key: pathlib.Path) -> pathlib.Path:
+    """The release's folder."""
+    done = run(one_repository / "deb/release", VERSION, room / "out", env={**os.environ, "KEY": str(key)})
+    assert done.returncode == 0, f"a release is made  [{output(done)}]"
+    return room / "out"
+
+
+# What is refused
+
+def check_refusal(top: pathlib.Path, what: str, word: str, version: str = VERSION) -> None:
+    done = run(top / "deb/release", version, top / "deb/out/refused")
+    assert done.returncode == 1 and word in done.stderr and not (top / "deb/out/refused").exists(), (
+        f"a release is refused: {what}  [{output(done)}]")
+
+
+def test_another_version_is_refused(repository: pathlib.Path) -> None:
+    check_refusal(repository, "a version that VERSION does not have", "VERSION says", "9.9.9")
+
+
+@pytest.mark.parametrize("what, name, text", [
+    pytest.param("a file that is not in git", "left", "x", id="file"),
+    pytest.param("a change that is not in git", "VERSION", VERSION + "\n\n", id="change")])
+def test_what_is_not_in_git_is_refused(repository: pathlib.Path, what: str, name: str, text: str) -> None:
+    (repository / name).write_text(text)
+    check_refusal(repository, what, "not clean")
+
+
+@pytest.mark.parametrize("what, word, name, text", [
+    pytest.param("no entry in CHANGELOG.md", "no entry", "CHANGELOG.md",
+                 "# Changelog\n\n## Unreleased\n\n## 0.9.0\n\n- x\n", id="no_entry"),
+    pytest.param("changes that are under Unreleased", "under Unreleased", "CHANGELOG.md",
+                 f"# Changelog\n\n## Unreleased\n\n- new\n\n## {VERSION}\n\n- x\n", id="unreleased"),
+    pytest.param("a program of other sources", "not of these sources", "tests/shipped.says", "other sources\n",
+                 id="program")])
+def test_what_is_in_git_is_refused(repository: pathlib.Path, what: str, word: str, name: str, text: str) -> None:
+    (repository / name).write_text(text)
+    git(repository, "commit", "-q", "-a", "-m", "change")
+    check_refusal(repository, what, word)
+
+
+def test_a_package_that_differs_is_refused(repository: pathlib.Path) -> None:
+    build, line = repository / "deb/build", 'put 644 "$here/copyright"'
+    text = build.read_text()
+    assert line in text
+    build.write_text(text.replace(line, f'date +%N >"$root/usr/share/moment"; {line}'))
+    git(repository, "commit", "-q", "-a", "-m", "change")
+    check_refusal(repository, "a package that differs when it is built twice", "differs when it is made twice")
+
+
+# What is made
+
+def test_files(made: pathlib.Path) -> None:
+    names = sorted(path.name for path in made.iterdir())
+    assert names == NAMES, "it has package, sources, bare program, SPDX list, sums and signature, and no key"
+
+
+def test_made_again(room: pathlib.Path, made: pathlib.Path) -> None:
+    again = run(make_repository(room / "release-again") / "deb/release", VERSION, room / "out-again", cwd="/", umask=0o027)
+    assert again.returncode == 0, f"a release is made again  [{output(again)}]"
+    differ = [name for name in NAMES if name != "SHA256SUMS.sig"
+              and (made / name).read_bytes() != (room / "out-again" / name).read_bytes()]
+    assert not differ, "made again from another clone: the same bytes of all but the signature"
+
+
+def test_sources_and_program(made: pathlib.Path) -> None:
+    sources, package = made / f"portal-{VERSION}.tar.gz", made / f"portal_{VERSION}_amd64.deb"
+    packed = run("tar", "-xzOf", sources, f"portal-{VERSION}/VERSION").stdout.strip()
+    inside = subprocess.run(f"dpkg-deb --fsys-tarfile {package} | tar -xO ./usr/bin/portal", shell=True, capture_output=True)
+    assert packed == VERSION and inside.stdout == (made / f"portal-{VERSION}-x86_64-linux").read_bytes(), (
+        "the sources are this version's, and the bare program is the package's")
+
+
+def test_sums(made: pathlib.Path) -> None:
+    sums = run("sha256sum", "--check", "--strict", "SHA256SUMS", cwd=made)
+    listed = [line.split(None, 1)[1] for line in (made / "SHA256SUMS").read_text().splitlines()]
+    every = sorted(path.name for path in made.iterdir() if not path.name.startswith("SHA256SUMS"))
+    assert sums.returncode == 0 and sorted(listed) == every, "SHA256SUMS has every file"
+
+
+def test_signature(room: pathlib.Path, made: pathlib.Path, key: pathlib.Path) -> None:
+    (room / "signers").write_text("release " + key.with_suffix(".pub").read_text())
+    words = ("ssh-keygen", "-Y", "verify", "-f", room / "signers", "-I", "release", "-n", "portal-release", "-s",
+             made / "SHA256SUMS.sig")
+    good = run(*words, input=(made / "SHA256SUMS").read_text())
+    bad = run(*words, input=(made / "SHA256SUMS").read_text().replace("0", "1", 1))
+    assert good.returncode == 0 and bad.returncode != 0, (
+        f"the signature is the key's, over these sums and no others  [{output(good)}]")
+
+
+def test_spdx_list(made: pathlib.Path) -> None:
+    """The fields that SPDX 2.3 demands (sections 6, 7 and 11), and that every relation names what is there."""
+    found = json.loads((made / f"portal-{VERSION}.spdx.json").read_text())
+    faults = [key for key in ("spdxVersion", "dataLicense", "SPDXID", "name", "documentNamespace", "creationInfo")
+              if not found.get(key)]
+    ids = [row["SPDXID"] for row in found["packages"]]
+    faults += [row["name"] for row in found["packages"]
+               if not row.get("downloadLocation") or not re.fullmatch(r"SPDXRef-[A-Za-z0-9.-]+", row["SPDXID"])]
+    faults += [link for link in found["relationships"]
+               if {link["spdxElementId"], link["relatedSpdxElement"]} - {*ids, "SPDXRef-DOCUMENT"}]
+    assert not faults and len(ids) == len(set(ids)), (
+        "the SPDX list has each field that is demanded, and no relation to nothing")
+
+
+def test_spdx_list_names_all(made: pathlib.Path) -> None:
+    path = made / f"portal-{VERSION}.spdx.json"
+    found = json.loads(path.read_text())
+    names = {row["name"] for row in found["packages"]}
+    sums = {row.get("packageFileName"): row["checksums"][0]["checksumValue"]
+            for row in found["packages"] if "checksums" in row}
+    seen = {name: run("sha256sum", made / str(name)).stdout.split()[0] for name in sums}
+    assert (sums == seen and len(sums) == 2
+            and {"sqlite", "httparse", "libc.so.6", "nftables", "python3-flask", "rattle-kit"} <= names
+            and "named no licence" in path.read_text()), (
+        "it names package and program by their sums, the libraries within and beside, and says that no "
+        f"licence is named  [{sorted(sums)}]")
