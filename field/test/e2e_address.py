@@ -135,7 +135,7 @@ def test_released(lab: AddressLab, what: str) -> None:
 
 
 def test_released_at_a_restart(lab: AddressLab) -> None:
-    """The lease is released while portal-leases is stopped; and it is killed while the kernel asks the device."""
+    """The lease is released while portal-leases is stopped."""
     lab.online("guest1")
     lab.online("guest2")
 
@@ -149,6 +149,12 @@ def test_released_at_a_restart(lab: AddressLab) -> None:
         f"a release over a restart of portal-leases takes no packet  [{stolen} stolen, {came} of {sent} "
         "came]")
     again(lab)
+
+
+def test_killed_while_it_asks(lab: AddressLab) -> None:
+    """The lease is released, and portal-leases is killed while the kernel asks the device."""
+    lab.online("guest1")
+    lab.online("guest2")
     sent, came, stolen = stolen_stream(lab, lambda: killed_while_it_asks(lab))
     assert stolen == 0 and came == sent > 5000, (
         f"nor does one where it is killed while the device is asked  [{stolen} stolen, {came} of {sent} "
@@ -159,9 +165,10 @@ def test_released_at_a_restart(lab: AddressLab) -> None:
 
 
 def killed_while_it_asks(lab: AddressLab) -> None:
-    """The first guest does not answer ARP for a moment, so that it is being asked when portal-leases is killed."""
+    """The first guest sends no ARP for a moment, so that it is being asked when portal-leases is killed. A question of its
+    own would be an answer too."""
     address = lab.address("guest1")
-    lab.within("guest1", "nft", "add table arp w; add chain arp w i { type filter hook input priority 0; policy drop; }")
+    lab.within("guest1", "nft", "add table arp w; add chain arp w o { type filter hook output priority 0; policy drop; }")
     assert_forged_are_dropped(lab)
     try:
         lab.until(lambda: lab.entry(address)[1] not in ("", "PERMANENT"), 5, "a question")

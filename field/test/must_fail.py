@@ -200,7 +200,8 @@ def main() -> int:
             continue
         survivors += verdict != "refused"
         word = "ok  " if verdict == "refused" else "FAIL"
-        print(f"{word} {mutant.name}: {verdict} by `{mutant.fails}`", flush=True)
+        lines = verdict.replace("\n", "\n  ")      # (so that no line that a test wrote looks like one of these)
+        print(f"{word} {mutant.name}: {lines} by `{mutant.fails}`", flush=True)
     print(*skipped, f"{len(mutants) - survivors - len(skipped)} passed, {survivors} failed", sep="\n")
     return int(survivors > 0)
 
