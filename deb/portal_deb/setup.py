@@ -43,8 +43,9 @@ PARTS = ("portal.service", "portal-gateway.service", "portal-leases.service", "p
 # Parts that are off until field.toml has their table or line; which file is made then.
 OPTIONAL = {"portal-radius.service": "radius.toml", "portal-radius-agent.service": "radius.toml",
             "portal-metrics.service": "metrics.toml"}
-# the counter's page wants the socket
+# the counter's page wants the one socket, and the guests' page the other
 WRITER, WRITER_SOCKET = "portal-settings.service", "portal-settings.socket"
+GIVER, GIVER_SOCKET = "portal-give.service", "portal-give.socket"
 COUNTER_NGINX, COUNTER_CONF = "portal-counter-nginx.service", "/etc/portal/counter-nginx/nginx.conf"
 RULES, DNSMASQ = pathlib.Path("/etc/portal/rules.nft"), pathlib.Path("/etc/dnsmasq.d/portal.conf")
 # as Debian's unit has it, beside /etc/dnsmasq.conf
@@ -258,7 +259,8 @@ def renew(rules: str, keeper: Keeper) -> None:
         ctl("try-reload-or-restart", rules, check=False)
     if is_active("portal-front.service"):      # which needs it, and an earlier version did not have it
         ctl("enable", "--now", "portal-leases.service", check=False)
-    for unit in (*PARTS[1:], WRITER):
+        ctl("start", GIVER_SOCKET, check=False)
+    for unit in (*PARTS[1:], WRITER, GIVER):
         ctl("try-restart", unit, check=False)
     if is_active("portal-counter.service"):     # which wants it, and an earlier version did not have it
         ctl("start", WRITER_SOCKET, check=False)

@@ -88,6 +88,26 @@ def foresee_refusal(machine: Machine, data: bytes) -> tuple[str, list[str]]:
     return "plan_differs" if differences else "", [str(one) for one in differences]
 
 
+def free_minutes(machine: Machine) -> Iterator[Finding]:
+    """Whether the plan of which guests get a voucher for nothing, where the venue names one, has no price."""
+    name, path = machine.field.free_plan, machine.path(PLANS)
+    if not name:
+        return
+    plan = plans_in((path if path.exists() else SAMPLE).read_bytes()).get(name)
+    if plan is None:
+        yield wrong(f"free_plan names {name}, and {PLANS} has no such plan: nothing is given",
+                    f"add a plan with id = \"{name}\" and price = 0 there, then {RESTART}")
+    elif plan.get("price") != 0:
+        yield wrong(f"free_plan names {name}, and that plan has a price: nothing is given",
+                    f"make a plan with price = 0 in {PLANS}, then {RESTART}, name that one, `portal-setup`")
+    elif plan.get("uses") != 1:
+        yield warning(f"free_plan names {name}, which has {plan.get('uses')} uses: a device gets one of them",
+                      "name a plan with uses = 1, then `portal-setup`")
+    else:
+        yield good(f"each device gets a voucher of {name} a day for nothing, all together "
+                   f"{machine.field.free_daily}")
+
+
 def check_offers_file(machine: Machine, note: dict[str, Any]) -> Iterator[Finding]:
     """Whether offers.toml, which says what is not offered, is read and counts."""
     path = machine.path(OFFERS)

@@ -17,6 +17,7 @@ import itsdangerous
 
 from portal_field.guests import texts
 from portal_field.guests.agreed import Agreed
+from portal_field.guests.gifts import BUSY, DONE, NO_ANSWER, Gifts, Offer, refusal_of
 from portal_field.guests.left import Left, MostData, left_of
 from portal_field.guests.prices import prices
 from portal_field.lib import refusals, web
@@ -44,6 +45,7 @@ NOT_AGREED = refusals.Refusal(0, "not_agreed", 400, "", "", guest_words(
 # The venue's pages, by the ends of their addresses.
 PAGES = {"prices": guest_words("Prices"), texts.TERMS: guest_words("Terms of use"),
          texts.PRIVACY: guest_words("Privacy notice")}
+ENDED_HERE = guest_words("You have ended your session.")
 ENDED = guest_words("Your session has ended: its data is used up, or it was closed at the counter.")
 
 
@@ -82,6 +84,11 @@ class Front:
         if "zone" in self.conf:     # the file may be of before
             use_zone(self.conf["zone"])
         self.agreed = Agreed(self.conf.get("agreed", ""), self.conf.get("terms_days", 90))
+
+    @property
+    def gifts(self) -> Gifts | None:
+        """The part that gives free minutes and ends sessions; None where the settings do not name it."""
+        return Gifts(self.conf["give"]) if self.conf.get("give") else None
 
     @property
     def terms_version(self) -> str:
@@ -160,7 +167,8 @@ class Visit:
         self.choice = self.form.get("lang", "") if self.form.get("lang") in GUESTS else ""
         kept = request.cookies.get(CHOICE_COOKIE, "")
         self.language = Language(preferred_language(request.accept_languages, self.choice, kept))
-        self.device = front.device(request.headers.get("X-Real-IP", ""))
+        self.place = request.headers.get("X-Real-IP", "")       # its address
+        self.device = front.device(self.place)
         self.last = front.last(request.cookies.get(COOKIE, ""), self.device)
         self.typed = self.form.get("code", "")[:LONGEST_TYPED]
         self.code = plain_code(self.typed)
@@ -187,6 +195,8 @@ class Visit:
 
     def end_text(self) -> str:
         """What became of the session that the device had."""
+        if self.form.get("ended"):
+            return self.language.say(ENDED_HERE)
         if self.last is None:
             return ""
         over = self.last.until is not None and time.time() >= self.last.until - 1
@@ -220,18 +230,28 @@ class Visit:
             terms=self.front.terms_version, wrong=wrong, has_ticked=bool(self.form.get("terms")),
             address=self.address, bad=bad, good=self.good_text() if state.left and not bad else "",
             state=state, silent=silent, device=device, has_form=has_form, typed=self.typed,
+            offer=None if silent else self.offer(state, wrong),
             sign=self.front.signature(device), number=number or new_number(), sent=sent)
         response = flask.make_response(text, status)
         if state.left and not has_form:
             response.headers["Refresh"] = f"{state.left.wait}; url={self.address()}"
         return self.with_session(response)
 
+    def offer(self, state: State, wrong: str) -> Offer | None:
+        """What a device that is not online can have for nothing, where the venue gives something; also where
+        the server is silent and the button is to be pressed again."""
+        gifts = self.front.gifts if self.front.conf.get("free") else None
+        is_silent = bool(state.fault) and wrong != "offer"
+        if gifts is None or self.device is None or state.left or is_silent:
+            return None
+        return gifts.offer(self.place, self.device, self.language)
+
     def has_form(self, state: State, bad: str) -> bool:
         """Whether the page has the form. One that says what is left renews itself, which would empty a field:
         there the form is a step away, and on a page that has a code."""
         return not state.left or bool(bad or self.typed or self.form.get("add"))
 
-    def address(self, end: str = "", **more: str) -> str:
+    def address(self, end: str = "", **more: str | int) -> str:
         """The address of a page in the language that was chosen: of the portal page, or of one of `PAGES`."""
         query = urllib.parse.urlencode({**more, **({"lang": self.choice} if self.choice else {})})
         return "/portal" + (f"/{end}" if end else "") + (f"?{query}" if query else "")
@@ -283,11 +303,62 @@ class Visit:
             return self.refuse(400, refusals.of_word("id_reused"))
         if shown != self.device:    # the form stays one for the device that its page showed
             return self.refuse(409, refusals.OTHER_DEVICE, shown=shown)
+        act = self.form.get("act", "")
+        if act == "end":
+            return self.end(self.device)
         if self.front.forms.is_of_another_code(number, self.device, self.code):
             return self.refuse(409, refusals.of_word("id_reused"))
         if self.front.terms_version and self.form.get("terms") != self.front.terms_version:
-            return self.refuse(400, NOT_AGREED, wrong="terms")
-        return self.redeem(self.device, number)
+            return self.refuse(400, NOT_AGREED, wrong="free_terms" if act == "free" else "terms")
+        return self.free(self.device) if act == "free" else self.redeem(self.device, number)
+
+    def act(self, act: str, device: str, session: int = 0) -> dict[str, Any]:
+        """What portal-give answers to an act for this device. Where there is no such part it does nothing."""
+        gifts = self.front.gifts
+        return gifts.ask(act, self.place, device, session) if gifts else {"answer": "off"}
+
+    def words_of(self, word: str) -> str:
+        """What a guest reads of a refusal of portal-give, or of what the server waits for."""
+        why = self.front.silence()
+        is_known = word == NO_ANSWER and why != NO_DESK
+        return self.language.say(why) if is_known else refusal_text(refusal_of(word), self.language)
+
+    def free(self, device: str) -> flask.Response:
+        """The answer to the button of free minutes. Who is online already has what it gives."""
+        word = str((reply := self.act("free", device))["answer"])
+        if word == DONE:
+            return self.online(device, reply)
+        if word == "online":
+            return self.with_session(flask.make_response(flask.redirect(self.address(), 303)))
+        self.front.counts.add(word)
+        return self.page(refusal_of(word).status, self.words_of(word), wrong="offer")
+
+    def question(self, status: int = 200, bad: str = "", session: int = 0) -> flask.Response:
+        """Asks whether the session is to end, and says what is lost by it; once more where something is bad.
+        A device that is not online gets its page."""
+        state, gifts = self.state(), self.front.gifts
+        if gifts is None or self.device is None or state.left is None and not bad:
+            return self.page()
+        text = flask.render_template(
+            "end.html", language=self.language, _=self.language.say, choice=self.choice, conf=self.front.conf,
+            state=state, address=self.address, device=self.device, sign=self.front.signature(self.device),
+            number=new_number(), bad=bad, session=session or gifts.session(self.place, self.device))
+        return self.with_session(flask.make_response(text, status))
+
+    def end(self, device: str) -> flask.Response:
+        """The answer to the button that ends the session which its page showed."""
+        try:
+            session = self.form.whole("session")
+        except BadForm:
+            return self.refuse(400, refusals.of_word("id_reused"), wrong="offer")
+        word = str(self.act("end", device, session)["answer"])
+        if word == DONE:
+            self.front.knock()
+            return self.with_session(flask.make_response(flask.redirect(self.address(ended="1"), 303)))
+        self.front.counts.add(word)
+        bad, status = self.words_of(word), refusal_of(word).status
+        again = word in (NO_ANSWER, BUSY, "no_record")
+        return self.question(status, bad, session) if again else self.page(status, bad, wrong="offer")
 
     def redeem(self, device: str, form: str) -> flask.Response:
         """Sends the numbers of this code and device one after another, until the device is online: the code
@@ -337,7 +408,8 @@ class Visit:
         self.keep = Last(device, reply["session"])
         # Another page than the answer to the form, so that loading it again does not send the code again.
         response = flask.Response(status=303)
-        response.headers["Location"] = self.address(done=str(reply["session"]), left=str(reply["uses_left"]))
+        said = {"done": reply["session"], "left": reply["uses_left"]} if "uses_left" in reply else {}
+        response.headers["Location"] = self.address(**said)
         return self.with_session(response)
 
 
@@ -349,7 +421,9 @@ def pages(front: Front) -> web.Application:
     def portal() -> flask.Response:
         """The page, or the answer to its form."""
         visit = Visit(front, flask.request)
-        return visit.answer() if flask.request.method == "POST" else visit.page()
+        if flask.request.method == "POST":
+            return visit.answer()
+        return visit.question() if visit.form.get("stop") else visit.page()
 
     @app.route("/portal/<any(prices, terms, privacy):end>")
     def venue_page(end: str) -> flask.Response:

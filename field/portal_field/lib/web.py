@@ -19,27 +19,14 @@ import flask
 import jinja2
 import waitress
 
+from portal_field.lib import doors
 from portal_field.lib.notify import notify_systemd
 
 LIB = pathlib.Path(__file__).resolve().parent
 Answer = Iterable[bytes]
 Application = Callable[[dict[str, Any], Callable[..., Any]], Answer]
 ALIVE = 5.0         # seconds between two looks of the watchdog
-
-
-def listening(path: str) -> socket.socket:
-    """The socket that systemd holds for this service; without it a new one, which its user and group alone
-    may open."""
-    if os.environ.get("LISTEN_PID") == str(os.getpid()):
-        return socket.socket(fileno=3)
-    pathlib.Path(path).unlink(missing_ok=True)
-    door, mask = socket.socket(socket.AF_UNIX), os.umask(0o117)
-    try:
-        door.bind(path)
-    finally:
-        os.umask(mask)
-    door.listen(64)
-    return door
+listening = doors.listening
 
 
 def pages(name: str, folder: pathlib.Path) -> flask.Flask:

@@ -32,7 +32,7 @@ from portal_field.doctor.findings import Finding, Look, Machine, State, findings
 from portal_field.doctor.network import addresses, devices, ports
 from portal_field.doctor.optional import optional
 from portal_field.doctor.others import others
-from portal_field.doctor.prices import plans
+from portal_field.doctor.prices import free_minutes, plans
 from portal_field.lib import colours
 from portal_field.lib.error_pages import away_page, error_pages
 from portal_field.lib.languages import GUESTS
@@ -43,7 +43,7 @@ from portal_field.settings.venue import BadSettings, Field, toml_lines
 
 LOGO_TYPES = {"svg": "image/svg+xml", "png": "image/png", "jpg": "image/jpeg"}
 BEFORE: tuple[Look, ...] = (
-    devices, addresses, certificate, zone, clock, ports, others, optional, plans, disk)
+    devices, addresses, certificate, zone, clock, ports, others, optional, plans, free_minutes, disk)
 POLICY = ("default-src 'none'; style-src 'self'; img-src 'self'; form-action 'self'; frame-ancestors 'none'; "
           "base-uri 'none'")
 
@@ -67,7 +67,8 @@ INSTALLED = {       # from the kit, with the words between @ signs filled in
         "portal-radius.service", "portal-radius-agent.service", "portal-metrics.service",
         "portal-failed@.service", "portal-restarts.service", "portal-restarts.timer", "portal-front.socket",
         "portal-counter.socket", "portal-paper.socket", "portal-paper@.service", "portal-report.service",
-        "portal-report.timer", "portal-settings.socket", "portal-settings.service")},
+        "portal-report.timer", "portal-settings.socket", "portal-settings.service", "portal-give.socket",
+        "portal-give.service")},
 }
 # Where the counter's page is served: by an nginx of its own; or, as earlier versions have it, by that of the
 # guests' page
@@ -165,7 +166,9 @@ class Maker:
                                        "texts": str(self.etc / "texts"), "logo": bool(field.logo),
                                        "prices": field.guest_prices, "currency": field.currency,
                                        "terms_version": field.terms_version, "terms_days": field.terms_days,
-                                       "agreed": str(self.root / "var/lib/portal-front/agreed.db")})
+                                       "agreed": str(self.root / "var/lib/portal-front/agreed.db"),
+                                       "give": run + "/portal-give/socket", "free": bool(field.free_plan)})
+        self.give_settings(snapshot)
         self.style()
         self.write_toml("server.toml", {"clock": field.clock, "zone": field.zone})
         self.write_toml("failed.toml", {"on_failure": field.on_failure})
@@ -174,6 +177,17 @@ class Maker:
         self.metrics(run, port)
         state = self.root / "var/lib/portal-radius"
         radius_files.make(field, self.etc, self.kit, run + "/portal-radius", str(state), self.write)
+
+    def give_settings(self, snapshot: str) -> None:
+        """Makes the settings of the part that gives free minutes and ends sessions."""
+        field, run = self.field, self.run
+        network = ipaddress.IPv4Interface(field.guests).network
+        self.write_toml("give.toml", {"lan": field.lan, "network": str(network), "zone": field.zone,
+                                      "desk_port": field.desk_port, "socket": run + "/portal-give/socket",
+                                      "front_user": "portal-front", "snapshot": snapshot,
+                                      "plans": str(self.etc / "plans.toml"), "free_plan": field.free_plan,
+                                      "free_daily": field.free_daily,
+                                      "record": str(self.root / "var/lib/portal-give/given.db")})
 
     def style(self) -> None:
         """Makes the style sheet of the guests' page, with the venue's colour, and the folder of its texts."""
@@ -205,7 +219,8 @@ class Maker:
                                          "payments": field.payments, "drawers": field.drawers,
                                          "receipt_size": field.receipt_size,
                                          "receipt_head": field.receipt_head,
-                                         "csv_separator": field.csv_separator},
+                                         "csv_separator": field.csv_separator,
+                                         "free_days": str(self.root / "var/lib/portal-give/days.json")},
                         0o640, "portal-counter")      # which has the password of the Wi-Fi
 
     def accounts(self) -> None:

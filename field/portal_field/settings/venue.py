@@ -24,6 +24,7 @@ TIME = re.compile(r"[0-9]{1,4}[mhd]?")
 # bytes that nftables compares at once, and that it reaches (byte 255 is the last)
 WIDEST, LONGEST = 16, 224
 URL = re.compile(r"https://[A-Za-z0-9][A-Za-z0-9._~:/?#@!$&'()*+,;=%-]{0,500}")
+PLAN = re.compile(r"[a-z0-9-]{1,32}")
 VERSION = re.compile(r"[A-Za-z0-9._-]{1,32}")
 CURRENCY = re.compile(r"[A-Z]{3}")
 # of the guests' catalogues
@@ -97,6 +98,8 @@ class Field:
     guest_prices: bool = False
     terms_version: str = ""
     terms_days: int = 90
+    free_plan: str = ""
+    free_daily: int = 200
     metrics: str = ""
     metrics_takings: bool = False
     radius: dict[str, Any] = listing(default_factory=dict)
@@ -203,16 +206,18 @@ class Field:
         shapes = {"venue_url": (URL, "https:// and an address, or nothing"),
                   "guest_colour": (COLOUR, "a colour such as #0b5d51, or nothing"),
                   "terms_version": (VERSION, "at most 32 letters, digits, points, hyphens and low lines, "
-                                             "such as 2026-03, or nothing")}
+                                             "such as 2026-03, or nothing"),
+                  "free_plan": (PLAN, "the id of a plan of price 0, or nothing")}
         for key, (shape, words) in shapes.items():
             value = getattr(self, key)
             if not isinstance(value, str) or value and not shape.fullmatch(value):
                 raise BadSettings(f"{key} = {value!r}: {words}")
         if not isinstance(self.guest_prices, bool):
             raise BadSettings("guest_prices is true or false")
-        days = self.terms_days
-        if isinstance(days, bool) or not isinstance(days, int) or not 1 <= days <= 3660:
-            raise BadSettings(f"terms_days = {days!r}: from 1 to 3660")
+        for key, most in (("terms_days", 3660), ("free_daily", 100_000)):
+            value = getattr(self, key)
+            if isinstance(value, bool) or not isinstance(value, int) or not 1 <= value <= most:
+                raise BadSettings(f"{key} = {value!r}: from 1 to {most}")
 
     def check_pages(self) -> None:
         """BadSettings: a line about the pages is not valid."""

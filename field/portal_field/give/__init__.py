@@ -1,0 +1,1 @@
+"""The part that gives free minutes to a guest's device, and ends its session."""
