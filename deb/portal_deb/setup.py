@@ -43,7 +43,7 @@ PARTS = ("portal.service", "portal-gateway.service", "portal-leases.service", "p
 # Parts that are off until field.toml has their table or line; which file is made then.
 OPTIONAL = {"portal-radius.service": "radius.toml", "portal-radius-agent.service": "radius.toml",
             "portal-metrics.service": "metrics.toml"}
-# the counter's page wants the one socket, and the guests' page the other
+# what the counter's page wants, and the guests' page
 WRITER, WRITER_SOCKET = "portal-settings.service", "portal-settings.socket"
 GIVER, GIVER_SOCKET = "portal-give.service", "portal-give.socket"
 COUNTER_NGINX, COUNTER_CONF = "portal-counter-nginx.service", "/etc/portal/counter-nginx/nginx.conf"

@@ -28,11 +28,12 @@ MACS = {"guest1": "02:aa:00:00:00:01", "guest2": "02:aa:00:00:00:02",
 PORTS = {"guest1": "lan1", "guest2": "lan2", "outside": "wan0", "clerk": "ctr0"}
 SPACES = ("gw", *PORTS)
 USERS = {"desk": (7000, 7000, ""), "gateway": (7001, 7001, ""), "front": (7002, 33, "7001"),
-         "counter": (7003, 33, "7001"), "leases": (7004, 7004, "")}
+         "counter": (7003, 33, "7001"), "leases": (7004, 7004, ""), "give": (7006, 7001, "")}
 SERVICES = {"gateway": "portal_field.gateway.agent", "leases": "portal_field.gateway.leases",
-            "front": "portal_field.guests.page", "counter": "portal_field.counter.page"}
+            "give": "portal_field.give.giver", "front": "portal_field.guests.page",
+            "counter": "portal_field.counter.page"}
 WEB = {"nginx": ("nginx.conf", "10.77.0.1"), "counter-nginx": ("etc/portal/counter-nginx/nginx.conf", "10.88.0.1")}
-CAPABLE, WITH_A_SOCKET = ("gateway", "leases"), ("front", "counter")
+CAPABLE, WITH_A_SOCKET = ("gateway", "leases"), ("front", "counter", "give")
 SMALL_PLAN = """
 [[plan]]
 id = "small"
@@ -137,7 +138,7 @@ class Network(Programs):
     def rules(self) -> None:
         """Loads the packet rules as their unit does; the users are this test's numbers."""
         path = self.root / "etc/portal/rules.nft"
-        text = re.sub(r"define desk_users = .*", "define desk_users = { 0, 33, 7001, 7002, 7003 }", path.read_text())
+        text = re.sub(r"define desk_users = .*", "define desk_users = { 0, 33, 7001, 7002, 7003, 7006 }", path.read_text())
         path.write_text(text)
         self.within("gw", "nft", "-f", path)
 
@@ -164,7 +165,12 @@ class Network(Programs):
                 folder.mkdir(parents=True)
                 os.chown(folder, user, group)
                 folder.chmod(0o750)
-        for name, secret in (("gateway", "gateway_token"), ("counter", "desk_token"), ("front", "form_key")):
+        (root / "var/lib/portal-give").mkdir(parents=True)
+        os.chown(root / "var/lib/portal-give", USERS["give"][0], USERS["give"][1])
+        give = etc / "give.toml"
+        give.write_text(give.read_text().replace('"portal-front"', f'"{USERS["front"][0]}"'))
+        for name, secret in (("gateway", "gateway_token"), ("counter", "desk_token"), ("give", "desk_token"),
+                             ("front", "form_key")):
             goal = root / f"creds-{name}" / secret
             shutil.copy(etc / "credentials" / secret, goal)
             os.chown(goal, USERS[name][0], 0)

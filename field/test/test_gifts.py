@@ -34,6 +34,7 @@ class Gifts(Served):
     def setUp(self) -> None:
         super().setUp()
         self.enterContext(contextlib.redirect_stderr(io.StringIO()))
+        self.enterContext(mock.patch.object(gifts, "LOOK", 60.0))
         folder = self.path.parent
         self.list, plans = folder / "sessions.json", folder / "plans.toml"
         plans.write_bytes(PLANS + FREE_PLAN.encode())

@@ -11,7 +11,7 @@ from portal_field.lib.languages import Language
 from portal_field.lib.message_marks import guest_words
 from portal_field.lib.refusals import Refusal
 
-LOOK, ACT = 1.0, 15.0       # seconds that the page waits: nginx waits for it 20
+LOOK, ACT = 2.0, 15.0       # seconds that the page waits: nginx waits for it 20
 DONE = "done"
 NO_ANSWER, BUSY = "no_answer", "busy"
 HAD = guest_words("This device has had its free time for today.")
@@ -58,10 +58,10 @@ class Gifts:
         """What the device can have for nothing now; nothing where the venue gives nothing, or the part does
         not say so."""
         reply = self.ask("look", address, device)
-        reasons = {"had": HAD, "none_left": NONE_LEFT}
+        reason = {"had": HAD, "none_left": NONE_LEFT}.get(reply.get("free", ""))
         if reply["answer"] == DONE and reply.get("free") == "yes":
             return Offer(worth({"seconds": reply["seconds"], "bytes": reply["bytes"], "uses": 1}, language))
-        return Offer(why_not=language.say(reasons[reply["free"]])) if reply.get("free") in reasons else None
+        return Offer(why_not=language.say(reason)) if reason else None
 
     def session(self, address: str, device: str) -> int:
         """The number of the device's open session; 0 where the part does not say it."""
