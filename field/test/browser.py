@@ -15,13 +15,16 @@ import threading
 import time
 from typing import Any
 
-from desk_process import FIELD, Desk, DeskProcess, Routes
+from desk_process import FIELD, PLANS, Desk, DeskProcess, Routes
+from give_fixture import FREE_PLAN
 
 from portal_field.counter import page as counter_page
 from portal_field.counter.clerk import Counter
 from portal_field.counter.journal import Journal
+from portal_field.give import giver
+from portal_field.give.record import Record
 from portal_field.guests import page as guest_page
-from portal_field.lib import web
+from portal_field.lib import doors, web
 from needs import lacks
 from steady import wait_until
 
@@ -111,6 +114,18 @@ class Venue:
         threading.Thread(target=server.run, daemon=True).start()
         self.servers.append(server)
         return f"http://localhost:{door.getsockname()[1]}"
+
+    def give(self) -> None:
+        """Has the venue give free minutes, by a part of its own."""
+        folder = pathlib.Path(self.place.name)
+        plans = folder / "plans.toml"
+        plans.write_bytes(PLANS + FREE_PLAN.encode())
+        self.desk.desk.request_json(Routes.PLANS, body=plans.read_bytes())
+        conf = {"network": "127.0.0.0/8", "snapshot": str(self.list), "plans": str(plans), "free_plan": "free", "free_daily": 9}
+        part = giver.Giver(Desk(self.desk.port, "desk-token"), Record(folder / "given.db"), lambda _: self.device, conf)
+        door = self.stack.enter_context(contextlib.closing(doors.listening(str(folder / "give"))))
+        threading.Thread(target=doors.Door(door, "portal-front", giver.MOST_BYTES, part.answer).serve, daemon=True).start()
+        self.conf.update(give=str(folder / "give"), free=True)
 
     def look(self, code: str) -> str:
         """The query of a code's pages, as after it was typed."""

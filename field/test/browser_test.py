@@ -25,7 +25,7 @@ from portal_field.counter.labels import Paper
 from portal_field.counter.receipt_numbers import Till
 from portal_field.counter.sheet import Sheet, sheet_of, words_of
 from portal_field.counter.shifts import Shifts
-from portal_field.guests import left
+from portal_field.guests import gifts, left
 from portal_field.lib.desk_client import new_number
 from portal_field.lib.languages import Language
 from portal_field.settings.venue import LANGUAGES
@@ -146,7 +146,7 @@ return [at, all.length, parseFloat(style.outlineWidth) >= 2 && style.outlineStyl
 PICTURES = ("image", "img", "SvgRoot", "graphics-document")
 USED = ("textbox", "combobox", "button", "link", "spinbutton", "Date")
 REFUSED = ("guest, refused", "guest, refused in Japanese", "refused", "wrong number of codes", "amount, wrong", "wrong number", "list and Wi-Fi", "scanner, wrong")
-BY_KEYBOARD = ("guest, not online", "guest, has to accept", "guest, refused", "guest, online", "guest, another code", "counter", "voucher to sell", "repetition", "refund", "takings", "cash up",
+BY_KEYBOARD = ("guest, not online", "guest, has to accept", "guest, refused", "guest, online", "guest, another code", "guest, free minutes", "guest, end asked", "counter", "voucher to sell", "repetition", "refund", "takings", "cash up",
                "list to sell", "unused codes", "scanner", "vouchers", "sessions", "money", "venue")
 WIDE = """
 return Math.max(...[document.scrollingElement, ...document.querySelectorAll('main, section, nav, td, p')]
@@ -200,6 +200,7 @@ class Shown(unittest.TestCase):
         self.addCleanup(self.venue.close)
         self.browser.driver.delete_all_cookies()
         self.enterContext(contextlib.redirect_stderr(io.StringIO()))
+        self.enterContext(mock.patch.object(gifts, "LOOK", 60.0))
 
     def guest(self, lang: str = "en") -> str:
         return f"{self.venue.guests}?lang={lang}"
@@ -271,6 +272,14 @@ class Shown(unittest.TestCase):
             with mock.patch.object(left, "SOON", 10**6), mock.patch.object(left, "LITTLE", 0):
                 browser.open(self.guest("de"))
 
+        def gives(end: str) -> Any:
+            def opened() -> None:
+                if "give" not in self.venue.conf:
+                    self.venue.give()
+                self.venue.gateway_tells()      # which is good for some seconds
+                browser.open(self.venue.guests + end)
+            return opened
+
         return [("guest, not online", device(other, of(self.guest()))), ("guest, refused", lambda: self.types("2222-2222-2222")),
                 ("guest, online", device(MAC, of(self.guest()))), ("guest, near the end", device("02:00:00:00:00:03", soon)),
                 ("guest, another code", of(self.guest() + "&add=1")), ("guest, online again", device(MAC, of(self.guest()))), ("guest, Arabic", of(self.guest("ar"))),
@@ -288,7 +297,9 @@ class Shown(unittest.TestCase):
                 ("venue", of(f"{clerks}venue")), ("wrong number", issue), ("unused codes", of(f"{clerks}refund-batch?batch=sold-2")), ("scanner", of(f"{clerks}scanner")), ("scanner, wrong", scan),
                 ("drawer", of(f"{clerks}shift")), ("shift to close", of(f"{clerks}shift-close?shift=1&counted=90")), ("amount, wrong", of(f"{clerks}shift-close?shift=1&counted=x")),
                 ("slip", of(f"{clerks}slip?shift=1")), ("receipts", of(f"{clerks}receipts")), ("receipt", of(f"{clerks}receipt?number=1")),
-                ("guest, has to accept", device("02:00:00:00:00:04", venues("?lang=de"))), ("guest, notice", venues("/privacy"))]
+                ("guest, has to accept", device("02:00:00:00:00:04", venues("?lang=de"))), ("guest, notice", venues("/privacy")),
+                ("guest, free minutes", device("02:00:00:00:00:05", gives(""))), ("guest, can end it", device(MAC, gives(""))),
+                ("guest, end asked", gives("?stop=1&lang=de"))]
 
     def look(self, keyboard: bool) -> Look:
         """At the page that is open."""
@@ -488,6 +499,67 @@ class Shown(unittest.TestCase):
         press_enter()
         press_enter()
         self.assertEqual((browser.title, keys), (f"Refunded: {codes[0]}. Give back €3.00. – Counter", 2))
+
+    def press_twice(self, words: str) -> None:
+        """Clicks a button twice, as fast as some people do, and waits for the page that comes."""
+        old = self.browser.driver.find_element(By.TAG_NAME, "html")
+        found, = self.browser.driver.find_elements(By.XPATH, f"//button[normalize-space()='{words}']")
+        self.browser.ask("const button = arguments[0]; button.click(); setTimeout(() => button.click(), 80)", found)
+        self.browser.comes(old)
+
+    def press_on_a_page_of_before(self, words: str) -> None:
+        """Goes back, presses the button if Chromium has kept the page, and comes forward again."""
+        self.browser.driver.back()
+        if f">{words}</button>" in self.browser.driver.page_source:
+            self.browser.press(words)
+        else:
+            self.browser.driver.forward()
+
+    def sessions(self) -> list[int]:
+        return [row["session"] for row in self.venue.desk.gateway.request_json(Routes.SESSIONS)["sessions"]]
+
+    def test_free_minutes_and_the_end_of_a_session(self) -> None:
+        """Without a cookie; a double click, Back, and a page of before in another window do no harm."""
+        browser, venue = self.browser, self.venue
+        venue.give()
+        driver, first = browser.driver, browser.driver.current_window_handle
+        driver.switch_to.new_window("tab")
+        second = driver.current_window_handle
+        for act in (lambda: driver.switch_to.window(first), driver.close, lambda: driver.switch_to.window(second)):
+            self.addCleanup(act)        # the last one first
+        browser.open(venue.guests)
+        driver.switch_to.window(first)
+        browser.open(venue.guests + "?a=1")
+        driver.delete_all_cookies()
+        self.press_twice("Go online without a code")
+        self.assertIn("You are online.", browser.text)
+        self.press_on_a_page_of_before("Go online without a code")
+        driver.switch_to.window(second)
+        browser.press("Go online without a code")
+        self.assertIn("You are online.", browser.text)
+        self.assertEqual(self.sessions(), [1])
+        venue.gateway_tells()
+        browser.open(venue.guests + "?stop=1")
+        driver.switch_to.window(first)
+        browser.open(venue.guests)
+        browser.driver.delete_all_cookies()
+        browser.press("End this session")
+        self.assertIn("What is left of this session is lost.", browser.text)
+        browser.press("Back to the page")
+        self.assertEqual(self.sessions(), [1], "nothing was done yet")
+        browser.press("End this session")
+        venue.gateway_tells()
+        self.press_twice("End this session now")
+        self.assertIn("You have ended your session.", browser.text)
+        self.assertEqual(self.sessions(), [])
+        code, = venue.desk.sell_codes("hour", "later")
+        venue.desk.desk.request_json(Routes.REDEEM, body={"code": code}, device=MAC)
+        venue.gateway_tells()
+        self.press_on_a_page_of_before("End this session now")
+        driver.switch_to.window(second)
+        browser.press("End this session now")
+        self.assertIn("You are online.", browser.text)
+        self.assertEqual(self.sessions(), [2], "the question was of another session")
 
     def test_a_day(self) -> None:
         """Sell by scan, redeem in Arabic, extend, refuse, refund, close, print, add up."""

@@ -133,6 +133,7 @@ class Lab(Network):
         """The idempotency key in the form for a code, also of a guest that is online. Its other hidden fields are kept for
         `send_form`."""
         fields = dict(re.findall(r'type="hidden" name="(\w+)" value="([^"]+)"', self.curl(guest, PORTAL + "?add=1")[1]))
+        fields.pop("act", "")       # of another form of the page
         number = str(fields.pop("request", ""))
         self.shown[guest] = fields
         return number

@@ -3,6 +3,7 @@
 from __future__ import annotations
 
 import contextlib
+import datetime
 import io
 import json
 import pathlib
@@ -20,6 +21,8 @@ from fake_machine import SAMPLE, FakeMachine
 from give_fixture import FREE_PLAN, PLACE, serve_in_test
 from test_front import MAC, OTHER, Served
 
+from portal_field.counter.clerk import Counter
+from portal_field.counter.journal import Journal
 from portal_field.doctor.findings import State
 from portal_field.doctor.prices import free_minutes
 from portal_field.give.giver import Giver
@@ -249,6 +252,20 @@ class Named(unittest.TestCase):
         machine.path("/etc/portal/plans.toml").unlink()
         self.assertEqual([finding.state for finding in free_minutes(machine)], [State.WRONG], "the sample has none")
         self.assertEqual(tomllib.loads(SAMPLE)["free_plan"], "")
+
+
+class CashUp(Gifts):
+    def test_free_vouchers_are_no_difference_at_the_counter(self) -> None:
+        folder = self.path.parent
+        counter = Counter(Desk(self.desk.port, "desk-token"), {"house": "A", "language": "en", "free_days": str(folder / "days.json"),
+                                                               "plans": str(folder / "plans.toml")}, Journal(folder / "journal.db"))
+        self.press(self.ask("GET", "/portal")[1])
+        sums = counter.cash_up(datetime.date.today())
+        self.assertEqual((sums["server"].sold, sums["free"], sums["difference"]), (
+            1, 1, ["The server's takings and the journal's sums are the same."]))
+        for text in ("", "[]", '{"x": 1}'):
+            (folder / "days.json").write_text(text)
+            self.assertEqual(counter.cash_up(datetime.date.today())["free"], 0, text)
 
 
 if __name__ == "__main__":

@@ -575,6 +575,26 @@ class Made(unittest.TestCase):
         conf = tomllib.loads((self.root / "etc/portal/counter.toml").read_text())
         self.assertTrue(conf["paper"].endswith(door["Socket"]["ListenStream"]), "it listens where the page asks")
 
+    def test_free_minutes_are_given_by_a_part_that_the_guests_page_alone_asks(self) -> None:
+        """It has the counter's token, and the page that guests reach has not; nginx, which is in the page's group, cannot
+        open its socket."""
+        unit, door = self.unit("portal-give.service"), self.unit("portal-give.socket")["Socket"]
+        service = unit["Service"]
+        self.assertEqual((door["SocketUser"], door["SocketMode"]), ("portal-front", "0600"))
+        self.assertEqual((service["User"], service["LoadCredential"], service["CapabilityBoundingSet"], service["IPAddressDeny"]),
+                         ("portal-give", "desk_token:/etc/portal/credentials/desk_token", "", "any"))
+        self.assertEqual((service["StateDirectory"], service["UMask"], service["SupplementaryGroups"]), ("portal-give", "0077", "portal-gateway"))
+        self.assertEqual((unit["Unit"]["Requires"], unit["Unit"]["OnFailure"]), ("portal-give.socket", "portal-failed@%n.service"))
+        self.assertEqual(self.module_of(service), FIELD / "portal_field/give/giver.py")
+        self.assertEqual(self.unit("portal-front.service")["Unit"]["Wants"], "portal-give.service")
+        self.assertIn("u portal-give -", (self.root / "etc/sysusers.d/portal.conf").read_text())
+        self.assertIn('"portal-give",', (self.root / "etc/portal/rules.nft").read_text())
+        conf, front, counter = (tomllib.loads((self.root / f"etc/portal/{name}.toml").read_text()) for name in ("give", "front", "counter"))
+        self.assertEqual((conf["front_user"], conf["free_plan"], conf["network"], front["free"]), ("portal-front", "", "10.77.0.0/22", False))
+        self.assertEqual(pathlib.Path(conf["record"]).with_name("days.json"), pathlib.Path(counter["free_days"]))
+        for name in (conf["socket"], front["give"]):
+            self.assertTrue(name.endswith(door["ListenStream"]), name)
+
     def test_packets_are_forwarded_while_the_rules_stand(self) -> None:
         text = (self.root / "etc/systemd/system/portal-rules@.service").read_text()
         orders = [line for line in text.splitlines() if line.startswith("Exec")]
@@ -622,7 +642,7 @@ class Made(unittest.TestCase):
         units = [path.name for path in sorted(folder.iterdir()) if path.is_file() and "@." not in path.name]
         done = subprocess.run(["systemd-analyze", "verify", "--man=no", f"--root={self.root}", *units],
                               capture_output=True, text=True)
-        self.assertEqual((len(units), done.returncode, done.stdout + done.stderr), (23, 0, ""))
+        self.assertEqual((len(units), done.returncode, done.stdout + done.stderr), (25, 0, ""))
 
 
 if __name__ == "__main__":

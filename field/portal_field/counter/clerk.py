@@ -10,7 +10,7 @@ import pathlib
 import sqlite3
 import time
 from collections.abc import Callable, Sequence
-from dataclasses import dataclass, field
+from dataclasses import dataclass, field, replace
 from typing import Any, NoReturn
 
 from portal_field.counter import takings, troubles
@@ -300,6 +300,7 @@ class Counter:
     def cash_up(self, day: datetime.date) -> dict[str, Any]:
         """What the server took on a day, the journal's sums beside it, and what each clerk did."""
         server, = self.days(str(day), str(day))
+        free = takings.free_vouchers(self.conf.get("free_days", ""), day)   # which no clerk sold
         plans, clerks = self.journal.by("plan", day), self.journal.by("clerk", day)
         doubt = self.journal.in_doubt(day)
         journal = takings.added("", clerks)
@@ -308,7 +309,9 @@ class Counter:
         return {"server": server, "journal": journal, "plans": plans, "clerks": clerks,
                 "doubt": reply if doubt else "",
                 "made_good": self.journal.made_good(day),
-                "difference": takings.difference(server, journal, self.language, self.money),
+                "free": free,
+                "difference": takings.difference(replace(server, sold=server.sold - free), journal,
+                                                 self.language, self.money),
                 "acts": self.journal.day(day)}
 
     def batches(self) -> list[Entry]:

@@ -5,6 +5,8 @@ from __future__ import annotations
 
 import datetime
 import itertools
+import json
+import pathlib
 from collections.abc import Callable, Iterable, Iterator
 from dataclasses import dataclass
 
@@ -143,6 +145,14 @@ def as_csv(rows: list[Sums], language: Language, separator: str = "") -> str:
     return spreadsheet.as_csv(language, head, [
         [row.name, row.sold, spreadsheet.amount(row.sales), row.refunded, spreadsheet.amount(row.refunds),
          spreadsheet.amount(row.net)] for row in rows], separator)
+
+
+def free_vouchers(path: str, day: datetime.date) -> int:
+    """How many vouchers portal-give had the server sell for nothing on a day; 0 where it does not say so."""
+    try:
+        return int(json.loads(pathlib.Path(path).read_text()).get(str(day), 0))
+    except (OSError, ValueError, AttributeError, TypeError):
+        return 0
 
 
 def difference(server: Sums, journal: Sums, language: Language, money: Callable[[int], str]) -> list[str]:
