@@ -5,6 +5,8 @@ from __future__ import annotations
 
 import json
 import re
+from collections.abc import Mapping
+from typing import Any
 
 import pytest
 from give_fixture import FREE_PLAN
@@ -46,7 +48,7 @@ class GiveLab(Lab):
         self.until(shows, 10, "the button")
         return pages[-1]
 
-    def ask_as(self, user: str, *questions: dict[str, object]) -> list[str]:
+    def ask_as(self, user: str, *questions: Mapping[str, Any]) -> list[str]:
         """What portal-give answers to a process of this service's user."""
         number, group, groups = USERS[user]
         done = self.within("gw", "setpriv", f"--reuid={number}", f"--regid={group}", f"--groups={groups}", "env",
@@ -90,7 +92,7 @@ def test_taken_over(lab: GiveLab) -> None:
     assert lab.redeem("guest2", code)[0] == 303, "a code is redeemed"
     session, lease = lab.session_of("guest2"), {guest: lab.address(guest) for guest in ("guest1", "guest2")}
     lab.until(lambda: any(row["session"] == session for row in lab.gateway_list()), 6, "the gateway's list")
-    end: dict[str, object] = {"act": "end", "address": lease["guest1"], "device": MACS["guest1"], "session": session}
+    end: dict[str, Any] = {"act": "end", "address": lease["guest1"], "device": MACS["guest1"], "session": session}
     words = lab.ask_as("front", end, {**end, "address": lease["guest2"]}, {**end, "device": MACS["guest2"]},
                        {**end, "address": "10.77.3.200", "device": "02:aa:00:00:00:77"}, {**end, "act": "free", "plan": "hour"})
     assert words == ["not_open", "not_this_device", "not_this_device", "not_this_device", "bad_request"], (

@@ -34,7 +34,7 @@ NOON = 1_790_000_000 - 1_790_000_000 % 86_400 + 43_200      # of a day in UTC
 
 
 class CutDesk(Desk):
-    """A desk whose answer to the request number `cut` is lost, as where the part is killed just then."""
+    """A desk of which the answer number `cut` is lost, as where the part is killed just then."""
     cut, count = 0, 0
 
     def exchange(self, method: str, path: str, body: bytes | None, headers: dict[str, str]) -> tuple[int, bytes]:

@@ -1,5 +1,5 @@
 """What was given to which device and which sessions it had ended, in a file of portal-give's own: for the
-limits of a day, and for the counter, which is told the numbers alone."""
+limits of a day, and for the counter, which gets the numbers alone."""
 
 from __future__ import annotations
 

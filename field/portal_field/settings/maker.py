@@ -43,7 +43,7 @@ from portal_field.settings.venue import BadSettings, Field, toml_lines
 
 LOGO_TYPES = {"svg": "image/svg+xml", "png": "image/png", "jpg": "image/jpeg"}
 BEFORE: tuple[Look, ...] = (
-    devices, addresses, certificate, zone, clock, ports, others, optional, plans, free_minutes, disk)
+    devices, addresses, certificate, zone, clock, free_minutes, ports, others, optional, plans, disk)
 POLICY = ("default-src 'none'; style-src 'self'; img-src 'self'; form-action 'self'; frame-ancestors 'none'; "
           "base-uri 'none'")
 
