@@ -8,6 +8,7 @@ import io
 import json
 import pathlib
 import re
+import socket
 import sqlite3
 import tempfile
 import time
@@ -121,6 +122,15 @@ class FreeMinutes(Gifts):
         self.give_conf["free_plan"] = ""
         self.assertNotIn("Free today", self.ask("GET", "/portal")[1], "the part knows better than the page")
         self.assertEqual((self.press(page)[0], self.sessions()), (409, []))
+
+    def test_a_part_that_hangs_holds_no_page(self) -> None:
+        door = self.enterContext(socket.socket(socket.AF_UNIX))
+        door.bind(str(self.path.with_name("hangs")))
+        door.listen()
+        self.conf["give"] = str(self.path.with_name("hangs"))
+        with mock.patch.object(gifts, "LOOK", 0.1):
+            status, text, _ = self.ask("GET", "/portal")
+        self.assertEqual((status, "Free today" in text, 'name="code"' in text), (200, False, True))
 
     def test_a_form_is_for_the_device_that_its_page_showed(self) -> None:
         page = self.ask("GET", "/portal")[1]
