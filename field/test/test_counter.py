@@ -533,6 +533,15 @@ class Pages(AtCounter):
         self.assertEqual(self.ask("/sheet?batch=b1")[1].count('<img src="/logo" alt="">'), 2)
         self.assertEqual(self.ask("/logo"), (200, "<svg/>"))
 
+    def test_a_picture_that_a_manager_chose_counts_before_that_of_set_up(self) -> None:
+        logo, picture = self.folder / "logo.svg", self.folder / "picture.png"
+        logo.write_text("<svg/>")
+        picture.write_text("a picture")
+        self.conf |= {"logo": str(logo), "plans": str(self.folder / "plans.toml")}
+        self.assertEqual(self.ask("/logo"), (200, "a picture"))
+        picture.unlink()
+        self.assertEqual(self.ask("/logo"), (200, "<svg/>"))
+
     def test_vouchers_are_of_the_size_that_is_set_or_chosen(self) -> None:
         self.desk.issue_codes("day", "b1")
         for query, size, there in (("", "", "a4"), ("", "receipt80", "receipt80"), ("&size=label", "receipt80", "label"),

@@ -178,6 +178,12 @@ class Texts(Served):
         self.device = OTHER
         self.assertIn("<p>Hello</p>", self.page())
 
+    def test_a_picture_that_a_manager_chose_is_the_logo(self) -> None:
+        self.conf["logo"], self.conf["picture"] = False, str(self.texts / "picture.png")
+        self.assertNotIn("/logo", self.page())
+        (self.texts / "picture.png").write_bytes(b"x")
+        self.assertIn('<img class="logo" src="/logo" alt="">', self.page())
+
 
 class Colours(unittest.TestCase):
     def contrast(self, one: str, other: str) -> float:

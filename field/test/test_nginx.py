@@ -300,6 +300,10 @@ class GuestsPage(BehindNginx):
         self.assertIn("<h2>Regeln</h2>", answers[1][1][2])
         self.assertIn("<h2>Regeln</h2>", self.ask("/portal/terms", {"Cookie": "portal_lang=de", "Accept-Language": "en"})[2])
         self.assertEqual((answers[5][1][1]["Content-Type"], answers[5][1][2]), ("image/svg+xml", "<svg/>"))
+        (self.folder / "etc/portal/picture.png").write_text("a picture")
+        status, head, text = self.ask("/logo")
+        self.assertEqual((status, head["Content-Type"], text), (200, "image/png", "a picture"), "that which a manager chose")
+        self.assert_headers(head, self.HEAD, status)
 
     def test_nginxs_own_answers_are_in_the_language_of_the_page(self) -> None:
         self.stops()

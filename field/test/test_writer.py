@@ -118,7 +118,7 @@ class Refused(Writes):
             self.refuses("bad_request", data)
 
     def test_kinds_and_paths_that_it_does_not_know(self) -> None:
-        for kind in ("plans", "", "clerks.toml", "../clerks", "/etc/passwd", "clerks\0", "clerks/../x", "CLERKS", ".clerks.toml.part"):
+        for kind in ("texts", "texts/", "", "clerks.toml", "../clerks", "/etc/passwd", "clerks\0", "clerks/../x", "CLERKS", ".clerks.toml.part"):
             self.refuses("unknown_kind", self.request(self.own("ben", pin=""), kind=kind))
         self.assertEqual([path.name for path in self.folder.iterdir()], [FILE])
 

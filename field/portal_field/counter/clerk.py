@@ -20,12 +20,14 @@ from portal_field.counter.labels import paper_of
 from portal_field.counter.looks import Looks
 from portal_field.counter.offers import Offers
 from portal_field.counter.sheet import Sheet, rows, sheet_of, words_of
+from portal_field.counter.venue_lines import VenueLines
 from portal_field.lib import refusals
 from portal_field.lib.desk_client import Desk, NoAnswer, Refused, Route, Routes, new_number
 from portal_field.lib.forms import BadForm, Form
 from portal_field.lib.languages import Language
 from portal_field.lib.machine_time import Notes, origin, was_set
 from portal_field.lib.typed_codes import without_codes
+from portal_field.settings.kinds import PICTURE_FILE
 
 STATE = pathlib.Path(os.environ.get("STATE_DIRECTORY", "/var/lib/portal-counter"))
 FOLLOWS = 1.0       # seconds between two looks at what the server does
@@ -84,12 +86,20 @@ class Counter:
     def __post_init__(self) -> None:
         self.language = Language(self.conf.get("language", "en"), "counter")
         self.say = self.language.say
+        self.venue_lines = VenueLines(self.conf, self.settings_folder)
+        self.venue_lines.refresh()
+
+    @property
+    def settings_folder(self) -> pathlib.Path:
+        """Where the files are that a manager has written."""
+        return pathlib.Path(self.conf.get("plans", "/etc/portal/plans.toml")).parent
 
     @property
     def logo(self) -> pathlib.Path | None:
-        """The venue's picture, where it has one that is there."""
-        path = pathlib.Path(self.conf.get("logo") or "/nowhere")
-        return path if path.is_file() else None
+        """The venue's picture, where it has one that is there: the one that a manager chose on this page, or
+        else that of field.toml."""
+        paths = self.settings_folder / PICTURE_FILE, pathlib.Path(self.conf.get("logo") or "/nowhere")
+        return next((path for path in paths if path.is_file()), None)
 
     def money(self, hundredths: int) -> str:
         """An amount in the venue's currency and the counter's language."""
@@ -125,6 +135,7 @@ class Counter:
         page."""
         while True:
             time.sleep(FOLLOWS)
+            self.venue_lines.refresh()
             reply = self.notes.read("state")
             if reply.get("is") == "serves" and reply.get("since") != self.since:
                 self.load_plans(reply["since"])

@@ -3,7 +3,9 @@
 offers.toml says by a plan's id whether the counter offers it: a table [hour] with `offered = false`. A plan
 that is not in it is offered. A line `goodwill = "ID"` above the tables names the plan of price 0 of which the
 vouchers are that replace one that could not be used. A line `tax = 19` in a table is the rate in percent of
-the tax that is in the plan's price; above the tables it is that of all plans that name none.
+the tax that is in the plan's price; above the tables it is that of all plans that name none. In a table `name`
+is what people read in place of the id, `names` the same by language, `place` its place among the plans, and
+`replaces` the id of the plan that had the price or the terms of before.
 """
 
 from __future__ import annotations
@@ -19,6 +21,10 @@ KEYS = {"id", *LIMITS, "extend"}
 ID = re.compile(r"[a-z0-9-]{1,32}")
 MOST = 500
 GOODWILL, TAX = "goodwill", "tax"
+OFFER_KEYS = {"offered", TAX, "name", "names", "place", "replaces"}     # of a table of offers.toml
+MOST_NAME, MOST_PLACE = 60, 999
+LANGUAGE = re.compile(r"[a-z]{2,3}(-[A-Za-z]{2,8})?")
+NEW_ID = "a loaded plan never changes: give it a new id"
 RESTART = "`systemctl restart portal-counter`"
 Plan = dict[str, Any]
 Plans = dict[str, Plan]     # by id
@@ -43,7 +49,7 @@ class Difference:
 
 def advice(word: str) -> str:
     """What to do about a plans file that the server refused with this word."""
-    what = "a loaded plan never changes: give it a new id" if word == "plan_differs" else "correct the file"
+    what = NEW_ID if word == "plan_differs" else "correct the file"
     return f"{what}, then {RESTART}"
 
 
@@ -124,15 +130,35 @@ def read_offers(data: bytes) -> dict[str, bool]:
             continue
         if isinstance(row, dict) and GOODWILL in row:
             raise BadFile(f"the line goodwill stands above all tables, and not below [{name}]")
-        if not (isinstance(row, dict) and row.keys() and not row.keys() - {"offered", TAX}
+        if not (isinstance(row, dict) and row.keys() and not row.keys() - OFFER_KEYS
                 and isinstance(row.get("offered", True), bool)):
-            raise BadFile(f"[{name}] has the lines offered = true or offered = false, and tax = its rate in "
-                          "percent, or one of them, and no other")
+            raise BadFile(f"[{name}] has the lines offered = true or offered = false, tax = its rate in "
+                          "percent, name, names, place, replaces, or one of them, and no other")
+        if fault := fault_of_offer(row):
+            raise BadFile(f"[{name}] {fault}")
         if TAX in row:
             hundredths_of_percent(row[TAX])
         if "offered" in row:
             offers[name] = row["offered"]
     return offers
+
+
+def is_name(text: Any) -> bool:
+    """Whether a text can be the name of a plan."""
+    return isinstance(text, str) and text.isprintable() and text == text.strip() and 0 < len(text) <= MOST_NAME
+
+
+def fault_of_offer(row: dict[str, Any]) -> str:
+    """What is wrong with the name, the place or the plan of before in a table of offers.toml, or nothing."""
+    names, place = row.get("names", {}), row.get("place", 0)
+    if not (is_name(row.get("name", "x")) and isinstance(names, dict) and all(map(is_name, names.values()))):
+        return f"name, and each of names, is one line of at most {MOST_NAME} signs"
+    if not all(map(LANGUAGE.fullmatch, names)):
+        return 'names has languages, as names = { de = "Eine Stunde" }'
+    if type(place) is not int or not 0 <= place <= MOST_PLACE:
+        return f"place is a number from 0 to {MOST_PLACE}"
+    before = row.get("replaces", "x")
+    return "" if isinstance(before, str) and ID.fullmatch(before) else "replaces is the id of a plan in quotes"
 
 
 def hundredths_of_percent(rate: Any) -> int:

@@ -37,11 +37,11 @@ from portal_field.lib import colours
 from portal_field.lib.error_pages import away_page, error_pages
 from portal_field.lib.languages import GUESTS
 from portal_field.radius import radius_files
-from portal_field.settings import accounts, clerk_account
+from portal_field.settings import accounts, clerk_account, venue_file
+from portal_field.settings.kinds import PICTURE_FILE
 from portal_field.settings.samples import is_sample, mark_as_chosen
 from portal_field.settings.venue import BadSettings, Field, toml_lines
 
-LOGO_TYPES = {"svg": "image/svg+xml", "png": "image/png", "jpg": "image/jpeg"}
 BEFORE: tuple[Look, ...] = (
     devices, addresses, certificate, zone, clock, free_minutes, ports, others, optional, plans, disk)
 POLICY = ("default-src 'none'; style-src 'self'; img-src 'self'; form-action 'self'; frame-ancestors 'none'; "
@@ -164,6 +164,7 @@ class Maker:
                                        "socket": run + "/portal-front/socket",
                                        "refusals": run + "/portal-page/refusals.json",
                                        "texts": str(self.etc / "texts"), "logo": bool(field.logo),
+                                       "picture": str(self.etc / PICTURE_FILE),
                                        "prices": field.guest_prices, "currency": field.currency,
                                        "terms_version": field.terms_version, "terms_days": field.terms_days,
                                        "agreed": str(self.root / "var/lib/portal-front/agreed.db"),
@@ -267,6 +268,10 @@ class Maker:
             "gate": run + "/portal-gateway/gate.json", "grace_seconds": field.grace_seconds,
             "copied": self.copied})
 
+    def owner_contact(self) -> str:
+        """Whom clerks call: by the file that a manager wrote on the counter's page, or else by field.toml."""
+        return str(venue_file.in_folder(self.etc).get("owner_contact", self.field.owner_contact))
+
     def others(self) -> None:
         """Makes the files of other programs: nginx, dnsmasq, nftables, systemd."""
         field = self.field
@@ -286,16 +291,25 @@ class Maker:
             "LEASE_MAX": leases, "LEASE_FILE": self.leases, "NEIGHBOURS": neighbours,
             "NEIGHBOURS_2": 2 * neighbours,
             "NEIGHBOURS_4": 4 * neighbours, "LISTED": field.set_elements(), "OWN_NAME": field.own_name(),
-            "LOGO": field.logo or self.etc / "guests/no-logo",
-            "LOGO_TYPE": LOGO_TYPES.get(field.logo.rpartition(".")[2], "text/plain")}
+            "LOGO": field.logo or self.etc / "guests/no-logo", "PICTURE": self.etc / PICTURE_FILE}
         for source, goal in self.goals.items():
             text = re.sub("@([A-Z_0-9]+)@", lambda word: str(words[word[1]]), (KIT / source).read_text())
             self.write(self.root / (TOGETHER if goal == APART and not self.counter_is_apart else goal), text)
         self.remove(self.root / (TOGETHER if self.counter_is_apart else APART))
-        away = away_page(field.counter_language, field.owner_contact)
+        away = away_page(field.counter_language, self.owner_contact())
         self.write(self.etc / "counter-nginx/away.html", away)
         for name, text in error_pages(field.house).items():
             self.write(self.etc / "errors" / name, text)
+
+
+def print_venue_fault(etc: pathlib.Path) -> bool:
+    """Says what is wrong with venue.toml; whether it is good, or not there."""
+    try:
+        venue_file.in_folder(etc)
+    except venue_file.BadVenueFile as fault:
+        print(f"setup: {etc / venue_file.FILE}: {fault}", file=sys.stderr)
+        return False
+    return True
 
 
 def examine(field: Field, machine: pathlib.Path | None, portal: str | None,
@@ -344,6 +358,8 @@ def main() -> int:
     if lacks_terms(field, args.root / "etc/portal"):
         print(f"setup: {args.settings}: terms_version = {field.terms_version!r}: there are no terms in "
               f"{args.root / 'etc/portal/texts/terms.md'}", file=sys.stderr)
+        return 1
+    if not print_venue_fault(args.root / "etc/portal"):
         return 1
     if not print_findings(args.settings, examine(field, args.machine, args.portal, args.prices_as_shipped)):
         return 1

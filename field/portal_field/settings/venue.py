@@ -12,6 +12,7 @@ from typing import Any
 
 from portal_field.lib.colours import COLOUR
 from portal_field.lib.zones import NoZone, rule_of
+from portal_field.settings import venue_file
 from portal_field.settings.radius_settings import BadRadius, Radius
 
 HOST = re.compile(r"(?=.{1,253}\Z)([a-z0-9]([a-z0-9-]{0,61}[a-z0-9])?\.)+[a-z]{2,63}")
@@ -223,9 +224,8 @@ class Field:
         """BadSettings: a line about the pages is not valid."""
         if not isinstance(self.currency, str) or self.currency and not CURRENCY.fullmatch(self.currency):
             raise BadSettings(f"currency = {self.currency!r}: three capital letters, such as EUR, or nothing")
-        contact = self.owner_contact
-        if not isinstance(contact, str) or not contact.isprintable() or len(contact) > 100:
-            raise BadSettings("owner_contact: whom clerks call, in one line of at most 100 signs, or nothing")
+        if fault := venue_file.fault_of_contact(self.owner_contact):
+            raise BadSettings(fault)
         if not isinstance(self.wifi, str) or len(self.wifi.encode()) > 32:
             raise BadSettings("wifi: the network's name, at most 32 bytes")
         if not isinstance(self.wifi_password,
@@ -246,15 +246,9 @@ class Field:
 
     def check_money(self) -> None:
         """BadSettings: a line about payments, drawers or receipts is not valid."""
-        for key, least, most, signs in (("payments", 1, 8, 20), ("drawers", 0, 20, 20),
-                                        ("receipt_head", 0, 10, 100)):
-            words = getattr(self, key)
-            if not isinstance(words, list) or not least <= len(words) <= most or not all(
-                    isinstance(word, str) and word.isprintable() and word == word.strip()
-                    and 1 <= len(word) <= signs for word in words):
-                raise BadSettings(f"{key}: {least} to {most} texts of one line and at most {signs} signs")
-            if key != "receipt_head" and len(set(words)) < len(words):
-                raise BadSettings(f"{key}: a name is there twice")
+        for key in venue_file.LISTS:
+            if fault := venue_file.fault_of_list(key, getattr(self, key)):
+                raise BadSettings(fault)
         if self.receipt_size not in RECEIPT_SIZES:
             raise BadSettings(f"receipt_size = {self.receipt_size!r}: receipt80, receipt58, or nothing")
         if self.csv_separator not in SEPARATORS:

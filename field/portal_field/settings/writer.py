@@ -3,12 +3,13 @@ write there.
 
 A request comes with the password of a person, which is checked here against the accounts on the disk: a
 counter's page that an attacker controls has nothing to write with until somebody types it. A file is one of
-the kinds below, and no other path is known. Its content is checked as set-up checks it. The file of before
-is kept beside it, as NAME.before.
+the kinds of `kinds.py`, and no other path is known. Its content is checked as set-up checks it. The file of
+before is kept beside it, as NAME.before.
 
-A request is a JSON object of one connection, up to its end: `kind`, `text` (the new file), `was` (SHA-256 of
-the file that it is made from), `who` and `password`. The answer is an object with `answer`: `done`, or the
-word of a refusal, and `why` in English, or `seconds`.
+A request is a JSON object of one connection, up to its end: `kind`, `text` (the new file; of a picture in
+Base64; an empty one takes a file away that a venue need not have), `was` (SHA-256 of the text that it is made
+from, or of nothing where such a file is not there), `who` and `password`. The answer is an object with
+`answer`: `done`, or the word of a refusal, and `why` in English, or `seconds`.
 """
 
 from __future__ import annotations
@@ -26,55 +27,19 @@ import struct
 import sys
 import time
 from collections.abc import Callable
-from dataclasses import dataclass, replace
 from typing import Any
 
 from portal_field.lib import passwords
 from portal_field.lib.tries import Tries
-from portal_field.settings.accounts import (
-    FILE, GROUP, MANAGER, MODE, MOST_BYTES, Account, Accounts, BadAccounts)
+from portal_field.settings.accounts import FILE, Account, Accounts, BadAccounts
+from portal_field.settings.kinds import CLERKS, KINDS, MOST_PICTURE, Kind, Refusal
 
 ETC, SOCKET = pathlib.Path("/etc/portal"), "/run/portal-settings/socket"
-MOST_REQUEST = 4 * MOST_BYTES   # bytes: a text in JSON is longer than in its file
-PATIENCE = 10.0                 # seconds for the whole of a request
+MOST_REQUEST = 2 * MOST_PICTURE     # bytes: a text in JSON is longer than in its file
+PATIENCE = 10.0     # seconds for the whole of a request
 KEYS = {"kind", "text", "was", "who", "password"}
-COUNTER = "portal-counter"      # the user who may ask
+COUNTER = "portal-counter"  # the user who may ask
 FLAGS = os.O_NOFOLLOW | os.O_CLOEXEC
-
-
-class Refusal(Exception):
-    """Nothing was written. `word`: of the answer; `why`: in English."""
-
-    def __init__(self, word: str, why: str = "", seconds: float = 0.0) -> None:
-        super().__init__(word, why)
-        self.word, self.why, self.seconds = word, why, seconds
-
-
-@dataclass(frozen=True)
-class Kind:
-    """A kind of file: its name in the folder of settings, its mode and group. `check` raises Refusal where
-    this person may not make this text of that one, or where it is not what it must be."""
-    name: str
-    mode: int
-    group: str
-    check: Callable[[Account, str, str], None]
-
-
-def check_clerks(who: Account, before: str, after: str) -> None:
-    """A manager changes every account, and a clerk the own password and PIN alone. A manager is left."""
-    try:
-        old, new = Accounts.read(before), Accounts.read(after)
-        new.check_managers()
-    except BadAccounts as fault:
-        raise Refusal("bad_file", str(fault)) from fault
-    if who.role != MANAGER:
-        own = new.get(who.name, replace(who, name=""))
-        same = replace(own, password=who.password, pin=who.pin)
-        if same != who or {**old, who.name: own} != new:
-            raise Refusal("not_allowed", "a clerk changes the own password and PIN alone")
-
-
-KINDS = {"clerks": Kind(FILE, MODE, GROUP, check_clerks)}
 
 
 def read_request(data: bytes) -> dict[str, str]:
@@ -91,8 +56,8 @@ def read_request(data: bytes) -> dict[str, str]:
         size = len(fields["text"].encode())
     except UnicodeError as fault:
         raise Refusal("bad_request", "the text is no UTF-8") from fault
-    if size > MOST_BYTES:
-        raise Refusal("too_large", f"at most {MOST_BYTES} bytes")
+    if size > (most := KINDS[fields["kind"]].most):
+        raise Refusal("too_large", f"at most {most} bytes")
     return fields
 
 
@@ -121,12 +86,12 @@ class Writer:
         """Writes the file of a request; whose it is. Refusal: it is not written."""
         who = self.person(fields["who"], fields["password"])
         kind, text = KINDS[fields["kind"]], fields["text"]
-        before = self.read(kind.name)
+        before = self.read(kind)
         if hashlib.sha256(before.encode()).hexdigest() != fields["was"]:
             raise Refusal("changed_meanwhile", f"{kind.name} is not the one that this was made from")
         kind.check(who, before, text)
         self.put(kind, f"{kind.name}.before", before)
-        self.put(kind, kind.name, text, lambda: self.read(kind.name) == before)
+        self.put(kind, kind.name, text, lambda: self.read(kind) == before)
         return f"{who.name}, {fields['kind']}"
 
     def person(self, name: str, word: str) -> Account:
@@ -134,7 +99,7 @@ class Writer:
         if seconds := self.tries.wait(name):
             raise Refusal("wait", "too many wrong passwords", seconds)
         try:
-            account = Accounts.read(self.read(FILE)).get(name)
+            account = Accounts.read(self.read(KINDS[CLERKS])).get(name)
         except BadAccounts as fault:
             raise Refusal("bad_file", f"{FILE} on the disk: {fault}") from fault
         is_right = passwords.fits(word, account.password if account else passwords.of_nobody())
@@ -144,48 +109,60 @@ class Writer:
         return account
 
     @contextlib.contextmanager
-    def opened(self) -> Any:
-        """The folder, which is no link."""
+    def opened(self, kind: Kind) -> Any:
+        """The folder of a kind. Neither it nor the one that it is in is a link."""
         number = os.open(self.folder, os.O_RDONLY | os.O_DIRECTORY | FLAGS)
         try:
+            if kind.folder:
+                outer, number = number, os.open(kind.folder, os.O_RDONLY | os.O_DIRECTORY | FLAGS, dir_fd=number)
+                os.close(outer)
             yield number
         finally:
             os.close(number)
 
-    def read(self, name: str) -> str:
-        """A file of the folder, which is no link. Refusal: there is none, or it is no such file."""
-        with self.opened() as folder:
+    def read(self, kind: Kind) -> str:
+        """The text of a file, which is no link; an empty one of a file that need not be there. Refusal: there
+        is none, or it is no such file."""
+        with self.opened(kind) as folder:
             try:
-                number = os.open(name, os.O_RDONLY | os.O_NONBLOCK | FLAGS, dir_fd=folder)
+                number = os.open(kind.name, os.O_RDONLY | os.O_NONBLOCK | FLAGS, dir_fd=folder)
+            except FileNotFoundError as fault:
+                if kind.is_optional:
+                    return ""
+                raise Refusal("no_file", f"{kind.name}: {fault.strerror}") from fault
             except OSError as fault:
-                raise Refusal("no_file", f"{name}: {fault.strerror}") from fault
+                raise Refusal("no_file", f"{kind.name}: {fault.strerror}") from fault
             if not stat.S_ISREG(os.fstat(number).st_mode):
                 os.close(number)
-                raise Refusal("no_file", f"{name} is no file")
+                raise Refusal("no_file", f"{kind.name} is no file")
             with open(number, "rb") as file:
-                data = file.read(MOST_BYTES + 1)
+                data = file.read(kind.most + 1)
         try:
-            return data.decode()
+            return kind.text_of(data)
         except UnicodeError as fault:
-            raise Refusal("bad_file", f"{name} on the disk is no text in UTF-8") from fault
+            raise Refusal("bad_file", f"{kind.name} on the disk is no text in UTF-8") from fault
 
     def put(self, kind: Kind, name: str, text: str, may: Callable[[], bool] = lambda: True) -> None:
-        """Writes a file as a whole: under another name, to the disk, and then renamed. Refusal: it may not be
-        any more."""
+        """Writes a file as a whole: under another name, to the disk, and then renamed. Of an empty text, where
+        a file need not be there, none is left. Refusal: it may not be any more."""
         part = f".{name}.part"
-        with self.opened() as folder:
+        with self.opened(kind) as folder:
             with contextlib.suppress(FileNotFoundError):
                 os.unlink(part, dir_fd=folder)
             number = os.open(part, os.O_WRONLY | os.O_CREAT | os.O_EXCL | FLAGS, 0o600, dir_fd=folder)
             try:
-                with open(number, "w", encoding="utf-8") as file:
+                with open(number, "wb") as file:
                     own_by(number, kind)
-                    file.write(text)
+                    file.write(kind.data_of(text))
                     file.flush()
                     os.fsync(number)
                 if not may():
                     raise Refusal("changed_meanwhile", f"{name} was changed just now")
-                os.rename(part, name, src_dir_fd=folder, dst_dir_fd=folder)
+                if text or not kind.is_optional:
+                    os.rename(part, name, src_dir_fd=folder, dst_dir_fd=folder)
+                else:
+                    with contextlib.suppress(FileNotFoundError):
+                        os.unlink(name, dir_fd=folder)
                 os.fsync(folder)
             finally:
                 with contextlib.suppress(FileNotFoundError):
