@@ -82,7 +82,7 @@ class Pages(AtCounter):
     def test_the_first_page_offers_the_plans_and_numbered_forms(self) -> None:
         status, text = self.ask("/")
         self.assertEqual(status, 200)
-        self.assertIn('<option value="hour">hour, 3.00</option>', text)
+        self.assertIn('<option value="hour">hour: 1 hour, 3.00</option>', text)
         numbers = re.findall(r'name="request" value="([A-Za-z0-9-]{1,36})"', text)
         self.assertEqual((len(numbers), len(set(numbers))), (1, 1))
         self.assertEqual(re.findall('method="post" action="/([a-z-]+)"', text), ["voucher", "now"])
@@ -492,7 +492,7 @@ class Pages(AtCounter):
         code, = self.desk.issue_codes("hour", "b1")
         text = self.ask("/")[1]
         self.assertIn('<html lang="de" dir="ltr">', text)
-        self.assertIn('<option value="hour">hour, 3,00\xa0€</option>', text)
+        self.assertIn('<option value="hour">hour: 1 Stunde, 3,00\xa0€</option>', text)
         self.assertIn("Zu kassieren: 3,00\xa0€.", self.ask("/sell", code=code, request="s1")[1])
         self.assertIn("Der Gutschein wurde schon verkauft.", self.ask("/sell", code=code, request="s2")[1])
         day = time.strftime("%Y-%m-%d", time.gmtime())

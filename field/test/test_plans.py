@@ -138,7 +138,7 @@ class Offered(AtCounter):
     def warnings(self) -> list[str]:
         return [line for line in self.log.getvalue().splitlines() if line.startswith("<4>counter: ")]
 
-    ALL = ["hour, 3.00", "day, 9.00", "gigabyte, 5.00"]
+    ALL = ["hour: 1 hour, 3.00", "day: 1 day, 9.00", "gigabyte: 1.0 GB, 3 times, 5.00"]
 
     def test_what_the_server_did_not_accept_is_not_offered(self) -> None:
         self.file.write_text(SHIPPED.replace("price = 300", "price = 200") + PLAN.format("week", 4000))
@@ -201,7 +201,7 @@ class Offered(AtCounter):
         (self.folder / "accepted-plans.toml").unlink()
         self.file.write_text(SHIPPED.replace("price = 300", "price = 200").replace("price = 900", "price = 800"))
         self.starts()
-        self.assertEqual(self.menus(), ["hour, 3.00", "gigabyte, 5.00"])
+        self.assertEqual(self.menus(), ["hour: 1 hour, 3.00", "gigabyte: 1.0 GB, 3 times, 5.00"])
         self.assertIn("Plan hour: price is 200 in the file, and 300 is loaded.", self.ask("/")[1])
         self.assertIn("Take 3.00.", self.ask("/now", plan="hour", batch="one-2", request="n2")[1])
         self.file.write_text(SHIPPED)

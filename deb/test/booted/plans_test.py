@@ -57,7 +57,7 @@ def test_counter_names_it(plans: str) -> None:
     assert (took is not None and "Plan hour: price is 200 in the file, and 300 is loaded." in page
             and "give it a new id" in page), (
         "a plans file with another price: the counter's page names the plan and its line")
-    assert menu() == ["hour, 3.00", "day, 9.00", "gigabyte, 5.00"], (
+    assert menu() == ["hour: 1 hour, 3.00", "day: 1 day, 9.00", "gigabyte: 1.0 GB, 3 times, 5.00"], (
         "and offers what the server accepted before")
     notice = send_as_clerk("now", plan="hour", batch="one-price")[1]
     assert "Take 3.00." in notice, (

@@ -21,6 +21,7 @@ from portal_field.counter.looks import Looks
 from portal_field.counter.offers import Offers
 from portal_field.counter.sheet import Sheet, rows, sheet_of, words_of
 from portal_field.counter.venue_lines import VenueLines
+from portal_field.guests.prices import worth
 from portal_field.lib import refusals
 from portal_field.lib.desk_client import Desk, NoAnswer, Refused, Route, Routes, new_number
 from portal_field.lib.forms import BadForm, Form
@@ -104,6 +105,16 @@ class Counter:
     def money(self, hundredths: int) -> str:
         """An amount in the venue's currency and the counter's language."""
         return self.language.money(hundredths, self.conf.get("currency", ""))
+
+    def plan_name(self, plan: str) -> str:
+        """A plan as a clerk reads it: its name, or its id where the venue names none."""
+        return self.offers.name_of(plan, self.language.tag)
+
+    def plan_words(self, plan: str) -> str:
+        """The name of a plan, and what it gives."""
+        terms, name = self.offers.accepted_plans.get(plan, {}), self.plan_name(plan)
+        gives = worth(terms, self.language) if {"seconds", "bytes", "uses"} <= terms.keys() else ""
+        return f"{name}: {gives}" if gives and gives != name else name
 
     def refused(self, refusal: refusals.Refusal, code: str = "") -> Notice:
         """A refusal as a clerk reads it, with the code that it is about."""
@@ -274,7 +285,7 @@ class Counter:
         say, language = self.say, self.language
         mark = self.marks().get(reply["batch"])
         return [*([(say("Marked as lost"), self.words_of_mark(mark))] if mark else []),
-                (say("Plan"), reply["plan"]), (say("Batch"), reply["batch"]),
+                (say("Plan"), self.plan_words(reply["plan"])), (say("Batch"), reply["batch"]),
                 (say("Good until"), language.moment(reply["expires"])),
                 (say("Sold"), say("no") if reply["sold"] is None else language.moment(reply["sold"])),
                 (say("Used"), say("%(part)s of %(all)s", part=reply["redeemed"], all=reply["uses"])),

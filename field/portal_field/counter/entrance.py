@@ -32,7 +32,8 @@ MOST_KEPT = 2500        # bytes of a form that is kept while somebody logs in
 WRONG = "wrong_word"    # in the journal: a wrong password or PIN
 OPEN = ("/login",)
 # What has a password or PIN, or acts on the log-in itself, is not kept to be sent again.
-NOT_KEPT = ("/login", "/logout", "/lock", "/unlock", "/password", "/pin", "/clerk", "/clerk-gone")
+NOT_KEPT = ("/login", "/logout", "/lock", "/unlock", "/password", "/pin", "/clerk", "/clerk-gone", "/picture")
+SECRET = "password"     # the field of a form that is kept without it
 
 
 def place() -> str:
@@ -66,7 +67,8 @@ def kept_form() -> dict[str, str]:
     if flask.request.method != "POST" or path in NOT_KEPT or not OWN_PLACE.fullmatch(path):
         return {}
     with contextlib.suppress(BadForm):
-        fields = urllib.parse.urlencode(Form.from_body(flask.request))
+        form = Form.from_body(flask.request)
+        fields = urllib.parse.urlencode({name: value for name, value in form.items() if name != SECRET})
         if len(fields) <= MOST_KEPT:
             return {"then": path, "fields": fields}
     return {}

@@ -21,7 +21,8 @@ from portal_field.counter.sheet import rows
 from portal_field.lib import plans, refusals
 from portal_field.lib.desk_client import Desk, NoAnswer, Refused, Routes
 from portal_field.lib.machine_time import Notes
-from portal_field.lib.plans import GOODWILL, BadFile, Difference, Plans, plans_in
+from portal_field.lib.offers_file import OffersFile
+from portal_field.lib.plans import GOODWILL, MOST_PLACE, BadFile, Difference, Plans, plans_in
 
 ACCEPTED, NOTE = "accepted-plans.toml", "plans.json"
 TRANSIENT = (NO_ANSWER, "no_memory", "stopped")     # answers that may be others the next time
@@ -90,6 +91,7 @@ class Offers:
         self.is_offered: dict[str, bool] = Notes(str(self.folder)).read(NOTE).get("is_offered", {})
         self.named_goodwill: str = Notes(str(self.folder)).read(NOTE).get(GOODWILL, "")
         self.taxes: dict[str, int] = Notes(str(self.folder)).read(NOTE).get("taxes", {})
+        self.labels = OffersFile()
         self.offers_fault = ""
         self.since: Any = None      # the start of the server, by its note, for which plans.toml was loaded
         self.files = File(), File()     # plans.toml and offers.toml, as they were read last
@@ -104,9 +106,14 @@ class Offers:
 
     @property
     def offered_prices(self) -> dict[str, int]:
-        """Of the plans of which a new voucher can be."""
-        return {name: price for name, price in self.prices.items()
-                if self.is_offered.get(name, True) and name != self.goodwill}
+        """Of the plans of which a new voucher can be, in the venue's order."""
+        names = [name for name in self.prices if self.is_offered.get(name, True) and name != self.goodwill]
+        return {name: self.prices[name] for name in sorted(
+            names, key=lambda name: self.labels.of(name).place or MOST_PLACE + 1)}
+
+    def name_of(self, plan: str, tag: str) -> str:
+        """The name of a plan in a language; its id where the venue names none."""
+        return self.labels.of(plan).name_in(tag) or plan
 
     @property
     def goodwill(self) -> str:
@@ -149,7 +156,8 @@ class Offers:
     def tell_guests(self) -> None:
         """Notes what is offered, for the guests' page; it goes with the boot, as the prices are loaded anew
         then."""
-        rows = [{**self.accepted_plans[name], "id": name} for name in self.offered_prices
+        rows = [{**self.accepted_plans[name], "id": name, "name": self.labels.of(name).name,
+                 "names": self.labels.of(name).names} for name in self.offered_prices
                 if plans.KEYS - {"id"} <= self.accepted_plans[name].keys()]
         with contextlib.suppress(OSError):
             Notes(self.conf.get("notes", "/run/portal-clock")).write("offers", plans=rows)
@@ -250,6 +258,7 @@ class Offers:
                 self.is_offered = plans.read_offers(file.data)
                 self.named_goodwill = plans.read_goodwill(file.data)
                 self.taxes = plans.read_taxes(file.data)
+                self.labels = OffersFile.read(file.data)
         except BadFile as fault:
             self.offers_fault = str(fault)
 

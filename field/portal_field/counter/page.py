@@ -21,8 +21,8 @@ from typing import Any
 import flask
 
 from portal_field.counter import (
-    clerks, confirmation, entrance, fields, figures, form_token, own_account, payments, printing, reasons,
-    repetition, roles, scans, spreadsheet, takings)
+    clerks, confirmation, entrance, fields, figures, form_token, own_account, payments, plan_pages, printing,
+    reasons, repetition, roles, scans, spreadsheet, takings, venue_pages)
 from portal_field.counter.clerk import STATE, Acts, Counter, Notice
 from portal_field.counter.journal import Act, Entry
 from portal_field.counter.labels import PAPERS
@@ -32,6 +32,7 @@ from portal_field.counter.made_good import MadeGood
 from portal_field.counter.money_pages import MoneyPages
 from portal_field.counter.origin import is_from_our_page
 from portal_field.counter.pictures import qr_picture
+from portal_field.counter.setting_files import SettingFiles
 from portal_field.counter.several import MOST_LINES, Several, codes_of
 from portal_field.counter.sheet import Sheet
 from portal_field.lib import refusals, web
@@ -62,7 +63,7 @@ DEEDS = {"issue": clerk_words("issued"), "one": clerk_words("issued for one sale
          "login": clerk_words("log-in"), "logout": clerk_words("log-out"), "lock": clerk_words("locked"),
          "unlock": clerk_words("lock taken off"), "password": clerk_words("own password changed"),
          "pin": clerk_words("own PIN changed"), "account": clerk_words("account written"),
-         "account_gone": clerk_words("account taken away"),
+         "account_gone": clerk_words("account taken away"), "settings": clerk_words("settings written"),
          "wrong_word": clerk_words("wrong password or PIN"),
          "done": clerk_words("done"), "no_answer": clerk_words("no answer")}
 
@@ -144,6 +145,7 @@ class Pages:
                                      say_plural=language.say_plural, notice=notice,
                                      clerk=self.clerk,
                                      conf=self.counter.conf, money=self.counter.money,
+                                     plan_name=self.counter.plan_name, plan_words=self.counter.plan_words,
                                      kinds=self.money_pages.kinds(), drawer=self.money_pages.shifts.state(),
                                      **values)
         return flask.make_response(text, status)
@@ -581,7 +583,11 @@ def pages(counter: Counter, logins: Logins | None = None) -> flask.Flask:
     form_token.add_to(app)
     app.jinja_env.globals["may"] = roles.may
     if logins:
-        clerks.add(app, page, own_account.add(app, page, entrance.add(app, page, logins)))
+        own = own_account.add(app, page, entrance.add(app, page, logins))
+        clerks.add(app, page, own)
+        files = SettingFiles(page, own.entrance)
+        plan_pages.add(app, page, files)
+        venue_pages.add(app, page, files)
 
     @app.before_request
     def own_forms() -> Reply | None:

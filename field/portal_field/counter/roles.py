@@ -17,7 +17,8 @@ FOR_CLERKS = {"voucher", "next", "sell", "now", "several", "sell-several", "sell
               "shift", "shift-open", "shift-move", "shift-close", "slip", "receipt", "receipt.css",
               "receipts"}
 FOR_MANAGERS = {"issue", "refund-batch", "close", "replace", "replace-session", "lost", "found", "takings",
-                "takings.csv", "cash-up", "cash-up.csv", "clerks", "clerk", "clerk-gone"}
+                "takings.csv", "cash-up", "cash-up.csv", "clerks", "clerk", "clerk-gone",
+                "plans", "plan", "settings", "texts", "text", "picture", "picture.png"}
 REFUND_LIMIT = 2000     # hundredths, where the venue names no other
 
 

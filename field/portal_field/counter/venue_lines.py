@@ -1,5 +1,5 @@
-"""The settings of the counter's page that venue.toml has in place of field.toml: read again where that file is
-another one."""
+"""The settings of the counter's page that venue.toml has in place of field.toml: read again where that file
+is another one."""
 
 from __future__ import annotations
 
@@ -11,8 +11,8 @@ from portal_field.settings import venue_file
 
 
 class VenueLines:
-    """Puts the lines of venue.toml into the settings of the page. Of a file with a mistake what it said before
-    stays. `fault`: what is wrong with it, in English."""
+    """Puts the lines of venue.toml into the settings of the page. Of a file with a mistake what it said
+    before stays. `fault`: what is wrong with it, in English."""
 
     def __init__(self, conf: dict[str, Any], folder: pathlib.Path) -> None:
         self.conf, self.folder, self.fault = conf, folder, ""

@@ -231,7 +231,8 @@ class Visit:
         device, has_form = shown or self.device or "", self.has_form(state, bad)
         text = flask.render_template(
             "portal.html", language=self.language, _=self.language.say, choice=self.choice, languages=GUESTS,
-            conf=self.front.conf, has_logo=self.front.has_logo, links=self.links(), greeting=self.front.text(texts.GREETING, self.language),
+            conf=self.front.conf, has_logo=self.front.has_logo, links=self.links(),
+            greeting=self.front.text(texts.GREETING, self.language),
             terms=self.front.terms_version, wrong=wrong, has_ticked=bool(self.form.get("terms")),
             address=self.address, bad=bad, good=self.good_text() if state.left and not bad else "",
             state=state, silent=silent, device=device, has_form=has_form, typed=self.typed,

@@ -26,12 +26,15 @@ class Text:
 
 @functools.lru_cache(64)
 def html_of(path: pathlib.Path, changed: int, size: int) -> markupsafe.Markup:
-    """The HTML of a file as it was when it was `changed`. Markdown alone makes markup: a tag that is typed is
-    shown as words, and only links to safe addresses are links. Headings are below that of the page.
-    OSError."""
-    source = COMMENT.sub("", path.read_bytes()[:LONGEST].decode("utf-8", "replace"))
+    """The HTML of a file as it was when it was `changed`. OSError."""
+    return html_from(path.read_bytes()[:LONGEST].decode("utf-8", "replace"))
+
+
+def html_from(source: str) -> markupsafe.Markup:
+    """The HTML of a text. Markdown alone makes markup: a tag that is typed is shown as words, and only links
+    to safe addresses are links. Headings are below that of the page."""
     parser = MarkdownIt("commonmark", {"html": False}).disable(["html_block", "html_inline", "image"])
-    tokens = parser.parse(source)
+    tokens = parser.parse(COMMENT.sub("", source))
     for token in tokens:
         if token.type in ("heading_open", "heading_close"):
             token.tag = f"h{min(6, int(token.tag[1]) + 1)}"

@@ -18,7 +18,9 @@ class BadForm(Exception):
 class Form(dict[str, str]):
     """The fields of a form, without blanks at their ends; of two with one name the last counts."""
 
-    MOST_FIELDS, MOST_BYTES = 20, 4096
+    MOST_FIELDS, MOST_BYTES = 40, 4096
+    # Of forms that hold a text or a picture, by their addresses; nginx lets as much through.
+    LARGER = {"/text": 65_536, "/picture": 4_194_304}
 
     @classmethod
     def read(cls, text: str) -> Form:
@@ -38,18 +40,24 @@ class Form(dict[str, str]):
     def from_body(cls, request: flask.Request) -> Form:
         """The fields of a request's body, which is of the one type that the pages' forms have; nginx does not
         say which."""
-        if (request.content_length or 0) > cls.MOST_BYTES:
-            raise BadForm("length")
-        form = cls.read(request.get_data().decode("utf-8", "replace"))
+        form = cls.sent(request)
         form.pop(TOKEN, None)
         return form
 
     @classmethod
+    def sent(cls, request: flask.Request) -> Form:
+        """The fields of a request's body, also beside a file. BadForm: it is too large."""
+        if (request.content_length or 0) > cls.LARGER.get(request.path, cls.MOST_BYTES):
+            raise BadForm("length")
+        data = request.get_data()
+        if request.mimetype == "multipart/form-data":
+            return cls((name, value.strip()) for name, value in request.form.items())
+        return cls.read(data.decode("utf-8", "replace"))
+
+    @classmethod
     def token_in(cls, request: flask.Request) -> str:
         """The token of the form in a request's body; empty where it has none. BadForm: it cannot be read."""
-        if (request.content_length or 0) > cls.MOST_BYTES:
-            raise BadForm("length")
-        return cls.read(request.get_data().decode("utf-8", "replace")).get(TOKEN, "")
+        return cls.sent(request).get(TOKEN, "")
 
     def word(self, name: str) -> str:
         """A field that is not empty. BadForm: it is missing."""

@@ -9,15 +9,15 @@ from typing import Any
 from portal_field.lib.plans import GOODWILL, ID, TAX, parse, read_offers
 
 HEAD = """\
-# What the counter offers, beside plans.toml: by the id of a plan its name, its place, its tax, and whether it is
-# offered. A manager writes this file anew on the counter's page: comments are not kept.
+# What the counter offers, beside plans.toml: by the id of a plan its name, its place, its tax, and whether it
+# is offered. A manager writes this file anew on the counter's page: comments are not kept.
 """
 
 
 @dataclass(frozen=True)
 class Offer:
-    """What the file says of a plan. `place`: among the plans, 0: none; `replaces`: the plan that had the price
-    or the terms of before."""
+    """What the file says of a plan. `place`: among the plans, 0: none; `replaces`: the plan that had the
+    price or the terms of before."""
     name: str = ""
     names: dict[str, str] = field(default_factory=dict)
     place: int = 0

@@ -3,10 +3,9 @@
 offers.toml says by a plan's id whether the counter offers it: a table [hour] with `offered = false`. A plan
 that is not in it is offered. A line `goodwill = "ID"` above the tables names the plan of price 0 of which the
 vouchers are that replace one that could not be used. A line `tax = 19` in a table is the rate in percent of
-the tax that is in the plan's price; above the tables it is that of all plans that name none. In a table `name`
-is what people read in place of the id, `names` the same by language, `place` its place among the plans, and
-`replaces` the id of the plan that had the price or the terms of before.
-"""
+the tax that is in the plan's price; above the tables it is that of all plans that name none. In a table
+`name` is what people read in place of the id, `names` the same by language, `place` its place among the
+plans, and `replaces` the id of the plan that had the price or the terms of before. """
 
 from __future__ import annotations
 
@@ -145,7 +144,8 @@ def read_offers(data: bytes) -> dict[str, bool]:
 
 def is_name(text: Any) -> bool:
     """Whether a text can be the name of a plan."""
-    return isinstance(text, str) and text.isprintable() and text == text.strip() and 0 < len(text) <= MOST_NAME
+    return (isinstance(text, str) and text.isprintable() and text == text.strip()
+            and 0 < len(text) <= MOST_NAME)
 
 
 def fault_of_offer(row: dict[str, Any]) -> str:
@@ -158,7 +158,8 @@ def fault_of_offer(row: dict[str, Any]) -> str:
     if type(place) is not int or not 0 <= place <= MOST_PLACE:
         return f"place is a number from 0 to {MOST_PLACE}"
     before = row.get("replaces", "x")
-    return "" if isinstance(before, str) and ID.fullmatch(before) else "replaces is the id of a plan in quotes"
+    is_id = isinstance(before, str) and ID.fullmatch(before)
+    return "" if is_id else "replaces is the id of a plan in quotes"
 
 
 def hundredths_of_percent(rate: Any) -> int:

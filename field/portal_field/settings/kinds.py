@@ -1,4 +1,5 @@
-"""The kinds of file that portal-settings.service writes, each with what it has to be and who may change it."""
+"""The kinds of file that portal-settings.service writes, each with what it has to be and who may change
+it."""
 
 from __future__ import annotations
 
@@ -33,9 +34,10 @@ class Refusal(Exception):
 
 @dataclass(frozen=True)
 class Kind:
-    """A kind of file: its name in the folder of settings, or in one below it, its mode and group, and the most
-    bytes of its text. `check` raises Refusal where this person may not make this text of that one, or where it
-    is not what it must be. `is_optional`: a venue need not have it, and an empty text takes it away."""
+    """A kind of file: its name in the folder of settings, or in one below it, its mode and group, and the
+    most bytes of its text. `check` raises Refusal where this person may not make this text of that one, or
+    where it is not what it must be. `is_optional`: a venue need not have it, and an empty text takes it
+    away."""
     name: str
     mode: int
     group: str
@@ -83,8 +85,8 @@ def for_managers(check: Callable[[str, str], None]) -> Callable[[Account, str, s
 
 
 def check_plans(before: str, after: str) -> None:
-    """The server would accept the file, and each plan of before is in it as it was: vouchers may have been sold
-    of it. BadFile."""
+    """The server would accept the file, and each plan of before is in it as it was: vouchers may have been
+    sold of it. BadFile."""
     plans.check_plans(after.encode())
     old, new = plans.plans_in(before.encode()), plans.plans_in(after.encode())
     if gone := old.keys() - new.keys():
@@ -139,7 +141,8 @@ def fault_of_png(data: bytes) -> str:
 def text_kinds() -> dict[str, Kind]:
     """A kind for each text that the guests' page has, in each of its languages and in none."""
     stems = [f"{name}.{tag}" if tag else name for name in TEXTS for tag in ("", *LANGUAGES)]
-    return {f"texts/{stem}": Kind(f"{stem}.md", 0o644, "root", for_managers(check_text), MOST_TEXT, "texts", True)
+    checked = for_managers(check_text)
+    return {f"texts/{stem}": Kind(f"{stem}.md", 0o644, "root", checked, MOST_TEXT, "texts", is_optional=True)
             for stem in stems}
 
 
@@ -148,6 +151,6 @@ KINDS = {CLERKS: Kind(FILE, MODE, GROUP, check_clerks),
          OFFERS: Kind("offers.toml", 0o644, "root", for_managers(check_offers), is_optional=True),
          VENUE: Kind(venue_file.FILE, venue_file.MODE, venue_file.GROUP, for_managers(check_venue),
                      is_optional=True),
-         PICTURE: Kind(PICTURE_FILE, 0o644, "root", for_managers(check_picture), MOST_PICTURE, is_optional=True,
-                       is_picture=True),
+         PICTURE: Kind(PICTURE_FILE, 0o644, "root", for_managers(check_picture), MOST_PICTURE,
+                       is_optional=True, is_picture=True),
          **text_kinds()}

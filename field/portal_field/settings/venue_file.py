@@ -1,5 +1,5 @@
-"""venue.toml: the lines of field.toml that a manager changes on the counter's page. A line that is there counts
-in place of that of field.toml.
+"""venue.toml: the lines of field.toml that a manager changes on the counter's page. A line that is there
+counts in place of that of field.toml.
 
     owner_contact = "Maria, 030 1234567"
     payments = ["cash", "card"]
@@ -45,6 +45,11 @@ def fault_of_list(key: str, words: Any) -> str:
     return f"{key}: a name is there twice" if key != "receipt_head" and len(set(words)) < len(words) else ""
 
 
+def fault_of(key: str, value: Any) -> str:
+    """What is wrong with a line of the file, or nothing."""
+    return fault_of_contact(value) if key == "owner_contact" else fault_of_list(key, value)
+
+
 def read(text: str) -> dict[str, Any]:
     """The lines of the file. BadVenueFile: it is not what it must be."""
     try:
@@ -54,9 +59,8 @@ def read(text: str) -> dict[str, Any]:
     if unknown := values.keys() - set(KEYS):
         raise BadVenueFile(f"unknown: {', '.join(sorted(unknown))}")
     for key, value in values.items():
-        fault = fault_of_contact(value) if key == "owner_contact" else fault_of_list(key, value)
-        if fault:
-            raise BadVenueFile(fault)
+        if why := fault_of(key, value):
+            raise BadVenueFile(why)
     return values
 
 

@@ -32,7 +32,7 @@ from typing import Any
 from portal_field.lib import passwords
 from portal_field.lib.tries import Tries
 from portal_field.settings.accounts import FILE, Account, Accounts, BadAccounts
-from portal_field.settings.kinds import CLERKS, KINDS, MOST_PICTURE, Kind, Refusal
+from portal_field.settings.kinds import CLERKS, KINDS as KINDS, MOST_PICTURE, Kind, Refusal
 
 ETC, SOCKET = pathlib.Path("/etc/portal"), "/run/portal-settings/socket"
 MOST_REQUEST = 2 * MOST_PICTURE     # bytes: a text in JSON is longer than in its file
@@ -114,7 +114,8 @@ class Writer:
         number = os.open(self.folder, os.O_RDONLY | os.O_DIRECTORY | FLAGS)
         try:
             if kind.folder:
-                outer, number = number, os.open(kind.folder, os.O_RDONLY | os.O_DIRECTORY | FLAGS, dir_fd=number)
+                outer = number
+                number = os.open(kind.folder, os.O_RDONLY | os.O_DIRECTORY | FLAGS, dir_fd=outer)
                 os.close(outer)
             yield number
         finally:
@@ -143,8 +144,8 @@ class Writer:
             raise Refusal("bad_file", f"{kind.name} on the disk is no text in UTF-8") from fault
 
     def put(self, kind: Kind, name: str, text: str, may: Callable[[], bool] = lambda: True) -> None:
-        """Writes a file as a whole: under another name, to the disk, and then renamed. Of an empty text, where
-        a file need not be there, none is left. Refusal: it may not be any more."""
+        """Writes a file as a whole: under another name, to the disk, and then renamed. Of an empty text,
+        where a file need not be there, none is left. Refusal: it may not be any more."""
         part = f".{name}.part"
         with self.opened(kind) as folder:
             with contextlib.suppress(FileNotFoundError):
