@@ -2,9 +2,9 @@
 """Pictures of the pages as a guest's phone and the counter's screen show them, in light and dark. Needs chromium,
 chromium-driver, python3-selenium, fonts-noto-core and fonts-noto-cjk.
 
-    screenshots.py [--demo] FOLDER
+    screenshots.py [--demo | --owner] FOLDER
 
---demo: one picture alone, of the counter's page of the demo while a guest is online. Needs root, as the demo does.
+--owner: the pages of a manager alone. --demo: one picture alone, of the counter's page of the demo while a guest is online. Needs root, as the demo does.
 """
 
 from __future__ import annotations
@@ -28,6 +28,7 @@ from portal_field.lib.desk_client import new_number
 from portal_field.lib.forms import Form
 
 from e2e_demo import opened_by
+from owner_venue import OwnersVenue
 
 PHONE, SCREEN = (390, 844), (1280, 860)
 
@@ -139,14 +140,49 @@ def take_the_demo(browser: Browser, folder: pathlib.Path) -> None:
         job.wait(20)
 
 
+def owner(folder: pathlib.Path) -> None:
+    """The pages on which a manager changes prices, texts and what else the venue sets."""
+    with contextlib.ExitStack() as stack:
+        venue, browser = OwnersVenue(), Browser()
+        stack.callback(venue.close)
+        stack.callback(browser.close)
+        stack.enter_context(contextlib.redirect_stderr(io.StringIO()))
+        (venue.folder / "texts/terms.md").write_text("# Rules\n\n- Please be quiet.\n- No film is shared.\n")
+        (venue.folder / "offers.toml").write_text('[hour]\nname = "One hour"\n[gigabyte]\nname = "Three times a gigabyte"\n'
+                                                  '[day]\nname = "A whole day"\n')
+        venue.counter.load_plans()
+        venue.log_in(browser)
+        browser.open(venue.owner + "/vouchers")
+        browser.press("Issue")
+        camera = Camera(browser, folder)
+        for name in ("venue", "plans", "settings", "texts"):
+            browser.open(f"{venue.owner}/{name}")
+            camera.take(name)
+        browser.shape(*SCREEN)
+        browser.open(venue.owner + "/plans")
+        field = browser.driver.find_element(By.ID, "price1")
+        field.clear()
+        field.send_keys("3.50")
+        browser.enter()
+        camera.take("price")
+        browser.shape(*SCREEN)
+        browser.open(venue.owner + "/text?text=terms")
+        browser.press("Look at it before it is saved")
+        camera.take("text")
+
+
 def main() -> None:
     words = argparse.ArgumentParser(description="Pictures of the pages.")
     words.add_argument("--demo", action="store_true", help="the counter's page of the demo alone")
+    words.add_argument("--owner", action="store_true", help="the pages of a manager alone")
     words.add_argument("folder", type=pathlib.Path)
     args = words.parse_args()
     if args.demo:
         with contextlib.closing(Browser()) as browser:
             take_the_demo(browser, args.folder)
+        return
+    if args.owner:
+        owner(args.folder)
         return
     venue, browser = Venue(), Browser()
     try:

@@ -144,7 +144,10 @@ class Plans(AtSettings):
         looked = self.anna.post("/plan", plan="hour", price="3.50")
         self.plans.write_text(self.plans.read_text() + "# by hand\n")
         answer = self.anna.post("/plan", **self.fields(looked, "plan") | {"do": "save", "password": WORDS["anna"]})
-        self.assertEqual((answer.status, "changed meanwhile" in answer.told, "3.00 → 3.50" in answer.text), (409, True, True))
+        self.assertEqual((answer.status, "changed after you looked" in answer.told, "3.00 → 3.50" in answer.text), (409, True, True))
+        self.assertFalse((self.folder / "offers.toml").exists())
+        typed = self.anna.post("/plan", **self.fields(answer, "plan") | {"price": "35", "do": "save", "password": WORDS["anna"]})
+        self.assertEqual((typed.status, "3.00 → 35.00" in typed.text), (409, True), "what nobody looked at is not saved")
         answer = self.anna.post("/plan", **self.fields(answer, "plan") | {"do": "save", "password": WORDS["anna"]})
         self.assertEqual(answer.status, 200)
         self.assertIn("# by hand\n", self.plans.read_text())
@@ -192,7 +195,7 @@ class Settings(AtSettings):
     def test_payments_tax_receipts_and_contact(self) -> None:
         answer = self.saves("/settings", "settings", payments="cash\ncard\n Invoice ", receipt_head="Main Street 1\n\nTax 7", owner_contact="Maria, 030 1", tax="8.1")
         self.assertEqual((answer.status, answer.told.strip()), (200, "It is saved."))
-        self.assertEqual((self.conf["payments"], self.conf["receipt_head"], self.conf["owner_contact"]),
+        self.assertEqual(tuple(map(self.conf.get, ("payments", "receipt_head", "owner_contact"))),
                          (["cash", "card", "Invoice"], ["Main Street 1", "Tax 7"], "Maria, 030 1"))
         self.assertEqual((self.offers().tax, self.counter.offers.rate_of("hour")), (8.1, 810))
         self.assertIn("Issue and sell one voucher: Invoice", self.anna.ask("/").text, "at once")
@@ -204,6 +207,12 @@ class Settings(AtSettings):
             self.assertEqual(answer.status, 400, changed)
             self.assertRegex(answer.text, f'name="{field}"[^>]* aria-invalid="true"')
             self.assertEqual(self.fields(answer, "settings")[field], changed[field])
+
+    def test_a_form_that_came_after_the_log_out_is_kept_without_its_password(self) -> None:
+        self.anna.post("/logout")
+        page = self.anna.post("/settings", payments="cash\nvoucher", do="save", password=WORDS["anna"])
+        self.assertEqual((page.status, "payments=cash%0Avoucher" in page.text), (403, True))
+        self.assertNotIn(WORDS["anna"], page.text)
 
     def test_it_shows_what_would_change(self) -> None:
         looked = self.anna.post("/settings", payments="cash\ncard", tax="19")

@@ -154,7 +154,7 @@ class Offered(AtCounter):
         self.assertIn("Take 3.00.", self.ask("/now", plan="hour", batch="one-1", request="n1")[1])
         self.file.write_text(SHIPPED + PLAN.format("hour-2", 200))
         self.starts()
-        self.assertEqual(self.menus(), [*self.ALL, "hour-2, 2.00"])
+        self.assertEqual(self.menus(), [*self.ALL, "hour-2: 1 hour, 2.00"])
         self.assertEqual(len(self.warnings()), 1)
         self.assertNotIn("not loaded", self.ask("/")[1])
 
@@ -177,7 +177,7 @@ class Offered(AtCounter):
         self.assertEqual(self.menus(), self.ALL)
         self.assertEqual(self.warnings(), [], "no fault of the file")
         self.relay.drops = False
-        self.assertEqual(self.menus(), [*self.ALL, "week, 40.00"])
+        self.assertEqual(self.menus(), [*self.ALL, "week: 1 hour, 40.00"])
 
     def test_a_server_that_is_short_of_memory_is_asked_again(self) -> None:
         """Also where it is by the second question, whether this is the database that took the kept file."""
@@ -201,7 +201,7 @@ class Offered(AtCounter):
         (self.folder / "accepted-plans.toml").unlink()
         self.file.write_text(SHIPPED.replace("price = 300", "price = 200").replace("price = 900", "price = 800"))
         self.starts()
-        self.assertEqual(self.menus(), ["hour: 1 hour, 3.00", "gigabyte: 1.0 GB, 3 times, 5.00"])
+        self.assertEqual(self.menus(), ["hour, 3.00", "gigabyte, 5.00"])
         self.assertIn("Plan hour: price is 200 in the file, and 300 is loaded.", self.ask("/")[1])
         self.assertIn("Take 3.00.", self.ask("/now", plan="hour", batch="one-2", request="n2")[1])
         self.file.write_text(SHIPPED)
@@ -228,7 +228,7 @@ class Offered(AtCounter):
         with self.assertRaisesRegex(Refused, "unknown_plan"):
             self.desk.issue_codes("hour", "b2")
         self.file.write_text(SHIPPED.replace("price = 300", "price = 200"))
-        self.assertEqual(self.menus(), ["hour, 2.00", *self.ALL[1:]])
+        self.assertEqual(self.menus(), ["hour: 1 hour, 2.00", *self.ALL[1:]])
 
     def test_a_refused_file_is_handed_over_once_for_each_start_of_the_server(self) -> None:
         self.file.write_text(SHIPPED.replace("price = 300", "price = 200"))

@@ -16,6 +16,7 @@ from portal_field.counter.setting_files import CHANGED, Answer, CannotRead, Sett
 from portal_field.counter.shifts import hundredths
 from portal_field.guests.prices import worth
 from portal_field.lib.forms import BadForm, Form
+from portal_field.lib.languages import GUESTS
 from portal_field.lib.message_marks import clerk_words
 from portal_field.lib.offers_file import Offer, OffersFile
 from portal_field.lib.plans import (
@@ -65,11 +66,6 @@ class Files:
     def offers(self) -> OffersFile:
         """What is said of them. BadFile."""
         return OffersFile.read(self.offers_text.encode())
-
-    @property
-    def seen(self) -> str:
-        """By which a change of either is noticed."""
-        return sum_of(self.plans_text, self.offers_text)
 
 
 def in_units(value: int, units: dict[str, tuple[int, str]]) -> tuple[int, str]:
@@ -217,16 +213,16 @@ class PlanPages:
         return typed_of(files.plans[name] if name else NEW, files.offers.of(name), self.languages)
 
     def plan_page(self, name: str, typed: Form, files: Files, answer: Answer | None = None,
-                  preview: list[tuple[str, str]] | None = None) -> Reply:
-        """The form of a plan. `preview`: what saving it would change."""
+                  preview: list[tuple[str, str]] | None = None, seen: str = "") -> Reply:
+        """The form of a plan. `preview`: what saving it would change; `seen`: by which it is known again."""
         shown = files.offers.of(name).name_in(self.counter.language.tag) or name
         units = {key: self.say(words) for key, (_, words) in TIMES.items()}
         lines = answer.lines if answer else ()
         return self.page.show("plan.html", answer.status if answer else 200,
                               Notice(False, lines) if lines else None, quiet=True, plan=name,
                               name=shown or self.say("A new plan"), typed=typed, times=units, sizes=SIZES,
-                              languages=self.languages, wrong=answer.field if answer else "", preview=preview,
-                              seen=files.seen, most_name=MOST_NAME)
+                              languages={tag: GUESTS[tag] for tag in self.languages}, preview=preview,
+                              wrong=answer.field if answer else "", seen=seen, most_name=MOST_NAME)
 
     def send(self) -> Reply:
         """Looks at the form of a plan, or saves it. A form with a price alone changes that alone."""
@@ -244,12 +240,14 @@ class PlanPages:
             line = self.say(WRONG[fault.rule], most=MOST_NAME)
             return self.plan_page(name, typed, files, Answer(400, (line,), fault.field))
         preview = self.preview(name, change, files)
-        if form.get("do") != "save":
-            return self.plan_page(name, typed, files, preview=preview)
-        if form.get("seen") != files.seen:
-            return self.plan_page(name, typed, files, Answer(409, (self.say(CHANGED),)), preview)
-        answer = self.save(change, files, self.words_of(name, change, files))
-        return self.show(answer) if answer.good else self.plan_page(name, typed, files, answer, preview)
+        seen, answer = sum_of(files.plans_text, files.offers_text, change.plans, change.offers), None
+        if form.get("do") == "save":
+            answer = Answer(409, (self.say(CHANGED),))
+            if form.get("seen") == seen:
+                answer = self.save(change, files, self.words_of(name, change, files))
+                if answer.good:
+                    return self.show(answer)
+        return self.plan_page(name, typed, files, answer, preview, seen)
 
     def preview(self, name: str, change: plan_changes.Change, files: Files) -> list[tuple[str, str]]:
         """What saving would change, line by line."""

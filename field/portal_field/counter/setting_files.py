@@ -23,7 +23,7 @@ if TYPE_CHECKING:
     from portal_field.counter.page import Pages
 
 ACT = "settings"        # in the journal
-CHANGED = clerk_words("The file was changed meanwhile. Look at it again, and save once more.")
+CHANGED = clerk_words("It was changed after you looked at it. Look again, and save once more.")
 # What is said of a refusal of portal-settings.service, and the status of the page.
 REFUSALS = {
     "wrong_password": (clerk_words("This password is wrong."), 401),
@@ -53,7 +53,8 @@ class CannotRead(Exception):
 
 
 def sum_of(*texts: str) -> str:
-    """What a page has seen of files, to notice that they were changed meanwhile."""
+    """What a page showed before it is saved: the files as they were, and as they are to be. By it a change of
+    either is noticed."""
     return hashlib.sha256("\0".join(texts).encode()).hexdigest()
 
 

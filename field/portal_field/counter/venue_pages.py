@@ -104,10 +104,10 @@ class VenuePages:
             return self.cannot_read(fault)
 
     def settings_page(self, typed: Form, answer: Answer | None = None,
-                      preview: list[tuple[str, str]] | None = None) -> Reply:
-        """The form of the settings, with what came of it. `preview`: what saving it would change."""
+                      preview: list[tuple[str, str]] | None = None, seen: str = "") -> Reply:
+        """The form of the settings, with what came of it. `preview`: what saving it would change; `seen`: by
+        which it is known again."""
         notice = Notice(answer.good, answer.lines) if answer and answer.lines else None
-        seen = sum_of(self.files.read(VENUE), self.files.read(OFFERS))
         return self.page.show("settings.html", answer.status if answer else 200, notice, quiet=True,
                               typed=typed, wrong=answer.field if answer else "", preview=preview, seen=seen,
                               known=[(kind, self.say(words)) for kind, words in payments.NAMES.items()])
@@ -126,13 +126,14 @@ class VenuePages:
         except (CannotRead, BadFile) as fault:
             return self.cannot_read(fault)
         preview = self.preview(values, form.get("tax", ""), offers)
+        seen = sum_of(before, offers, after, new_offers)
         if form.get("do") != "save":
-            return self.settings_page(form, preview=preview)
-        if form.get("seen") != sum_of(before, offers):
-            return self.settings_page(form, Answer(409, (self.say(CHANGED),)), preview)
+            return self.settings_page(form, preview=preview, seen=seen)
+        if form.get("seen") != seen:
+            return self.settings_page(form, Answer(409, (self.say(CHANGED),)), preview, seen)
         for kind, old, new in ((VENUE, before, after), (OFFERS, offers, new_offers)):
             if old != new and not (answer := self.files.write(kind, old, new, secret("password"), kind)).good:
-                return self.settings_page(form, answer, preview)
+                return self.settings_page(form, answer, preview, seen)
         self.counter.venue_lines.refresh()
         self.counter.load_plans(self.counter.notes.read("state").get("since"))
         return self.settings_page(self.typed_now(new_offers), Answer(200, (self.say("It is saved."),)))
@@ -195,7 +196,7 @@ class VenuePages:
                               Notice(answer.good, answer.lines) if answer else None, quiet=True,
                               kind=kind, name=f"{words}, {GUESTS[tag]}" if tag else words, text=text, tag=tag,
                               preview=texts.html_from(text) if looked else None,
-                              wrong=answer.field if answer else "", seen=sum_of(self.files.read(kind)),
+                              wrong=answer.field if answer else "", seen=sum_of(self.files.read(kind), text),
                               most=KINDS[kind].most)
 
     def send_text(self) -> Reply:
@@ -217,7 +218,7 @@ class VenuePages:
             return self.text_page(kind, text, Answer(413, (line,), "text"))
         if form.get("do") != "save":
             return self.text_page(kind, text, looked=True)
-        if form.get("seen") != sum_of(before):
+        if form.get("seen") != sum_of(before, text):
             return self.text_page(kind, text, Answer(409, (self.say(CHANGED),)), looked=True)
         answer = self.files.write(kind, before, text, secret("password"), kind)
         saved = Answer(200, (self.say("It is saved. Guests read it from now on."),))
