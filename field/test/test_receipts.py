@@ -21,6 +21,7 @@ import unittest
 from desk_process import FIELD, NoAnswer, Routes
 from test_several import ANNA, AtOnce, Killed
 
+from portal_field.counter import report as daily_report
 from portal_field.counter import receipt_text
 from portal_field.counter.journal import Act, Journal
 from portal_field.counter.receipt_numbers import Till, letter_after
@@ -350,6 +351,20 @@ class CashUp(AtOnce):
         rates = text.partition("By rate of tax")[2].partition("</table>")[0]
         # two receipts of 3.00 and their tax of 0.48 each stay
         self.assertEqual(re.findall(r"<td[^>]*>(.*?)</td>", rates), ["19%", "5.04", "0.96", "6.00"])
+
+    def test_what_remains_of_several_kinds_is_not_all_in_the_drawer(self) -> None:
+        self.conf["payments"] = ["cash", "card"]
+        codes, day = self.desk.issue_codes("hour", "b1", 3), datetime.date.today()
+        for i, kind in enumerate(("cash", "card", "card")):
+            self.ask("/sell", head=ANNA, code=codes[i], request=f"s{i}", payment=kind)
+        for text in (self.ask(f"/takings?from={day}&to={day}")[1], self.ask("/cash-up")[1], daily_report.report(self.counter, day)):
+            self.assertIn("Remains", text)
+            self.assertNotIn("In the drawer", text)
+        text = daily_report.report(self.counter, day)
+        for words in ("Payment +Vouchers sold", r"Cash +1 +3\.00 +0 +0\.00 +3\.00\n", r"Card +2 +6\.00 +0 +0\.00 +6\.00\n"):
+            self.assertRegex(text, words)
+        self.conf["payments"] = ["cash"]
+        self.assertIn("In the drawer", self.ask(f"/takings?from={day}&to={day}")[1])
 
     def test_the_printed_page_has_venue_time_a_line_to_sign_and_sums_alone(self) -> None:
         code, = self.desk.issue_codes("hour", "b1")

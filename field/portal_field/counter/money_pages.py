@@ -8,12 +8,12 @@ from typing import Any
 
 import flask
 
-from portal_field.counter import payments, receipt_text, spreadsheet
+from portal_field.counter import payment_sums, payments, receipt_text, spreadsheet
 from portal_field.counter.clerk import Counter, Notice
 from portal_field.counter.journal import Sums
 from portal_field.counter.receipt_numbers import Till
 from portal_field.counter.receipt_pages import ReceiptPages
-from portal_field.counter.receipts import by_payment, by_rate
+from portal_field.counter.receipts import by_rate
 from portal_field.counter.shift_pages import ShiftPages
 from portal_field.counter.shifts import Shift
 from portal_field.lib.forms import Form
@@ -49,17 +49,10 @@ class MoneyPages:
     # The cash-up of a day
 
     def of_day(self, day: datetime.date, journal: Sums) -> dict[str, Any]:
-        """What the receipts of a day add up to, by kind of payment and by rate of tax, and its shifts. What
-        the journal has without a receipt, as from an earlier version, has a row of its own."""
-        listed, say = self.receipts.receipts.of_day(day), self.counter.say
-        sums = by_payment(listed)
-        keys = ("sold", "sales", "refunded", "refunds")
-        rest = {key: getattr(journal, key) - sum(getattr(one, key) for one in sums) for key in keys}
-        rows = [Sums(payments.words(say, one.name), *(getattr(one, key) for key in keys)) for one in sums]
-        if any(rest.values()):
-            rows.append(Sums(say("without a receipt"), **rest))
-        return {"payments": rows, "rates": by_rate(listed), "rate_words": self.rate_words,
-                "shifts": self.shifts.shifts.of_day(day)}
+        """What the receipts of a day add up to, by kind of payment and by rate of tax, and its shifts."""
+        listed = self.receipts.receipts.of_day(day)
+        return {"payments": payment_sums.rows(self.counter, listed, journal), "rates": by_rate(listed),
+                "rate_words": self.rate_words, "shifts": self.shifts.shifts.of_day(day)}
 
     def rate_words(self, rate: int | None) -> str:
         """A rate of tax in words."""

@@ -21,8 +21,8 @@ from typing import Any
 import flask
 
 from portal_field.counter import (
-    clerks, confirmation, entrance, fields, figures, form_token, own_account, payments, plan_pages, printing,
-    reasons, repetition, roles, scans, spreadsheet, takings, venue_pages)
+    clerks, confirmation, entrance, fields, figures, form_token, own_account, payment_sums, payments,
+    plan_pages, printing, reasons, repetition, roles, scans, spreadsheet, takings, venue_pages)
 from portal_field.counter.clerk import STATE, Acts, Counter, Notice
 from portal_field.counter.journal import Act, Entry
 from portal_field.counter.labels import PAPERS
@@ -352,14 +352,14 @@ class Pages:
 
     def head(self, span: str = "day") -> list[str]:
         """The heads of the columns of takings."""
-        return [self.counter.say(name) for name in (takings.STEPS[span], *takings.HEAD[1:])]
+        return [self.counter.say(takings.STEPS[span]), *payment_sums.heads(self.counter)]
 
     def takings_file(self, form: Form) -> Reply:
         """The takings of days, weeks or months as a CSV file."""
         if name := fields.wrong_rule("takings", form):
             return self.bad_field(name, form)
         text = takings.as_csv(self.counter.takings(form)["rows"], self.counter.language,
-                              self.counter.conf.get("csv_separator", ""))
+                              self.counter.conf.get("csv_separator", ""), payment_sums.heads(self.counter))
         return spreadsheet.answer(text, f"takings-{readable(form['from'])}-{readable(form['to'])}.csv")
 
     def cash_up(self, form: Form) -> Reply:

@@ -12,9 +12,9 @@ import sqlite3
 import subprocess
 import sys
 
+from portal_field.counter import payment_sums
 from portal_field.counter.clerk import Counter
 from portal_field.counter.journal import Sums
-from portal_field.counter.takings import HEAD
 from portal_field.lib import venue_command
 from portal_field.lib.desk_client import Desk, NoAnswer, Refused, credential, settings
 from portal_field.lib.local_time import use_zone
@@ -25,8 +25,8 @@ WIDE = 22       # signs of a column, as the longest head in any language has
 
 def table(counter: Counter, head: str, rows: list[Sums]) -> list[str]:
     """Rows of sums as lines of text, below their heads."""
-    say, money, number = counter.say, counter.money, counter.language.number
-    lines = [(head, *(say(name) for name in HEAD[1:]))]
+    money, number = counter.money, counter.language.number
+    lines = [(head, *payment_sums.heads(counter))]
     lines += [(row.name, number(row.sold), money(row.sales), number(row.refunded), money(row.refunds),
                money(row.net))
               for row in rows]
@@ -39,9 +39,11 @@ def report(counter: Counter, day: datetime.date) -> str:
     sides = [Sums(say(name), side.sold, side.sales, side.refunded, side.refunds)
              for name, side in (("server", answer["server"]), ("journal", answer["journal"]))]
     sides += [Sums(say("made good"), len(answer["made_good"]))]
+    paid = payment_sums.of_day(counter, day, answer["journal"])
     lines = [f"{counter.conf['house']}: {say('Takings')} {counter.language.day(day)}",
              *table(counter, "", sides), "",
              *answer["difference"], *([answer["doubt"]] if answer["doubt"] else []),
+             *(table(counter, say("Payment"), paid) if paid else []),
              *table(counter, say("Plan"), answer["plans"]), *table(counter, say("Clerk"), answer["clerks"])]
     return "\n".join(lines) + "\n"
 

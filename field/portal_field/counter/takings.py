@@ -7,7 +7,7 @@ import datetime
 import itertools
 import json
 import pathlib
-from collections.abc import Callable, Iterable, Iterator
+from collections.abc import Callable, Iterable, Iterator, Sequence
 from dataclasses import dataclass
 
 from portal_field.counter import spreadsheet
@@ -138,10 +138,11 @@ def two_weeks(rows: list[Sums], language: Language, money: Callable[[int], str])
     return chart(groups, ["sales", "before"], money, 100)
 
 
-def as_csv(rows: list[Sums], language: Language, separator: str = "") -> str:
+def as_csv(rows: list[Sums], language: Language, separator: str = "", heads: Sequence[str] = ()) -> str:
     """For spreadsheets: dates as ISO 8601 has them. The heads of the English file are those that programs
-    know."""
-    head = FILE_HEAD if language.tag == "en" else [language.say(name) for name in HEAD]
+    know; in other languages those after the first one may be given."""
+    words = [language.say(HEAD[0]), *(heads or map(language.say, HEAD[1:]))]
+    head = FILE_HEAD if language.tag == "en" else words
     return spreadsheet.as_csv(language, head, [
         [row.name, row.sold, spreadsheet.amount(row.sales), row.refunded, spreadsheet.amount(row.refunds),
          spreadsheet.amount(row.net)] for row in rows], separator)

@@ -58,6 +58,7 @@ SOURCES = {
                 ("portal_field/counter/*_pages.py", SAYS | {"clerk_words": None}),
                 ("portal_field/counter/receipt_text.py", SAYS),
                 ("portal_field/counter/clerks.py", SAYS),
+                ("portal_field/counter/payment_sums.py", SAYS | {"clerk_words": None}),
                 ("portal_field/counter/setting_files.py", SAYS | {"clerk_words": None}),
                 ("portal_field/guests/prices.py", {"say_plural": (1, 2)}),
                 ("portal_field/counter/reasons.py", SAYS),
