@@ -14,6 +14,7 @@ from typing import Any
 from portal_field.lib.zones import ZONES, rule_in, rule_of
 
 Lines = dict[str, Any]      # keys of field.toml and their values
+NOTHING = "-"       # the answer that leaves a line empty
 VALUE = r'"(?:[^"\\]|\\.)*"|\[[^\]]*\]|[^#\s][^#\n]*?'
 LOCAL_TIME = pathlib.Path("/etc/localtime")
 
@@ -111,13 +112,24 @@ QUESTIONS = (
     Question("name", "The portal's name (your own: a name that a certificate can be had for)",
              lambda here, so_far: str(so_far["name"])),
     Question("counter_name", "The name of the counter's page",
-             lambda here, so_far: str(so_far["counter_name"])))
+             lambda here, so_far: str(so_far["counter_name"])),
+    Question("counter_language", "The language of the counter's page: en or de",
+             lambda here, so_far: str(so_far["counter_language"])),
+    Question("currency", "The currency of the prices, such as EUR; - for none",
+             lambda here, so_far: str(so_far["currency"] or NOTHING)),
+    Question("wifi", "The Wi-Fi's name, which is printed on each voucher; - to print none",
+             lambda here, so_far: str(so_far["wifi"] or NOTHING)),
+    Question("wifi_password", "The Wi-Fi's password, where it has one; - for none",
+             lambda here, so_far: str(so_far["wifi_password"] or NOTHING)))
+OPTIONAL = {"currency", "wifi", "wifi_password"}        # that a venue may do without
 
 
 def lines_of(key: str, answer: str) -> Lines:
     """The lines of field.toml that an answer makes. ValueError: it is not what it must be."""
     if not answer:
         raise ValueError("it cannot be empty")
+    if key in OPTIONAL and answer == NOTHING:
+        return {key: ""}
     if key == "zone":
         return {key: rule_of(answer)}
     return {key: answer, "leases": leases_in(answer)} if key == "guests" else {key: answer}
@@ -130,6 +142,8 @@ def ask_all(text: str, read: Callable[[str], object], so_far: Lines, here: Here,
     say("An empty answer takes what is in [ ].")
     so_far = dict(so_far)
     for question in QUESTIONS:
+        if question.key == "wifi_password" and not so_far["wifi"]:
+            continue        # nothing would print it
         words = question.words.format(devices=", ".join(here.devices) or "there is none")
         default = question.default(here, so_far)
         while True:

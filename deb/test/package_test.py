@@ -333,15 +333,23 @@ def test_leases_for_a_network() -> None:
 
 def test_questions_of_field() -> None:
     sample = (TOP / "field/settings/field.toml").read_text()
-    text, said = asked(sample, ["Café", "Europe/Berln", "Europe/Berlin", "clerk", *[""] * 6])
+    text, said = asked(sample, ["Café", "Europe/Berln", "Europe/Berlin", "clerk", *[""] * 9])
     assert (tomllib.loads(text)["zone"] == "CET-1CEST,M3.5.0,M10.5.0/3"
             and "# the venue's time zone" in text and len(said) == 2
             and "no time zone of this name" in said[1]), (
         "a time zone is answered by its name, and its rule is written; a name that there is not is "
         "asked for again")
-    text, said = asked(re.sub('house = "[^"]*"', 'house = ""', sample), ["", "", "Café", *[""] * 8])
+    text, said = asked(re.sub('house = "[^"]*"', 'house = ""', sample), ["", "", "Café", *[""] * 11])
     assert tomllib.loads(text)["house"] == "Café" and said[1:] == ["  no: it cannot be empty"] * 2, (
         "an empty answer that has no default is asked for again")
+    text, said = asked(sample, ["Café", *[""] * 8, "de", "EUR", "Café Guests", "correct horse"])
+    lines = tomllib.loads(text)
+    assert ([lines[key] for key in ("counter_language", "currency", "wifi", "wifi_password")]
+            == ["de", "EUR", "Café Guests", "correct horse"] and len(said) == 1), (
+        f"the counter's language, the currency and what is printed of the Wi-Fi are asked for  [{said}]")
+    text, said = asked(sample.replace('currency = ""', 'currency = "EUR"'), ["Café", *[""] * 9, "-", "-"])
+    assert (tomllib.loads(text)["currency"], len(said)) == ("", 1), (
+        f"a hyphen leaves a line empty, and without a name no password is asked for  [{said}]")
 
 
 def test_questions_of_prices() -> None:

@@ -44,7 +44,8 @@ ANSWERS = (
     ("venue's name", "Café \"Eck\""), ("POSIX rule", "Europe"), ("POSIX rule", "Europe/Berlin"),
     ("clock is right", "clerk"),
     ("to the outside", "nothing here"), ("to the outside", "wan0"), ("guests' network device", "lan0"),
-    ("address on it", ""), ("counter's network", ""), ("portal's name", ""), ("counter's page", ""),
+    ("address on it", ""), ("counter's network", ""), ("portal's name", ""), ("name of the counter's page", ""),
+    ("language of the counter's page", ""), ("currency of the prices", ""), ("Wi-Fi's name", "Café"), ("Wi-Fi's password", ""),
     ("price of hour", "2,5"), ("price of day", "nothing"), ("price of day", ""), ("price of gigabyte", "-"),
     ("clerk's name", ""), ("clerk's name", "a:b"), ("clerk's name", "clerk"), ("Password of", "too-short"),
     ("Password of", PASSWORD), ("Once more", PASSWORD), ("first look", ""))
