@@ -32,7 +32,7 @@ from portal_field.doctor.findings import Machine, State
 from portal_field.doctor.network import is_on_every_address
 from portal_field.settings import accounts, clerk_account
 from portal_field.settings.accounts import fault_of_name
-from portal_field.settings.maker import Maker, examine, print_findings
+from portal_field.settings.maker import Maker, examine, print_findings, print_venue_fault
 from portal_field.settings.samples import is_sample
 from portal_field.settings.venue import BadSettings, Field
 
@@ -413,7 +413,7 @@ def prepare(args: argparse.Namespace) -> Field | None:
         set_account(clerk, args.role or "")
     if first_look.is_needed(field) and (args.first_look or asks and wants_first_look()):
         first_look.make(field)
-    if not args.renew and not may_begin(field, path, args.prices_as_shipped):
+    if not args.renew and not (print_venue_fault(ETC) and may_begin(field, path, args.prices_as_shipped)):
         return None
     if path != FIELD and not (FIELD.exists() and FIELD.samefile(path)):
         if FIELD.exists():

@@ -69,12 +69,12 @@ class Files:
 
 
 def in_units(value: int, units: dict[str, tuple[int, str]]) -> tuple[int, str]:
-    """A number in the largest unit in which it is a whole one."""
+    """A number in the largest unit in which it has no fraction."""
     return next((value // size, unit) for unit, (size, _) in reversed(units.items()) if value % size == 0)
 
 
 def number(form: Form, name: str, least: int, most: int, rule: str = "") -> int:
-    """A field with a whole number; nothing typed is 0. BadField."""
+    """A field with a number in digits; nothing typed is 0. BadField."""
     text = form.get(name, "") or "0"
     if not (text.isascii() and text.isdecimal() and len(text) <= 18 and least <= int(text) <= most):
         raise BadField(rule or name, name)

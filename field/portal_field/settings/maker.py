@@ -270,7 +270,9 @@ class Maker:
 
     def owner_contact(self) -> str:
         """Whom clerks call: by the file that a manager wrote on the counter's page, or else by field.toml."""
-        return str(venue_file.in_folder(self.etc).get("owner_contact", self.field.owner_contact))
+        with contextlib.suppress(venue_file.BadVenueFile):      # as at an upgrade, which goes on
+            return str(venue_file.in_folder(self.etc).get("owner_contact", self.field.owner_contact))
+        return self.field.owner_contact
 
     def others(self) -> None:
         """Makes the files of other programs: nginx, dnsmasq, nftables, systemd."""
