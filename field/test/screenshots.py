@@ -134,6 +134,7 @@ def take_the_demo(browser: Browser, folder: pathlib.Path) -> None:
             browser.type(words + Keys.TAB)
         browser.press("Log in")
         browser.shape(SCREEN[0], browser.ask("return document.documentElement.scrollHeight"))
+        folder.mkdir(parents=True, exist_ok=True)
         browser.picture(folder / "demo-counter.png")
     finally:
         job.terminate()

@@ -9,6 +9,7 @@ import time
 import unittest
 from typing import Any
 
+import flask
 from desk_process import Desk, DeskProcess, NoAnswer, Refused, Routes
 
 from portal_field.lib.desk_client import REQUEST_NUMBER, new_number
@@ -105,7 +106,19 @@ class Words(unittest.TestCase):
             with self.assertRaises(BadForm):
                 form.whole(name)
         with self.assertRaises(BadForm):
-            Form.read("&".join(f"a{i}=1" for i in range(21)))
+            Form.read("&".join(f"a{i}=1" for i in range(Form.MOST_FIELDS + 1)))
+
+
+class Forms(unittest.TestCase):
+    def test_a_form_has_a_limit_by_its_address(self) -> None:
+        app = flask.Flask("forms")
+        for path, size, fits in (("/sell", 4000, True), ("/sell", 5000, False), ("/text", 60_000, True), ("/text", 70_000, False)):
+            with app.test_request_context(path, method="POST", data={"text": "x" * size}) as context:
+                request = context.request
+                if fits:
+                    self.assertEqual(len(Form.from_body(request)["text"]), size)
+                else:
+                    self.assertRaises(BadForm, Form.from_body, request)
 
 
 if __name__ == "__main__":

@@ -110,6 +110,11 @@ class CounterPage(BehindNginx):
         fields = {"Cookie": self.anna.cookie, "Origin": f"https://{self.host}", **(head or {})}
         return self.ask(path, fields, urllib.parse.urlencode({"token": self.anna.token, **form}) if form else None)
 
+    def test_a_text_and_a_picture_may_be_larger_than_other_forms(self) -> None:
+        for path, size, status in (("/text", 60_000, 200), ("/text", 70_000, 413), ("/picture", 300_000, 400), ("/picture", 4_200_000, 413),
+                                   ("/plan", 5_000, 413), ("/sell", 5_000, 413)):
+            self.assertEqual(self.clerk(path, text="x" * size)[0], status, (path, size))
+
     def guess(self, word: str) -> Answer:
         """The answer to a log-in of Ben's with a wrong password."""
         form = urllib.parse.urlencode({"request": "g1", "name": "ben", "password": word})

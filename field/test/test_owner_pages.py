@@ -167,6 +167,9 @@ class Plans(AtSettings):
         self.assertEqual((answer.status, "It is saved." in answer.told, "The plans file was not loaded." in answer.told), (200, True, True))
         self.anna.ask("/")
         self.assertIn("Take 3.50.", self.sells("hour-2"), "once the server answers")
+        self.plans.write_text(self.plans.read_text() + '[[plan]]\nid = "x"\nprice = "3"\n')
+        page = self.anna.ask("/plans")
+        self.assertEqual((page.status, "hour-2" in page.text, "plan=x" in page.text), (200, True, False))
         (self.folder / "offers.toml").write_text("[")
         for path in ("/plans", "/plan?plan=hour", "/settings"):
             self.assertEqual(self.anna.ask(path).status, 500, path)

@@ -20,7 +20,7 @@ from portal_field.lib.languages import GUESTS
 from portal_field.lib.message_marks import clerk_words
 from portal_field.lib.offers_file import Offer, OffersFile
 from portal_field.lib.plans import (
-    LIMITS, MOST_NAME, MOST_PLACE, BadFile, Plan, Plans, hundredths_of_percent, is_name, plans_in)
+    LIMITS, MOST_NAME, MOST_PLACE, BadFile, Plan, Plans, fault_of, hundredths_of_percent, is_name, plans_in)
 from portal_field.settings.kinds import OFFERS, PLANS
 
 if TYPE_CHECKING:
@@ -59,8 +59,8 @@ class Files:
 
     @property
     def plans(self) -> Plans:
-        """Those that can be read."""
-        return plans_in(self.plans_text.encode())
+        """Those that are what a plan must be."""
+        return {name: plan for name, plan in plans_in(self.plans_text.encode()).items() if not fault_of(plan)}
 
     @property
     def offers(self) -> OffersFile:
@@ -185,8 +185,7 @@ class PlanPages:
             return self.page.show("notice.html", 500, Notice(False, (self.say(
                 "The files of the plans cannot be read: %(why)s.", why=fault),)), quiet=True)
         offers = files.offers
-        listed = sorted((name for name, plan in files.plans.items() if NEW.keys() <= plan.keys()),
-                        key=lambda name: offers.of(name).place or MOST_PLACE + 1)
+        listed = sorted(files.plans, key=lambda name: offers.of(name).place or MOST_PLACE + 1)
         rows = [self.row(name, files.plans[name], files) for name in listed]
         is_out = {name: offers.of(name).offered is False or name == offers.goodwill for name in listed}
         return self.page.show("plans.html", answer.status if answer else 200, notice, quiet=True,
@@ -208,7 +207,7 @@ class PlanPages:
 
     def now(self, name: str, files: Files) -> Form:
         """The fields of a plan as it is. BadForm: there is none."""
-        if name and not NEW.keys() <= files.plans.get(name, {}).keys():
+        if name and name not in files.plans:
             raise BadForm("plan")
         return typed_of(files.plans[name] if name else NEW, files.offers.of(name), self.languages)
 

@@ -5,6 +5,8 @@ from __future__ import annotations
 
 import base64
 import io
+import struct
+import zlib
 from typing import TYPE_CHECKING, Any
 
 import flask
@@ -40,6 +42,8 @@ TEXTS = {texts.GREETING: clerk_words("Greeting"), texts.TERMS: clerk_words("Term
 WIDEST, MOST_PNG = 600, 200_000     # pixels of a picture that is taken, and bytes
 MOST_SIDE = 6000                    # pixels of a picture that is sent
 MOST_KEPT = 4                       # pictures that wait for being saved
+# of a file that is no picture
+BROKEN = (OSError, ValueError, SyntaxError, EOFError, struct.error, zlib.error)
 
 
 def lines_in(text: str) -> list[str]:
@@ -63,7 +67,7 @@ def png_of(data: bytes) -> bytes:
             if max(picture.size) > MOST_SIDE:
                 raise BadPicture
             upright = ImageOps.exif_transpose(picture).convert("RGBA")
-    except (OSError, ValueError, SyntaxError, Image.DecompressionBombError) as fault:
+    except (*BROKEN, Image.DecompressionBombError) as fault:
         raise BadPicture from fault
     for most in (WIDEST, WIDEST // 2, WIDEST // 4):
         upright.thumbnail((most, most))

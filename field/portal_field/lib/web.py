@@ -26,6 +26,7 @@ LIB = pathlib.Path(__file__).resolve().parent
 Answer = Iterable[bytes]
 Application = Callable[[dict[str, Any], Callable[..., Any]], Answer]
 ALIVE = 5.0         # seconds between two looks of the watchdog
+MOST_BODY = 4_300_000       # bytes: a picture and its form; of other forms nginx lets less through
 listening = doors.listening
 
 
@@ -59,7 +60,7 @@ def server(app: Application, door: socket.socket, threads: int) -> Any:
 
     return waitress.create_server(alive, sockets=[door], threads=threads, ident=None, connection_limit=1000,
                                   asyncore_use_poll=True, log_socket_errors=False,
-                                  max_request_body_size=65536,
+                                  max_request_body_size=MOST_BODY,
                                   clear_untrusted_proxy_headers=False)
 
 
