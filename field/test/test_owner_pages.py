@@ -238,6 +238,16 @@ class Texts(AtSettings):
         self.assertEqual(self.saves("/text?text=terms.de", "text", text="").status, 200)
         self.assertFalse((self.folder / "texts/terms.de.md").exists())
 
+    def test_the_last_text_of_terms_that_guests_have_to_accept_stays(self) -> None:
+        self.conf["terms_version"] = "1"
+        for name in ("terms", "terms.de"):
+            (self.folder / f"texts/{name}.md").write_text("# Rules\n")
+        self.assertEqual(self.saves("/text?text=terms.de", "text", text="").status, 200)
+        answer = self.anna.post("/text", kind="texts/terms", text="")
+        self.assertEqual((answer.status, "terms_version" in answer.told), (409, True))
+        self.conf["terms_version"] = ""
+        self.assertEqual(self.saves("/text?text=terms", "text", text="").status, 200)
+
     def test_a_long_text_in_any_script_and_one_that_is_too_long(self) -> None:
         text = "时" * 5000
         self.assertEqual(self.saves("/text?text=greeting&lang=zh-Hans", "text", text=text).status, 200)

@@ -220,6 +220,10 @@ class VenuePages:
         if len(text.encode()) > KINDS[kind].most:
             line = self.say("A text has at most %(most)s bytes.", most=KINDS[kind].most)
             return self.text_page(kind, text, Answer(413, (line,), "text"))
+        if not text and self.is_needed(kind):
+            line = self.say("Guests have to accept the terms, by terms_version of field.toml: one text of "
+                            "them has to stay.")
+            return self.text_page(kind, text, Answer(409, (line,), "text"))
         if form.get("do") != "save":
             return self.text_page(kind, text, looked=True)
         if form.get("seen") != sum_of(before, text):
@@ -227,6 +231,11 @@ class VenuePages:
         answer = self.files.write(kind, before, text, secret("password"), kind)
         saved = Answer(200, (self.say("It is saved. Guests read it from now on."),))
         return self.text_page(kind, text, saved if answer.good else answer, looked=True)
+
+    def is_needed(self, kind: str) -> bool:
+        """Whether a text is the last one of the terms that guests have to accept."""
+        there = {path.name for path in (self.counter.settings_folder / "texts").glob("terms*.md")}
+        return bool(self.counter.conf.get("terms_version")) and there == {KINDS[kind].name}
 
     # The picture
 

@@ -221,7 +221,8 @@ class Maker:
                                          "receipt_size": field.receipt_size,
                                          "receipt_head": field.receipt_head,
                                          "csv_separator": field.csv_separator,
-                                         "free_days": str(self.root / "var/lib/portal-give/days.json")},
+                                         "free_days": str(self.root / "var/lib/portal-give/days.json"),
+                                         "terms_version": field.terms_version},
                         0o640, "portal-counter")      # which has the password of the Wi-Fi
 
     def accounts(self) -> None:
