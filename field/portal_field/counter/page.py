@@ -583,11 +583,7 @@ def pages(counter: Counter, logins: Logins | None = None) -> flask.Flask:
     form_token.add_to(app)
     app.jinja_env.globals["may"] = roles.may
     if logins:
-        own = own_account.add(app, page, entrance.add(app, page, logins))
-        clerks.add(app, page, own)
-        files = SettingFiles(page, own.entrance)
-        plan_pages.add(app, page, files)
-        venue_pages.add(app, page, files)
+        add_log_in(app, page, logins)
 
     @app.before_request
     def own_forms() -> Reply | None:
@@ -622,6 +618,15 @@ def pages(counter: Counter, logins: Logins | None = None) -> flask.Flask:
         app.add_url_rule(f"/{name}", f"ask {name}", lambda name=name: answer(name))
     add_forms(app, page)
     return app
+
+
+def add_log_in(app: flask.Flask, page: Pages, logins: Logins) -> None:
+    """The log-in, and the pages that need it: accounts, and what a manager has written."""
+    own = own_account.add(app, page, entrance.add(app, page, logins))
+    clerks.add(app, page, own)
+    files = SettingFiles(page, own.entrance)
+    plan_pages.add(app, page, files)
+    venue_pages.add(app, page, files)
 
 
 def add_forms(app: flask.Flask, page: Pages) -> None:

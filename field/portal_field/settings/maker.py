@@ -159,14 +159,13 @@ class Maker:
         self.write_toml("leases.toml", {"lan": field.lan, "network": str(network), "leases": self.leases})
         self.token("form_key")      # of the guests' forms: pages that were shown before a restart stay good
         self.write_toml("front.toml", {"house": field.house, "help": field.help, "lan": field.lan,
-                                       "desk_port": port, "zone": field.zone,
-                                       "notes": run + "/portal-clock", "knock": knock,
-                                       "socket": run + "/portal-front/socket",
+                                       "desk_port": port, "zone": field.zone, "knock": knock,
+                                       "notes": run + "/portal-clock", "socket": run + "/portal-front/socket",
                                        "refusals": run + "/portal-page/refusals.json",
                                        "texts": str(self.etc / "texts"), "logo": bool(field.logo),
-                                       "picture": str(self.etc / PICTURE_FILE),
-                                       "prices": field.guest_prices, "currency": field.currency,
-                                       "terms_version": field.terms_version, "terms_days": field.terms_days,
+                                       "picture": str(self.etc / PICTURE_FILE), "currency": field.currency,
+                                       "prices": field.guest_prices, "terms_days": field.terms_days,
+                                       "terms_version": field.terms_version,
                                        "agreed": str(self.root / "var/lib/portal-front/agreed.db"),
                                        "give": run + "/portal-give/socket", "free": bool(field.free_plan)})
         self.give_settings(snapshot)
