@@ -126,7 +126,7 @@ class Errors(AtCounter):
         self.assertIn('<option value="week" selected>', self.ask("/takings?from=x&to=2026-01-01&by=week")[1])
 
     def test_a_form_that_cannot_be_read_at_all_names_no_field(self) -> None:
-        many = {f"x{place}": "1" for place in range(21)}
+        many = {f"x{place}": "1" for place in range(Form.MOST_FIELDS + 1)}
         for path in ("cash-up", "takings", "sell-batch", "sessions"):
             status, text = self.ask(f"/{path}?" + "&".join(f"{name}={value}" for name, value in many.items()))
             self.assertEqual((status, "The request was not understood." in text, self.wrong(text)), (400, True, []), path)
