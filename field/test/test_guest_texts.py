@@ -110,6 +110,12 @@ class Texts(Served):
             counter.offers.load(since=1)
             self.assertEqual(re.findall("<dt>(.*?)</dt><dd>(.*?)</dd>", self.page("/portal/prices")), rows,
                              "a file that the server refused")
+            (self.texts / "plans.toml").write_bytes(plans.read_bytes())
+            (self.texts / "offers.toml").write_text('[gigabyte]\nname = "Big"\nnames = { de = "Groß" }\n')
+            counter.offers.load(since=2)
+            for lang, name in (("de", "Groß: "), ("fr", "Big: ")):
+                rows = re.findall("<dt>(.*?)</dt>", self.page(f"/portal/prices?lang={lang}"))
+                self.assertEqual([row.startswith(name) for row in rows], [False, True, False], "the name of a plan in a language")
         Notes(str(self.texts)).drop("offers")
         self.assertNotIn("/portal/prices", self.page())
 

@@ -7,6 +7,7 @@ from typing import Any
 
 from portal_field.lib.languages import Language
 from portal_field.lib.machine_time import Notes
+from portal_field.lib.offers_file import Offer
 
 
 def worth(plan: dict[str, Any], language: Language) -> str:
@@ -19,8 +20,10 @@ def worth(plan: dict[str, Any], language: Language) -> str:
 
 
 def prices(notes: Notes, currency: str, language: Language) -> Iterator[tuple[str, str]]:
-    """What each plan gives that the counter offers, and its price, the cheapest first; nothing before the
-    counter has said so."""
+    """What each plan gives that the counter offers, after its name where the venue names it, and its price,
+    the cheapest first; nothing before the counter has said so."""
     plans = notes.read("offers").get("plans", [])
     for plan in sorted(plans, key=lambda plan: (plan["price"], plan["id"])):
-        yield worth(plan, language), language.money(plan["price"], currency)
+        offer, what = Offer(plan.get("name", ""), plan.get("names", {})), worth(plan, language)
+        name = offer.name_in(language.tag)
+        yield f"{name}: {what}" if name else what, language.money(plan["price"], currency)

@@ -158,16 +158,7 @@ class Maker:
         network = ipaddress.IPv4Interface(field.guests).network
         self.write_toml("leases.toml", {"lan": field.lan, "network": str(network), "leases": self.leases})
         self.token("form_key")      # of the guests' forms: pages that were shown before a restart stay good
-        self.write_toml("front.toml", {"house": field.house, "help": field.help, "lan": field.lan,
-                                       "desk_port": port, "zone": field.zone, "knock": knock,
-                                       "notes": run + "/portal-clock", "socket": run + "/portal-front/socket",
-                                       "refusals": run + "/portal-page/refusals.json",
-                                       "texts": str(self.etc / "texts"), "logo": bool(field.logo),
-                                       "picture": str(self.etc / PICTURE_FILE), "currency": field.currency,
-                                       "prices": field.guest_prices, "terms_days": field.terms_days,
-                                       "terms_version": field.terms_version,
-                                       "agreed": str(self.root / "var/lib/portal-front/agreed.db"),
-                                       "give": run + "/portal-give/socket", "free": bool(field.free_plan)})
+        self.front_settings(knock)
         self.give_settings(snapshot)
         self.style()
         self.write_toml("server.toml", {"clock": field.clock, "zone": field.zone})
@@ -177,6 +168,20 @@ class Maker:
         self.metrics(run, port)
         state = self.root / "var/lib/portal-radius"
         radius_files.make(field, self.etc, self.kit, run + "/portal-radius", str(state), self.write)
+
+    def front_settings(self, knock: str) -> None:
+        """Makes the settings of the guests' page."""
+        field, run = self.field, self.run
+        self.write_toml("front.toml", {"house": field.house, "help": field.help, "lan": field.lan,
+                                       "desk_port": field.desk_port, "zone": field.zone, "knock": knock,
+                                       "notes": run + "/portal-clock", "socket": run + "/portal-front/socket",
+                                       "refusals": run + "/portal-page/refusals.json",
+                                       "texts": str(self.etc / "texts"), "logo": bool(field.logo),
+                                       "picture": str(self.etc / PICTURE_FILE), "currency": field.currency,
+                                       "prices": field.guest_prices, "terms_days": field.terms_days,
+                                       "terms_version": field.terms_version,
+                                       "agreed": str(self.root / "var/lib/portal-front/agreed.db"),
+                                       "give": run + "/portal-give/socket", "free": bool(field.free_plan)})
 
     def give_settings(self, snapshot: str) -> None:
         """Makes the settings of the part that gives free minutes and ends sessions."""
