@@ -2,6 +2,7 @@
 
 from __future__ import annotations
 
+import datetime
 import html
 import io
 import re
@@ -99,6 +100,21 @@ class Plans(AtSettings):
         self.assertEqual(self.offers().of("hour-2"), Offer("One hour", {"en": "An hour"}, 2, "hour", tax=19))
         self.assertIn("An hour: 1 hour, 4.00", self.anna.ask("/vouchers").text)
         self.assertEqual(self.counter.offers.rate_of("hour-2"), 1900)
+
+    def test_lists_name_the_plans_and_tell_two_of_one_name_apart(self) -> None:
+        day = datetime.date.today()
+        self.saves("/plan?plan=hour", "plan", name="One hour")
+        self.sells("hour")
+        self.sells("day")
+        for page in ("/cash-up", f"/takings?from={day}&to={day}"):
+            text = self.anna.ask(page).text
+            self.assertEqual(["One hour" in text, "One hour (" in text], [True, False], page)
+        self.saves("/plan?plan=hour", "plan", price="4")
+        self.sells("hour-2")
+        for page, times in (("/cash-up", 1), ("/cash-up?details=1", 2), (f"/takings?from={day}&to={day}", 1)):
+            text = self.anna.ask(page).text
+            for name in ("One hour (hour)", "One hour (hour-2)"):
+                self.assertGreaterEqual(text.count(name), times, f"{name} on {page}")
 
     def test_a_price_that_is_taken_back_is_the_plan_of_before(self) -> None:
         for price, plan in (("3.50", "hour-2"), ("3.00", "hour"), ("4.00", "hour-3"), ("3.50", "hour-2")):

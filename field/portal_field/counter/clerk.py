@@ -110,6 +110,13 @@ class Counter:
         """A plan as a clerk reads it: its name, or its id where the venue names none."""
         return self.offers.name_of(plan, self.language.tag)
 
+    def plan_in_list(self, plan: str) -> str:
+        """A plan where several are listed: its name, and its id too where another plan has the name, as the
+        one of the price before."""
+        name = self.plan_name(plan)
+        is_shared = any(self.plan_name(other) == name for other in self.offers.accepted_plans if other != plan)
+        return f"{name} ({plan})" if is_shared else name
+
     def plan_words(self, plan: str) -> str:
         """The name of a plan, and what it gives."""
         terms, name = self.offers.accepted_plans.get(plan, {}), self.plan_name(plan)

@@ -101,11 +101,11 @@ def of_days(counter: Counter, reply: dict[str, Any], first: str, last: str) -> d
     ends = datetime.date.fromisoformat(first), datetime.date.fromisoformat(last)
     names = [row.name for row in rows]
     listed, by_hour = plans(counter.journal, *ends, span), hours(counter.journal, *ends)
-    shown = [(plan, plan_chart(plan, names, span, language),
+    shown = [(counter.plan_in_list(plan.name), plan, plan_chart(plan, names, span, language),
               [(name_of(step.name, span, language, last), language.number(step.sold), money(step.sales))
                for step in plan.steps.values()]) for plan in listed[:MOST_PLANS]]
     return {"chart": bars(rows, span, language, money, last), "lines": table(rows, span, language, last),
             "hours_chart": hours_chart(by_hour, language), "plans": shown,
-            "others": [plan.name for plan in listed[MOST_PLANS:]],
+            "others": [counter.plan_in_list(plan.name) for plan in listed[MOST_PLANS:]],
             "hours": [(f"{row.name}:00", language.number(row.sold), money(row.sales))
                       for row in by_hour if row.sold]}

@@ -365,10 +365,11 @@ class Pages:
     def cash_up(self, form: Form) -> Reply:
         """The takings of a day by plan and clerk, beside the server's."""
         day = form.day("day") if form.get("day") else datetime.date.today()
-        sums = self.counter.cash_up(day)
+        sums, name = self.counter.cash_up(day), self.counter.plan_in_list
+        sums["plans"] = [replace(row, name=name(row.name)) for row in sums["plans"]]
         return self.show("cash_up.html", **sums, **self.money_pages.of_day(day, sums["journal"]),
                          head=self.head(), day=day, details=form.get("details") == "1", now=time.time(),
-                         answers=self.answered, words_of=self.made_good.words_of)
+                         answers=self.answered, words_of=self.made_good.words_of, plan_in_list=name)
 
     def cash_up_file(self, form: Form) -> Reply:
         """The cash-up of a day as a CSV file."""
