@@ -114,7 +114,7 @@ class Counter:
         """A plan where several are listed: its name, and its id too where another plan has the name, as the
         one of the price before."""
         name = self.plan_name(plan)
-        is_shared = any(self.plan_name(other) == name for other in self.offers.accepted_plans if other != plan)
+        is_shared = any(other != plan and self.plan_name(other) == name for other in self.offers.accepted_plans)
         return f"{name} ({plan})" if is_shared else name
 
     def plan_words(self, plan: str) -> str:

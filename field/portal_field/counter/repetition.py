@@ -108,7 +108,8 @@ def notice(counter: Counter, action: str, entry: Entry) -> Notice:
 def facts(counter: Counter, entry: Entry) -> list[tuple[str, str]]:
     """What the journal has of it."""
     say = counter.say
-    listed = [(say("Clerk"), entry.clerk), (say("Batch"), entry.batch), (say("Plan"), counter.plan_name(entry.plan)),
+    listed = [(say("Clerk"), entry.clerk), (say("Batch"), entry.batch),
+              (say("Plan"), counter.plan_name(entry.plan)),
               (say("Codes"), counter.language.number(entry.codes) if entry.codes else ""),
               (say("Sum"), counter.money(entry.price) if entry.price else "")]
     return [(name, value) for name, value in listed if value]
