@@ -83,5 +83,5 @@ def test_what_to_do(plans: str) -> None:
 def test_new_id(plans: str) -> None:
     PLANS.write_text(plans + OTHER)
     done = sh("portal-setup")
-    assert done.returncode == 0 and menu()[-1] == "hour-2, 2.00", (
+    assert done.returncode == 0 and menu()[-1] == "hour-2: 1 hour, 2.00", (
         f"with a new id it is accepted, and set-up ends with 0  [{output(done)}]")

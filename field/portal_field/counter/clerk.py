@@ -113,8 +113,8 @@ class Counter:
     def plan_in_list(self, plan: str) -> str:
         """A plan where several are listed: its name, and its id too where another plan has the name, as the
         one of the price before."""
-        name = self.plan_name(plan)
-        is_shared = any(other != plan and self.plan_name(other) == name for other in self.offers.accepted_plans)
+        name, plans = self.plan_name(plan), self.offers.accepted_plans
+        is_shared = any(self.plan_name(other) == name for other in plans if other != plan)
         return f"{name} ({plan})" if is_shared else name
 
     def plan_words(self, plan: str) -> str:
