@@ -30,17 +30,19 @@ PATHS = {"guests": ("/", "/portal", "/portal/redeem", "/captive", "/style.css", 
                      "/refund", "/close", "/sell-batch", "/sell-several", "/refund-batch", "/several", "/scanner", "/sell",
                      "/issue", "/now", "/time", "/shift", "/shift-open", "/shift-move", "/shift-close", "/drawer", "/slip", "/receipt", "/receipts",
                      "/receipt.css", "/cash-up.csv", "/unlock", "/password", "/pin", "/style.css", "/counter.css", "/sheet.css",
+                     "/plans", "/plan", "/settings", "/texts", "/text", "/picture", "/picture.png", "/clerks",
                      "/sheet.pdf", "/fonts/DejaVuSansCondensed.ttf", "/fonts/..%2f..%2fcron", "/alive")}
 ACTS = ("/sell", "/refund", "/close", "/issue", "/now", "/sell-batch", "/sell-several", "/refund-batch", "/time", "/shift-open", "/shift-move",
         "/shift-close", "/drawer")
 FIELDS = ("code", "request", "device", "sign", "sent", "lang", "done", "left", "add", "terms", "look", "kept", "next", "batch", "plan", "count", "amount",
           "session", "day", "from", "to", "by", "size", "token", "name", "password", "pin", "to", "then", "fields", "shown", "booted", "again", "codes", "out", "refunds", "text",
-          "payment", "drawer", "float", "move", "reason", "shift", "counted", "due", "note", "number", "lines", "said", "details", "x", "", "code[]", "__proto__")
+          "payment", "drawer", "float", "move", "reason", "shift", "counted", "due", "note", "number", "lines", "said", "details", "act", "do", "whole", "seen", "price", "name_de", "place", "tax", "uses", "offered",
+          "owner_contact", "payments", "receipt_head", "file", "x", "", "code[]", "__proto__")
 METHODS = ("GET", "POST", "HEAD", "PUT", "DELETE", "OPTIONS", "PATCH", "TRACE", "CONNECT", "PROPFIND", "get", "G\u00cbT", "")
 WORDS = ("", "0", "1", "-1", "500", "501", "9" * 18, "9" * 40, "1e9", "0x10", "NaN", "true", "null", "hour", "b1", "2026-01-01",
          "2026-13-41", "0000-00-00", "9999-12-31", "1970-01-01", "2222-2222-2222", "AAAA-AAAA-AAAA-AAAA", "../../etc/passwd", "<script>",
          "{{7*7}}", "%(sum)s", "%s%n", "' OR 1=1 --", "\x00", "\r\nX: y", "\ud800", "\U0001f4a9" * 9, "\u202e", "a" * 300, "de", "zh-Hans",
-         "https://wifi.example/portal?code=2222", "https://[", "text/csv", "\u0661\u0662", "week", "label", "receipt58")
+         "https://wifi.example/portal?code=2222", "https://[", "text/csv", "\u0661\u0662", "week", "free", "end", "save", "terms.de", "label", "receipt58")
 HEADS = ("Accept-Language", "Cookie", "Origin", "Referer", "Portal-Device", "Portal-Request", "Portal-Token", "X-User", "X-Real-IP",
          "X-Scheme", "X-Tried", "X-Forwarded-For", "Forwarded", "Authorization", "Content-Type", "Content-Encoding", "Range",
          "If-None-Match", "If-Modified-Since", "Expect", "Upgrade", "Connection", "Via", "User-Agent", "Sec-Fetch-Mode", "Accept",
