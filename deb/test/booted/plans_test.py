@@ -2,11 +2,12 @@
 
 from __future__ import annotations
 
+import html
 import re
 from collections.abc import Iterator
 
 import pytest
-from machine import PLANS, all_run, counter, output, passes, send_as_clerk, serves, sh, until
+from machine import PASSWORD, PLANS, all_run, counter, output, passes, send_as_clerk, serves, sh, until
 
 pytestmark = pytest.mark.container
 OTHER = """[[plan]]
@@ -25,6 +26,16 @@ def menu() -> list[str]:
     """What the counter sells."""
     text = counter("")[1].partition('<select name="plan">')[2].partition("</select>")[0]
     return re.findall("<option [^>]*>([^<]*)</option>", text)
+
+
+def fields_of_plan(page: str) -> dict[str, str]:
+    """What a browser sends of the form of a plan, but for the token."""
+    form, found = page.partition('<form method="post" action="/plan">')[2].partition("</form>")[0], {}
+    for tag in re.findall("<input [^>]*>", form):
+        words = dict(re.findall(r' (name|type|value)="([^"]*)"', tag))
+        if words["name"] != "token" and (words.get("type") != "checkbox" or " checked" in tag):
+            found[words["name"]] = html.unescape(words.get("value", ""))
+    return found | dict(re.findall(r'<select id="\w+" name="(\w+)">.*?value="(\w+)" selected', form))
 
 
 def wait_for_the_plans() -> float | None:
@@ -85,3 +96,21 @@ def test_new_id(plans: str) -> None:
     done = sh("portal-setup")
     assert done.returncode == 0 and menu()[-1] == "hour-2: 1 hour, 2.00", (
         f"with a new id it is accepted, and set-up ends with 0  [{output(done)}]")
+
+
+def test_new_price_on_the_page(plans: str) -> None:
+    """The unit of root writes the files, and the server has the price before the page says so."""
+    offers = PLANS.with_name("offers.toml")
+    try:
+        looked = send_as_clerk("plan", plan="day", price="9,50")[1]
+        told = send_as_clerk("plan", **{**fields_of_plan(looked), "password": PASSWORD, "do": "save"})[1]
+        assert "day-2: 1 day, 9.50" in menu() and not any("9.00" in line for line in menu()), (
+            "a manager changes a price on the page, and the next voucher is sold at it  "
+            f"[{re.findall(r'id=.told.[^>]*>(.*?)</p>', told)} {menu()}]")
+        status = PLANS.stat()
+        assert (status.st_uid, status.st_mode & 0o777) == (0, 0o644) and 'id = "day-2"' in PLANS.read_text(), (
+            "the file is root's, and has the plan")
+        assert "day-2" not in PLANS.with_name("plans.toml.before").read_text(), "the file of before is kept"
+    finally:
+        for path in (offers, offers.with_name("offers.toml.before"), PLANS.with_name("plans.toml.before")):
+            path.unlink(missing_ok=True)
