@@ -11,7 +11,8 @@ import flask
 
 from portal_field.counter.clerk import Notice
 from portal_field.counter.entrance import place, secret
-from portal_field.counter.own_account import ROLES, Answer, OwnAccount
+from portal_field.counter.own_account import ROLES, OwnAccount
+from portal_field.counter.setting_files import Answer
 from portal_field.lib import passwords
 from portal_field.lib.desk_client import new_number
 from portal_field.lib.forms import BadForm, Form

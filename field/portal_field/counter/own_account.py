@@ -4,7 +4,7 @@ and writes the file."""
 from __future__ import annotations
 
 from collections.abc import Callable
-from dataclasses import dataclass, replace
+from dataclasses import replace
 from typing import TYPE_CHECKING
 
 import flask
@@ -14,6 +14,7 @@ from portal_field.counter.clerk import Notice
 from portal_field.counter.entrance import WRONG, Entrance, place, secret
 from portal_field.counter.journal import DONE
 from portal_field.counter.logins import Locked, Login
+from portal_field.counter.setting_files import Answer
 from portal_field.lib import passwords
 from portal_field.lib.message_marks import clerk_words
 from portal_field.settings.accounts import CLERK, FILE, MANAGER, Accounts, BadAccounts, text_in
@@ -31,19 +32,6 @@ REFUSALS = {
     "no_answer": (clerk_words("The part that writes the accounts does not answer (portal-settings.service)."),
                   503)}
 OTHER = (clerk_words("The accounts could not be written: %(why)s."), 500)
-
-
-@dataclass(frozen=True)
-class Answer:
-    """What came of a form: the status of the page, what it says, and the field that is wrong."""
-    status: int
-    lines: tuple[str, ...]
-    field: str = ""
-
-    @property
-    def good(self) -> bool:
-        """Whether it was written."""
-        return self.status == 200
 
 
 class OwnAccount:
