@@ -165,13 +165,13 @@ def test_killed_while_it_asks(lab: AddressLab) -> None:
 
 
 def killed_while_it_asks(lab: AddressLab) -> None:
-    """The first guest sends no ARP for a moment, so that it is being asked when portal-leases is killed. A question of its
-    own would be an answer too."""
+    """The first guest sends no ARP for a moment, so that it is being asked when portal-leases is killed. The question comes
+    a second after the release, or ten after the last one."""
     address = lab.address("guest1")
     lab.within("guest1", "nft", "add table arp w; add chain arp w o { type filter hook output priority 0; policy drop; }")
     assert_forged_are_dropped(lab)
     try:
-        lab.until(lambda: lab.entry(address)[1] not in ("", "PERMANENT"), 5, "a question")
+        lab.until(lambda: lab.entry(address)[1] not in ("", "PERMANENT"), 12, "a question")
         lab.stop("leases", kill=True)
     finally:
         lab.within("guest1", "nft", "delete table arp w")
