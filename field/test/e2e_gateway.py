@@ -26,6 +26,13 @@ IDS = {"portal-gateway": 7001, "portal-front": 7002, "portal-counter": 7003, "po
 PRINTER = "02:aa:00:00:00:03"
 CROWDED = 600       # sessions
 ASKED = 65535       # as many addresses as the set `asked` holds
+ONE_COUNT = """
+import sys
+from portal_field.gateway.kernel_gate import KernelGate
+gate, mac = KernelGate("lan0", 5, "/nowhere"), sys.argv[1]
+whole, asked = gate.passing(), gate.ask([mac, "02:00:00:00:00:99"])
+print(int(asked == {mac: whole[mac]}), whole[mac].count, whole[mac].session)
+"""
 OPEN = "import socket, sys; s = socket.socket(socket.AF_UNIX); s.connect(sys.argv[1]); print('open')"
 
 
@@ -76,6 +83,14 @@ class GatewayLab(Lab):
 
 
 pytestmark = [pytest.mark.packets, pytest.mark.lab(kind=GatewayLab, without_browser=[PRINTER])]
+
+
+def test_one_count(lab: GatewayLab) -> None:
+    session = lab.online("guest1")
+    lab.tcp("guest1", "send", 300_000)
+    same, count, number = map(int, lab.within("gw", PYTHON, "-c", ONE_COUNT, MACS["guest1"]).stdout.split())
+    assert same and number == session, "a count that is asked for alone is that of the whole list"
+    assert count > 300_000, f"both have the bytes  [{count}]"
 
 
 def test_sockets(lab: GatewayLab) -> None:

@@ -58,7 +58,8 @@ class MemoryGate:
     def __init__(self, clock: Callable[[], float]) -> None:
         self.clock, self.renewed_at = clock, [0.0]       # when the switch was renewed_at
         self.now: dict[str, Passing] = {}
-        self.is_open = self.is_gone = self.is_barred = self.loads = self.is_empty = False
+        self.is_open = self.is_gone = self.is_barred = self.loads = self.is_empty = self.is_new = False
+        self.readings = 0       # how often all of it was read
 
     def guard(self) -> None:
         pass
@@ -81,7 +82,15 @@ class MemoryGate:
         self.is_barred = False
 
     def passing(self) -> dict[str, Passing]:
-        return {mac: Passing(p.session, p.base, p.count) for mac, p in self.now.items()}
+        self.readings += 1
+        return self.ask(self.now)
+
+    def is_known(self) -> bool:
+        return not self.is_new
+
+    def ask(self, macs: Iterable[str]) -> dict[str, Passing]:
+        there = [(mac, self.now[mac]) for mac in macs if mac in self.now]
+        return {mac: Passing(p.session, p.base, p.count) for mac, p in there}
 
     def change(self, gone: Iterable[str], come: dict[str, Passing]) -> None:
         for mac in gone:
@@ -233,6 +242,91 @@ class Polls(unittest.TestCase):
         self.time, before = self.time + 5, len(self.desk.asked)
         self.poll()
         self.assertEqual(self.desk.asked[before], (120, 900_000))
+
+    def read_crowd(self) -> int:
+        """A crowd of 1,000 without limits, just read as a whole; how often it was read."""
+        self.crowd(1000)
+        self.time += 5
+        before = self.gate.readings
+        self.poll()
+        self.assertEqual(self.gate.readings, before + 1)
+        return self.gate.readings
+
+    def test_a_small_venue_is_read_at_each_poll_and_a_large_one_each_five_seconds(self) -> None:
+        self.crowd(100)
+        before = self.gate.readings
+        self.busy(60)
+        self.assertEqual(self.gate.readings - before, 60)
+        before = self.read_crowd()
+        self.busy(60)
+        self.assertEqual(self.gate.readings - before, 12)
+
+    def test_the_last_count_of_one_of_a_crowd_is_that_of_its_end(self) -> None:
+        before = self.read_crowd()
+        self.gate.now[self.desk.open[7]].count = 777
+        mac = self.desk.open.pop(7)
+        self.poll()
+        self.assertEqual((self.desk.used[7], mac in self.gate.now, self.gate.readings), (777, False, before))
+
+    def test_bytes_that_end_a_session_shut_it_in_the_same_poll_in_a_crowd_too(self) -> None:
+        self.desk.allowance = {7: 10**7}
+        before = self.read_crowd()
+        self.desk.allowance = {7: 10**7}
+        self.poll()
+        self.gate.now[self.desk.open[7]].count = 10**7
+        mac = self.desk.open[7]
+        self.poll()
+        self.assertEqual((mac in self.gate.now, self.gate.readings), (False, before))
+
+    def test_a_fast_device_of_a_crowd_is_looked_at_sooner(self) -> None:
+        self.read_crowd()
+        self.desk.allowance, mac = {7: 10**9}, self.desk.open[7]
+        self.gate.now[mac].count = 5 * 10**8        # in five seconds
+        self.poll(5)
+        before = self.gate.readings
+        self.gate.now[mac].count = 10**9
+        self.poll()
+        self.assertEqual((mac in self.gate.now, self.gate.readings), (False, before))
+
+    def test_sets_that_were_loaded_anew_are_read_at_once(self) -> None:
+        self.read_crowd()
+        self.gate.now, self.gate.is_new = {}, True
+        self.poll()
+        self.assertEqual(len(self.gate.now), 50, "as many as a poll may let in")
+
+    def test_what_somebody_took_out_is_let_in_at_the_next_reading(self) -> None:
+        before, (one, other) = self.read_crowd(), (self.desk.open[7], self.desk.open[8])
+        del self.gate.now[one], self.gate.now[other]
+        self.poll()
+        self.assertNotIn(other, self.gate.now)
+        del self.desk.open[7]                   # its count is asked for, and it has none
+        self.poll()
+        self.assertEqual((other in self.gate.now, self.gate.readings), (True, before + 1))
+
+    def test_after_a_poll_that_failed_all_is_read(self) -> None:
+        """It let one in, whose bytes are counted from then on, and reported no other."""
+        def silent() -> None:
+            if B in self.gate.now:
+                raise NoAnswer("silent")
+
+        before = self.read_crowd()
+        self.desk.allowance, self.desk.open[2000], self.desk.work = {7: 10**7}, B, silent
+        self.gate.now[self.desk.open[7]].count = 5 * 10**6
+        self.assertFalse(self.poll())
+        self.desk.work = lambda: None
+        self.gate.now[B].count = 555
+        self.assertTrue(self.poll())
+        self.assertEqual((self.gate.now[B].count, self.gate.readings), (555, before + 1))
+
+    def test_reports_that_had_to_wait_are_made_at_the_next_poll(self) -> None:
+        self.read_crowd()
+        for passing in self.gate.now.values():
+            passing.count = 1000
+        self.time += 1200
+        self.poll()
+        before = len(self.desk.asked)
+        self.poll(0.05)
+        self.assertEqual((len(self.desk.asked) - before, self.agent.has_postponed), (50, True))
 
     def test_sessions_without_a_byte_limit_are_reported_each_ten_minutes_spread_over_time(self) -> None:
         self.crowd(200)

@@ -26,6 +26,12 @@ MOST_REPORTS = 50       # a poll; the others wait for the next, which then comes
 LONGEST = 3.0           # seconds that a poll spends on reports, since the list that it works on grows old
 # seconds after which a report that the desk answered renews the kernel's timeout again
 RENEWED = 1.0
+# The kernel's counts are read as a whole each READ_PART seconds for each device that passes, at most each
+# LONGEST_READ: in a small venue at each poll. In between a count is asked for alone where it matters: that of
+# a session that ends, and of one that may use its last bytes before the next whole reading.
+READ_PART, LONGEST_READ = 0.005, 5.0
+ASK = 30                # how many counts are read as a whole while one is asked for alone
+PACE = 12_500_000       # bytes a second that any device may use; one that used more may use twice as many
 GOLDEN = 0.6180339887   # parts of an interval by numbers that follow one another: evenly spread, however many
 
 
@@ -34,6 +40,10 @@ class Gate(Protocol):
 
     def passing(self) -> dict[str, Passing]:
         """The devices that pass, with their counts."""
+    def is_known(self) -> bool:
+        """Whether the sets are those that this process changed last: nobody loaded or emptied them since."""
+    def ask(self, macs: Iterable[str]) -> dict[str, Passing]:
+        """Those of these devices that pass, with their counts, each asked for alone."""
     def change(self, gone: Iterable[str], come: dict[str, Passing]) -> None:
         """Lets devices pass no more, and others from now on."""
     def shut(self) -> None:
@@ -66,6 +76,11 @@ class Agent:
         self.renewed_at = self.reports_end = 0.0
         self.reports_left = 0                                       # reports that this poll may make
         self.has_postponed = False                                   # whether some had to wait
+        # The devices that pass as far as is known, each with the count that was read last; None where the
+        # kernel has to be read.
+        self.known: dict[str, Passing] | None = None
+        self.read_at = 0.0                          # when the kernel was read as a whole
+        self.pace: dict[int, float] = {}            # session: bytes a second between the last two readings
 
     def change(self, gone: Iterable[str], come: dict[str, Passing]) -> None:
         """Changes who passes, which renews the kernel's timeout."""
@@ -113,8 +128,8 @@ class Agent:
         return part if part >= 1 or waited >= self.quiet else 0.0
 
     def report_due(self, stay: dict[str, Passing], wanted: dict[str, Row]) -> list[str]:
-        """Sends the reports that are due, the most urgent first; the devices whose session has ended by
-        it."""
+        """Sends the reports that are due of these devices, the most urgent first; the devices whose session
+        has ended by it."""
         needs = {mac: self.urgency(p, wanted[mac].get("bytes-remaining")) for mac, p in stay.items()}
         ended = []
         for mac in sorted((mac for mac in needs if needs[mac] > 0), key=lambda mac: -needs[mac]):
@@ -129,8 +144,9 @@ class Agent:
         the next poll."""
         self.unreported.update({p.session: p.used for p in gone.values()})
         # After a restore of an older book a number may belong to another device: say nothing then.
-        for session in (0, *(row["session"] for row in wanted.values())):
-            self.unreported.pop(session, None)
+        if self.unreported:
+            for session in (0, *(row["session"] for row in wanted.values())):
+                self.unreported.pop(session, None)
         for session, used in list(self.unreported.items()):
             if not self.may_report(MOST_REPORTS // 2):
                 break
@@ -157,29 +173,70 @@ class Agent:
                     self.later(row["session"], used)
         return come
 
+    def matters(self, p: Passing, row: Row | None) -> bool:
+        """Whether a session's count is needed now: it ends, or may use its last bytes before the kernel is
+        read as a whole again. `row`: what the desk lists for its device."""
+        if row is None or row["session"] != p.session:
+            return True
+        if "bytes-remaining" not in row:
+            return False
+        fresh = p.used - self.server_counts.get(p.session, (p.base, 0.0))[0]
+        left: int = row["bytes-remaining"]
+        return left - fresh < max(PACE, 2 * self.pace.get(p.session, 0.0)) * LONGEST_READ
+
+    def read(self) -> dict[str, Passing]:
+        """Reads the kernel as a whole; how fast each session used its bytes since the last time."""
+        before, seconds = self.known or {}, max(self.now() - self.read_at, RENEWED)
+        passing = self.gate.passing()
+        self.pace = {p.session: (p.count - before[mac].count) / seconds for mac, p in passing.items()
+                     if mac in before and before[mac].session == p.session}
+        self.read_at = self.now()
+        return passing
+
+    def look(self, wanted: dict[str, Row]) -> tuple[dict[str, Passing], set[str]]:
+        """The devices that pass, and those of which the count is new: all, or those of which it matters."""
+        if self.known is not None and self.gate.is_known():
+            matters = {mac for mac, p in self.known.items() if self.matters(p, wanted.get(mac))}
+            pause = min(READ_PART * len(self.known), LONGEST_READ)
+            if self.now() - self.read_at < pause and len(matters) * ASK <= len(self.known):
+                asked = self.gate.ask(matters) if matters else {}
+                if asked.keys() == matters:         # else somebody else took some out
+                    return {**self.known, **asked}, matters
+        passing = self.read()
+        return passing, set(passing)
+
     def poll(self) -> None:
         """One poll: who passes no more, who passes, and what is reported to the server."""
         self.gate.guard()
         self.gate.check_rules()                  # also where the desk is silent
         wanted = {row["device"]: row for row in self.desk.request_json(Routes.SESSIONS)["sessions"]}
-        now = self.gate.passing()
+        now, fresh = self.look(wanted)
+        self.known = None                   # until this poll comes to its end
         stay = {mac: p for mac, p in now.items() if mac in wanted and wanted[mac]["session"] == p.session}
-        gone = {mac: p for mac, p in now.items() if mac not in stay}
+        gone = {mac: p for mac, p in now.items() if mac not in stay} if len(stay) < len(now) else {}
         self.change(gone, {})               # first of all: who may not pass, passes no more
+        is_whole = len(fresh) == len(now)
+        due = stay if is_whole or self.has_postponed else {mac: stay[mac] for mac in fresh & stay.keys()}
         self.reports_left, self.reports_end, self.has_postponed = MOST_REPORTS, self.now() + LONGEST, False
         self.settle(gone, wanted)
-        come = self.newcomers(wanted, stay)
+        come = self.newcomers(wanted, stay) if len(stay) < len(wanted) else {}
         if come:
             self.change((), come)
-        ended = self.report_due(stay, wanted)
+        ended = self.report_due(due, wanted)
         if ended or self.reports_left < MOST_REPORTS:
             self.change(ended, {})
+        self.known = {mac: p for mac, p in {**stay, **come}.items() if mac not in ended}
+        if gone or come or ended or is_whole:
+            self.forget(wanted)
+            self.write_sessions(wanted, self.known)
+
+    def forget(self, wanted: dict[str, Row]) -> None:
+        """Drops what is kept of sessions that are over."""
         sessions = {row["session"] for row in wanted.values()} | self.unreported.keys()
         self.server_counts = {session: count for session, count in self.server_counts.items()
                               if session in sessions}
         self.reported_at = {session: when for session, when in self.reported_at.items()
                             if session in sessions}
-        self.write_sessions(wanted, {mac: p for mac, p in {**stay, **come}.items() if mac not in ended})
 
     def row(self, row: Row, p: Passing) -> Row:
         """A session as the desk lists it, with the count of this poll; and what the desk holds of it, as of

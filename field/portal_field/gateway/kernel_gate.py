@@ -2,14 +2,17 @@
 
 from __future__ import annotations
 
+import os
 import pathlib
 import re
 import socket
 import sys
+import time
 from collections.abc import Iterable
 
 import nftables
 
+from portal_field.gateway.kernel_elements import KernelElements
 from portal_field.gateway.kernel_sets import (
     ALIVE, BARRED, DOWN, LISTED, READY, UP, KernelSets, element, flush)
 from portal_field.gateway.passing import NotReady, Passing, RulesAreGone
@@ -43,20 +46,38 @@ class KernelGate(KernelSets):
         super().__init__()
         self.lan, self.grace, self.rules = lan, grace, rules
         self.is_barred, self.has_guard, self.index = False, False, 0
+        self.mark = f"{os.getpid()} {time.time_ns()}"       # comment of the switch that this process renewed
+        self.elements_alone = KernelElements()
 
     def passing(self) -> dict[str, Passing]:
         """The devices let through, with the IP-layer bytes of both directions. What others put there is left
         alone."""
-        nothing = {"packets": 0, "bytes": 0}
-        down = {e["val"]: e["counter"] for e in self.elements(DOWN)}
+        down = {back.mac: back.bytes - ETHERNET * back.packets for back in self.counted(DOWN)}
         passing = {}
-        for e in self.elements(UP):
-            ours = OURS.fullmatch(e.get("comment", ""))
-            if not ours:
-                continue
-            back = down.get(e["val"], nothing)
-            count = e["counter"]["bytes"] + back["bytes"] - ETHERNET * back["packets"]
-            passing[e["val"]] = Passing(int(ours[1]), int(ours[2]), count)
+        for up in self.counted(UP):
+            ours = OURS.fullmatch(up.comment)
+            if ours:
+                passing[up.mac] = Passing(int(ours[1]), int(ours[2]), up.bytes + down.get(up.mac, 0))
+        return passing
+
+    def is_known(self) -> bool:
+        """Whether the switch is on by this process; whoever loads the rules anew or empties the sets turns it
+        off."""
+        return any(e.get("comment") == self.mark for e in self.elements(ALIVE))
+
+    def ask(self, macs: Iterable[str]) -> dict[str, Passing]:
+        """Those of these devices that are let through, as `passing` has them; none where the kernel refuses
+        to say it of one alone."""
+        passing = {}
+        for mac in macs:
+            try:
+                up, down = (self.elements_alone.ask(where, mac) for where in (UP, DOWN))
+            except OSError:
+                return {}
+            ours = OURS.fullmatch(up.comment) if up else None
+            if up and down and ours:
+                count = up.bytes + down.bytes - ETHERNET * down.packets
+                passing[mac] = Passing(int(ours[1]), int(ours[2]), count)
         return passing
 
     def change(self, gone: Iterable[str], come: dict[str, Passing]) -> None:
@@ -69,7 +90,7 @@ class KernelGate(KernelSets):
             commands.append(element("add", UP, {"elem": {"val": mac, "comment": f"{p.session}+{p.base}"}}))
             commands.append(element("add", DOWN, mac))
         # Older kernels do not renew a timeout: the element goes and comes within one transaction.
-        fresh = {"elem": {"val": self.lan, "timeout": self.grace}}
+        fresh = {"elem": {"val": self.lan, "timeout": self.grace, "comment": self.mark}}
         commands += [element("add", ALIVE, fresh), element("delete", ALIVE, self.lan),
                      element("add", ALIVE, fresh)]
         self.run(commands)

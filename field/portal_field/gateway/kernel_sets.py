@@ -2,8 +2,9 @@
 
 from __future__ import annotations
 
+import re
 from collections.abc import Iterable, Iterator
-from typing import Any
+from typing import Any, NamedTuple
 
 import nftables
 
@@ -17,6 +18,15 @@ BOUND = ("inet", "portal", "bound"), ("netdev", "portal", "bound")
 LEASED = ("netdev", "portal", "leased")
 SetName = tuple[str, str, str]
 Pair = tuple[str, str]      # a device's MAC address, and its IPv4 address
+COUNTED = re.compile(r'([0-9a-f:]{17}) counter packets ([0-9]+) bytes ([0-9]+)(?: comment "([^"]*)")?')
+
+
+class Counted(NamedTuple):
+    """A device of a set with counters, and the comment of its element."""
+    mac: str
+    packets: int
+    bytes: int
+    comment: str
 
 
 def elements_of(verb: str, where: SetName, values: list[Any]) -> dict[str, Any]:
@@ -42,6 +52,7 @@ class KernelSets:
     def __init__(self) -> None:
         self.nft = nftables.Nftables()
         self.nft.set_json_output(True)
+        self.plain = nftables.Nftables()
 
     def run(self, commands: list[dict[str, Any]]) -> Any:
         """Runs commands of libnftables, and returns its output. RulesAreGone: nftables refuses."""
@@ -58,6 +69,15 @@ class KernelSets:
         for item in output["nftables"]:
             for member in item.get("set", {}).get("elem", []):
                 yield member["elem"] if "elem" in member else {"val": member}
+
+    def counted(self, where: SetName) -> Iterator[Counted]:
+        """The devices of a set with counters, by nft's text, which takes half of the time of its JSON. Raises
+        RulesAreGone where there is no such set."""
+        status, output, error = self.plain.cmd("list set " + " ".join(where))
+        if status != 0:
+            raise RulesAreGone("nft: " + error.strip())
+        for mac, packets, number, comment in COUNTED.findall(output):
+            yield Counted(mac, int(packets), int(number), comment)
 
 
 def in_bound(verb: str, pairs: Iterable[Pair]) -> list[dict[str, Any]]:
