@@ -300,14 +300,14 @@ class Copies(Case):
 
 @needs("procps", "rsync")
 class CarriedOff(Case):
-    def test_copies_are_carried_off_as_the_readme_says(self) -> None:
+    def test_copies_are_carried_off_as_the_page_says(self) -> None:
         """By its line, to a folder of this machine. A copy that was damaged here since stays good there."""
-        line = re.search(r"`(rsync [^`]*)`", (FIELD / "README.md").read_text())
+        line = re.search(r"(?m)^\$ (rsync .*)$", (FIELD.parent / "docs/NEW_MACHINE.md").read_text())
         assert line
         with DeskProcess() as desk:
             desk.load()
             copy, far = self.make_copy(desk), desk.folder / "far"
-            words = [{"/var/backups/portal/": f"{copy.parent}/", "HOST:portal/": f"{far}/"}.get(word, word)
+            words = [{"/var/backups/portal-whole/": f"{copy.parent}/", "HOST:venue/": f"{far}/"}.get(word, word)
                      for word in line[1].split()]
             for _ in range(2):
                 subprocess.run(words, check=True)
@@ -661,7 +661,7 @@ class Logs(unittest.TestCase):
             "guests/nginx-guests.conf", "counter/nginx-counter.conf", "counter/nginx-main.conf")
                    for path in re.findall(r"(?:access|error)_log (/\S+)", (FIELD / name).read_text())}
         rotated = re.findall(r"(?m)^(/\S+) \{", (FIELD / "units/logrotate.conf").read_text())
-        folder_paths = re.findall(r"(?m)^d (/\S+) 0755 ", (FIELD / "units/tmpfiles.conf").read_text())
+        folder_paths = re.findall(r"(?m)^d (/var/\S+) 0755 ", (FIELD / "units/tmpfiles.conf").read_text())
         self.assertEqual((folders, rotated, folder_paths), ({"/var/log/portal"}, ["/var/log/portal/*.log"], ["/var/log/portal"]))
 
 

@@ -1,7 +1,7 @@
 """A copy of the database while the server serves, as one file; prints its path.
 
-    portal-backup [--pid PID | --still] [--check SETTINGS] [--portal "CMD .."] [--keep N] [--name NAME]
-    [--journal FILE]
+    portal-backup [--pid PID | --still] [--unit UNIT] [--check SETTINGS] [--portal "CMD .."] [--keep N]
+    [--name NAME] [--journal FILE] [--whole FOLDER]
         DATABASE FOLDER
 
 The server holds its file locked, so sqlite3's own backup gets "database is locked". Two plain copies one
@@ -10,7 +10,7 @@ is held still for as long as copying both files takes. Then the log is folded in
 program check it, its SHA-256 is written beside it, and it is renamed into place. A server that does not run
 is not held, nor one whose database is in a btrfs subvolume of its own: a snapshot of that is one moment of
 both files. The counter's journal gets a copy of its own beside that, `journal-NAME.db`: nothing restores it,
-as what clerks did stays done.
+as what clerks did stays done. With --whole another folder gets a copy of the whole venue (venue_copy.py).
 """
 
 from __future__ import annotations
@@ -30,9 +30,10 @@ import tempfile
 import time
 from collections.abc import Iterator
 
+from portal_field.backup import venue_copy
 from portal_field.backup.copies import (
     UNIT, BadCopy, InUse, check_by_portal, copy_both, copy_open, fold, look, nobody_has_it_open,
-    server_state, sum_of, to_disk)
+    say_step, server_state, sum_of, to_disk)
 
 # Waits until its standard input ends, as it does however the backup ends; then the server goes on.
 GUARD = "trap '' HUP INT TERM; read -r _; exec %s"
@@ -81,18 +82,18 @@ def goes_on_after(line: str) -> Iterator[None]:
 
 
 @contextlib.contextmanager
-def held_still(pid: int | None, still: bool, database: pathlib.Path) -> Iterator[None]:
+def held_still(pid: int | None, still: bool, database: pathlib.Path, unit: str = UNIT) -> Iterator[None]:
     """Holds the server still inside, so that it writes nothing."""
     if pid is not None:
         with goes_on_after(f"kill -CONT {pid}"):
             stop_process(pid)
             yield
-    elif still or server_state() in ("inactive", "failed"):      # nobody writes
+    elif still or server_state(unit) in ("inactive", "failed"):      # nobody writes
         with nobody_has_it_open(database):
             yield
     else:
-        with goes_on_after(f"systemctl thaw {UNIT}"):
-            subprocess.run(["systemctl", "freeze", UNIT], check=True)
+        with goes_on_after(f"systemctl thaw {unit}"):
+            subprocess.run(["systemctl", "freeze", unit], check=True)
             yield
 
 
@@ -132,7 +133,7 @@ def make(args: argparse.Namespace, part: pathlib.Path) -> pathlib.Path:
         with snapshot(args.database) as moment:
             copy_both(moment, one)
     else:
-        with held_still(args.pid, args.still, args.database):
+        with held_still(args.pid, args.still, args.database, args.unit):
             copy_both(args.database, one)
     fold(one)
     look(one)
@@ -157,9 +158,37 @@ def copy_journal(journal: pathlib.Path | None, part: pathlib.Path, goal: pathlib
     return 0
 
 
+def copy_venue(args: argparse.Namespace, database: pathlib.Path) -> int:
+    """Makes the copy of the whole venue, with this copy of its database; the status."""
+    folder: pathlib.Path = args.whole
+    say_step("packing the whole venue")
+    folder.mkdir(parents=True, exist_ok=True, mode=0o700)
+    for rest in folder.glob(".part-*"):         # by a backup that was killed
+        shutil.rmtree(rest, ignore_errors=True)
+    try:
+        settings = venue_copy.Settings.read(args.root / venue_copy.SETTINGS)
+        with tempfile.TemporaryDirectory(prefix=".part-", dir=folder) as part:
+            one = pathlib.Path(part) / f"{venue_copy.BEGIN}{database.stem}{venue_copy.END}"
+            venue_copy.pack(one, args.root, database, settings.paths, version_of(shlex.split(args.portal)))
+            if settings.key:
+                one = venue_copy.seal(one, settings.key)
+            put(one, folder / one.name)
+    except (BadCopy, OSError, subprocess.SubprocessError) as fault:
+        print(f"portal-backup: the whole venue is not copied to {folder}: {fault}", file=sys.stderr)
+        return 1
+    venue_copy.drop_old(folder)
+    return 0
+
+
+def version_of(portal: list[str]) -> str:
+    """The version that the program says it is; nothing where it says none."""
+    words = subprocess.run([*portal, "--version"], capture_output=True, text=True).stdout.split()
+    return words[1] if len(words) > 1 else ""
+
+
 def put(one: pathlib.Path, goal: pathlib.Path) -> None:
     """Moves a copy to its place, the sum first: a copy in its place has one."""
-    sums = one.with_suffix(".sha256")
+    sums = one.with_name(f"{one.name}.sha256")
     sums.write_text(f"{sum_of(one)}  {goal.name}\n")
     to_disk(one, sums)
     sums.rename(f"{goal}.sha256")
@@ -185,13 +214,18 @@ def read_words() -> argparse.Namespace:
     """The words of the command line."""
     words = argparse.ArgumentParser(
         description="A copy of the database while the server serves, as one file.")
-    words.add_argument("--pid", type=int, help=f"the server's process; without it {UNIT} is frozen")
+    words.add_argument("--pid", type=int, help="the server's process; without it the unit is frozen")
+    words.add_argument("--unit", default=UNIT, help="the server's unit, as portal@NAME.service")
     words.add_argument("--still", action="store_true", help="nobody writes to this database: hold no server")
     words.add_argument("--check", type=pathlib.Path, metavar="SETTINGS",
                        help="the server's settings: check the copy")
     words.add_argument("--portal", default="/usr/bin/portal", help="the program, as a command line")
     words.add_argument("--keep", type=int, default=0, metavar="N", help="keep the N newest copies alone")
     words.add_argument("--journal", type=pathlib.Path, metavar="FILE", help="copy the counter's journal too")
+    words.add_argument("--whole", type=pathlib.Path, metavar="FOLDER",
+                       help="keep a copy of the whole venue in this folder, too")
+    # of the venue, for tests
+    words.add_argument("--root", type=pathlib.Path, default="/", help=argparse.SUPPRESS)
     words.add_argument("--name", help="the copy's name without .db; else the time")
     words.add_argument("database", type=pathlib.Path)
     words.add_argument("folder", type=pathlib.Path)
@@ -199,7 +233,7 @@ def read_words() -> argparse.Namespace:
 
 
 def main() -> int:
-    """Makes one copy, and prints its path; 0 where it is good, and the journal's copy too."""
+    """Makes one copy, and prints its path; 0 where it is good, and those of the journal and the venue too."""
     args = read_words()
     for number in (signal.SIGTERM, signal.SIGHUP):
         signal.signal(number, lambda got, _: sys.exit(128 + got))       # so that the folder below is removed
@@ -212,6 +246,8 @@ def main() -> int:
         with tempfile.TemporaryDirectory(prefix=".part-", dir=args.folder) as part:
             put(make(args, pathlib.Path(part)), goal)
             status = copy_journal(args.journal, pathlib.Path(part), goal.with_name(JOURNAL + goal.name))
+        if args.whole:
+            status = copy_venue(args, goal) or status
     except BadCopy as fault:
         print("portal-backup: the copy is not kept:", fault, file=sys.stderr)
         return 1

@@ -11,6 +11,7 @@ import pathlib
 import shutil
 import sqlite3
 import subprocess
+import sys
 import urllib.parse
 from collections.abc import Iterator
 
@@ -27,11 +28,17 @@ class InUse(Exception):
     """The server runs, or another process has the database open."""
 
 
-def server_state() -> str:
+def say_step(words: str) -> None:
+    """Says what begins now, where somebody looks on: standard error is a terminal."""
+    if sys.stderr.isatty():
+        print(f"{words} ..", file=sys.stderr, flush=True)
+
+
+def server_state(unit: str = UNIT) -> str:
     """systemd's word for the server: active, activating (also between two starts), inactive, failed; or
     nothing."""
     with contextlib.suppress(OSError):
-        words = ["systemctl", "show", "-p", "ActiveState", "--value", UNIT]
+        words = ["systemctl", "show", "-p", "ActiveState", "--value", unit]
         return subprocess.run(words, capture_output=True, text=True).stdout.strip()
     return ""
 
@@ -50,6 +57,7 @@ def nobody_has_it_open(database: pathlib.Path) -> Iterator[None]:
 
 def copy_both(database: pathlib.Path, goal: pathlib.Path) -> None:
     """Copies the database and its log, as they are."""
+    say_step(f"copying {database}")
     if not database.exists():
         raise BadCopy(f"there is no file {database}")
     for end in ENDS:
@@ -60,6 +68,7 @@ def copy_both(database: pathlib.Path, goal: pathlib.Path) -> None:
 
 def fold(path: pathlib.Path) -> None:
     """Brings the log into the database, so that one file holds all."""
+    say_step("SQLite checks the copy")
     try:
         with contextlib.closing(sqlite3.connect(path, isolation_level=None)) as base:
             busy = base.execute("PRAGMA wal_checkpoint(TRUNCATE)").fetchone()[0]
@@ -127,6 +136,7 @@ def ask_portal(portal: list[str], settings: pathlib.Path, path: pathlib.Path, *w
 
 def check_by_portal(portal: list[str], settings: pathlib.Path, path: pathlib.Path) -> None:
     """The program's own check of a copy. BadCopy: it finds something."""
+    say_step("the program checks the copy")
     answer = ask_portal(portal, settings, path, "check")
     if answer != "ok\n":
         raise BadCopy(f"`portal check` says {answer.strip()}")

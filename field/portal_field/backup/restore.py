@@ -1,8 +1,12 @@
 """Puts a copy in the database's place. The server must not run.
 
-    portal-restore FILE [DATABASE]      FILE: a copy that portal-backup made (or a folder, from an earlier
-    one) portal-restore --drill [FILE]       restores into a scratch folder and prints the takings of the last
-    day
+    portal-restore FILE [DATABASE]
+    portal-restore --whole [--key KEY] FILE     makes a new machine the venue of a whole copy
+    portal-restore --drill [--key KEY] [FILE]   restores into a scratch folder, and prints the takings of the
+                                                last day; with --key the newest whole copy, or FILE
+
+FILE is a copy that portal-backup made, or a folder, from an earlier one. With --venue NAME all is of a venue
+by name.
 
 The copy is checked before anything is replaced, and what was there is kept beside the database. Everything
 after the copy is lost: vouchers redeemed or refunded since are good again, those sold since are not, and
@@ -31,16 +35,20 @@ from portal_field.backup.copies import (
     UNIT, BadCopy, InUse, ask_portal, check_by_portal, copy_both, fold, head_of, look, nobody_has_it_open,
     server_state, sum_of, to_disk)
 from portal_field.backup.undone_entries import undone_entries, write_list
+from portal_field.backup.venue_copy import BEGIN, copies_in
+from portal_field.backup.venue_restore import check, restore_venue, unpack
+from portal_field.venues.places import Places
 
+COPIES, COPIES_OF_VENUE = "/var/backups/portal", "/var/backups/portal-whole"
 FLUSH = "flush set inet portal alive; flush set inet portal up; flush set netdev portal down"
 
 
 @contextlib.contextmanager
-def server_stopped(database: pathlib.Path) -> Iterator[None]:
+def server_stopped(database: pathlib.Path, unit: str = UNIT) -> Iterator[None]:
     """InUse: the server runs, or another process has the database open; nobody opens it inside. `activating`
     is a server that systemd starts again each second."""
-    if server_state() not in ("", "inactive", "failed"):
-        raise InUse(f"stop {UNIT} first")
+    if server_state(unit) not in ("", "inactive", "failed"):
+        raise InUse(f"stop {unit} first")
     with nobody_has_it_open(database) if database.exists() else contextlib.nullcontext():
         yield
 
@@ -120,7 +128,7 @@ def list_what_is_undone(args: argparse.Namespace, one: pathlib.Path, aside: path
 def restore(args: argparse.Namespace) -> None:
     """Puts a checked copy in the database's place, and prints what that undid."""
     folder = args.database.parent
-    with server_stopped(args.database):
+    with server_stopped(args.database, args.unit):
         for rest in folder.glob(".restore-*"):      # by a restore that was killed
             shutil.rmtree(rest, ignore_errors=True)
         with tempfile.TemporaryDirectory(prefix=".restore-", dir=folder) as scratch:
@@ -128,7 +136,8 @@ def restore(args: argparse.Namespace) -> None:
             aside = keep_what_is_there(args.database)
             lines = list_what_is_undone(args, one, aside)
             replace(args.database, one)
-    drop_counts()
+    if args.unit == UNIT:
+        drop_counts()
     print(f"restored; what was there before is in {aside}", *lines, sep="\n")
 
 
@@ -143,20 +152,48 @@ def last_day(path: pathlib.Path, settings: pathlib.Path) -> str:
 
 def drill(args: argparse.Namespace) -> None:
     """Restores into a scratch folder, and prints the takings of the copy's last day."""
+    portal = shlex.split(args.portal)
     with tempfile.TemporaryDirectory() as scratch:
-        one = scratch_copy(args, pathlib.Path(scratch))
-        day = last_day(one, args.settings)
-        takings = ask_portal(shlex.split(args.portal), args.settings, one, "takings", day, day)
+        one, settings = pathlib.Path(scratch), args.settings
+        if is_of_venue(args.file):
+            venue = unpack(args.file, args.key, one)
+            check(venue, portal)
+            one, settings = venue.database, venue.settings
+        else:
+            one = scratch_copy(args, one)
+        day = last_day(one, settings)
+        takings = ask_portal(portal, settings, one, "takings", day, day)
     print(f"{args.file} restores and checks; the takings of its last day:")
     print(takings, end="")
 
 
-def newest(folder: pathlib.Path) -> pathlib.Path:
-    """The newest copy of a folder. BadCopy: there is none."""
-    copies = [path for path in sorted(folder.glob("[0-9]*Z*")) if path.suffix != ".sha256"]
+def is_of_venue(file: pathlib.Path) -> bool:
+    """Whether a copy is one of a whole venue, by its name."""
+    return file.name.startswith(BEGIN)
+
+
+def become_venue(args: argparse.Namespace) -> None:
+    """Makes this machine the venue of a whole copy."""
+    if os.geteuid() != 0:
+        raise InUse("it needs root")
+    with tempfile.TemporaryDirectory(dir=args.database.parent, prefix=".restore-") as scratch:
+        print(*restore_venue(args.file, args.key, shlex.split(args.portal), pathlib.Path(scratch)), sep="\n")
+
+
+def newest(folder: pathlib.Path, venue: bool) -> pathlib.Path:
+    """The newest copy of a folder, of the database or of the whole venue. BadCopy: there is none."""
+    copies = copies_in(folder) if venue else [path for path in sorted(folder.glob("[0-9]*Z*"))
+                                              if path.suffix != ".sha256"]
     if not copies:
         raise BadCopy(f"there is none in {folder}")
     return copies[-1]
+
+
+def of_venue(args: argparse.Namespace) -> None:
+    """Takes the paths of a venue by name for those that the command line does not say."""
+    places = Places(args.venue)
+    args.unit, args.settings, args.folder = places.unit, places.settings / "portal.toml", places.copies
+    args.database = places.database
 
 
 def main() -> int:
@@ -165,24 +202,38 @@ def main() -> int:
                                                 "run.")
     words.add_argument("--drill", action="store_true",
                        help="only try it: print the takings of the copy's last day")
+    words.add_argument("--whole", action="store_true",
+                       help="make this machine the venue of a whole copy; none was set up on it")
+    words.add_argument("--key", type=pathlib.Path, help="the file with the secret key of an encrypted copy")
     words.add_argument("--settings", type=pathlib.Path, default="/etc/portal/portal.toml",
                        help="the server's settings")
     words.add_argument("--portal", default="/usr/bin/portal", help="the program, as a command line")
-    words.add_argument("--folder", type=pathlib.Path, default="/var/backups/portal",
-                       help="where --drill takes the newest")
+    words.add_argument("--folder", type=pathlib.Path,
+                       help="where --drill takes the newest: /var/backups/portal, with --key "
+                            "/var/backups/portal-whole")
+    words.add_argument("--unit", default=UNIT, help="the server's unit, as portal@NAME.service")
+    words.add_argument("--venue", metavar="NAME",
+                       help="of the venue of this name: its unit, settings, copies and database")
     words.add_argument("file", type=pathlib.Path, nargs="?", metavar="FILE")
     words.add_argument("database", type=pathlib.Path, nargs="?", default="/var/lib/portal/book.db",
                        metavar="DATABASE")
     args = words.parse_args()
+    if args.venue:
+        of_venue(args)
     if not args.file and not args.drill:
         words.error("which FILE?")
     try:
-        args.file = args.file or newest(args.folder)
-        drill(args) if args.drill else restore(args)
+        whole = args.key is not None
+        folder = args.folder or pathlib.Path(COPIES_OF_VENUE if whole else COPIES)
+        args.file = args.file or newest(folder, whole)
+        if args.drill:
+            drill(args)
+        else:
+            become_venue(args) if args.whole else restore(args)
     except BadCopy as fault:
         print(f"portal-restore: the copy is not used: {fault}", file=sys.stderr)
         return 1
-    except (InUse, OSError, subprocess.SubprocessError) as fault:
+    except (InUse, OSError, LookupError, subprocess.SubprocessError) as fault:
         print("portal-restore:", fault, file=sys.stderr)
         return 1
     return 0

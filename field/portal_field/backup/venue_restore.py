@@ -1,0 +1,187 @@
+"""Makes a machine the venue of a whole copy (venue_copy.py): its settings, secrets, certificate, what the
+parts kept, and the database. The package is installed there, and no venue was set up."""
+
+from __future__ import annotations
+
+import os
+import pathlib
+import shutil
+import subprocess
+import tarfile
+import time
+import tomllib
+from dataclasses import dataclass
+
+from portal_field.backup.copies import (
+    BadCopy, InUse, check_by_portal, fold, head_of, look, say_step, sum_of, to_disk)
+from portal_field.backup.venue_copy import ETC, FORMAT, LABEL, SEALED, STATE
+from portal_field.backup.venue_state import DATABASE, DATABASES, kept_below
+
+
+@dataclass(frozen=True)
+class Venue:
+    """A whole copy, unpacked below a folder, and checked."""
+    folder: pathlib.Path
+    version: str            # of the package that made it
+    paths: tuple[str, ...]  # outside of /etc/portal
+
+    @property
+    def database(self) -> pathlib.Path:
+        """The copy of the server's database."""
+        return self.folder / STATE / "portal" / DATABASE
+
+    @property
+    def settings(self) -> pathlib.Path:
+        """The server's settings."""
+        return self.folder / ETC / "portal.toml"
+
+
+def opened(file: pathlib.Path, key: pathlib.Path | None, scratch: pathlib.Path) -> pathlib.Path:
+    """The copy as a file that tar reads. BadCopy: its sum is another one, or the key does not open it."""
+    beside = pathlib.Path(f"{file}.sha256")
+    if beside.exists() and sum_of(file) != beside.read_text().split()[0]:
+        raise BadCopy(f"its SHA-256 is not that of {beside.name}")
+    if file.suffix != SEALED:
+        return file
+    if key is None:
+        raise BadCopy("it is encrypted: give --key FILE, the file with the secret key")
+    goal = scratch / "venue.tar.gz"
+    goal.touch(mode=0o600)
+    try:
+        done = subprocess.run(["age", "--decrypt", "--identity", key, "--output", goal, file],
+                              capture_output=True, text=True)
+    except FileNotFoundError as fault:
+        raise BadCopy("it is encrypted, and the Debian package age is not installed") from fault
+    if done.returncode != 0:
+        raise BadCopy(f"the key does not open it: {done.stderr.strip().partition(chr(10))[0]}")
+    return goal
+
+
+def checked(tar: tarfile.TarFile) -> list[tarfile.TarInfo]:
+    """The members of a copy. BadCopy: one would go elsewhere than below the folder that it is unpacked in."""
+    members, links = tar.getmembers(), set[pathlib.PurePosixPath]()
+    for member in members:
+        path = pathlib.PurePosixPath(member.name)
+        if path.is_absolute() or ".." in path.parts or links & set(path.parents) or not (
+                member.isreg() or member.isdir() or member.issym()):
+            raise BadCopy(f"it has {member.name}, which no copy of a venue has")
+        if member.issym():
+            links.add(path)
+        member.uid = member.gid = 0     # where this machine has no user or group of its name
+        member.uname = "root"
+    return members
+
+
+def unpack(file: pathlib.Path, key: pathlib.Path | None, scratch: pathlib.Path) -> Venue:
+    """Unpacks a copy below a folder that root alone reads. BadCopy: it is no whole copy of a venue."""
+    folder = scratch / "venue"
+    say_step(f"unpacking {file}")
+    folder.mkdir(mode=0o700)
+    try:
+        with tarfile.open(opened(file, key, scratch)) as tar:
+            members = checked(tar)
+            tar.extractall(folder, members)
+        about = tomllib.loads((folder / LABEL).read_text())
+    except (tarfile.TarError, EOFError, OSError, ValueError) as fault:
+        raise BadCopy(f"it is no copy of a venue: {fault}") from fault
+    if about.get("format") != FORMAT:
+        raise BadCopy(f"it is of a later version, {about.get('version')}: install that one")
+    tops = {"/".join(member.name.split("/")[:2]) for member in members if "/" in member.name}
+    return Venue(folder, str(about.get("version")), tuple(sorted(tops - {ETC, STATE})))
+
+
+def check(venue: Venue, portal: list[str]) -> None:
+    """BadCopy: the copy has no settings, or no database that this machine's program goes on with, or one of a
+    venue by name."""
+    if not venue.settings.exists() or not venue.database.exists():
+        raise BadCopy("it has no settings or no database")
+    check_database(venue, portal, venue.settings, venue.database)
+    for database in sorted((venue.folder / STATE).glob(DATABASES)):
+        name = database.parent.name
+        settings = venue.folder / ETC / "venues" / name / "portal.toml"
+        try:
+            check_database(venue, portal, settings if settings.exists() else venue.settings, database)
+        except (BadCopy, OSError) as fault:
+            raise BadCopy(f"of the venue {name}: {fault}") from fault
+
+
+def check_database(venue: Venue, portal: list[str], settings: pathlib.Path, database: pathlib.Path) -> None:
+    """BadCopy: this database is none that this machine's program goes on with."""
+    fold(database)
+    look(database)
+    if not head_of(database):
+        raise BadCopy("it has no copy of the server's database")
+    try:
+        check_by_portal(portal, settings, database)
+    except BadCopy as fault:
+        raise BadCopy(f"{fault} (it was made by version {venue.version})") from fault
+
+
+def make_folder(folder: pathlib.Path, user: str) -> None:
+    """Makes a folder of state that its user alone reads. One above it, as the units make it, is open, or that
+    of the counters' pages, whose folders are the venues'."""
+    above = folder.parent
+    if not above.exists():
+        above.mkdir(parents=True)
+        if above.name == "portal-venues-counter":
+            above.chmod(0o700)
+            shutil.chown(above, user, user)
+    folder.mkdir(mode=0o700)
+    shutil.chown(folder, user, user)
+
+
+def place_state(venue: Venue, root: pathlib.Path) -> None:
+    """Puts what the parts kept in its place, the database last, since a machine that has one is not
+    restored."""
+    for user, path in sorted(kept_below(venue.folder / STATE), key=lambda kept: kept[1] == venue.database):
+        goal = root / path.relative_to(venue.folder)
+        if not goal.parent.exists():
+            make_folder(goal.parent, user)
+        shutil.chown(path, user, user)
+        part = goal.with_name(f".{goal.name}.part")
+        subprocess.run(["cp", "--preserve=mode,ownership", path, part], check=True)
+        to_disk(part)
+        part.rename(goal)
+        to_disk(goal.parent)
+
+
+def place_settings(venue: Venue, root: pathlib.Path) -> list[str]:
+    """Puts settings and certificate in their places; lines that say where is what was there before."""
+    etc, lines = root / ETC, list[str]()
+    if etc.exists():
+        aside = etc.with_name(f"portal.before-{time.strftime('%Y%m%dT%H%M%SZ', time.gmtime())}")
+        etc.rename(aside)
+        lines.append(f"the settings that were there are in {aside}")
+    for name in (ETC, *venue.paths):
+        goal = root / name
+        goal.parent.mkdir(parents=True, exist_ok=True)
+        subprocess.run(["cp", "-a", "--backup=simple", "--suffix=.before", "-T", venue.folder / name, goal],
+                       check=True)
+    os.sync()
+    return lines
+
+
+def is_venue(root: pathlib.Path) -> bool:
+    """Whether a machine has a database, also of a venue by name, and so is a venue already."""
+    state = root / STATE
+    return (state / "portal" / DATABASE).exists() or any(state.glob(DATABASES))
+
+
+def restore_venue(file: pathlib.Path, key: pathlib.Path | None, portal: list[str], scratch: pathlib.Path,
+                  root: pathlib.Path = pathlib.Path("/")) -> list[str]:
+    """Makes the machine below `root` the venue of a copy; the lines to print. BadCopy: it is not used.
+    InUse: this machine is a venue already. Nothing was changed then."""
+    if is_venue(root):
+        raise InUse(f"this machine has a venue already, with a database below {root / STATE}. A copy of one "
+                    f"database goes there by `portal-restore FILE`, or with `--venue NAME`")
+    venue = unpack(file, key, scratch)
+    check(venue, portal)
+    lines = place_settings(venue, root)
+    place_state(venue, root)
+    mark = root / STATE / "portal/schema"
+    if head := head_of(venue.database):
+        mark.write_text(f"{head[0]}\n")
+    by_name = sorted(path.parent.name for path in (root / STATE).glob(DATABASES))
+    more = [f"and the venues {', '.join(by_name)}, each as of its own newest copy: after portal-setup run "
+            f"portal-venues apply"] if by_name else []
+    return ["this machine has the venue of the copy now", *lines, *more, "next: portal-setup"]
