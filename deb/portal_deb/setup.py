@@ -53,6 +53,7 @@ DNSMASQ_READS = "/etc/dnsmasq.d,.dpkg-dist,.dpkg-old,.dpkg-new"
 STATE = pathlib.Path("/run/portal-clock/state")     # what the server says that it does
 SECRET = 0o640          # field.toml: it may have the password of the Wi-Fi
 DEFAULT_SITE = pathlib.Path("/etc/nginx/sites-enabled/default")
+DISABLED = ETC / "nginx-default-site"       # says that set-up disabled it: a removal enables it again
 
 
 def run(*words: str, check: bool = True) -> subprocess.CompletedProcess[str]:
@@ -278,6 +279,7 @@ def debians_own(path: pathlib.Path) -> bool:
 def start(rules: str) -> None:
     """Enables and starts every part; nginx's default site goes if it is Debian's own."""
     if DEFAULT_SITE.is_symlink() and debians_own(DEFAULT_SITE):
+        DISABLED.write_text(f"{os.readlink(DEFAULT_SITE)}\n")
         DEFAULT_SITE.unlink()
         print("portal-setup: nginx's default site, Debian's own page on every address, is no longer enabled")
     ctl("enable", *PARTS, rules, "portal-backup.timer")

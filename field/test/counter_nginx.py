@@ -74,7 +74,7 @@ class CounterNginx(Nginx):
         self.url = f"https://{NAME}:{self.port}/"
         certificate(folder, NAME)
         words = {"COUNTER": "127.0.0.1", "COUNTER_NAME": NAME, "COUNTER_NET": "127.0.0.0/8",
-                 "COUNTER_SOCKET": self.socket, "CERT": folder / "cert.pem", "KEY": folder / "key.pem",
+                 "VENUE": "", "COUNTER_SOCKET": self.socket, "CERT": folder / "cert.pem", "KEY": folder / "key.pem",
                  "FIELD": FIELD, "POLICY": policy, "RUN": folder, "ETC": folder}
         (folder / "portal-counter-nginx").mkdir()
         (folder / "counter-nginx").mkdir()

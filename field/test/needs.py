@@ -16,18 +16,18 @@ from typing import Any
 
 ROOT, LOOP_DEVICES, NAMESPACES = "it needs root", "it needs loop devices", "it needs network namespaces"
 NFTABLES = "it needs network namespaces with nftables"
-COMMANDS = {"btrfs-progs": "mkfs.btrfs", "busybox": "busybox", "chromium": "chromium", "chromium-driver": "chromedriver",
-            "binutils": "readelf", "git": "git", "lintian": "lintian", "man-db": "man", "openssh-client": "ssh-keygen",
+COMMANDS = {"age": "age", "btrfs-progs": "mkfs.btrfs", "busybox": "busybox", "chromium": "chromium", "chromium-driver": "chromedriver",
+            "binutils": "readelf", "git": "git", "lintian": "lintian", "man-db": "man",
             "curl": "curl", "dnsmasq-base": "dnsmasq", "dpkg": "dpkg-deb", "ethtool": "ethtool", "freeradius": "freeradius",
-            "freeradius-utils": "radclient", "iproute2": "ip", "iputils-ping": "ping", "mmdebstrap": "mmdebstrap",
+            "freeradius-utils": "radclient", "iproute2": "ip", "iputils-ping": "ping", "minisign": "minisign", "mmdebstrap": "mmdebstrap",
             "nftables": "nft", "nginx": "nginx", "openssl": "openssl", "poppler-utils": "pdftoppm", "procps": "sysctl", "prometheus": "promtool",
             "rsync": "rsync", "systemd": "systemd-analyze", "systemd-container": "systemd-nspawn", "util-linux": "setpriv",
             "zbar-tools": "zbarimg", "zint": "zint"}
-MODULES = {"python3-prometheus-client": "prometheus_client", "python3-markdown-it": "markdown_it", "python3-pil": "PIL", "weasyprint": "weasyprint", **{f"python3-{name}": name for name in (
+MODULES = {"python3-prometheus-client": "prometheus_client", "python3-psycopg": "psycopg", "python3-markdown-it": "markdown_it", "python3-pil": "PIL", "weasyprint": "weasyprint", **{f"python3-{name}": name for name in (
     "babel", "flask", "jsonschema", "nftables", "pyroute2", "pytest", "qrencode", "selenium", "waitress", "yaml")}}
 FILES = {"faketime": "/usr/lib/x86_64-linux-gnu/faketime/libfaketime.so.1",
          "fonts-dejavu-extra": "/usr/share/fonts/truetype/dejavu/DejaVuSansCondensed.ttf",
-         "freeradius-python3": "/usr/lib/freeradius/rlm_python3.so"}
+         "freeradius-python3": "/usr/lib/freeradius/rlm_python3.so", "postgresql": "/usr/lib/postgresql/15/bin/postgres"}
 PAGES = ("python3-flask", "python3-babel", "python3-waitress", "python3-qrencode", "python3-pil", "python3-markdown-it")
 # What tests of each kind need, by their markers; of the last two kinds are scripts.
 NEEDS: dict[str, tuple[str, ...]] = {
@@ -36,7 +36,7 @@ NEEDS: dict[str, tuple[str, ...]] = {
                 "util-linux", "procps", "fonts-dejavu-extra", "python3-nftables", "python3-pyroute2", "python3-pytest", *PAGES, NFTABLES),
     "radius": (ROOT, "freeradius", "freeradius-utils", "freeradius-python3", "prometheus", "python3-prometheus-client",
                "python3-pytest", *PAGES),
-    "package": ("lintian", "man-db", "git", "openssh-client", "binutils", "python3-babel", "python3-pytest", "dpkg"),
+    "package": ("lintian", "man-db", "git", "minisign", "binutils", "python3-babel", "python3-pytest", "dpkg"),
     "container": (ROOT, "systemd-container", "mmdebstrap", "openssl", "dpkg", "python3-babel"),
     "environments": (ROOT, "mmdebstrap", "util-linux")}
 NEW_NAMESPACE = ["unshare", "-n", "ip", "link", "add", "one", "type", "veth", "peer", "name", "two"]

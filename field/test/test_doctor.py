@@ -382,6 +382,18 @@ class Base(Case):
             sums.unlink()
         self.only_fault(base.backup, WARNING, "has no SHA-256 beside it")
 
+    def test_backup_of_the_whole_venue(self) -> None:
+        self.copy(3600)
+        self.all_good(base.backup)
+        copy = self.machine.put(f"{Machine.VENUES}/venue-20260101T033000.000000Z.tar.gz", "whole", 37 * 3600)
+        beside = f"{Machine.VENUES}/{copy.name}.sha256"
+        self.machine.put(beside, f"{hashlib.sha256(b'whole').hexdigest()}  {copy.name}\n")
+        self.only_fault(base.backup, WRONG, "of the whole venue, venue-20260101T033000.000000Z.tar.gz, is 37 hours old")
+        os.utime(copy)
+        self.all_good(base.backup)
+        self.machine.put(beside, f"{'0' * 64}  {copy.name}\n")
+        self.only_fault(base.backup, WRONG, "is not what its SHA-256 says")
+
     def test_no_copy_is_a_fault_after_the_first_night(self) -> None:
         token = "/etc/portal/credentials/desk_token"
         self.machine.put(token, "x", 35 * 3600)

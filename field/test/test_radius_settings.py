@@ -167,8 +167,11 @@ class Made(unittest.TestCase):
         for text in (SAMPLE, SAMPLE + TABLE):
             self.make(text)
             self.assertEqual(path.read_text(), first)
-        units = [unit.name for unit in (self.root / "etc/systemd/system").glob("*.service") if "/class_key" in unit.read_text()]
-        self.assertEqual(units, ["portal-radius.service"])
+        keys = {unit.name: re.findall(r"LoadCredential=(\S*/class_key)", unit.read_text())
+                for unit in (self.root / "etc/systemd/system").glob("*.service") if "class_key" in unit.read_text()}
+        self.assertEqual(keys, {     # of a venue by name its own
+            "portal-radius.service": ["class_key:/etc/portal/credentials/class_key"],
+            "portal-radius@.service": ["class_key:/etc/portal/venues/%i/credentials/class_key"]})
 
     def test_the_services_may_ask_the_server_and_are_users_of_their_own(self) -> None:
         self.make(SAMPLE)

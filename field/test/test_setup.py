@@ -511,7 +511,9 @@ class Made(unittest.TestCase):
         listens = {name: re.findall(r"(?m)^ *listen (\S+?)[ ;]", words) for name, words in text.items()}
         self.assertEqual(list(listens.values()), [["10.77.0.1:80", "10.77.0.1:443"], [], ["10.88.0.1:443"]])
         main = text["etc/portal/counter-nginx/nginx.conf"]
-        self.assertIn(f"    include {self.root}/etc/portal/counter-nginx/page.conf;\n", main)
+        includes = re.findall(r"(?m)^    include (/\S+);", main)
+        folder = f"{self.root}/etc/portal/counter-nginx"
+        self.assertEqual(includes, [f"{folder}/page.con[f]", f"{folder}/venues.con[f]"], "patterns: either file may be missing")
         unit = self.unit("portal-counter-nginx.service")
         self.assertIn("/etc/portal/counter-nginx/nginx.conf", unit["Service"]["ExecStart"].split())
         self.assertTrue(re.findall("pid (.*);", main)[0].endswith(unit["Service"]["PIDFile"]))
@@ -536,8 +538,9 @@ class Made(unittest.TestCase):
         maker.others()
         self.assertEqual((apart.exists(), together.exists()), (False, True))
         self.assertEqual(together.read_text(), text)
-        condition = self.unit("portal-counter-nginx.service")["Unit"].get("ConditionPathExists")
-        self.assertEqual(condition, "/etc/portal/counter-nginx/page.conf")
+        unit = (self.root / "etc/systemd/system/portal-counter-nginx.service").read_text()
+        self.assertEqual(re.findall("(?m)^ConditionPathExists=(.*)$", unit),
+                         ["|/etc/portal/counter-nginx/page.conf", "|/etc/portal/counter-nginx/venues.conf"], "one of both is enough")
         maker.counter_is_apart = True
         maker.others()
         self.assertEqual((apart.read_text(), together.exists()), (text, False))
@@ -607,7 +610,7 @@ class Made(unittest.TestCase):
         self.assertEqual(self.unit("portal-backup.timer")["Timer"]["OnCalendar"], "*-*-* 03:30:00")
         order = self.unit("portal-backup.service")["Service"]["ExecStart"].replace("\\\n", "").split()
         self.assertEqual(order[1:], ["--check", "/etc/portal/portal.toml", "--keep", "60", "--journal",
-                                     "/var/lib/portal-counter/journal.db", "/var/lib/portal/book.db",
+                                     "/var/lib/portal-counter/journal.db", "--whole", "/var/backups/portal-whole", "/var/lib/portal/book.db",
                                      "/var/backups/portal"])
 
     def test_a_report_of_the_day_before_is_made_each_morning(self) -> None:
@@ -631,10 +634,14 @@ class Made(unittest.TestCase):
         shutil.copy(folder / "portal-rules@.service", folder / "portal-rules@lan0.service")
         shutil.copy(folder / "portal-failed@.service", folder / "portal-failed@portal.service.service")
         shutil.copy(folder / "portal-paper@.service", folder / "portal-paper@1.service")
+        for name in ("portal@.service", "portal-settings@.service", "portal-settings@.socket", "portal-radius@.service",
+                     "portal-radius-agent@.service"):
+            shutil.copy(folder / name, folder / name.replace("@", "@north"))
         shutil.copytree("/lib/systemd/system", self.root / "lib/systemd/system", symlinks=True)
         shutil.copytree(FIELD, self.root / "usr/share/portal/field", ignore=shutil.ignore_patterns("__pycache__"))
         (self.root / "lib/systemd/system/freeradius.service").unlink(missing_ok=True)   # Debian's own, in older words
-        for name in ("bin/portal", "bin/python3", "bin/touch", "sbin/nft", "sbin/nginx", "sbin/sysctl", "sbin/freeradius"):
+        (self.root / "bin").symlink_to("usr/bin")
+        for name in ("bin/portal", "bin/sh", "bin/python3", "bin/touch", "sbin/nft", "sbin/nginx", "sbin/sysctl", "sbin/freeradius"):
             path = self.root / "usr" / name
             path.parent.mkdir(exist_ok=True)
             path.write_text("#!/bin/sh\n")
@@ -642,7 +649,7 @@ class Made(unittest.TestCase):
         units = [path.name for path in sorted(folder.iterdir()) if path.is_file() and "@." not in path.name]
         done = subprocess.run(["systemd-analyze", "verify", "--man=no", f"--root={self.root}", *units],
                               capture_output=True, text=True)
-        self.assertEqual((len(units), done.returncode, done.stdout + done.stderr), (25, 0, ""))
+        self.assertEqual((len(units), done.returncode, done.stdout + done.stderr), (38, 0, ""))
 
 
 if __name__ == "__main__":

@@ -22,10 +22,14 @@ class Removal:
     done: Done
 
 
+DEFAULT_SITE = pathlib.Path("/etc/nginx/sites-enabled/default")
+
+
 @pytest.fixture(scope="module")
 def removal(levels: Levels) -> Removal:
     levels.reach("venue")
     before = tokens()
+    assert not DEFAULT_SITE.exists(), "set-up disabled nginx's default site"
     done = apt("remove", "portal")
     levels.forget()
     return Removal(before, done)
@@ -39,6 +43,12 @@ def test_removed(removal: Removal) -> None:
         "remove: nothing is forwarded, the rules are gone, nginx and dnsmasq run  "
         f"[forward {forward()}; {tables.split()}; nginx {active('nginx')}; {output(removal.done, 100)}]")
     assert DATABASE.exists(), "the database is kept"
+
+
+def test_default_site(removal: Removal) -> None:
+    assert removal.done.returncode == 0
+    assert DEFAULT_SITE.resolve() == pathlib.Path("/etc/nginx/sites-available/default"), (
+        "remove: nginx's default site, which set-up had disabled, is enabled again")
 
 
 def test_installed_again(removal: Removal) -> None:
@@ -55,6 +65,7 @@ def test_purge_without_an_answer(venue: None, levels: Levels) -> None:
     done = apt("purge", "portal")
     levels.forget()
     keeps = DATABASE.exists() and COPIES.exists() and any(COPIES.iterdir())
+    assert not list(pathlib.Path("/var/backups/portal-whole").glob("*.tar.gz")), "no copy of the tokens is left"
     assert done.returncode == 0 and keeps and not os.path.exists("/etc/portal/credentials"), (
         "purge without an answer keeps the database and its copies, and drops tokens and settings  "
         f"[{output(done, 100)}]")
@@ -64,6 +75,7 @@ def test_purge_with_yes(installed: None, levels: Levels) -> None:
     sh("debconf-set-selections", input="portal portal/drop-database boolean true\n")
     done = apt("purge", "portal")
     levels.forget()
-    left = [str(path) for path in pathlib.Path("/var/lib").glob("portal*")]
+    places = (("/var/lib", "portal*"), ("/var/lib/systemd/timers", "stamp-portal*"), ("/var/backups", "portal*"))
+    left = [str(path) for place, names in places for path in pathlib.Path(place).glob(names)]
     assert done.returncode == 0 and not left and not COPIES.exists(), (
         f"purge with `yes` drops both, and what the parts keep  [{left}]")

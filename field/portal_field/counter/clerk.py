@@ -153,10 +153,14 @@ class Counter:
         page."""
         while True:
             time.sleep(FOLLOWS)
-            self.venue_lines.refresh()
-            reply = self.notes.read("state")
-            if reply.get("is") == "serves" and reply.get("since") != self.since:
-                self.load_plans(reply["since"])
+            self.look()
+
+    def look(self) -> None:
+        """Takes what a manager has written since, and loads the plans where the server was started since."""
+        self.venue_lines.refresh()
+        reply = self.notes.read("state")
+        if reply.get("is") == "serves" and reply.get("since") != self.since:
+            self.load_plans(reply["since"])
 
     # Forms that act
 
@@ -439,7 +443,9 @@ class Counter:
 
     def sessions(self) -> dict[str, Any]:
         """The gateway agent's list, with its age where it is old; neither list nor fault while the server
-        starts."""
+        starts, and of a venue without a gateway of its own."""
+        if not self.conf["snapshot"]:
+            return {"rows": None, "fault": ""}
         try:
             reply = json.loads(pathlib.Path(self.conf["snapshot"]).read_text())
         except (OSError, ValueError):

@@ -16,9 +16,9 @@ from portal_field.lib.languages import Language
 
 SALES = f"FROM acts WHERE act = 'sell' AND moment >= ? AND moment < ? AND {FIRST}"
 HOURS = f"""
-SELECT strftime('%H', moment, 'unixepoch', 'localtime') AS hour, count(*), sum(price) {SALES} GROUP BY hour"""
+SELECT local_hour(moment) AS hour, count(*), sum(price) {SALES} GROUP BY hour"""
 PLANS = f"""
-SELECT plan, date(moment, 'unixepoch', 'localtime') AS day, count(*), sum(price) {SALES}
+SELECT plan, local_day(moment) AS day, count(*), sum(price) {SALES}
     GROUP BY plan, day ORDER BY day"""
 MOST_PLANS = 6      # with a chart each; those with the most sales
 

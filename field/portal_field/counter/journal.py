@@ -16,6 +16,7 @@ from dataclasses import dataclass
 
 from portal_field.counter import money_tables
 from portal_field.counter.receipt_numbers import Till, open_second, write_receipts
+from portal_field.lib import local_time
 
 DONE, NO_ANSWER = "done", "no_answer"
 SCHEMA = """
@@ -170,7 +171,7 @@ class Sums:
 def span_of(day: datetime.date) -> tuple[int, int]:
     """The first moment of a day in the venue's zone, and the first of the next."""
     ends = (day, day + datetime.timedelta(1))
-    first, last = (int(time.mktime((at.year, at.month, at.day, 0, 0, 0, 0, 0, -1))) for at in ends)
+    first, last = map(local_time.begin_of, ends)
     return first, last
 
 
@@ -188,6 +189,8 @@ class Journal:
         with contextlib.closing(sqlite3.connect(self.path, timeout=5)) as link, link:
             if not link.execute(HAS_ALL).fetchone()[0]:
                 link.executescript(f"BEGIN IMMEDIATE; {SCHEMA} {money_tables.SCHEMA} COMMIT;")
+            link.create_function("local_hour", 1, lambda at: f"{local_time.local(at):%H}")
+            link.create_function("local_day", 1, lambda at: str(local_time.local(at).date()))
             yield link
 
     def add(self, clerk: str, place: str, acts: Sequence[Act], till: Till | None = None) -> None:

@@ -35,11 +35,10 @@ from portal_field.counter.pictures import qr_picture
 from portal_field.counter.setting_files import SettingFiles
 from portal_field.counter.several import MOST_LINES, Several, codes_of
 from portal_field.counter.sheet import Sheet
-from portal_field.lib import refusals, web
+from portal_field.lib import local_time, refusals, web
 from portal_field.lib.desk_client import (
     REQUEST_NUMBER, Desk, NoAnswer, Refused, credential, new_number, settings)
 from portal_field.lib.forms import BadForm, Form
-from portal_field.lib.local_time import use_zone
 from portal_field.lib.message_marks import clerk_words
 from portal_field.lib.typed_codes import scanned_code_beside, without_codes
 
@@ -101,7 +100,7 @@ def logged(form: Form, about: Act | Entry | None = None) -> str:
 
 def name_of_one() -> str:
     """The batch of a voucher that is issued and sold by itself."""
-    return time.strftime("one-%Y%m%d-%H%M%S-") + new_number()[:6]
+    return f"{local_time.local():one-%Y%m%d-%H%M%S-}" + new_number()[:6]
 
 
 class Pages:
@@ -174,7 +173,7 @@ class Pages:
             batches = []        # a sheet is printed without a journal, too
         return self.show("vouchers.html", status, notice, plans=counter.offers.offered_prices,
                          typed=typed(form), wrong=wrong, number=new_number(),
-                         batch=time.strftime("b-%Y%m%d-%H%M%S"), batches=batches,
+                         batch=f"{local_time.local():b-%Y%m%d-%H%M%S}", batches=batches,
                          marks=counter.marks())
 
     def sessions(self, status: int = 200, notice: Notice | None = None, wrong: str = "",
@@ -189,8 +188,8 @@ class Pages:
     def money(self, status: int = 200, notice: Notice | None = None, wrong: str = "",
               form: Form = NOTHING) -> Reply:
         """What was taken: by days, and the cash-up of one."""
-        return self.show("money.html", status, notice, day=time.strftime("%Y-%m-%d"), spans=takings.SPANS,
-                         weeks=figures.weeks(self.counter, datetime.date.today()), typed=typed(form),
+        return self.show("money.html", status, notice, day=str(local_time.today()), spans=takings.SPANS,
+                         weeks=figures.weeks(self.counter, local_time.today()), typed=typed(form),
                          wrong=wrong)
 
     def venue(self, _: Form) -> Reply:
@@ -364,7 +363,7 @@ class Pages:
 
     def cash_up(self, form: Form) -> Reply:
         """The takings of a day by plan and clerk, beside the server's."""
-        day = form.day("day") if form.get("day") else datetime.date.today()
+        day = form.day("day") if form.get("day") else local_time.today()
         sums, name = self.counter.cash_up(day), self.counter.plan_in_list
         sums["plans"] = [replace(row, name=name(row.name)) for row in sums["plans"]]
         return self.show("cash_up.html", **sums, **self.money_pages.of_day(day, sums["journal"]),
@@ -373,7 +372,7 @@ class Pages:
 
     def cash_up_file(self, form: Form) -> Reply:
         """The cash-up of a day as a CSV file."""
-        day = form.day("day") if form.get("day") else datetime.date.today()
+        day = form.day("day") if form.get("day") else local_time.today()
         return self.money_pages.cash_up_file(day, self.counter.cash_up(day))
 
     def batches(self, _: Form) -> Reply:
@@ -647,7 +646,7 @@ def add_forms(app: flask.Flask, page: Pages) -> None:
 def main() -> None:
     """Serves the counter's page on the socket that nginx alone may open."""
     conf = settings("/etc/portal/counter.toml")
-    use_zone(conf["zone"])
+    local_time.use_zone(conf["zone"])
     door = web.listening(conf["socket"])
     counter = Counter(Desk(conf["desk_port"], credential("desk_token")), conf)
     counter.load_plans(counter.notes.read("state").get("since"))

@@ -3,12 +3,12 @@ key."""
 
 from __future__ import annotations
 
-import datetime
 from dataclasses import replace
 
 from portal_field.counter.clerk import PASSED_OVER, Counter, Notice
 from portal_field.counter.journal import DONE, Entry, Journal
 from portal_field.counter.several import NOT_REFUNDED, OF_A_CODE, codes_of
+from portal_field.lib import local_time
 from portal_field.lib.desk_client import NoAnswer, Refused, Routes
 from portal_field.lib.forms import Form
 from portal_field.lib.message_marks import clerk_words
@@ -92,7 +92,7 @@ def earlier(counter: Counter, action: str, form: Form, number: str) -> Entry | N
 
 def time_of(counter: Counter, entry: Entry) -> str:
     """When an entry was written, to the minute, and with the day where it is not today."""
-    is_today = datetime.date.fromtimestamp(entry.moment) == datetime.date.today()
+    is_today = local_time.local(entry.moment).date() == local_time.today()
     return counter.language.clock(entry.moment,
                                   "HH:mm") if is_today else counter.language.moment(entry.moment)
 

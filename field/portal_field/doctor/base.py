@@ -16,6 +16,7 @@ from collections.abc import Iterator
 
 from portal_field import KIT
 from portal_field.backup.copies import sum_of
+from portal_field.backup.venue_copy import copies_in
 from portal_field.doctor.findings import CannotTell, Finding, Machine, State, good, warning, wrong
 from portal_field.server.accepted_steps import FILE, MOST, read_record
 from portal_field.server.right_time import Unreadable, last_moment
@@ -185,6 +186,19 @@ def backup(machine: Machine) -> Iterator[Finding]:
     else:
         yield good(f"the last copy, {newest.name}, is {max(age, 0) // 3600} hours old")
     yield from sums(newest, make)
+    yield from venue_copies(machine, make)
+
+
+def venue_copies(machine: Machine, make: str) -> Iterator[Finding]:
+    """The newest copy of the whole venue: its age, and its SHA-256. Before the first one nothing is said: an
+    earlier version made none."""
+    copies = copies_in(machine.path(machine.VENUES))
+    if not copies:
+        return
+    age = int(machine.now - copies[-1].stat().st_mtime)
+    if age > OLD_COPY:
+        yield wrong(f"the last copy of the whole venue, {copies[-1].name}, is {age // 3600} hours old", make)
+    yield from sums(copies[-1], make)
 
 
 def is_new(machine: Machine) -> bool:

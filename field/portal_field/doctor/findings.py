@@ -54,6 +54,7 @@ class Machine:
     """Files below a root, commands, the time, the settings. `installed`: the venue should already run.
     `prices_as_shipped`: whoever sets it up takes the prices as they are."""
     DATABASE, COPIES = "/var/lib/portal/book.db", "/var/backups/portal"
+    VENUES = "/var/backups/portal-whole"
 
     def __init__(self, root: pathlib.Path = pathlib.Path("/"), field: Field | None = None,
                  portal: str = "/usr/bin/portal", is_installed: bool = True,

@@ -9,6 +9,7 @@ from portal_field.doctor.findings import Finding, Machine, good, wrong
 RADIUS = {"/usr/sbin/freeradius": "freeradius", "/usr/lib/freeradius/rlm_python3.so": "freeradius-python3",
           "/usr/bin/radclient": "freeradius-utils"}
 BARS = {"/usr/bin/zint": "zint"}
+SEALED = {"/usr/bin/age": "age"}
 METRICS = {"/usr/lib/python3/dist-packages/prometheus_client": "python3-prometheus-client"}
 
 
@@ -16,7 +17,7 @@ def optional(machine: Machine) -> Iterator[Finding]:
     """Whether parts that the settings turn on have what they need."""
     field = machine.field
     parts = (("[radius]", field.radius, RADIUS), ("metrics", field.metrics, METRICS),
-             ("voucher_barcode", field.voucher_barcode, BARS))
+             ("voucher_barcode", field.voucher_barcode, BARS), ("backup_key", field.backup_key, SEALED))
     for name, is_on, needed in parts:
         if not is_on:
             continue

@@ -12,7 +12,6 @@ import datetime
 import functools
 import gettext
 import io
-import time
 from collections.abc import Iterable
 from decimal import Decimal
 
@@ -25,6 +24,7 @@ from babel.numbers import format_currency, format_decimal, format_percent, get_c
 from babel.units import format_unit
 
 from portal_field import KIT
+from portal_field.lib import local_time
 
 CATALOGUES = KIT / "languages"
 GUESTS = {"en": "English", "de": "Deutsch", "fr": "Français", "es": "Español", "it": "Italiano",
@@ -134,16 +134,16 @@ class Language:
 
     def moment(self, at: float) -> str:
         """A local time, to the minute."""
-        return f"{self.day(datetime.date.fromtimestamp(at))} {self.clock(at, 'HH:mm')}"
+        return f"{self.day(local_time.local(at).date())} {self.clock(at, 'HH:mm')}"
 
     def clock(self, at: float, pattern: str = "HH:mm:ss") -> str:
         """A local time of day."""
-        return str(format_datetime(datetime.datetime.fromtimestamp(at), pattern, locale=self.locale))
+        return str(format_datetime(local_time.local(at).replace(tzinfo=None), pattern, locale=self.locale))
 
     def until(self, at: float) -> str:
         """A local time to the minute; of another day than today with its date."""
-        day, clock = datetime.date.fromtimestamp(at), self.clock(at, "HH:mm")
-        return clock if day == datetime.date.fromtimestamp(time.time()) else f"{self.long_day(day)} {clock}"
+        day, clock = local_time.local(at).date(), self.clock(at, "HH:mm")
+        return clock if day == local_time.today() else f"{self.long_day(day)} {clock}"
 
     def day(self, day: datetime.date) -> str:
         """A day in the short form of the language."""

@@ -68,10 +68,16 @@ INSTALLED = {       # from the kit, with the words between @ signs filled in
         "portal-failed@.service", "portal-restarts.service", "portal-restarts.timer", "portal-front.socket",
         "portal-counter.socket", "portal-paper.socket", "portal-paper@.service", "portal-report.service",
         "portal-report.timer", "portal-settings.socket", "portal-settings.service", "portal-give.socket",
-        "portal-give.service")},
+        "portal-give.service",
+        # of venues by name
+        "portal@.service", "portal-settings@.socket", "portal-settings@.service", "portal-radius@.service",
+        "portal-radius-agent@.service", "portal-venues.target", "portal-venues.slice",
+        "portal-venues-clock.service", "portal-venues-rules.service", "portal-venues-counter.socket",
+        "portal-venues-counter.service", "portal-venues-backup.service", "portal-venues-backup.timer")},
 }
 # Where the counter's page is served: by an nginx of its own; or, as earlier versions have it, by that of the
 # guests' page
+ACME = ("/etc/letsencrypt/", "/etc/lego/")      # of certbot, and of lego as the documents call it
 APART, TOGETHER = "etc/portal/counter-nginx/page.conf", "etc/nginx/conf.d/portal-counter.conf"
 
 
@@ -86,6 +92,14 @@ def language_lines() -> str:
 def lacks_terms(field: Field, etc: pathlib.Path) -> bool:
     """Whether guests have to accept terms that are not there."""
     return bool(field.terms_version) and not any((etc / "texts").glob("terms*.md"))
+
+
+def paths_elsewhere(field: Field) -> list[str]:
+    """The paths outside of /etc/portal that a copy of the whole venue has too: the certificate, as a client
+    of ACME keeps it with its account, and the logo."""
+    found = dict.fromkeys(path for path in (field.cert, field.key, field.logo) if path)
+    folders = {path: "/".join(path.split("/")[:3]) if path.startswith(ACME) else path for path in found}
+    return sorted({path for path in folders.values() if not path.startswith("/etc/portal/")})
 
 
 class Maker:
@@ -163,6 +177,7 @@ class Maker:
         self.style()
         self.write_toml("server.toml", {"clock": field.clock, "zone": field.zone})
         self.write_toml("failed.toml", {"on_failure": field.on_failure})
+        self.write_toml("backup.toml", {"key": field.backup_key, "paths": paths_elsewhere(field)})
         self.counter_settings(snapshot)
         self.accounts()
         self.metrics(run, port)
@@ -293,6 +308,7 @@ class Maker:
             "ETC": self.etc, "LANGUAGES": language_lines(),
             "CERT": field.cert, "KEY": field.key, "POLICY": POLICY,
             "COUNTER": counter.ip, "COUNTER_NET": counter.network, "COUNTER_NAME": field.counter_name,
+            "VENUE": "",
             "FRONT_SOCKET": self.run + "/portal-front/socket",
             "COUNTER_SOCKET": self.run + "/portal-counter/socket",
             "LEASE_MAX": leases, "LEASE_FILE": self.leases, "NEIGHBOURS": neighbours,

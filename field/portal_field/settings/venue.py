@@ -24,6 +24,8 @@ MAC = re.compile(r"[0-9a-f][02468ace](:[0-9a-f]{2}){5}")        # of one device,
 TIME = re.compile(r"[0-9]{1,4}[mhd]?")
 # bytes that nftables compares at once, and that it reaches (byte 255 is the last)
 WIDEST, LONGEST = 16, 224
+# of age, or of ssh, as `age --recipient` takes them
+BACKUP_KEY = re.compile(r"age1[a-z0-9]{58}|ssh-(ed25519|rsa) [A-Za-z0-9+/]{40,800}={0,2}( [ -~]{0,100})?")
 URL = re.compile(r"https://[A-Za-z0-9][A-Za-z0-9._~:/?#@!$&'()*+,;=%-]{0,500}")
 PLAN = re.compile(r"[a-z0-9-]{1,32}")
 VERSION = re.compile(r"[A-Za-z0-9._-]{1,32}")
@@ -77,6 +79,7 @@ class Field:
     without_browser: list[str] = listing(default_factory=list)
     clock: str = "kernel"
     on_failure: list[str] = listing(default_factory=list)
+    backup_key: str = ""
     currency: str = ""
     wifi: str = ""
     wifi_password: str = ""
@@ -171,9 +174,12 @@ class Field:
                 raise BadSettings(f"{key} = {value!r}: {what}")
 
     def check_services(self) -> None:
-        """BadSettings: the clock or a command is not valid."""
+        """BadSettings: the clock, the key of the copies or a command is not valid."""
         if self.clock not in CLOCKS:
             raise BadSettings(f"clock = {self.clock!r}: one of {', '.join(CLOCKS)}")
+        key = self.backup_key
+        if not isinstance(key, str) or key and not BACKUP_KEY.fullmatch(key):
+            raise BadSettings(f"backup_key = {key!r}: a public key of age (age1..) or of ssh, or nothing")
         for key in ("on_failure", "daily_report"):
             words = getattr(self, key)
             if not isinstance(words, list) or not all(isinstance(word, str) and word for word in words):

@@ -37,6 +37,7 @@ from portal_field.settings.kinds import CLERKS, KINDS as KINDS, MOST_PICTURE, Ki
 ETC, SOCKET = pathlib.Path("/etc/portal"), "/run/portal-settings/socket"
 MOST_REQUEST = 2 * MOST_PICTURE     # bytes: a text in JSON is longer than in its file
 PATIENCE = 10.0     # seconds for the whole of a request
+IDLE = 300.0        # seconds without a request, after which the writer of a venue by name ends
 KEYS = {"kind", "text", "was", "who", "password"}
 COUNTER = "portal-counter"  # the user who may ask
 FLAGS = os.O_NOFOLLOW | os.O_CLOEXEC
@@ -205,9 +206,10 @@ def receive(link: socket.socket) -> bytes:
 
 
 def serve(writer: Writer, door: socket.socket) -> None:
-    """Answers one request after another, for ever."""
+    """Answers one request after another, for ever. TimeoutError: none came within the time of the socket."""
     while True:
         link, _ = door.accept()
+        link.setblocking(True)
         with link, contextlib.suppress(OSError):
             try:
                 if not may_ask(link):
@@ -224,7 +226,11 @@ def main() -> None:
     if os.environ.get("LISTEN_PID") != str(os.getpid()):
         sys.exit("settings: it is started by portal-settings.socket")
     os.umask(0o077)
-    serve(Writer(), socket.socket(fileno=3))
+    door, folder = socket.socket(fileno=3), os.environ.get("SETTINGS_FOLDER")
+    if folder:      # of a venue by name: systemd starts it anew at the next request
+        door.settimeout(IDLE)
+    with contextlib.suppress(TimeoutError):
+        serve(Writer(pathlib.Path(folder) if folder else ETC), door)
 
 
 if __name__ == "__main__":

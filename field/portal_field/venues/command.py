@@ -1,0 +1,174 @@
+"""portal-venues: the venues by name of a machine.
+
+    portal-venues add NAME --house TEXT --counter-name HOST --name HOST --zone ZONE [--plans FILE]
+    portal-venues apply [NAME ..] [--prices-as-shipped]
+    portal-venues clerk NAME CLERK [--role ROLE]
+    portal-venues retire NAME
+    portal-venues status
+    portal-venues renew
+
+`add` makes a venue's settings, with the next free port, and applies them. `apply` carries out what the
+settings say, of all venues or of some. `clerk` makes an account of a venue's counter, or gives it a new
+password. `retire` ends a venue, after a last copy; its files and its database stay. `status` says how each
+venue is. `renew`, for the package's upgrades, starts one venue after another with the new program.
+"""
+
+from __future__ import annotations
+
+import argparse
+import os
+import pathlib
+import sys
+
+from portal_field.settings import accounts, clerk_account
+from portal_field.settings.venue import toml_lines
+from portal_field.venues import ending, status, table
+from portal_field.venues.apply import Apply
+from portal_field.venues.ending import RETIRED
+from portal_field.venues.places import (
+    FIRST_PORT, LAST_PORT, BadVenue, Machine, Places, check_name, machine_of)
+from portal_field.venues.units import UnitFault, Units
+from portal_field.venues.venue_settings import all_venues, read_venue
+from portal_field.venues.files import Files
+
+ROOT = pathlib.Path("/")
+
+
+def ports_in(root: pathlib.Path) -> set[int]:
+    """The ports of desks that are taken, also by venues that were retired."""
+    taken = {8080}
+    for path in (root / "etc/portal").glob("venues/*/field.toml*"):
+        for line in path.read_text(encoding="utf-8", errors="replace").splitlines():
+            key, _, value = line.partition("=")
+            if key.strip() == "desk_port" and value.split("#")[0].strip().isdecimal():
+                taken.add(int(value.split("#")[0]))
+    return taken
+
+
+def next_port(taken: set[int]) -> int:
+    """The lowest port that is free. BadVenue: there is none."""
+    for port in range(FIRST_PORT, LAST_PORT + 1):
+        if port not in taken:
+            return port
+    raise BadVenue(f"no port from {FIRST_PORT} to {LAST_PORT} is free")
+
+
+def settings_text(args: argparse.Namespace, port: int) -> str:
+    """The lines of a new venue's field.toml. BadVenue: one is not valid."""
+    text = toml_lines({"house": args.house, "name": args.name, "counter_name": args.counter_name,
+                       "zone": args.zone, "desk_port": port})
+    read_venue(text)
+    return text
+
+
+def add(args: argparse.Namespace, machine: Machine) -> int:
+    """Makes the settings of a venue, and applies them."""
+    name = check_name(args.venue)
+    places = Places(name, ROOT)
+    before = places.settings / RETIRED
+    if places.field.exists() and not machine.database:
+        raise BadVenue(f"there is a venue {name} already, by {places.field}")
+    kept = next((path for path in (places.field, before) if path.exists()), None)
+    if kept:        # to be put into the table, or one that was retired
+        text = kept.read_text(encoding="utf-8")
+    else:
+        taken = ports_in(ROOT) | (table.ports(machine) if machine.database else set())
+        text = settings_text(args, next_port(taken))
+    if machine.database:
+        table.add(machine, name, text)
+    writer = Files(None, ROOT, "")      # type: ignore[arg-type]
+    if args.plans:
+        writer.write(places.settings / "plans.toml", args.plans.read_text(encoding="utf-8"))
+    writer.write(places.field, text)
+    before.unlink(missing_ok=True)
+    print(f"{name}: settings: {places.field}", flush=True)
+    return apply(args, machine, [name])
+
+
+def apply(args: argparse.Namespace, machine: Machine, names: list[str]) -> int:
+    """Takes the table's settings, where PostgreSQL has them, and carries out what the settings say."""
+    is_away = False
+    if machine.database:
+        try:
+            table.export(machine, ROOT)
+        except table.Away as fault:
+            is_away = True
+            print(f"the table of venues is away, and the files count as they are: {fault}", file=sys.stderr)
+    venues, faults = all_venues(ROOT)
+    names = names or sorted({*venues, *faults})
+    if unknown := [name for name in names if name not in venues and name not in faults]:
+        raise BadVenue(f"there is no venue {', '.join(unknown)}")
+    maker = Apply(machine, ROOT, Units(), prices_as_shipped=args.prices_as_shipped)
+    return maker.run(venues, names, faults) or int(is_away)
+
+
+def clerk(args: argparse.Namespace) -> int:
+    """Makes an account of a venue's counter, or gives it a new password."""
+    places = Places(check_name(args.venue), ROOT)
+    if not places.field.exists():
+        raise BadVenue(f"there is no venue {places.name}")
+    writer = Files(None, ROOT, "")      # type: ignore[arg-type]
+    clerk_account.set_account(places.settings, args.clerk, args.role or "",
+                              lambda path, text: writer.write(path, text, accounts.MODE, accounts.GROUP))
+    return 0
+
+
+def read_words() -> argparse.Namespace:
+    """The words of the command line."""
+    words = argparse.ArgumentParser(description="The venues by name of this machine.")
+    kinds = words.add_subparsers(dest="kind", required=True)
+    new = kinds.add_parser("add", help="make a venue, and start it")
+    new.add_argument("--house", default="", help="the venue's name, as guests and clerks read it")
+    new.add_argument("--name", default="", help="the portal's name, to which the vouchers lead")
+    new.add_argument("--counter-name", default="", help="the name of the counter's page")
+    new.add_argument("--zone", default="", help="the time zone, such as Europe/Berlin")
+    new.add_argument("--plans", type=pathlib.Path, metavar="FILE", help="its plans.toml")
+    old = kinds.add_parser("apply", help="carry out what the settings of the venues say")
+    for kind in (new, old):
+        kind.add_argument("--prices-as-shipped", action="store_true", help="take the sample's prices")
+    person = kinds.add_parser("clerk", help="make an account of a venue's counter, or set its password")
+    end = kinds.add_parser("retire", help="end a venue; its files and its database stay")
+    for kind in (new, person, end):
+        kind.add_argument("venue", metavar="NAME")
+    person.add_argument("clerk", metavar="CLERK")
+    person.add_argument("--role", choices=accounts.ROLES)
+    old.add_argument("venues", nargs="*", metavar="NAME")
+    kinds.add_parser("status", help="say how each venue is")
+    kinds.add_parser("renew", help="for upgrades: start one venue after another with the new program")
+    return words.parse_args()
+
+
+def run(args: argparse.Namespace) -> int:
+    """Does what the command line says. BadVenue, table.Away, UnitFault: why it cannot be done."""
+    machine = machine_of(ROOT)
+    if args.kind == "add":
+        return add(args, machine)
+    if args.kind == "apply":
+        return apply(args, machine, args.venues)
+    if args.kind == "clerk":
+        return clerk(args)
+    if args.kind == "status":
+        return status.show(machine, ROOT, Units())
+    if args.kind == "renew":
+        return ending.renew(machine, ROOT, Units())
+    status_of_end = ending.retire(Places(check_name(args.venue), ROOT), machine, Units())
+    args.prices_as_shipped = False
+    return status_of_end or apply(args, machine, [])
+
+
+def main() -> int:
+    """Runs the command; 0 where all went well."""
+    args = read_words()
+    if os.geteuid() != 0:
+        print("portal-venues: it needs root", file=sys.stderr)
+        return 1
+    os.umask(0o022)
+    try:
+        return run(args)
+    except (BadVenue, table.Away, UnitFault, OSError) as fault:
+        print(f"portal-venues: {fault}", file=sys.stderr)
+        return 1
+
+
+if __name__ == "__main__":
+    sys.exit(main())

@@ -1,0 +1,39 @@
+"""systemd's units of the venues by name."""
+
+from __future__ import annotations
+
+import subprocess
+
+CLOCK, COUNTER = "portal-venues-clock.service", "portal-venues-counter.service"
+DOOR = "portal-venues-counter.socket"
+RULES, TIMER = "portal-venues-rules.service", "portal-venues-backup.timer"
+NGINX = "portal-counter-nginx.service"
+PATIENCE = 120      # seconds for a command of systemctl
+
+
+class UnitFault(Exception):
+    """A command of systemctl failed, in its own words."""
+
+
+class Units:
+    """Runs systemctl."""
+
+    def ctl(self, *words: str) -> str:
+        """What a command prints. UnitFault: it failed, or took too long."""
+        try:
+            done = subprocess.run(["systemctl", *words], capture_output=True, text=True, timeout=PATIENCE)
+        except (OSError, subprocess.TimeoutExpired) as fault:
+            raise UnitFault(f"systemctl {' '.join(words)}: {fault}") from fault
+        if done.returncode != 0:
+            raise UnitFault(f"systemctl {' '.join(words)}: {done.stderr.strip() or done.returncode}")
+        return done.stdout
+
+    def is_active(self, unit: str) -> bool:
+        """Whether a unit runs."""
+        return subprocess.run(["systemctl", "is-active", "--quiet", unit], timeout=PATIENCE).returncode == 0
+
+
+def units_of(name: str, has_radius: bool) -> list[str]:
+    """The units that a venue has for itself, in the order of their start."""
+    radius = [f"portal-radius@{name}.service", f"portal-radius-agent@{name}.service"]
+    return [f"portal-settings@{name}.socket", f"portal@{name}.service", *(radius if has_radius else [])]
