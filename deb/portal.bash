@@ -1,4 +1,4 @@
-# Completion for bash: portal, portal-setup, portal-doctor, portal-backup, portal-restore.
+# Completion for bash: portal, portal-setup, portal-doctor, portal-backup, portal-restore, portal-venues.
 
 _portal() {
     local cur prev words cword
@@ -27,8 +27,8 @@ _portal_command() {
     local cur prev words cword
     _init_completion || return
     case $prev in
-        --clerk | --keep | --name | --pid) return ;;
-        --check | --folder | --settings)
+        --clerk | --keep | --name | --pid | --unit | --venue) return ;;
+        --check | --folder | --settings | --key | --journal | --whole)
             _filedir
             return
             ;;
@@ -38,11 +38,20 @@ _portal_command() {
         case ${words[0]##*/} in
             portal-setup) options+=' --ask --clerk --role --first-look --prices-as-shipped --renew' ;;
             portal-doctor) options+=' --all --json' ;;
-            portal-backup) options+=' --pid --still --check --keep --name --journal' ;;
-            portal-restore) options+=' --drill --folder --settings' ;;
+            portal-backup) options+=' --pid --unit --still --check --keep --name --journal --whole' ;;
+            portal-restore) options+=' --drill --whole --key --folder --settings --unit --venue' ;;
         esac
         mapfile -t COMPREPLY < <(compgen -W "$options" -- "$cur")
     else
         _filedir
     fi
 } && complete -F _portal_command portal-setup portal-doctor portal-backup portal-restore
+
+_portal_venues() {
+    local cur prev words cword
+    _init_completion || return
+    case $cword in
+        1) mapfile -t COMPREPLY < <(compgen -W 'add apply clerk retire status renew' -- "$cur") ;;
+        *) mapfile -t COMPREPLY < <(compgen -W "$(ls /etc/portal/venues 2>/dev/null)" -- "$cur") ;;
+    esac
+} && complete -F _portal_venues portal-venues

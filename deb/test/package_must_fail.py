@@ -29,6 +29,9 @@ def make_copy(goal: pathlib.Path, mutants: list[Mutant]) -> str:
                         ignore=shutil.ignore_patterns("out", "__pycache__"))
     for name in ("VERSION", "CHANGELOG.md", "crates.txt"):
         shutil.copy(TOP / name, goal / name)
+    (goal / "tools").mkdir()
+    for name in ("release", "verify", "version"):
+        shutil.copy(TOP / "tools" / name, goal / "tools" / name)
     try:
         for mutant in mutants:
             make(mutant.changes, goal)

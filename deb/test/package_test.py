@@ -9,6 +9,7 @@ import os
 import pathlib
 import re
 import shutil
+import subprocess
 import tomllib
 from typing import Any
 
@@ -19,7 +20,8 @@ from tree import DEB, TOP, copy_tree, run, output
 AT = "1764000000"           # SOURCE_DATE_EPOCH of what is built here
 OLD_PATHS = [line for line in (DEB / "old-paths").read_text().splitlines() if not line.startswith("#")]
 MOMENT = "2025-11-24 16:00+0000"        # the same, as gettext writes it: no catalogue has the minute of its making
-COMMANDS = {"portal": 1, "portal-setup": 8, "portal-doctor": 8, "portal-backup": 8, "portal-restore": 8}
+KIT = "usr/share/portal/field"
+COMMANDS = {"portal": 1, "portal-setup": 8, "portal-doctor": 8, "portal-backup": 8, "portal-restore": 8, "portal-venues": 8}
 RADIUS = '\n[radius]\nlisten = "10.88.0.1"\n[radius.nas.lobby]\naddress = "10.88.0.2"\n'
 RADIUS_ENV = """\
 FIELD_SETTINGS=/etc/portal/radius.toml
@@ -59,9 +61,16 @@ printf '%s\\n' "${COMPREPLY[@]}"
 pytestmark = pytest.mark.package
 
 
-def build(out: pathlib.Path, portal: str, top: pathlib.Path = TOP, zone: str = "UTC", **more: Any) -> pathlib.Path:
-    """A package of the program, or of the shipped one where none is named."""
-    words = ("--program", portal) if portal else ()
+def run_bytes(package: pathlib.Path, name: str) -> bytes:
+    """The bytes of a file in a package."""
+    tar = subprocess.run(["dpkg-deb", "--fsys-tarfile", package], capture_output=True, check=True).stdout
+    return subprocess.run(["tar", "-xO", name], input=tar, capture_output=True, check=True).stdout
+
+
+def build(out: pathlib.Path, portal: str, top: pathlib.Path = TOP, zone: str = "UTC", words: tuple[str, ...] = (),
+          **more: Any) -> pathlib.Path:
+    """A package of the program, or of the shipped one where none is named, of the version in VERSION."""
+    words = (*words, "--version", (TOP / "VERSION").read_text().strip(), *(("--program", portal) if portal else ()))
     env = {**os.environ, "SOURCE_DATE_EPOCH": AT, "TZ": zone}
     done = run(top / "deb/build", *words, "--out", out, env=env, **more)
     assert done.returncode == 0, f"deb/build makes a package  [{output(done)}]"
@@ -132,7 +141,7 @@ def test_nothing_is_enabled(package: pathlib.Path, root: pathlib.Path) -> None:
     assert not enabled and "enable" not in postinst, (
         "nothing is enabled by the package itself: nothing starts before set-up does it")
     needed, recommended = (run("dpkg-deb", "-f", package, name).stdout for name in ("Depends", "Recommends"))
-    assert "freeradius" not in needed and "prometheus" not in needed and recommended.strip() == "weasyprint", (
+    assert "freeradius" not in needed and "prometheus" not in needed and recommended.strip() == "weasyprint, age", (
         "what not every venue uses is suggested: apt brings no server that would begin at once")
 
 
@@ -283,6 +292,59 @@ def test_completion(root: pathlib.Path) -> None:
         f"completion  [{ {words: seen for words, seen in found.items() if seen != wanted[words]} or len(wanted)}]")
     links = sorted(path.name for path in (root / "usr/share/bash-completion/completions").iterdir())
     assert links == sorted(COMMANDS), "and it is found for each command"
+
+
+@pytest.mark.parametrize("path, option", [
+    ("usr/share/bash-completion/completions/portal", "--{}"), ("usr/share/zsh/vendor-completions/_portal", "--{}"),
+    ("usr/share/fish/vendor_completions.d/portal.fish", "-l {}")], ids=["bash", "zsh", "fish"])
+def test_each_option_is_completed(root: pathlib.Path, path: str, option: str) -> None:
+    """By the words of each command's parser."""
+    sources = ("portal_deb/setup.py", "portal_field/doctor/command.py", "portal_field/backup/backup.py",
+               "portal_field/backup/restore.py")
+    options = {word for name in sources for word, rest in re.findall(
+        r'add_argument\("--([a-z-]+)"([^)]*)', (root / KIT / name).read_text()) if "SUPPRESS" not in rest}
+    text = (root / path).read_text()
+    missing = [word for word in options - {"portal", "root"} if option.format(word) not in text]
+    assert {"venue", "drill", "clerk"} <= options and not missing, f"each option is completed  [{missing}]"
+
+
+def test_links_of_documents(root: pathlib.Path) -> None:
+    """Each link of a packed page, and each file of the package that it names by its path."""
+    pages = [*(root / "usr/share/doc/portal").rglob("*.md"), *(root / KIT).rglob("*.md")]
+    links = [(page, link.partition("#")[0]) for page in pages
+             for link in re.findall(r"\]\(([^)\s]+)\)", page.read_text()) if ":" not in link and link[0] != "#"]
+    lost = [f"{page.relative_to(root)}: {link}" for page, link in links if not (page.parent / link).exists()]
+    assert len(links) > 20 and not lost, f"what a packed page links is packed  [{lost}]"
+    names = {page.name for page in pages}
+    assert {"OPERATING.md", "API.md", "CLI.md", "TUTORIAL.md", "NEW_MACHINE.md", "INSTALL.md"} <= names, (
+        f"and who reads at night has the pages for it  [{names}]")
+
+
+def test_documentation_of_units(root: pathlib.Path) -> None:
+    units = [path for path in (root / "lib/systemd/system").iterdir() if path.is_file()]
+    named = {path.name: re.findall(r"(?m)^Documentation=(?:file://|man:)(.+)$", path.read_text()) for path in units}
+    lost = [name for name, (*pages,) in named.items() if not pages
+            or not (root / pages[0].lstrip("/")).exists() and pages != ["portal-backup(8)"]]
+    assert units and not lost, f"each unit names a page that is packed  [{lost}]"
+
+
+@pytest.mark.parametrize("word, package", [("readelf", "binutils"), ("dpkg-deb", "dpkg")])
+def test_missing_tools(room: pathlib.Path, word: str, package: str, tmp_path: pathlib.Path) -> None:
+    for path in {*pathlib.Path("/usr/bin").iterdir(), *pathlib.Path("/bin").iterdir()}:
+        if path.name != word and not (tmp_path / path.name).exists():
+            (tmp_path / path.name).symlink_to(path)
+    done = run(DEB / "build", "--out", room / "missing", env={**os.environ, "PATH": str(tmp_path)})
+    assert (done.returncode, done.stderr) == (2, f"deb/build: apt install {package}\n") and not (room / "missing").exists(), (
+        f"what is missing is named in one line, and no package is made  [{output(done)}]")
+
+
+def test_maintainer(room: pathlib.Path, portal: str) -> None:
+    path = build(room / "maintained", portal, words=("--maintainer", "Ada Owner <ada@example.com>"))
+    said = run("dpkg-deb", "-f", path, "Maintainer").stdout.strip()
+    last = gzip.decompress(run_bytes(path, "./usr/share/doc/portal/changelog.gz")).decode()
+    assert said == "Ada Owner <ada@example.com>" and f" -- {said}  " in last, f"who answers for it is named  [{said}]"
+    done = run(DEB / "build", "--maintainer", "nobody", "--out", room / "nobody")
+    assert done.returncode == 2 and "NAME <ADDRESS>" in done.stderr, f"and it has an address  [{output(done)}]"
 
 
 def test_changelog(root: pathlib.Path) -> None:

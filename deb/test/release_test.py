@@ -6,14 +6,16 @@ import json
 import os
 import pathlib
 import re
+import shutil
 import subprocess
+import tempfile
 from collections.abc import Iterator
 
 import pytest
 from tree import TOP, copy_tree, run, output
 
 VERSION = (TOP / "VERSION").read_text().strip()
-NAMES = sorted(["BUILT", "SHA256SUMS", "SHA256SUMS.sig", f"portal-{VERSION}-x86_64-linux", f"portal-{VERSION}.spdx.json",
+NAMES = sorted(["BUILT", "NOTES", "SHA256SUMS", "SHA256SUMS.minisig", "verify", f"portal-{VERSION}-x86_64-linux", f"portal-{VERSION}.spdx.json",
                 f"portal-{VERSION}.tar.gz", f"portal_{VERSION}_amd64.deb"])
 pytestmark = pytest.mark.package
 
@@ -55,14 +57,14 @@ def repository(one_repository: pathlib.Path) -> Iterator[pathlib.Path]:
 
 @pytest.fixture(scope="module")
 def key(room: pathlib.Path) -> pathlib.Path:
-    run("ssh-keygen", "-q", "-t", "ed25519", "-N", "", "-C", "thrown away", "-f", room / "key", ok=True)
+    run("minisign", "-G", "-W", "-s", room / "key", "-p", room / "key.pub", ok=True)
     return room / "key"
 
 
 @pytest.fixture(scope="module")
 def made(room: pathlib.Path, one_repository: pathlib.Path, key: pathlib.Path) -> pathlib.Path:
     """The release's folder."""
-    done = run(one_repository / "deb/release", VERSION, room / "out", env={**os.environ, "KEY": str(key)})
+    done = run(one_repository / "tools/release", "--key", key, VERSION, room / "out")
     assert done.returncode == 0, f"a release is made  [{output(done)}]"
     return room / "out"
 
@@ -70,7 +72,7 @@ def made(room: pathlib.Path, one_repository: pathlib.Path, key: pathlib.Path) ->
 # What is refused
 
 def check_refusal(top: pathlib.Path, what: str, word: str, version: str = VERSION) -> None:
-    done = run(top / "deb/release", version, top / "deb/out/refused")
+    done = run(top / "tools/release", "--key", "/dev/null", version, top / "deb/out/refused")
     assert done.returncode == 1 and word in done.stderr and not (top / "deb/out/refused").exists(), (
         f"a release is refused: {what}  [{output(done)}]")
 
@@ -116,10 +118,11 @@ def test_files(made: pathlib.Path) -> None:
     assert names == NAMES, "it has package, sources, bare program, SPDX list, sums and signature, and no key"
 
 
-def test_made_again(room: pathlib.Path, made: pathlib.Path) -> None:
-    again = run(make_repository(room / "release-again") / "deb/release", VERSION, room / "out-again", cwd="/", umask=0o027)
+def test_made_again(room: pathlib.Path, made: pathlib.Path, key: pathlib.Path) -> None:
+    again = run(make_repository(room / "release-again") / "tools/release", "--key", key, VERSION, room / "out-again", cwd="/",
+                umask=0o027)
     assert again.returncode == 0, f"a release is made again  [{output(again)}]"
-    differ = [name for name in NAMES if name != "SHA256SUMS.sig"
+    differ = [name for name in NAMES if name != "SHA256SUMS.minisig"
               and (made / name).read_bytes() != (room / "out-again" / name).read_bytes()]
     assert not differ, "made again from another clone: the same bytes of all but the signature"
 
@@ -139,14 +142,113 @@ def test_sums(made: pathlib.Path) -> None:
     assert sums.returncode == 0 and sorted(listed) == every, "SHA256SUMS has every file"
 
 
-def test_signature(room: pathlib.Path, made: pathlib.Path, key: pathlib.Path) -> None:
-    (room / "signers").write_text("release " + key.with_suffix(".pub").read_text())
-    words = ("ssh-keygen", "-Y", "verify", "-f", room / "signers", "-I", "release", "-n", "portal-release", "-s",
-             made / "SHA256SUMS.sig")
-    good = run(*words, input=(made / "SHA256SUMS").read_text())
-    bad = run(*words, input=(made / "SHA256SUMS").read_text().replace("0", "1", 1))
-    assert good.returncode == 0 and bad.returncode != 0, (
-        f"the signature is the key's, over these sums and no others  [{output(good)}]")
+def verify(folder: pathlib.Path, key: pathlib.Path) -> subprocess.CompletedProcess[str]:
+    """What the script of the tree says of a release, for a public key."""
+    return run(TOP / "tools/verify", "--key", key, folder)
+
+
+def test_verification(room: pathlib.Path, made: pathlib.Path, key: pathlib.Path) -> None:
+    done = verify(made, key.with_suffix(".pub"))
+    by_words = run(made / "verify", "--key", key.with_suffix(".pub").read_text().split()[-1], made)
+    assert done.returncode == by_words.returncode == 0 and f"portal {VERSION}: " in done.stdout, (
+        f"a release is verified by its key, also by the script in it  [{output(done)}]")
+    run("minisign", "-G", "-W", "-s", room / "other", "-p", room / "other.pub", ok=True)
+    done = verify(made, room / "other.pub")
+    assert done.returncode == 1 and "not signed by this key" in done.stderr, f"and by no other key  [{output(done)}]"
+
+
+@pytest.mark.parametrize("name", NAMES)
+def test_a_changed_byte_is_refused(room: pathlib.Path, made: pathlib.Path, key: pathlib.Path, name: str) -> None:
+    with tempfile.TemporaryDirectory() as folder:
+        copy = pathlib.Path(folder) / "release"
+        shutil.copytree(made, copy)
+        data = bytearray((copy / name).read_bytes())
+        data[len(data) // 2] ^= 1
+        (copy / name).write_bytes(data)
+        done = verify(copy, key.with_suffix(".pub"))
+    assert done.returncode == 1, f"one changed byte of {name} is refused  [{output(done)}]"
+
+
+@pytest.mark.parametrize("name, word", [("left", "does not have left"), ("BUILT", "is missing")])
+def test_a_file_more_or_less_is_refused(made: pathlib.Path, key: pathlib.Path, name: str, word: str) -> None:
+    with tempfile.TemporaryDirectory() as folder:
+        copy = pathlib.Path(folder) / "release"
+        shutil.copytree(made, copy)
+        if (copy / name).exists():
+            (copy / name).unlink()
+        else:
+            (copy / name).touch()
+        done = verify(copy, key.with_suffix(".pub"))
+    assert done.returncode == 1 and word in done.stderr, f"a file more or less is refused  [{output(done)}]"
+
+
+def test_another_program_is_refused_though_it_is_signed(made: pathlib.Path, key: pathlib.Path) -> None:
+    """Whoever signs may have taken another package by mistake."""
+    with tempfile.TemporaryDirectory() as folder:
+        copy = pathlib.Path(folder) / "release"
+        shutil.copytree(made, copy)
+        built = copy / "BUILT"
+        built.write_text(re.sub("(?m)^sha256: .", "sha256: x", built.read_text()))
+        (copy / "SHA256SUMS").unlink()
+        (copy / "SHA256SUMS.minisig").unlink()
+        sums = run("sha256sum", *sorted(path.name for path in copy.iterdir()), cwd=copy, ok=True).stdout
+        (copy / "SHA256SUMS").write_text(sums)
+        run("minisign", "-S", "-s", key, "-m", copy / "SHA256SUMS", ok=True)
+        done = verify(copy, key.with_suffix(".pub"))
+    assert done.returncode == 1 and "is not that of BUILT" in done.stderr, (
+        f"a package with another program than BUILT says is refused  [{output(done)}]")
+
+
+def test_notes_and_tag(made: pathlib.Path, one_repository: pathlib.Path) -> None:
+    notes = (made / "NOTES").read_text()
+    assert notes.startswith(f"# portal {VERSION}\n") and "- all" in notes, f"the notes are the entry's  [{notes}]"
+    tags = run("git", "-C", one_repository, "tag", "--points-at", "HEAD").stdout.split()
+    assert tags == [f"v{VERSION}"] and run(one_repository / "tools/version").stdout.strip() == VERSION, (
+        f"the commit has the tag, and then this version  [{tags}]")
+
+
+# Between releases
+
+def test_dry_run(room: pathlib.Path, key: pathlib.Path) -> None:
+    """Of a commit that no release could be made of."""
+    top = make_repository(room / "between")
+    (top / "CHANGELOG.md").write_text(f"# Changelog\n\n## Unreleased\n\n- new\n\n## {VERSION}\n\n- all\n")
+    git(top, "commit", "-q", "-a", "-m", "change")
+    commit = run("git", "-C", top, "rev-parse", "--short=12", "HEAD", ok=True).stdout.strip()
+    first, _, last = VERSION.rpartition(".")
+    version = f"{first}.{int(last) + 1}~dev20260102030405.{commit}"
+    done = run(top / "tools/release", "--dry-run", "--key", key, room / "dry")
+    assert done.returncode == 0 and "under Unreleased" in done.stderr, (
+        f"a dry run makes all, and says what a release is refused for  [{output(done)}]")
+    assert (room / f"dry/portal_{version}_amd64.deb").exists() and "- new" in (room / "dry/NOTES").read_text(), (
+        f"its version is the next one with ~dev, the time and the commit  [{version}]")
+    assert verify(room / "dry", key.with_suffix(".pub")).returncode == 0, "the verification accepts it"
+    assert not run("git", "-C", top, "tag").stdout, "and it makes no tag"
+    older = run("dpkg", "--compare-versions", version, "lt", f"{first}.{int(last) + 1}")
+    newer = run("dpkg", "--compare-versions", version, "gt", VERSION)
+    assert older.returncode == newer.returncode == 0, "Debian sorts it between both releases"
+    (top / "left").touch()
+    assert run(top / "tools/version").stdout.strip() == f"{version}+changed", "with changes it says so"
+
+
+def test_version_after_a_release(room: pathlib.Path) -> None:
+    """Of commits before and after the tag, where nothing is under Unreleased yet."""
+    top = make_repository(room / "tagged")
+    first, _, last = VERSION.rpartition(".")
+    before = run(top / "tools/version").stdout.strip()
+    git(top, "tag", f"v{VERSION}")
+    assert before.startswith(f"{VERSION}~dev2026") and run(top / "tools/version").stdout.strip() == VERSION, (
+        f"before its tag it has ~dev  [{before}]")
+    git(top, "commit", "-q", "--allow-empty", "-m", "after")
+    after = run(top / "tools/version").stdout.strip()
+    assert after.startswith(f"{first}.{int(last) + 1}~dev2026"), f"after a tag it is the next version  [{after}]"
+    run("dpkg", "--compare-versions", before, "lt", VERSION, ok=True)
+    run("dpkg", "--compare-versions", after, "gt", VERSION, ok=True)
+
+
+def test_release_without_a_key(repository: pathlib.Path) -> None:
+    done = run(repository / "tools/release", VERSION)
+    assert done.returncode == 1 and "a release is signed" in done.stderr, f"a release is signed  [{output(done)}]"
 
 
 def test_spdx_list(made: pathlib.Path) -> None:

@@ -32,6 +32,9 @@ def copy_tree(goal: pathlib.Path) -> pathlib.Path:
         shutil.copytree(TOP / name, goal / name, symlinks=True, ignore=shutil.ignore_patterns("out", "__pycache__"))
     for name in ("VERSION", "CHANGELOG.md", "crates.txt"):
         shutil.copy(TOP / name, goal / name)
+    (goal / "tools").mkdir()
+    for name in ("release", "verify", "version"):
+        shutil.copy(TOP / "tools" / name, goal / "tools" / name)
     return goal
 
 

@@ -1,0 +1,21 @@
+#compdef portal portal-setup portal-doctor portal-backup portal-restore
+# Completion for zsh.
+
+_portal() {
+  local files='*:file:_files'
+  case $service in
+    portal-setup)
+      _arguments '--ask' '--clerk:name' '--role:role:(clerk manager)' '--first-look' '--prices-as-shipped' '--renew' '--help' $files ;;
+    portal-doctor) _arguments '--all' '--json' '--help' ;;
+    portal-backup)
+      _arguments '--pid:process' '--unit:unit' '--still' '--check:settings:_files' '--keep:number' '--name:name' '--journal:file:_files' \
+        '--whole:folder:_files -/' '--help' $files ;;
+    portal-restore)
+      _arguments '--drill' '--whole' '--venue:name' '--unit:unit' '--key:file:_files' '--folder:folder:_files -/' '--settings:settings:_files' '--help' $files ;;
+    portal)
+      _arguments '1:command:(serve answer print takings check --help --version)' '--db:database:_files' '--settings:settings:_files' \
+        '--port:port' '--count:number' '--now:seconds' '--seed:seed' '--help' '*:: :' ;;
+  esac
+}
+
+_portal "$@"
