@@ -1,5 +1,6 @@
 -- The words of other crates that the proofs cite, passed on from one place.
-pub use Rattle.std.proofs.Common.{List, None, Ok, Option, Some, [], ap, arith, inl, inr, refl, rules, subst, sym, true≢false, ℕ, ℤ, ◌∙◌, ◌≡◌}
+pub use Rattle.std.proofs.Common.{List, None, Ok, Option, Some, [], ap, arith, inl, inr, refl, rules, subst}
+pub use Rattle.std.proofs.Common.{sym, true≢false, ℕ, ℤ, ◌∙◌, ◌≡◌}
 pub use Rattle.std.proofs.KnownBytes.{Appends-nil, Keeps-refl}
 pub use Rattle.portal_desk.specs.Calls.{is_stopped_state}
 pub use Rattle.portal_server.specs.declared.error.ProgramError.TheVariants.{NoMemory}

@@ -44,12 +44,15 @@ PrintsOutput Is o status = (printout : Result Output ProgramError) × Is printou
 -- The desk over the files of a place is asked: a file cannot be used, or there is no database; or the desk
 -- gives the output, with the settings that were read, from the ledger that the file holds. The error of a
 -- failed close is printed after it.
-abbrev pub AsksOver : PlaceValue → Files → (SettingsValue → State → Result Output ProgramError → State → Type 0) → Outlets → ℕ → Type 0
+abbrev pub AsksOver : PlaceValue → Files
+    → (SettingsValue → State → Result Output ProgramError → State → Type 0) → Outlets → ℕ → Type 0
 AsksOver place files Tells o status =
-    ((trouble : Trouble) × FailsBeforeDesk place.reads place.fails_to_read place.refuses files Ask trouble × EndsTrouble trouble o status)
+    ((trouble : Trouble) × FailsBeforeDesk place.reads place.fails_to_read place.refuses files Ask trouble
+    × EndsTrouble trouble o status)
     ⊎ ((settings : SettingsValue) × AreReadSettings (place.reads files.settings.now) settings
     × ByDesk place files.db.now Ask o.errors_after
-    (λ printed. (printout : Result Output ProgramError) × IsDeskResult printout × EndsWith printout (record o { errors_after = printed }) status)
+    (λ printed. (printout : Result Output ProgramError) × IsDeskResult printout
+    × EndsWith printout (record o { errors_after = printed }) status)
     (λ printed old new. (printout : Result Output ProgramError) × Tells settings old printout new
     × EndsWith printout (record o { errors_after = printed }) status))
 
@@ -63,14 +66,16 @@ IsBatchFile zone id H text = (sheet : BatchSheet) × (sheet_of H id ≡ Some she
 abbrev pub PrintsBatch : TimeZone → List ℕ → State → Result Output ProgramError → State → Type 0
 PrintsBatch zone batch old (Ok (Text text)) new = ReadsThat old (λ H. IsBatchFile zone batch H text.items) new
 PrintsBatch zone batch old (Err (Refused r)) new =
-    ((r ≡ UnknownBatch) × (¬ IsIdText batch) × (new ≡ old)) ⊎ RefusesUnknown UnknownBatch (λ H. sheet_of H batch) old r new
+    ((r ≡ UnknownBatch) × (¬ IsIdText batch) × (new ≡ old))
+    ⊎ RefusesUnknown UnknownBatch (λ H. sheet_of H batch) old r new
 PrintsBatch zone batch old _ new = ⊥
 
 -- ---- takings
 
 -- The texts are the dates of the first and the last day of a range.
 abbrev pub IsRangeText : List ℕ → List ℕ → Span → Type 0
-IsRangeText from to range = IsDayText from range.first × IsDayText to range.last × IsSpan range.first range.last
+IsRangeText from to range =
+    IsDayText from range.first × IsDayText to range.last × IsSpan range.first range.last
 
 -- Why the texts name no range: one is no date, or the days are not those of one.
 abbrev pub IsRangeFault : List ℕ → List ℕ → UsageFault → Type 0
@@ -94,7 +99,8 @@ PrintsTakingsOver zone range old _ new = ⊥
 abbrev pub PrintsTakingsFrom : PlaceValue → Files → List ℕ → List ℕ → Outlets → ℕ → Type 0
 PrintsTakingsFrom place files from to outlets status =
     ((fault : UsageFault) × IsRangeFault from to fault × EndsUsage fault outlets status)
-    ⊎ ((range : Span) × IsRangeText from to range × AsksOver place files (λ settings. PrintsTakingsOver settings.zone range) outlets status)
+    ⊎ ((range : Span) × IsRangeText from to range
+    × AsksOver place files (λ settings. PrintsTakingsOver settings.zone range) outlets status)
 
 -- ---- check
 
@@ -132,10 +138,12 @@ IsRight Counters audits printout = AuditIsRight audits printout
 -- desk is closed then.
 abbrev pub AsksRightly : PlaceValue → Files → DeskQuestion → Outlets → ℕ → Type 0
 AsksRightly place files question o status =
-    ((trouble : Trouble) × FailsBeforeDesk place.reads place.fails_to_read place.refuses files Ask trouble × EndsTrouble trouble o status)
+    ((trouble : Trouble) × FailsBeforeDesk place.reads place.fails_to_read place.refuses files Ask trouble
+    × EndsTrouble trouble o status)
     ⊎ ((before after : place.Desk) × (printed : Option (List ℕ)) × place.opens files.db.now Ask before
     × Closes place.closes place.fails_to_close after files.db.now printed o.errors_after
     × ((printout : Result Output ProgramError)
     × EndsWith printout (record o { errors_after = printed }) status
-    × (place.is_fault_free after → place.is_fault_free before × place.finds files.db.now Ask × ((L : Ledger) → place.holds_ledger files.db.now L → place.represents before (running L))
+    × (place.is_fault_free after → place.is_fault_free before × place.finds files.db.now Ask
+    × ((L : Ledger) → place.holds_ledger files.db.now L → place.represents before (running L))
     × IsRight question (place.audits before) printout)))

@@ -10,7 +10,8 @@ use Rattle.portal_commands.specs.Places.{PlaceValue}
 use Rattle.portal_commands.specs.Serving.{NetworkValue}
 
 -- A place, and the desks over its files.
-abbrev pub place_value : {P Stored Fresh Left : Type 0} → PlaceOf P Stored Fresh Left → DeskOf Stored → P → PlaceValue
+abbrev pub place_value : {P Stored Fresh Left : Type 0} → PlaceOf P Stored Fresh Left
+    → DeskOf Stored → P → PlaceValue
 place_value place desk at = record {
   Desk = _;
   Left = _;
@@ -33,5 +34,7 @@ place_value place desk at = record {
 
 -- A network, and the hosts at its ports.
 abbrev pub network_of : {N Bound Reader Writer : Type 0}
-    → NetworkOf N Bound Reader Writer → HostOf Bound Reader Writer → ReadOf Reader → WriteOf Writer → N → NetworkValue
-network_of network host reader writer at = record { host = host_of host reader writer; listens = network.listens at; refuses = network.refuses at }
+    → NetworkOf N Bound Reader Writer → HostOf Bound Reader Writer → ReadOf Reader
+    → WriteOf Writer → N → NetworkValue
+network_of network host reader writer at =
+    record { host = host_of host reader writer; listens = network.listens at; refuses = network.refuses at }

@@ -5,13 +5,17 @@ use Rattle.portal_files.specs.SettingsFault.{name_of}
 use Rattle.portal_files.specs.declared.settings_fault.SettingsKey.{SettingsKey}
 use Rattle.portal_files.specs.declared.settings_fault.SettingsKey.TheVariants as key
 use Rattle.portal_files.specs.declared.settings_fault.SettingsFault.{SettingsFault}
-use Rattle.portal_files.specs.declared.settings_fault.SettingsFault.TheVariants.{NotToml, Missing, Wrong, FurtherKey, SameTokens}
+use Rattle.portal_files.specs.declared.settings_fault.SettingsFault.TheVariants.{NotToml, Missing, Wrong}
+use Rattle.portal_files.specs.declared.settings_fault.SettingsFault.TheVariants.{FurtherKey, SameTokens}
 use Rattle.portal_commands.specs.declared.causes.UsageFault.{UsageFault}
-use Rattle.portal_commands.specs.declared.causes.UsageFault.TheVariants.{Arguments, Port, Now, Seed, From, To, Days}
+use Rattle.portal_commands.specs.declared.causes.UsageFault.TheVariants.{Arguments, Port, Now, Seed, From, To}
+use Rattle.portal_commands.specs.declared.causes.UsageFault.TheVariants.{Days}
 
 -- What the value of a key has to be.
 abbrev pub rule_of : SettingsKey → List ℕ
-rule_of key.Zone = codes "a POSIX TZ rule of 1 to 64 bytes, such as CET-1CEST,M3.5.0,M10.5.0/3, which is the last line of /usr/share/zoneinfo/Europe/Berlin"
+rule_of key.Zone =
+    codes
+    "a POSIX TZ rule of 1 to 64 bytes, such as CET-1CEST,M3.5.0,M10.5.0/3, which is the last line of /usr/share/zoneinfo/Europe/Berlin"
 rule_of key.PortalUrl = codes "a URL that begins with https:// and has 9 to 2048 bytes of visible ASCII"
 rule_of key.VenueUrl = codes "a URL that begins with https:// and has 9 to 2048 bytes of visible ASCII"
 rule_of key.DeskToken = codes "a text of 8 to 128 bytes of visible ASCII"
@@ -20,10 +24,12 @@ rule_of key.GatewayToken = codes "a text of 8 to 128 bytes of visible ASCII"
 -- What is wrong with a settings file.
 abbrev pub settings_text : SettingsFault → List ℕ
 settings_text (NotToml line) =
-    codes "line " ++ (decimal line ++ codes " is not TOML in UTF-8: a line is KEY = \"VALUE\", and no key occurs twice")
+    codes "line "
+    ++ (decimal line ++ codes " is not TOML in UTF-8: a line is KEY = \"VALUE\", and no key occurs twice")
 settings_text (Missing key) = name_of key ++ codes " is missing"
 settings_text (Wrong key) = name_of key ++ (codes " is not " ++ rule_of key)
-settings_text FurtherKey = codes "there is a key other than zone, portal_url, venue_url, desk_token and gateway_token"
+settings_text FurtherKey =
+    codes "there is a key other than zone, portal_url, venue_url, desk_token and gateway_token"
 settings_text SameTokens = codes "desk_token and gateway_token are the same"
 
 -- The name of a port.

@@ -121,11 +121,13 @@ check_subcommand = with_files (new_app (codes "check"))
 
 -- The program without its subcommands, one of which is required; `--version` asks for its version.
 abbrev pub bare_command_line : App
-bare_command_line = on_top (λ s. record s { subcommand_required = true; has_version = true }) (new_app (codes "portal"))
+bare_command_line =
+    on_top (λ s. record s { subcommand_required = true; has_version = true }) (new_app (codes "portal"))
 
 -- With `serve` and `answer`.
 abbrev pub with_serving_subcommands : App
-with_serving_subcommands = with_subcommand (with_subcommand bare_command_line serve_subcommand.top) answer_subcommand.top
+with_serving_subcommands =
+    with_subcommand (with_subcommand bare_command_line serve_subcommand.top) answer_subcommand.top
 
 -- With `serve`, `answer`, `print` and `takings`.
 abbrev pub with_printing_subcommands : App

@@ -1,5 +1,6 @@
 -- The order that the arguments of a command line give, and what is printed if they give none.
-use Rattle.std.specs.Prelude.{◌≡◌, ◌≢◌, ◌⊎◌, ◌^◌, ◌<◌, ℕ, List, [], Option, Some, None, MatchOption, option_map, codes, ⊤}
+use Rattle.std.specs.Prelude.{◌≡◌, ◌≢◌, ◌⊎◌, ◌^◌, ◌<◌, ℕ, List, [], Option, Some, None, MatchOption}
+use Rattle.std.specs.Prelude.{option_map, codes, ⊤}
 use Rattle.std.specs.Borrow.{Bor}
 use Rattle.std.specs.Str.Parse.{IsNumeral, digits_value, without_leading_plus}
 use Rattle.clap.specs.Words.{IsAmong, Row, Text, fault_of, first_of, one_of, subcommand_of}
@@ -38,12 +39,14 @@ GivesFiles rows db settings = GivesText (codes "db") rows db × GivesText (codes
 
 abbrev pub IsServeOrder : List Row → Order → Type 0
 IsServeOrder rows (Serve db settings port count) =
-    GivesFiles rows db settings × GivesNumber (codes "port") rows port × GivesNumber (codes "count") rows count
+    GivesFiles rows db settings × GivesNumber (codes "port") rows port
+    × GivesNumber (codes "count") rows count
 IsServeOrder rows _ = ⊥
 
 abbrev pub IsAnswerOrder : List Row → Order → Type 0
 IsAnswerOrder rows (Answer db settings now seed) =
-    MayGive (codes "db") rows db × MayGive (codes "settings") rows settings × GivesNumber (codes "now") rows now × GivesText (codes "seed") rows seed
+    MayGive (codes "db") rows db × MayGive (codes "settings") rows settings
+    × GivesNumber (codes "now") rows now × GivesText (codes "seed") rows seed
 IsAnswerOrder rows _ = ⊥
 
 abbrev pub IsPrintOrder : List Row → Order → Type 0
@@ -97,7 +100,8 @@ GivesNoOrder words NoMemory = ⊤
 GivesNoOrder words (Help text) = IsAmong DisplayHelp (fault_of command_line words)
 GivesNoOrder words Version = IsAmong DisplayVersion (fault_of command_line words)
 GivesNoOrder words (Invalid text) =
-    ((kind : ErrorKind) × IsAmong kind (fault_of command_line words) × (kind ≢ DisplayHelp) × (kind ≢ DisplayVersion))
+    ((kind : ErrorKind) × IsAmong kind (fault_of command_line words) × (kind ≢ DisplayHelp)
+    × (kind ≢ DisplayVersion))
     ⊎ IsNoOrder (subcommand_of command_line words)
 
 -- What is printed for an error of clap of that kind.

@@ -5,7 +5,8 @@ use Rattle.portal_files.specs.SettingsFile.{SettingsValue, IsSettingsFile}
 use Rattle.portal_ledger.specs.Ledger.{Ledger, IsSound}
 use Rattle.portal_ledger.specs.States.{State, MayBeFound, running}
 use Rattle.portal_server.specs.declared.error.ProgramError.{ProgramError}
-use Rattle.portal_server.specs.declared.error.ProgramError.TheVariants.{File, NoMemory, NotOurs, Newer, Settings}
+use Rattle.portal_server.specs.declared.error.ProgramError.TheVariants.{File, NoMemory, NotOurs, Newer}
+use Rattle.portal_server.specs.declared.error.ProgramError.TheVariants.{Settings}
 use Rattle.portal_commands.specs.declared.place.Files.{Files}
 use Rattle.portal_commands.specs.declared.place.Purpose.{Purpose}
 use Rattle.portal_commands.specs.declared.trouble.Trouble.{Trouble}
@@ -31,16 +32,19 @@ AreReadSettings reads settings = (bytes : List ℕ) × reads bytes × IsSettings
 
 -- Bytes may be read that are no valid settings file.
 abbrev pub AreNone : (List ℕ → Type 0) → Type 0
-AreNone reads = (bytes : List ℕ) × reads bytes × ((settings : SettingsValue) → ¬ IsSettingsFile bytes settings)
+AreNone reads =
+    (bytes : List ℕ) × reads bytes × ((settings : SettingsValue) → ¬ IsSettingsFile bytes settings)
 
 -- The same of the file at a path, and the trouble tells a fault of these bytes.
 abbrev pub AreRefused : List ℕ → (List ℕ → Type 0) → Trouble → Type 0
 AreRefused path reads trouble =
     (trouble.error ≡ Settings)
-    × (bytes : List ℕ) × reads bytes × ((settings : SettingsValue) → ¬ IsSettingsFile bytes settings) × TellsFault path bytes trouble
+    × (bytes : List ℕ) × reads bytes × ((settings : SettingsValue) → ¬ IsSettingsFile bytes settings)
+    × TellsFault path bytes trouble
 
 -- What is assumed of a place. Of its files: which bytes may be read at a path, which ledger the file at a
--- path holds, what is found there by an opening for a purpose, which desk was opened over it for that purpose,
+-- path holds, what is found there by an opening for a purpose, which desk was opened over it for that
+-- purpose,
 -- and with which errors a read or an open fails, the latter with what is left of the file. Of its desks:
 -- whether a desk has been fault-free, what it represents, which answer of an audit is right, which tables are
 -- its crash states, which ledger those hold, what is left after a close, and with which errors a close fails.
@@ -65,21 +69,25 @@ pub record PlaceValue : Type 1 where
   pub fails_to_make : ProgramError → Type 0
 
 -- A desk over the file at a path is closed; or the close fails, and its error is printed.
-abbrev pub Closes : {Desk Left : Type 0} → (Desk → Left → Type 0) → (Desk → Left → List ℕ → Trouble → Type 0) → Desk → List ℕ → Option (List ℕ) → Option (List ℕ) → Type 0
+abbrev pub Closes : {Desk Left : Type 0} → (Desk → Left → Type 0) → (Desk → Left → List ℕ → Trouble → Type 0)
+    → Desk → List ℕ → Option (List ℕ) → Option (List ℕ) → Type 0
 Closes closes fails desk path printed printed_after =
     ((left : _) × closes desk left × Keeps printed printed_after)
-    ⊎ ((trouble : Trouble) × (left : _) × (IsFileError trouble.error × NamesPath path trouble) × fails desk left path trouble × Reports trouble printed printed_after)
+    ⊎ ((trouble : Trouble) × (left : _) × (IsFileError trouble.error × NamesPath path trouble)
+    × fails desk left path trouble × Reports trouble printed printed_after)
 
 -- Each crash state of a desk holds a sound ledger that the desk's state allows.
 abbrev pub CrashStatesAllowedBy : (place : PlaceValue) → place.Desk → State → Type 0
 CrashStatesAllowedBy place desk new =
-    (tables : place.Tables) → place.is_crash_state desk tables → (found : Ledger) × MayBeFound new found × place.tables_hold_ledger tables found × IsSound found
+    (tables : place.Tables) → place.is_crash_state desk tables
+    → (found : Ledger) × MayBeFound new found × place.tables_hold_ledger tables found × IsSound found
 
 -- Done by the desk that was opened over the file at a path for a purpose, and that is closed then. It ends in
 -- one of the ways that `Ends` allows. As long as it has been fault-free, the file was found as the purpose
 -- requires, and `Does` leads from the ledger that the file holds to the state that the desk then represents,
 -- which the crash states hold. Both speak of standard error before the close.
-abbrev pub ByDesk : PlaceValue → List ℕ → Purpose → Option (List ℕ) → (Option (List ℕ) → Type 0) → (Option (List ℕ) → State → State → Type 0) → Type 0
+abbrev pub ByDesk : PlaceValue → List ℕ → Purpose → Option (List ℕ) → (Option (List ℕ) → Type 0)
+    → (Option (List ℕ) → State → State → Type 0) → Type 0
 ByDesk place path purpose printed_after Ends Does =
     (opened desk : place.Desk) × (printed : Option (List ℕ)) × place.opens path purpose opened
     × Closes place.closes place.fails_to_close desk path printed printed_after × Ends printed
@@ -101,8 +109,10 @@ IsNotRead path reads fails trouble =
 
 -- The settings file or the database file cannot be used: there are no settings; or there are, and the place
 -- does not open the database for this purpose.
-abbrev pub FailsBeforeDesk : {Left : Type 0} → (List ℕ → List ℕ → Type 0) → (List ℕ → Trouble → Type 0) → (Left → List ℕ → Purpose → Trouble → Type 0) → Files → Purpose → Trouble → Type 0
+abbrev pub FailsBeforeDesk : {Left : Type 0} → (List ℕ → List ℕ → Type 0) → (List ℕ → Trouble → Type 0)
+    → (Left → List ℕ → Purpose → Trouble → Type 0) → Files → Purpose → Trouble → Type 0
 FailsBeforeDesk reads fails_to_read refuses files purpose trouble =
     IsNotRead files.settings.now (reads files.settings.now) (fails_to_read files.settings.now) trouble
-    ⊎ (NamesPath files.db.now trouble × IsDatabaseError trouble.error × ((left : _) × refuses left files.db.now purpose trouble)
+    ⊎ (NamesPath files.db.now trouble × IsDatabaseError trouble.error
+    × ((left : _) × refuses left files.db.now purpose trouble)
     × ((settings : SettingsValue) × AreReadSettings (reads files.settings.now) settings))

@@ -35,16 +35,20 @@ ServesAt network at settings o status old new =
     ((trouble : Trouble) × ((IsUnbound at.port trouble × network.refuses at.port) ⊎ IsForMemory trouble)
     × EndsTrouble trouble o status × (new ≡ old))
     ⊎ ((before : network.host.Host) × (after : network.host.Host) × (ended : Result (Unit {0}) ProgramError)
-    × network.listens at.port before × (status ≡ exit_code_at ended) × EndsTurns network.host settings at.port at.count o before old ended after new)
+    × network.listens at.port before × (status ≡ exit_code_at ended)
+    × EndsTurns network.host settings at.port at.count o before old ended after new)
 
 -- Served by the desk over the files of a place: a file cannot be used; or connections are served with the
 -- settings that were read, from the ledger that the file holds, by a desk that was opened after the log was
 -- copied into the file.
 abbrev pub ServesOver : PlaceValue → Files → NetworkValue → ServeOptions → Outlets → ℕ → Type 0
 ServesOver place files network at o status =
-    ((trouble : Trouble) × FailsBeforeDesk place.reads place.fails_to_read place.refuses files Serve trouble × EndsTrouble trouble o status)
+    ((trouble : Trouble) × FailsBeforeDesk place.reads place.fails_to_read place.refuses files Serve trouble
+    × EndsTrouble trouble o status)
     ⊎ ((settings : SettingsValue) × AreReadSettings (place.reads files.settings.now) settings
-    × ByDesk place files.db.now Serve o.errors_after (λ printed. IsServed at (record o { errors_after = printed }) status)
+    × ByDesk place files.db.now Serve o.errors_after
+    (λ printed. IsServed at (record o { errors_after = printed }) status)
     (λ printed old new. ServesAtMost at.count (λ arrivals responses. Run settings old arrivals responses new))
-    × ByDesk place files.db.now Serve o.errors_after (λ printed. IsServed at (record o { errors_after = printed }) status)
+    × ByDesk place files.db.now Serve o.errors_after
+    (λ printed. IsServed at (record o { errors_after = printed }) status)
     (λ printed old new. ServesAt network at settings (record o { errors_after = printed }) status old new))

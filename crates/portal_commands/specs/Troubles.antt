@@ -21,12 +21,14 @@ IsOneLine text = All (λ byte. byte ≢ 10) text
 -- A second line is one line, follows that of `file`, and names the path.
 abbrev pub NamesPath : List ℕ → Trouble → Type 0
 NamesPath path trouble = MatchOption trouble.line ⊤
-    (λ line. (trouble.error ≡ File) × (text : List ℕ) × IsOneLine path × IsOneLine text × (string_bytes line ≡ second_line path text))
+    (λ line. (trouble.error ≡ File) × (text : List ℕ) × IsOneLine path × IsOneLine text
+    × (string_bytes line ≡ second_line path text))
 
 -- A second line names the settings file, and a fault of these bytes.
 abbrev pub TellsFault : List ℕ → List ℕ → Trouble → Type 0
 TellsFault path bytes trouble = MatchOption trouble.line ⊤
-    (λ line. (fault : SettingsFault) × IsSettingsFault bytes fault × IsOneLine path × (string_bytes line ≡ second_line path (settings_text fault)))
+    (λ line. (fault : SettingsFault) × IsSettingsFault bytes fault × IsOneLine path
+    × (string_bytes line ≡ second_line path (settings_text fault)))
 
 -- A port cannot be bound; a second line is one line, and names the port.
 abbrev pub IsUnbound : ℕ → Trouble → Type 0
@@ -42,12 +44,14 @@ IsOutOfRange fault trouble = (trouble.error ≡ Usage) × MatchOption trouble.li
 abbrev pub Reports : Trouble → Option (List ℕ) → Option (List ℕ) → Type 0
 Reports trouble printed printed_after =
     (between : Option (List ℕ)) × Prints printed between (line_of trouble.error)
-    × MatchOption trouble.line (Keeps between printed_after) (λ line. Prints between printed_after (string_bytes line))
+    × MatchOption trouble.line (Keeps between printed_after)
+    (λ line. Prints between printed_after (string_bytes line))
 
 -- Both lines are printed, and the exit code is that of the error.
 abbrev pub EndsTrouble : Trouble → Outlets → ℕ → Type 0
 EndsTrouble trouble o status =
-    (status ≡ exit_code_of trouble.error) × Keeps o.output o.output_after × Reports trouble o.errors o.errors_after
+    (status ≡ exit_code_of trouble.error) × Keeps o.output o.output_after
+    × Reports trouble o.errors o.errors_after
 
 -- Both lines about a value out of its range are printed, and the exit code is 2.
 abbrev pub EndsUsage : UsageFault → Outlets → ℕ → Type 0

@@ -57,8 +57,8 @@ pub fn ask_desk<D: Desk, W: Write, E: Write>(
     }
 }
 
-/// Opens a database file that was made before, asks the desk over it a question, prints the result, closes the
-/// file, and returns the exit code. Nothing is made at a path where there is no database.
+/// Opens a database file that was made before, asks the desk over it a question, prints the result, closes
+/// the file, and returns the exit code. Nothing is made at a path where there is no database.
 ///
 /// The first of these errors that applies is printed: those of the settings file (`file`, `no_memory`,
 /// `settings`); those of the database file (`file`, also if there is no database; `no_memory`, `not_ours`,
@@ -72,7 +72,8 @@ pub fn ask_database<P: Place, W: Write, E: Write>(
     output: &mut W,
     errors: &mut E,
 ) -> u8
-    ensures over { AsksOver (place_value P.Place P.Stored.Desk place) files.entry (ResultOf question.entry.now)
+    ensures over { AsksOver (place_value P.Place P.Stored.Desk place) files.entry
+        (ResultOf question.entry.now)
         (outlets W.Write E.Write output.old output.new errors.old errors.new) result }
     ensures exact { AsksRightly (place_value P.Place P.Stored.Desk place) files.entry question.entry.now
         (outlets W.Write E.Write output.old output.new errors.old errors.new) result }

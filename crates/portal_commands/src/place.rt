@@ -56,8 +56,8 @@ pub trait Place: Drop {
     /// What is assumed of the file at a path that was opened for a purpose: to ask, that a database was made.
     ghost finds: { Self → List ℕ → For → Type 0 };
 
-    /// Which desk was opened over the file at a path for a purpose: to serve, after the log was copied into the
-    /// file.
+    /// Which desk was opened over the file at a path for a purpose: to serve, after the log was copied into
+    /// the file.
     ghost opens: { Self → List ℕ → For → Self.Stored → Type 0 };
 
     /// What holds of what is left after a desk over a file was closed.

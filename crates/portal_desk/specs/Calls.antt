@@ -1,5 +1,6 @@
 -- The result of each call of a desk, and the states before and after it.
-use Rattle.std.specs.Prelude.{◌≡◌, ◌≢◌, ◌⊎◌, ℕ, Bool, true, false, Option, Some, None, Result, Ok, Err, MatchResult}
+use Rattle.std.specs.Prelude.{◌≡◌, ◌≢◌, ◌⊎◌, ℕ, Bool, true, false, Option, Some, None, Result, Ok, Err}
+use Rattle.std.specs.Prelude.{MatchResult}
 use Rattle.portal_model.specs.declared.command.Command.{Command}
 use Rattle.portal_model.specs.declared.change.Answer.{Answer}
 use Rattle.portal_model.specs.declared.refusal.Refusal.{Refusal}
@@ -36,12 +37,14 @@ StaysStopped old new = old ≡ true → new ≡ true
 -- A call of a desk, by the desk's relations. Whatever the disk did, the settings are unchanged, and the
 -- result tells whether the desk has stopped. A disk that is fault-free after the call was so before it, and
 -- then the call leads from the state before to a state after.
-pub record Moves {D A : Type 0} (settings : D → SettingsValue) (is_fault_free : D → Type 0) (has_stopped : D → Bool) (represents : D → State → Type 0)
+pub record Moves {D A : Type 0} (settings : D → SettingsValue) (is_fault_free : D → Type 0)
+    (has_stopped : D → Bool) (represents : D → State → Type 0)
     (old new : D) (result : Result A Refusal) (Step : State → State → Type 0) : Type 0 where
   pub same_settings : settings new ≡ settings old
   pub fault_free : is_fault_free new → is_fault_free old
   pub stops : KeepsStop (has_stopped old) (has_stopped new) result
-  pub step : is_fault_free new → (before : State) → represents old before → (after : State) × represents new after × Step before after
+  pub step : is_fault_free new → (before : State) → represents old before
+      → (after : State) × represents new after × Step before after
 
 -- the result is the one that the history determines, and the state is unchanged
 abbrev pub Answers : {A : Type 0} → (History → A) → State → A → State → Type 0
@@ -64,13 +67,15 @@ RefusesUnknown unknown given old r new = ((r ≡ unknown) × Answers given old N
 -- the result is the record of the history, or an error if there is none
 abbrev pub Finds : {A : Type 0} → Refusal → (History → Option A) → Result A Refusal → State → State → Type 0
 Finds unknown given result old new =
-    MatchResult result (λ found. Answers given old (Some found) new) (λ r. RefusesUnknown unknown given old r new)
+    MatchResult result (λ found. Answers given old (Some found) new)
+    (λ r. RefusesUnknown unknown given old r new)
 
 -- a command that is not a repetition and that the verdict accepts, with its changes and its fingerprint;
 -- nothing is committed yet
 abbrev pub Prepares : State → Command → ℕ → Option Fingerprint → MarkedChanges → State → Type 0
 Prepares old command moment mark marked new =
-    ReadsOf old (λ L. (repeat_in L mark ≡ Ok None) × Fits (running L) marked (accepted_at L moment command mark)) new
+    ReadsOf old
+    (λ L. (repeat_in L mark ≡ Ok None) × Fits (running L) marked (accepted_at L moment command mark)) new
 
 -- a repetition, with the kept answer
 abbrev pub Repeats : State → Fingerprint → Answer → State → Type 0
@@ -78,7 +83,8 @@ Repeats old mark answer new = ReadsOf old (λ L. repeat_in L (Some mark) ≡ Ok 
 
 -- an idempotent request: a new one, or a repetition
 abbrev pub PreparesMarked : State → Command → ℕ → Fingerprint → Marked → State → Type 0
-PreparesMarked old command moment mark (Fresh prepared) new = Prepares old command moment (Some mark) prepared new
+PreparesMarked old command moment mark (Fresh prepared) new =
+    Prepares old command moment (Some mark) prepared new
 PreparesMarked old command moment mark (Kept answer) new = Repeats old mark answer new
 
 -- the error of a command after the ledger: its idempotency key was used for another request, or else its
@@ -86,11 +92,13 @@ PreparesMarked old command moment mark (Kept answer) new = Repeats old mark answ
 abbrev pub IsRefused : Ledger → Command → ℕ → Option Fingerprint → Refusal → Type 0
 IsRefused L command moment mark r =
     (repeat_in L mark ≡ Err r)
-    ⊎ ((repeat_in L mark ≡ Ok None) × (verdict (history_of L) command (effective_moment (history_of L) moment) ≡ Some r))
+    ⊎ ((repeat_in L mark ≡ Ok None)
+    × (verdict (history_of L) command (effective_moment (history_of L) moment) ≡ Some r))
 
 -- the command is refused, or the call fails
 abbrev pub Refuses : State → Command → ℕ → Option Fingerprint → Refusal → State → Type 0
-Refuses old command moment mark r new = ReadsOf old (λ L. IsRefused L command moment mark r) new ⊎ CannotAnswer old r new
+Refuses old command moment mark r new =
+    ReadsOf old (λ L. IsRefused L command moment mark r) new ⊎ CannotAnswer old r new
 
 -- the command is not committed, or it is in doubt
 abbrev pub CannotKeep : State → Accepted → Refusal → State → Type 0

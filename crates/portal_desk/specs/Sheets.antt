@@ -15,7 +15,8 @@ sheet_with batch codes plan = record { batch = batch; plan = plan; codes = codes
 
 -- the batch of that id, with its plan, and its codes in order of issue
 abbrev pub sheet_of : History → List ℕ → Option BatchSheet
-sheet_of H id = option_and_then (λ batch. option_map (sheet_with batch (codes_of H id)) (plan_of H batch.plan)) (batch_of H id)
+sheet_of H id = option_and_then
+    (λ batch. option_map (sheet_with batch (codes_of H id)) (plan_of H batch.plan)) (batch_of H id)
 
 -- the takings of each day of a range, in order, by the civil days of a zone
 abbrev pub takings_over : TimeZone → History → Span → List DayTakings

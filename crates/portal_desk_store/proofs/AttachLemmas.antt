@@ -1,9 +1,11 @@
 -- Attaching a database: from the words of the tables to those of a desk.
-use Rattle.portal_desk_store.proofs.Common.{◌≡◌, ℕ, IsTrue, Option, subst, sym, Result, Ok, Err, IfErr, IsErrAnd, MatchResult, Held, state, Ghosts}
+use Rattle.portal_desk_store.proofs.Common.{◌≡◌, ℕ, IsTrue, Option, subst, sym, Result, Ok, Err, IfErr}
+use Rattle.portal_desk_store.proofs.Common.{IsErrAnd, MatchResult, Held, state, Ghosts}
 use Rattle.sqlite.specs.State.{Survives}
 use Rattle.portal_tables.specs.Attaching.{IsUnchangedConn, IsKnown, IsCauseIn, GivesOwnVersion}
 use Rattle.portal_tables.specs.declared.errors.OpenFault.{OpenFault}
-use Rattle.portal_desk_store.specs.Attaching.{IsAsItWas, IsCause, IsConnOpen, IsSpared, MayBeAttached, HeadGivesVersion}
+use Rattle.portal_desk_store.specs.Attaching.{IsAsItWas, IsCause, IsConnOpen, IsSpared, MayBeAttached}
+use Rattle.portal_desk_store.specs.Attaching.{HeadGivesVersion}
 
 module _ {S : Type 0} (g : Ghosts S) (conn : Held S) where
   pub may_be_taken : IsKnown (state g conn).now → MayBeAttached g conn
@@ -36,7 +38,8 @@ module _ {S : Type 0} (g : Ghosts S) (conn : Held S) where
 
 -- the `?` of a call that failed
 module _ {T E : Type 0} (result : Result T E) (e : E) where
-  pub on_failed : (Made : T → Type 0) (Is : E → Type 0) → IsErrAnd result (λ y. y ≡ e) → Is e → MatchResult result Made Is
+  pub on_failed : (Made : T → Type 0) (Is : E → Type 0) → IsErrAnd result (λ y. y ≡ e) → Is e
+      → MatchResult result Made Is
   on_failed Made Is failed is = go result failed
     where
       go : (r : Result T E) → IsErrAnd r (λ y. y ≡ e) → MatchResult r Made Is

@@ -5,7 +5,8 @@ use Rattle.portal_model.specs.declared.change.Answer.{Answer}
 use Rattle.portal_model.specs.declared.refusal.Refusal.{Refusal}
 use Rattle.portal_model.specs.declared.refusal.Refusal.TheVariants.{NoMemory, Stopped}
 use Rattle.portal_ledger.specs.Fingerprint.{Fingerprint}
-use Rattle.portal_ledger.specs.Ledger.{Accepted, Ledger, history_of, answer_in, repeat_in, accepted_at, MayFollow}
+use Rattle.portal_ledger.specs.Ledger.{Accepted, Ledger, history_of, answer_in, repeat_in, accepted_at}
+use Rattle.portal_ledger.specs.Ledger.{MayFollow}
 use Rattle.portal_ledger.specs.States.{State, running, stopped}
 use Rattle.portal_desk.specs.Calls.{IsRefused}
 
@@ -33,4 +34,5 @@ FailsToExecute (stopped L doubt) command moment mark r new = (r ≡ Stopped) × 
 -- the result of a command, with the states before and after it
 abbrev pub EndsExecution : Result Answer Refusal → Command → ℕ → Option Fingerprint → State → State → Type 0
 EndsExecution result command moment mark old new =
-    MatchResult result (λ answer. Executes old command moment mark answer new) (λ r. FailsToExecute old command moment mark r new)
+    MatchResult result (λ answer. Executes old command moment mark answer new)
+    (λ r. FailsToExecute old command moment mark r new)

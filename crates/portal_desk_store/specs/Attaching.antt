@@ -42,6 +42,8 @@ module _ {S : Type 0} (g : Ghosts S) where
 
   -- if the disk was fault-free: `Made` holds of the desk, or `Kept` of the connection handed back with the
   -- error
-  abbrev pub IfFaultFree : Result (StoreDesk S) (Refused S) → (StoreDesk S → Type 0) → (Refused S → Type 0) → Type 0
+  abbrev pub IfFaultFree : Result (StoreDesk S) (Refused S) → (StoreDesk S → Type 0)
+      → (Refused S → Type 0) → Type 0
   IfFaultFree result Made Kept = MatchResult result
-      (λ desk. IsFaultFree g desk.tables → Made desk) (λ refused. ConnIsFaultFree g refused.connection → Kept refused)
+      (λ desk. IsFaultFree g desk.tables → Made desk)
+      (λ refused. ConnIsFaultFree g refused.connection → Kept refused)

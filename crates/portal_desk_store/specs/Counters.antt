@@ -2,7 +2,7 @@
 use Rattle.std.specs.Prelude.{◌↔◌, Bool, IsTrue}
 use Rattle.sqlite.specs.Held.{state}
 use Rattle.sqlite_trees.specs.declared.store.Store.{Ghosts}
-use Rattle.portal_tables_queries.specs.Audit.{IsAudited}
+use Rattle.portal_tables_rows.specs.Audit.{IsAudited}
 use Rattle.portal_tables_rows.specs.Contents.{Contents}
 use Rattle.portal_tables_rows.specs.Holds.{Holds}
 use Rattle.portal_tables.specs.declared.tables.Tables.{Tables}
@@ -11,4 +11,5 @@ use Rattle.portal_tables.specs.declared.tables.Tables.{Tables}
 -- rows it holds.
 abbrev pub CountersAre : {S : Type 0} → Ghosts S → Tables S → Bool → Type 0
 CountersAre g tables agrees =
-    IsTrue (state g tables.conn).is_open → (t : Contents) → Holds (state g tables.conn).now t → (IsTrue agrees ↔ IsAudited t)
+    IsTrue (state g tables.conn).is_open → (t : Contents) → Holds (state g tables.conn).now t
+    → (IsTrue agrees ↔ IsAudited t)

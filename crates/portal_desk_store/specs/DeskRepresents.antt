@@ -32,6 +32,7 @@ abbrev pub stop_flag : {S : Type 0} → StoreDesk S → Bool
 stop_flag desk = desk.tables.is_stopped
 
 -- a call of the desk
-abbrev pub MovesDesk : {S A : Type 0} → Ghosts S → StoreDesk S → StoreDesk S → Result A Refusal → (State → State → Type 0) → Type 0
+abbrev pub MovesDesk : {S A : Type 0} → Ghosts S → StoreDesk S → StoreDesk S → Result A Refusal
+    → (State → State → Type 0) → Type 0
 MovesDesk g old new result Step =
     Moves settings_of (DeskIsFaultFree g) stop_flag (DeskRepresents g) old new result Step

@@ -30,4 +30,5 @@ MayChange H command moment changes =
 abbrev pub Decides : Result Changes Refusal → Command → ℕ → State → State → Type 0
 Decides result command moment old new = MatchResult result
     (λ changes. ReadsThat old (λ H. MayChange H command moment changes) new)
-    (λ r. ReadsThat old (λ H. verdict H command (effective_moment H moment) ≡ Some r) new ⊎ CannotAnswer old r new)
+    (λ r. ReadsThat old (λ H. verdict H command (effective_moment H moment) ≡ Some r) new
+    ⊎ CannotAnswer old r new)

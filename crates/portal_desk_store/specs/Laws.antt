@@ -7,8 +7,10 @@ use Rattle.portal_tables.specs.TablesRepresent.{Files, FilesHold, IsCrashState, 
 use Rattle.portal_tables.proofs.StateLemmas.{files_sound, leaves}
 
 -- every crash state holds a ledger that the state allows
-pub crash_state_is_allowed : {S : Type 0} (g : Ghosts S) (tables : Tables S) (s : State) → TablesRepresent g tables s
-    → (files : Files) → IsCrashState g tables files → (found : Ledger) × MayBeFound s found × FilesHold files found
+pub crash_state_is_allowed : {S : Type 0} (g : Ghosts S) (tables : Tables S) (s : State)
+    → TablesRepresent g tables s
+    → (files : Files) → IsCrashState g tables files
+    → (found : Ledger) × MayBeFound s found × FilesHold files found
 crash_state_is_allowed g tables s at files may = leaves g tables s at files may
 
 -- files hold sound ledgers only

@@ -3,7 +3,9 @@
 use Rattle.std.specs.Prelude.{ℕ, cond, nat_eq, List, [], ◌∷◌, ◌++◌, map, filter, Option, Some, None}
 use Rattle.portal_model.specs.declared.record.Session.{Session}
 use Rattle.portal_model.specs.declared.change.Changes.{Changes}
-use Rattle.portal_model.specs.declared.change.Changes.TheVariants.{LoadChange, IssueChange, SellChange, RedeemChange, ReportChange, RefundChange, CloseChange}
+use Rattle.portal_model.specs.declared.change.Changes.TheVariants.{LoadChange, IssueChange, SellChange}
+use Rattle.portal_model.specs.declared.change.Changes.TheVariants.{RedeemChange, ReportChange, RefundChange}
+use Rattle.portal_model.specs.declared.change.Changes.TheVariants.{CloseChange}
 use Rattle.portal_model.specs.Captive.{all_sessions}
 use Rattle.portal_model.specs.Change.{with_report}
 use Rattle.portal_model.specs.History.{History, is_open_at, last_moment}
@@ -15,7 +17,10 @@ pub record OpenAt : Type 0 where
 
 -- the sessions of the history that are open at the time of its last command
 abbrev pub open_at_last : History → OpenAt
-open_at_last H = record { moment = last_moment H; sessions = filter (is_open_at (last_moment H)) (all_sessions H) }
+open_at_last H = record {
+  moment = last_moment H;
+  sessions = filter (is_open_at (last_moment H)) (all_sessions H);
+}
 
 -- the time of an accepted command
 abbrev pub moment_of : Changes → ℕ
@@ -39,7 +44,8 @@ after_redemption None now sessions = sessions ++ now ∷ []
 -- the sessions after the changes: one is appended, or one is replaced
 abbrev pub sessions_after_changes : Changes → List Session → List Session
 sessions_after_changes (RedeemChange c) sessions = after_redemption c.running c.session sessions
-sessions_after_changes (ReportChange c) sessions = map (replaced_if_same (with_report c.bytes c.session)) sessions
+sessions_after_changes (ReportChange c) sessions =
+    map (replaced_if_same (with_report c.bytes c.session)) sessions
 sessions_after_changes (CloseChange c) sessions =
     map (replaced_if_same (record c.session { closed = Some c.at })) sessions
 sessions_after_changes _ sessions = sessions

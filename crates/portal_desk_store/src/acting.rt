@@ -44,8 +44,8 @@ impl<S: Alter> StoreDesk<S> {
         self.finish_with_answer(prepared)
     }
 
-    /// Executes and commits a command under the idempotency key in `mark`. A repetition gets the first answer,
-    /// and changes nothing.
+    /// Executes and commits a command under the idempotency key in `mark`. A repetition gets the first
+    /// answer, and changes nothing.
     ///
     /// Errors: `IdReused` if its idempotency key was used for another request, then those of `act`.
     pub fn act_marked(

@@ -1,5 +1,7 @@
 -- The sample text is a settings file: what it says, and the zone of its rule.
-use Rattle.portal_files.proofs.Common.{◌≡◌, ℕ, pos, List, [], ◌∷◌, codes, Some, None, refl, arith, lit≤, ints, IsOffsetSeconds, read_whole, tz_view, Posix, SettingsValue, IsZoneAt, IsSettingsTable, IsSettingsFile}
+use Rattle.portal_files.proofs.Common.{◌≡◌, ℕ, pos, List, [], ◌∷◌, codes, Some, None, refl, arith, lit≤, ints}
+use Rattle.portal_files.proofs.Common.{IsOffsetSeconds, read_whole, tz_view, Posix, SettingsValue, IsZoneAt}
+use Rattle.portal_files.proofs.Common.{IsSettingsTable, IsSettingsFile}
 use Rattle.jiff_tz.proofs.OnLiterals.{jiff_tz_on_literals}
 use Rattle.std.specs.Str.{IsUtf8, is_utf8, chars}
 use Rattle.std.proofs.lemmas.Str.{IsUtf8-from_is_utf8}
@@ -62,7 +64,8 @@ sample-table = record {
 }
 
 pub sample-file : IsSettingsFile sample_text sample_value
-sample-file = record { members = sample_members; utf8 = sample-utf8; document = sample_document; table = sample-table }
+sample-file =
+    record { members = sample_members; utf8 = sample-utf8; document = sample_document; table = sample-table }
 
 pub only-memory : (e : FileFault) → (e ≡ Bad → ⊥) → e ≡ Memory
 only-memory Bad differs = absurd (differs refl)

@@ -1,8 +1,13 @@
 -- The texts of a settings table.
-use Rattle.portal_files.proofs.Common.{◌≡◌, ℕ, Bool, true, false, List, codes, Option, Some, None, refl, ap, sym, ◌∙◌, subst, option_map, is_some, false≢true, TimeZone, IsPosixZone, Data, string, Members, get_member, SettingsValue, is_url, IsTextAt, IsVenueAt, IsZoneAt, IsSettingsTable, IsSettingsFile, parse_document}
+use Rattle.portal_files.proofs.Common.{◌≡◌, ℕ, Bool, true, false, List, codes, Option, Some, None, refl, ap}
+use Rattle.portal_files.proofs.Common.{sym, ◌∙◌, subst, option_map, is_some, false≢true, TimeZone}
+use Rattle.portal_files.proofs.Common.{IsPosixZone, Data, string, Members, get_member, SettingsValue, is_url}
+use Rattle.portal_files.proofs.Common.{IsTextAt, IsVenueAt, IsZoneAt, IsSettingsTable, IsSettingsFile}
+use Rattle.portal_files.proofs.Common.{parse_document}
 use Rattle.portal_files.specs.Laws.{SameSettings}
 
-pub same-texts : {ms : Members} {key : List ℕ} {test : List ℕ → Bool} (t u : List ℕ) → IsTextAt test key ms t → IsTextAt test key ms u → t ≡ u
+pub same-texts : {ms : Members} {key : List ℕ} {test : List ℕ → Bool} (t u : List ℕ) → IsTextAt test key ms t
+    → IsTextAt test key ms u → t ≡ u
 same-texts t u is so =
     let both : Some (string t) ≡ Some (string u) = sym is.found ∙ so.found in
     cc
@@ -15,7 +20,8 @@ same-venue ms (Some t) None is so =
     let both : None ≡ Some (string t) = sym so ∙ is.found in cc
 same-venue ms (Some t) (Some u) is so = ap Some (same-texts t u is so)
 
-pub no-venue : (ms : Members) (o : Option (List ℕ)) (d : Data) → Some d ≡ get_member (codes "venue_url") ms → ((u : List ℕ) → IsTextAt is_url (codes "venue_url") ms u → ⊥) → IsVenueAt ms o → ⊥
+pub no-venue : (ms : Members) (o : Option (List ℕ)) (d : Data) → Some d ≡ get_member (codes "venue_url") ms
+    → ((u : List ℕ) → IsTextAt is_url (codes "venue_url") ms u → ⊥) → IsVenueAt ms o → ⊥
 no-venue ms None d there none is =
     let both : Some d ≡ None = there ∙ is in cc
 no-venue ms (Some u) d there none is = none u is
@@ -24,7 +30,8 @@ pub option_map-none : {A B : Type 0} (f : A → B) (r : Option A) → is_some r 
 option_map-none f None e = refl
 option_map-none f (Some x) e = absurd (false≢true (sym e))
 
-pub member-there : {A B : Type 0} (f : A → B) (r : Option A) (o : Option B) → option_map f r ≡ o → is_some r ≡ true → (d : B) × (Some d ≡ o)
+pub member-there : {A B : Type 0} (f : A → B) (r : Option A) (o : Option B) → option_map f r ≡ o
+    → is_some r ≡ true → (d : B) × (Some d ≡ o)
 member-there f None o e n = absurd (false≢true n)
 member-there f (Some x) o e n = (f x, e)
 
@@ -36,7 +43,8 @@ zone-text z w is so =
     let both : Some (string is.text) ≡ Some (string so.text) = sym is.found ∙ so.found in
     cc
 
-same-table : (ms : Members) (s t : SettingsValue) → IsSettingsTable ms s → IsSettingsTable ms t → SameSettings s t
+same-table : (ms : Members) (s t : SettingsValue) → IsSettingsTable ms s
+    → IsSettingsTable ms t → SameSettings s t
 same-table ms s t is so = record {
   rule = so.zone.text;
   first_zone = subst (λ x. IsPosixZone x s.zone) (zone-text s.zone t.zone is.zone so.zone) is.zone.read;
@@ -47,7 +55,8 @@ same-table ms s t is so = record {
   gateway_token = same-texts s.gateway_token t.gateway_token is.gateway_token so.gateway_token;
 }
 
-pub same_settings : (bytes : List ℕ) (s t : SettingsValue) → IsSettingsFile bytes s → IsSettingsFile bytes t → SameSettings s t
+pub same_settings : (bytes : List ℕ) (s t : SettingsValue) → IsSettingsFile bytes s
+    → IsSettingsFile bytes t → SameSettings s t
 same_settings bytes s t is so =
     let same : is.members ≡ so.members = same-members (parse_document bytes) is.document so.document in
     same-table so.members s t (subst (λ m. IsSettingsTable m s) same is.table) so.table

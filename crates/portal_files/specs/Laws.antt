@@ -22,8 +22,10 @@ pub record SameSettings (s t : SettingsValue) : Type 0 where
 
 -- the bytes determine the texts of the settings, and the rule of their zone
 abbrev pub FixesSettings : Type 0
-FixesSettings = (bytes : List ℕ) (s t : SettingsValue) → IsSettingsFile bytes s → IsSettingsFile bytes t → SameSettings s t
+FixesSettings = (bytes : List ℕ) (s t : SettingsValue) → IsSettingsFile bytes s
+    → IsSettingsFile bytes t → SameSettings s t
 
 -- a day has one text, and a text is of one day
 abbrev pub NamesDays : Type 0
-NamesDays = (text later : List ℕ) (day next : ℤ) → IsDayText text day → IsDayText later next → (text ≡ later) ↔ (day ≡ next)
+NamesDays = (text later : List ℕ) (day next : ℤ) → IsDayText text day → IsDayText later next
+    → (text ≡ later) ↔ (day ≡ next)

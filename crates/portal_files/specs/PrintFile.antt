@@ -22,10 +22,12 @@ header = codes "code" ∷ codes "plan" ∷ codes "seconds" ∷ codes "bytes" ∷
 
 -- the fields of a code of the plan, which expires at the minute of that text
 abbrev pub code_fields : Plan → List ℕ → List ℕ → List (List ℕ)
-code_fields plan expires code = text_of code ∷ plan.id ∷ limit_text plan.seconds ∷ limit_text plan.bytes ∷ amount_text plan.price ∷ expires ∷ []
+code_fields plan expires code = text_of code ∷ plan.id ∷ limit_text plan.seconds ∷ limit_text plan.bytes
+    ∷ amount_text plan.price ∷ expires ∷ []
 
 -- The header, and a line for each code in order of issue.
 pub record IsPrintFile (zone : TimeZone) (sheet : BatchSheet) (text : List ℕ) : Type 0 where
   pub expires : List ℕ
   pub shown : IsMinuteText zone sheet.batch.expires expires
-  pub text_is : text ≡ csv_line header ++ flat_map (λ code. csv_line (code_fields sheet.plan expires code)) sheet.codes
+  pub text_is : text
+      ≡ csv_line header ++ flat_map (λ code. csv_line (code_fields sheet.plan expires code)) sheet.codes

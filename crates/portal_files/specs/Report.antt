@@ -8,7 +8,8 @@ use Rattle.portal_files.specs.Amount.{amount_text, right_in, left_in}
 -- the cells of a line: a label, and the count and the sum of the sales and of the refunds
 abbrev pub report_line : (label sold sales refunded refunds : List ℕ) → List ℕ
 report_line label sold sales refunded refunds =
-    join_with_byte 32 (left_in 10 label ∷ right_in 8 sold ∷ right_in 17 sales ∷ right_in 8 refunded ∷ right_in 17 refunds ∷ []) ++ 10 ∷ []
+    join_with_byte 32 (left_in 10 label ∷ right_in 8 sold ∷ right_in 17 sales ∷ right_in 8 refunded
+    ∷ right_in 17 refunds ∷ []) ++ 10 ∷ []
 
 -- the names of the columns
 abbrev pub header_line : List ℕ
@@ -16,7 +17,8 @@ header_line = report_line (codes "day") (codes "sold") (codes "sales") (codes "r
 
 -- a line with a label and numbers
 abbrev pub takings_line : (label : List ℕ) (sold sales refunded refunds : ℕ) → List ℕ
-takings_line label sold sales refunded refunds = report_line label (decimal sold) (amount_text sales) (decimal refunded) (amount_text refunds)
+takings_line label sold sales refunded refunds =
+    report_line label (decimal sold) (amount_text sales) (decimal refunded) (amount_text refunds)
 
 -- the line of a day
 pub record IsDayLine (d : DayTakings) (line : List ℕ) : Type 0 where
@@ -26,15 +28,18 @@ pub record IsDayLine (d : DayTakings) (line : List ℕ) : Type 0 where
 
 -- the totals over the days
 abbrev pub total_line : List DayTakings → List ℕ
-total_line days = takings_line (codes "total") (sum_by (λ d. d.sold) days) (sum_by (λ d. d.sales) days) (sum_by (λ d. d.refunded) days) (sum_by (λ d. d.refunds) days)
+total_line days = takings_line (codes "total") (sum_by (λ d. d.sold) days) (sum_by (λ d. d.sales) days)
+    (sum_by (λ d. d.refunded) days) (sum_by (λ d. d.refunds) days)
 
 -- the sales less the refunds, with a hyphen before it if the refunds are greater
 abbrev pub net_text : (sales refunds : ℕ) → List ℕ
-net_text sales refunds = if nat_lt sales refunds then 45 ∷ amount_text (refunds - sales) else amount_text (sales - refunds)
+net_text sales refunds =
+    if nat_lt sales refunds then 45 ∷ amount_text (refunds - sales) else amount_text (sales - refunds)
 
 -- the net sum
 abbrev pub net_line : List DayTakings → List ℕ
-net_line days = codes "net " ++ net_text (sum_by (λ d. d.sales) days) (sum_by (λ d. d.refunds) days) ++ 10 ∷ []
+net_line days =
+    codes "net " ++ net_text (sum_by (λ d. d.sales) days) (sum_by (λ d. d.refunds) days) ++ 10 ∷ []
 
 -- The header, a line for each day in order, the totals and the net sum.
 pub record IsReport (days : List DayTakings) (text : List ℕ) : Type 0 where

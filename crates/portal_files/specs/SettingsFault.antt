@@ -1,14 +1,17 @@
 -- What is wrong with a file that is no settings file.
-use Rattle.std.specs.Prelude.{◌≡◌, ◌≢◌, ℕ, ◌+◌, ◌≤◌, ◌==◌, List, length, take, count_by, codes, IsUtf8, Option, Some, None}
+use Rattle.std.specs.Prelude.{◌≡◌, ◌≢◌, ℕ, ◌+◌, ◌≤◌, ◌==◌, List, length, take, count_by, codes, IsUtf8}
+use Rattle.std.specs.Prelude.{Option, Some, None}
 use Rattle.jiff_tz.specs.declared.timezone.TimeZone.{TimeZone}
 use Rattle.toml.specs.Data.{Members, get_member}
 use Rattle.toml.specs.Parse.{parse_document}
 use Rattle.portal_files.specs.PlansFile.{member_count}
 use Rattle.portal_files.specs.SettingsFile.{is_url, is_token, key_count, IsTextAt, IsVenueAt, IsZoneAt}
 use Rattle.portal_files.specs.declared.settings_fault.SettingsKey.{SettingsKey}
-use Rattle.portal_files.specs.declared.settings_fault.SettingsKey.TheVariants.{Zone, PortalUrl, VenueUrl, DeskToken, GatewayToken}
+use Rattle.portal_files.specs.declared.settings_fault.SettingsKey.TheVariants.{Zone, PortalUrl, VenueUrl}
+use Rattle.portal_files.specs.declared.settings_fault.SettingsKey.TheVariants.{DeskToken, GatewayToken}
 use Rattle.portal_files.specs.declared.settings_fault.SettingsFault.{SettingsFault}
-use Rattle.portal_files.specs.declared.settings_fault.SettingsFault.TheVariants.{NotToml, Missing, Wrong, FurtherKey, SameTokens}
+use Rattle.portal_files.specs.declared.settings_fault.SettingsFault.TheVariants.{NotToml, Missing, Wrong}
+use Rattle.portal_files.specs.declared.settings_fault.SettingsFault.TheVariants.{FurtherKey, SameTokens}
 
 -- the name of a key in the file
 abbrev pub name_of : SettingsKey → List ℕ
@@ -35,7 +38,8 @@ IsTableFault ms FurtherKey =
     ((key : SettingsKey) → ¬ IsWrongAt ms key)
     × (url : Option (List ℕ)) × IsVenueAt ms url × (member_count ms ≢ key_count url)
 IsTableFault ms SameTokens =
-    (token : List ℕ) × IsTextAt is_token (codes "desk_token") ms token × IsTextAt is_token (codes "gateway_token") ms token
+    (token : List ℕ) × IsTextAt is_token (codes "desk_token") ms token
+    × IsTextAt is_token (codes "gateway_token") ms token
 
 -- the line of a place in a file, counted from 1
 abbrev pub line_at : ℕ → List ℕ → ℕ
@@ -45,6 +49,7 @@ line_at place bytes = count_by (λ byte. byte == 10) (take place bytes) + 1
 -- table has the fault.
 abbrev pub IsSettingsFault : List ℕ → SettingsFault → Type 0
 IsSettingsFault bytes (NotToml line) =
-    (IsUtf8 bytes → parse_document bytes ≡ None) × (place : ℕ) × (place ≤ length bytes) × (line ≡ line_at place bytes)
+    (IsUtf8 bytes → parse_document bytes ≡ None) × (place : ℕ) × (place ≤ length bytes)
+    × (line ≡ line_at place bytes)
 IsSettingsFault bytes fault =
     (ms : Members) × IsUtf8 bytes × (parse_document bytes ≡ Some ms) × IsTableFault ms fault

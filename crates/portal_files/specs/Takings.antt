@@ -49,9 +49,11 @@ RuleFixesDays = (rule : List ℕ) (zone other : TimeZone) → IsPosixZone rule z
 
 -- so many sales and refunds on the day, and their sums
 abbrev pub takings_with : ℤ → ℕ → ℕ → ℕ → ℕ → DayTakings
-takings_with day sold sales refunded refunds = record { day = day; sold = sold; sales = sales; refunded = refunded; refunds = refunds }
+takings_with day sold sales refunded refunds =
+    record { day = day; sold = sold; sales = sales; refunded = refunded; refunds = refunds }
 
--- an hour that was sold on 2020-03-01 at 23:30 UTC was sold on 2020-03-02 in central Europe, an hour ahead in winter
+-- an hour that was sold on 2020-03-01 at 23:30 UTC was sold on 2020-03-02 in central Europe, an hour ahead in
+-- winter
 abbrev pub TakingsLocalDay : Type 0
 TakingsLocalDay = (zone : TimeZone) → IsPosixZone (codes "CET-1CEST,M3.5.0,M10.5.0/3") zone →
     let H = sold_at 1583105400 (codes "b1") hour code3 history_with_plans in

@@ -28,36 +28,44 @@ pub record MovesState {D : Type 0} (g : Ghosts D) (Does : State → State → Ty
   pub same_settings : g.settings new ≡ g.settings old
   pub fault_free : g.is_fault_free new → g.is_fault_free old
   pub stays : StaysStopped (g.has_stopped old) (g.has_stopped new)
-  pub step : g.is_fault_free new → (before : State) → g.represents old before → (after : State) × g.represents new after × Does before after
+  pub step : g.is_fault_free new → (before : State) → g.represents old before
+      → (after : State) × g.represents new after × Does before after
 
 -- the operation is executed, or there was no memory for it, with a response of those bytes
 abbrev pub ServesAt : {D : Type 0} → Ghosts D → Operation → ℕ → List ℕ → D → D → Type 0
-ServesAt g asked moment bytes old new = MovesState g (λ before after. ServesOperation (g.settings old) asked before moment bytes after) old new
+ServesAt g asked moment bytes old new =
+    MovesState g (λ before after. ServesOperation (g.settings old) asked before moment bytes after) old new
 
 -- A command that was prepared is committed and answered, or it is not.
-pub record FinishesAt {D : Type 0} (g : Ghosts D) (prepared : MarkedChanges) (moment : ℕ) (bytes : List ℕ) (old new : D) : Type 0 where
+pub record FinishesAt {D : Type 0} (g : Ghosts D) (prepared : MarkedChanges) (moment : ℕ) (bytes : List ℕ)
+    (old new : D) : Type 0 where
   pub same_settings : g.settings new ≡ g.settings old
   pub fault_free : g.is_fault_free new → g.is_fault_free old
   pub stays : StaysStopped (g.has_stopped old) (g.has_stopped new)
-  pub finishes : g.is_fault_free new → (L : Ledger) → g.represents old (running L) → (a : Accepted) → Fits (running L) prepared a
+  pub finishes : g.is_fault_free new → (L : Ledger) → g.represents old (running L) → (a : Accepted)
+      → Fits (running L) prepared a
       → (after : State) × g.represents new after
       × Finishes L a (answer_of prepared.changes) moment bytes after
 
 -- The first requests were served, and their responses were added: all of them, or fewer and an error.
-abbrev pub AddsResponses : SettingsValue → State → List Arrived → List (Vec ℕ Global) → List (Vec ℕ Global) → Result (Unit {0}) Refusal → State → Type 0
+abbrev pub AddsResponses : SettingsValue → State → List Arrived → List (Vec ℕ Global) → List (Vec ℕ Global)
+    → Result (Unit {0}) Refusal → State → Type 0
 AddsResponses settings before arrivals out out_after result after =
-    (responses : List (Vec ℕ Global)) × (out_after ≡ out ++ responses) × ServesInOrder settings before arrivals (bytes_of_responses responses) after
+    (responses : List (Vec ℕ Global)) × (out_after ≡ out ++ responses)
+    × ServesInOrder settings before arrivals (bytes_of_responses responses) after
     × MatchResult result (λ _. length responses ≡ length arrivals) (λ _. length responses < length arrivals)
 
 -- A run of the requests, which adds one response for each request that it serves.
-pub record RunsOn {D : Type 0} (g : Ghosts D) (arrivals : List Arrived) (old new : D) (out out_after : List (Vec ℕ Global))
+pub record RunsOn {D : Type 0} (g : Ghosts D) (arrivals : List Arrived) (old new : D)
+    (out out_after : List (Vec ℕ Global))
     (result : Result (Unit {0}) Refusal) : Type 0 where
   pub same_settings : g.settings new ≡ g.settings old
   pub err : IfErr result (λ r. r ≡ NoMemory)
   pub fault_free : g.is_fault_free new → g.is_fault_free old
   pub stays : StaysStopped (g.has_stopped old) (g.has_stopped new)
   pub serves : g.is_fault_free new → (before : State) → g.represents old before
-      → (after : State) × (responses : List (Vec ℕ Global)) × g.represents new after × (out_after ≡ out ++ responses)
+      → (after : State) × (responses : List (Vec ℕ Global)) × g.represents new after
+      × (out_after ≡ out ++ responses)
       × ServesInOrder (g.settings old) before arrivals (bytes_of_responses responses) after
       × MatchResult result (λ _. length responses ≡ length arrivals) (λ _. length responses < length arrivals)
   pub survives : g.is_fault_free new → (L : Ledger) → g.represents old (running L)
@@ -66,7 +74,8 @@ pub record RunsOn {D : Type 0} (g : Ghosts D) (arrivals : List Arrived) (old new
       (bytes_of_responses responses)
 
 -- One exchange over a connection.
-pub record ExchangesOn {D : Type 0} (g : Ghosts D) (connection : Wire) (moment : ℕ) (seed : List ℕ) (old new : D) (result : Result Done Cut)
+pub record ExchangesOn {D : Type 0} (g : Ghosts D) (connection : Wire) (moment : ℕ) (seed : List ℕ)
+    (old new : D) (result : Result Done Cut)
     : Type 0 where
   pub same_settings : g.settings new ≡ g.settings old
   pub fault_free : g.is_fault_free new → g.is_fault_free old
@@ -74,7 +83,9 @@ pub record ExchangesOn {D : Type 0} (g : Ghosts D) (connection : Wire) (moment :
   pub wire : EndsExchange connection moment seed (λ arrivals responses. ⊤) result
   pub serves : g.is_fault_free new → (before : State) → g.represents old before
       → (after : State) × g.represents new after
-      × EndsExchange connection moment seed (λ arrivals responses. ServesInOrder (g.settings old) before arrivals responses after) result
+      × EndsExchange connection moment seed
+      (λ arrivals responses. ServesInOrder (g.settings old) before arrivals responses after) result
   pub survives : g.is_fault_free new → (L : Ledger) → g.represents old (running L)
       → EndsExchange connection moment seed
-      (λ arrivals responses. Survives g.Files (g.is_crash_state new) g.holds_ledger (g.settings old) L arrivals responses) result
+      (λ arrivals responses.
+      Survives g.Files (g.is_crash_state new) g.holds_ledger (g.settings old) L arrivals responses) result

@@ -26,13 +26,15 @@ pub record Wire : Type 0 where
 
 -- those of a reader and a writer, before and after
 abbrev pub between : Option (List ℕ) → Option (List ℕ) → Option (List ℕ) → Option (List ℕ) → Wire
-between unread unread_after sent sent_after = record { unread = unread; unread_after = unread_after; sent = sent; sent_after = sent_after }
+between unread unread_after sent sent_after =
+    record { unread = unread; unread_after = unread_after; sent = sent; sent_after = sent_after }
 
 -- The status of a response is in its bytes, be it 200 or that of a refusal.
 pub record StatusIsInResponse : Type 0 where
   pub accepted : (moment : ℕ) (content_type : ContentType) (allow : Option (List ℕ)) (body response : List ℕ)
       → IsResponse 200 moment content_type allow body response → status_in response ≡ 200
-  pub refused : (r : Refusal) (moment : ℕ) (content_type : ContentType) (allow : Option (List ℕ)) (body response : List ℕ)
+  pub refused : (r : Refusal) (moment : ℕ) (content_type : ContentType) (allow : Option (List ℕ))
+      (body response : List ℕ)
       → IsResponse (status_of r) moment content_type allow body response → status_in response ≡ status_of r
 
 -- A request is read, no further than its response needs. It is the one request of a run, and the first
@@ -46,21 +48,25 @@ ReadsAndServes wire moment seed IsRun response written =
 -- there is no memory for the request, or, once it is read, for any response
 abbrev pub IsOutOfMemory : Wire → Type 0
 IsOutOfMemory wire =
-    BreaksOff wire.unread wire.unread_after error.NoMemory ⊎ ((received : Incoming) × ReadsRequestBytes wire.unread wire.unread_after received)
+    BreaksOff wire.unread wire.unread_after error.NoMemory
+    ⊎ ((received : Incoming) × ReadsRequestBytes wire.unread wire.unread_after received)
 
 -- By the cause. After a failed read, and if there is no memory, the run has no requests, and nothing is
 -- written. After a failed write the request was executed, and fewer bytes were written than the response
 -- has.
 abbrev pub CutsOff : Wire → ℕ → List ℕ → (List Arrived → List (List ℕ) → Type 0) → Cause → ℕ → ℕ → Type 0
 CutsOff wire moment seed IsRun Read written whole =
-    (written ≡ 0) × (whole ≡ 0) × BreaksOff wire.unread wire.unread_after error.Read × Keeps wire.sent wire.sent_after × IsRun [] []
+    (written ≡ 0) × (whole ≡ 0) × BreaksOff wire.unread wire.unread_after error.Read
+    × Keeps wire.sent wire.sent_after × IsRun [] []
 CutsOff wire moment seed IsRun NoRoom written whole =
     (written ≡ 0) × (whole ≡ 0) × IsOutOfMemory wire × Keeps wire.sent wire.sent_after × IsRun [] []
 CutsOff wire moment seed IsRun Write written whole =
-    (response : List ℕ) × (whole ≡ length response) × (written < whole) × ReadsAndServes wire moment seed IsRun response written
+    (response : List ℕ) × (whole ≡ length response) × (written < whole)
+    × ReadsAndServes wire moment seed IsRun response written
 
 -- How an exchange ends. `IsRun` says which requests with which responses are a run.
-abbrev pub EndsExchange : Wire → ℕ → List ℕ → (List Arrived → List (List ℕ) → Type 0) → Result Done Cut → Type 0
+abbrev pub EndsExchange : Wire → ℕ → List ℕ → (List Arrived → List (List ℕ) → Type 0)
+    → Result Done Cut → Type 0
 EndsExchange wire moment seed IsRun (Ok done) =
     (response : List ℕ) × (done.status ≡ status_in response) × (done.written ≡ length response)
     × ReadsAndServes wire moment seed IsRun response (length response)

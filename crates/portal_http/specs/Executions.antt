@@ -1,4 +1,5 @@
--- Sessions one after another: what they keep, what is found after them, and what a repeated request gets. Between
+-- Sessions one after another: what they keep, what is found after them, and what a repeated request gets.
+-- Between
 -- two sessions there was a crash, or a close; each may have settings of its own.
 --
 -- A × B and (x : A) × B read: and, there is; A ⊎ B: or.
@@ -44,7 +45,8 @@ IsKeptByExecution L (with_desk settings arrivals responses ∷ server_sessions) 
 -- The response to a request with an idempotency key, if it is a 200, has the answer that the ledger holds
 -- under its caller and key.
 abbrev pub IsAsHeld : SettingsValue → Ledger → Arrived → List ℕ → Type 0
-IsAsHeld settings L a response = is_ok response ≡ true → (command : Command) (mark : Fingerprint) → IsChecked settings a.seed a.bytes (Ok (Act command (Some mark)))
+IsAsHeld settings L a response = is_ok response ≡ true → (command : Command) (mark : Fingerprint)
+    → IsChecked settings a.seed a.bytes (Ok (Act command (Some mark)))
     → (kept : KeptRequest) × (held_in L mark ≡ Some kept) × IsAnswer kept.answer a.moment response
 
 -- Each request that was answered, in order.
@@ -57,7 +59,8 @@ AreAsHeld settings L (a ∷ rest) (r ∷ rs) = IsAsHeld settings L a r × AreAsH
 abbrev pub AllAsHeld : Ledger → List ServerSession → Type 0
 AllAsHeld L [] = Unit {0}
 AllAsHeld L (without_desk ∷ sessions) = AllAsHeld L sessions
-AllAsHeld L (with_desk settings arrivals responses ∷ sessions) = AreAsHeld settings L arrivals responses × AllAsHeld L sessions
+AllAsHeld L (with_desk settings arrivals responses ∷ sessions) =
+    AreAsHeld settings L arrivals responses × AllAsHeld L sessions
 
 -- ---- what is found
 
@@ -72,16 +75,19 @@ pub record IsFoundAfter (sessions : List ServerSession) (found : Ledger) : Type 
 
 -- Whatever the sessions were, such a ledger is found.
 abbrev pub SessionsAreKept : Type 0
-SessionsAreKept = (L found : Ledger) (sessions : List ServerSession) → IsKeptByExecution L sessions found → IsSound found → IsFoundAfter sessions found
+SessionsAreKept = (L found : Ledger) (sessions : List ServerSession) → IsKeptByExecution L sessions found
+    → IsSound found → IsFoundAfter sessions found
 
 -- Sessions, and others over what they left, are sessions.
 abbrev pub SessionsFollow : Type 0
-SessionsFollow = (L mid found : Ledger) (sessions later : List ServerSession) → IsKeptByExecution L sessions mid → IsKeptByExecution mid later found
+SessionsFollow = (L mid found : Ledger) (sessions later : List ServerSession)
+    → IsKeptByExecution L sessions mid → IsKeptByExecution mid later found
     → IsKeptByExecution L (sessions ++ later) found
 
 -- ---- a retry
 
--- The ledger holds a command that was accepted with this fingerprint, which is a caller, its idempotency key, a
+-- The ledger holds a command that was accepted with this fingerprint, which is a caller, its idempotency key,
+-- a
 -- method, a path and a body; and the command was given this answer.
 abbrev pub HoldsAnswered : Ledger → Fingerprint → Answer → Type 0
 HoldsAnswered L mark answer = held_in L mark ≡ Some (kept_with mark answer)
@@ -97,8 +103,12 @@ IsAnsweredAgain answer L moment response new =
 -- with the same fingerprint that passes the checks is answered again: in the same session or in a later one,
 -- and after any other requests.
 pub record RetryIsSafe : Type 0 where
-  pub accepted : (L : Ledger) (a : Accepted) (mark : Fingerprint) → IsSound (a ∷ L) → a.mark ≡ Some mark → (answer : Answer) × HoldsAnswered (a ∷ L) mark answer
-  pub answered : (L next now : Ledger) (mark : Fingerprint) (answer : Answer) (sessions : List ServerSession) → HoldsAnswered L mark answer → IsKeptByExecution L sessions next
-      → (settings : SettingsValue) (before : List Arrived) (responses : List (List ℕ)) → Leads settings next before responses now
+  pub accepted : (L : Ledger) (a : Accepted) (mark : Fingerprint) → IsSound (a ∷ L) → a.mark ≡ Some mark
+      → (answer : Answer) × HoldsAnswered (a ∷ L) mark answer
+  pub answered : (L next now : Ledger) (mark : Fingerprint) (answer : Answer) (sessions : List ServerSession)
+      → HoldsAnswered L mark answer → IsKeptByExecution L sessions next
+      → (settings : SettingsValue) (before : List Arrived) (responses : List (List ℕ))
+      → Leads settings next before responses now
       → (a : Arrived) (command : Command) → IsChecked settings a.seed a.bytes (Ok (Act command (Some mark)))
-      → (response : List ℕ) (new : State) → Step settings (running now) a response new → IsAnsweredAgain answer now a.moment response new
+      → (response : List ℕ) (new : State) → Step settings (running now) a response new
+      → IsAnsweredAgain answer now a.moment response new

@@ -22,7 +22,8 @@ GivesRefusal r moment bytes = IsRefusal r moment bytes ⊎ ((r ≢ Stopped) × I
 abbrev pub Finishes : Ledger → Accepted → Answer → ℕ → List ℕ → State → Type 0
 Finishes L a answer moment bytes new =
     (IsAnswer answer moment bytes × (new ≡ running (a ∷ L)))
-    ⊎ ((IsRefusal NoMemory moment bytes × (new ≡ running L)) ⊎ (IsRefusal Stopped moment bytes × (new ≡ stopped L (Some a))))
+    ⊎ ((IsRefusal NoMemory moment bytes × (new ≡ running L))
+    ⊎ (IsRefusal Stopped moment bytes × (new ≡ stopped L (Some a))))
 
 -- there was no memory, and nothing has changed; or the operation is executed
 abbrev pub ServesOperation : SettingsValue → Operation → State → ℕ → List ℕ → State → Type 0
@@ -31,4 +32,5 @@ ServesOperation settings asked old moment bytes new =
 
 -- the same for a command
 abbrev pub ServesCommand : SettingsValue → Command → Option Fingerprint → State → ℕ → List ℕ → State → Type 0
-ServesCommand settings command mark old moment bytes new = ServesOperation settings (Act command mark) old moment bytes new
+ServesCommand settings command mark old moment bytes new =
+    ServesOperation settings (Act command mark) old moment bytes new

@@ -5,9 +5,9 @@ ghost use Rattle.portal_http.specs.Executions.{RetryIsSafe, SessionsAreKept, Ses
 use portal_http_request::checks_are_exact;
 use portal_model::proof::witness;
 
-/// Law: whatever sessions there were, in the ledger that is found after them no code has more redemptions than
-/// its plan has uses, no idempotency key of a caller was accepted twice, and each 200 to an idempotent request
-/// has the answer that is held under its key.
+/// Law: whatever sessions there were, in the ledger that is found after them no code has more redemptions
+/// than its plan has uses, no idempotency key of a caller was accepted twice, and each 200 to an idempotent
+/// request has the answer that is held under its key.
 #[tactic(auto, using(crate::proofs::ExecutionLemmas::sessions_kept))]
 pub fn sessions_are_kept()
     ensures { SessionsAreKept }

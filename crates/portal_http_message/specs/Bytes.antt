@@ -4,7 +4,8 @@ use Rattle.std.specs.Prelude.{if◌then◌else◌, ◌==◌}
 use Rattle.httpdate.specs.declared.date.HttpDate.{HttpDate}
 use Rattle.httpdate.specs.Date.{unix_secs, date_text}
 use Rattle.portal_http_message.specs.declared.responses.ContentType.{ContentType}
-use Rattle.portal_http_message.specs.declared.responses.ContentType.TheVariants.{CaptiveJson, Json, Csv, PlainText}
+use Rattle.portal_http_message.specs.declared.responses.ContentType.TheVariants.{CaptiveJson, Json, Csv}
+use Rattle.portal_http_message.specs.declared.responses.ContentType.TheVariants.{PlainText}
 
 -- the reason phrase for a status; empty for a status that the server never sends
 abbrev pub phrase_of : ℕ → List ℕ
@@ -44,7 +45,8 @@ head_bytes status phrase date media_type size last =
 -- the bytes of a response with that date
 abbrev pub response_bytes : ℕ → List ℕ → ContentType → Option (List ℕ) → List ℕ → List ℕ
 response_bytes status date content_type allow body =
-    head_bytes status (phrase_of status) date (media_type_of content_type) (length body) (last_lines allow) ++ body
+    head_bytes status (phrase_of status) date (media_type_of content_type) (length body) (last_lines allow)
+    ++ body
 
 -- the bytes are that response, with the date of the moment
 abbrev pub IsResponse : ℕ → ℕ → ContentType → Option (List ℕ) → List ℕ → List ℕ → Type 0

@@ -6,7 +6,8 @@ use Rattle.portal_http_message.specs.Decided.{IsDecided}
 
 -- bytes begin with one head at most
 abbrev pub HasOneHead : Type 0
-HasOneHead = (bytes : List ℕ) (head other : Option RequestHead) → HeadOf bytes head → HeadOf bytes other → head ≡ other
+HasOneHead =
+    (bytes : List ℕ) (head other : Option RequestHead) → HeadOf bytes head → HeadOf bytes other → head ≡ other
 
 -- further bytes change neither the head of decided bytes nor the message in them
 abbrev pub DecisionIsFinal : Type 0

@@ -1,11 +1,13 @@
 -- The tests of Host, and the length of the body, by the fields of the head.
-use Rattle.std.specs.Prelude.{ℕ, List, [], ◌∷◌, length, Bool, true, false, ◌&&◌, ◌==◌, not, nat_lt, if◌then◌else◌, Result, Ok, Err, codes}
+use Rattle.std.specs.Prelude.{ℕ, List, [], ◌∷◌, length, Bool, true, false, ◌&&◌, ◌==◌, not, nat_lt}
+use Rattle.std.specs.Prelude.{if◌then◌else◌, Result, Ok, Err, codes}
 use Rattle.std.specs.List.{list_all}
 use Rattle.std.specs.Char.{is_ascii_digit}
 use Rattle.std.specs.Str.Parse.{digits_value}
 use Rattle.portal_http_message.specs.Limits.{body_limit}
 use Rattle.portal_http_message.specs.declared.errors.HeadError.{HeadError}
-use Rattle.portal_http_message.specs.declared.errors.HeadError.TheVariants.{BadRequest, TooLarge, NotSupported}
+use Rattle.portal_http_message.specs.declared.errors.HeadError.TheVariants.{BadRequest, TooLarge}
+use Rattle.portal_http_message.specs.declared.errors.HeadError.TheVariants.{NotSupported}
 use Rattle.portal_http_message.specs.Fields.{FieldList, values_of}
 
 -- by the values of Host: HTTP/1.1 has exactly one, HTTP/1.0 at most one

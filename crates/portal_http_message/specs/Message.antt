@@ -1,5 +1,6 @@
 -- The message in the bytes of a request.
-use Rattle.std.specs.Prelude.{◌≡◌, ℕ, ◌≤◌, List, length, take, drop, map, nat_lt, if◌then◌else◌, Option, Some, None, option_map, Result, Ok, Err, codes}
+use Rattle.std.specs.Prelude.{◌≡◌, ℕ, ◌≤◌, List, length, take, drop, map, nat_lt, if◌then◌else◌, Option, Some}
+use Rattle.std.specs.Prelude.{None, option_map, Result, Ok, Err, codes}
 use Rattle.std.specs.Borrow.{Bor}
 use Rattle.httparse.specs.Grammar.{RequestHead, ReadsRequest, print_request}
 use Rattle.httparse.specs.Spans.{name_and_value}
@@ -34,7 +35,8 @@ length_of head = declared_length head.minor (fields_of head)
 -- the body of the declared length in the bytes after the head
 abbrev pub body_after : Result ℕ HeadError → List ℕ → Result (List ℕ) HeadError
 body_after (Err error) after = Err error
-body_after (Ok declared) after = if nat_lt (length after) declared then Err BadRequest else Ok (take declared after)
+body_after (Ok declared) after =
+    if nat_lt (length after) declared then Err BadRequest else Ok (take declared after)
 
 -- The message of a request.
 pub record Message : Type 0 where
@@ -88,7 +90,8 @@ message_of (Ok request) = Ok (message_of_request request)
 
 -- the bytes parse to that result, by the head that they begin with
 abbrev pub ParsesTo : List ℕ → Result ParsedRequest HeadError → Type 0
-ParsesTo bytes result = (head : Option RequestHead) × HeadOf bytes head × (message_of result ≡ message_in head bytes)
+ParsesTo bytes result =
+    (head : Option RequestHead) × HeadOf bytes head × (message_of result ≡ message_in head bytes)
 
 -- the bytes in place of the borrow
 abbrev pub bytes_of : Result (Bor (List ℕ)) HeadError → Result (List ℕ) HeadError

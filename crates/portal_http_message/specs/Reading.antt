@@ -10,7 +10,8 @@ use Rattle.portal_http_message.specs.Received.{Incoming}
 -- Before the last read, which gave the last so many bytes, the response was not decided.
 abbrev pub IsIncompleteBefore : ℕ → List ℕ → Type 0
 IsIncompleteBefore last bytes =
-    (front piece : List ℕ) × (bytes ≡ front ++ piece) × (length piece ≡ last) × (last ≤ piece_limit) × IsIncomplete front
+    (front piece : List ℕ) × (bytes ≡ front ++ piece) × (length piece ≡ last)
+    × (last ≤ piece_limit) × IsIncomplete front
 
 -- From the old remaining input to the new one a request is read: until its response is decided, or the last
 -- read found the end of the input; and no further.
@@ -24,4 +25,5 @@ pub record ReadsRequestBytes (old new : Option (List ℕ)) (received : Incoming)
 abbrev pub BreaksOff : Option (List ℕ) → Option (List ℕ) → ReadError → Type 0
 BreaksOff old new Read = (bytes : List ℕ) × Consumes old new bytes × IsIncomplete bytes
 BreaksOff old new NoMemory =
-    (bytes piece : List ℕ) × Consumes old new (bytes ++ piece) × (0 < length piece) × (length piece ≤ piece_limit) × IsIncomplete bytes
+    (bytes piece : List ℕ) × Consumes old new (bytes ++ piece) × (0 < length piece)
+    × (length piece ≤ piece_limit) × IsIncomplete bytes

@@ -1,5 +1,6 @@
 -- What single steps find. Only the contracts of private functions use these words.
-use Rattle.std.specs.Prelude.{◌≡◌, ℕ, ◌<◌, ◌≤◌, ◌⊎◌, List, [], ◌∷◌, ◌++◌, length, take, Option, None, Result, Ok, Err, IfOk}
+use Rattle.std.specs.Prelude.{◌≡◌, ℕ, ◌<◌, ◌≤◌, ◌⊎◌, List, [], ◌∷◌, ◌++◌, length, take, Option, None, Result}
+use Rattle.std.specs.Prelude.{Ok, Err, IfOk}
 use Rattle.std.specs.Io.KnownBytes.{Consumes, Keeps, IsAtEnd}
 use Rattle.httparse.specs.Grammar.{RequestHead, NeverHasRequest, MayBecomeRequest}
 use Rattle.httparse.specs.Spans.{IsRequestAt, IsRequestWithin}
@@ -48,7 +49,8 @@ IsFinding bytes finding.Invalid =
 -- and took nothing; or there was no memory for the piece that it took.
 abbrev pub Receives : Option (List ℕ) → Option (List ℕ) → Incoming → Incoming → Result ℕ ReadError → Type 0
 Receives old new before after (Ok count) =
-    (piece : List ℕ) × Consumes old new piece × (after ≡ record { bytes = before.bytes ++ piece; last = count })
+    (piece : List ℕ) × Consumes old new piece
+    × (after ≡ record { bytes = before.bytes ++ piece; last = count })
     × (length piece ≡ count) × (count ≤ piece_limit) × (count ≡ 0 → IsAtEnd new)
 Receives old new before after (Err Read) = Keeps old new
 Receives old new before after (Err NoMemory) =

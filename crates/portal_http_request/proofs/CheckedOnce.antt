@@ -1,5 +1,19 @@
 -- The settings, the seed and the bytes of a request settle what the checks make of it.
-use Rattle.portal_http_request.proofs.Common.{◌≡◌, inl, inr, ℕ, List, [], ◌∷◌, Bool, true, false, Option, Some, None, refl, sym, ap, subst, ◌∙◌, Result, Ok, Err, MatchOption, MatchResult, bytes_eq, codes, MatchBool, Data, Span, Command, Load, Sell, Report, Refund, Close, Refusal, BadRequest, BadCode, BadDevice, BadPlans, Forbidden, UnknownBatch, Caller, Desk, Gateway, Guest, IsPlansFile, SettingsValue, ReadsJson, text_at, CodeText, CodeOrder, Exactly, IsBatchOrder, IsReportOrder, IsCloseOrder, issue_of, HeadError, Message, message_in, Route, Captive, Plans, Batches, Print, Sales, Refunds, Closes, Voucher, Takings, Reports, Sessions, method_of, FindsRoute, path_of, query_of, parameter_of, Operation, Rejection, Method, Refused, IsGuest, holds_token, ReadsKey, fingerprint_of, Gives, SaysBody, GivesCommand, NamesBatch, NamesCode, AreDays, AtGuest, AtToken, operation_of, AsksForCommand, AtRoute, AtPath, AtMessage, IsChecked}
+use Rattle.portal_http_request.proofs.Common.{◌≡◌, inl, inr, ℕ, List, [], ◌∷◌, Bool, true, false, Option}
+use Rattle.portal_http_request.proofs.Common.{Some, None, refl, sym, ap, subst, ◌∙◌, Result, Ok, Err}
+use Rattle.portal_http_request.proofs.Common.{MatchOption, MatchResult, bytes_eq, codes, MatchBool, Data}
+use Rattle.portal_http_request.proofs.Common.{Span, Command, Load, Sell, Report, Refund, Close, Refusal}
+use Rattle.portal_http_request.proofs.Common.{BadRequest, BadCode, BadDevice, BadPlans, Forbidden}
+use Rattle.portal_http_request.proofs.Common.{UnknownBatch, Caller, Desk, Gateway, Guest, IsPlansFile}
+use Rattle.portal_http_request.proofs.Common.{SettingsValue, ReadsJson, text_at, CodeText, CodeOrder, Exactly}
+use Rattle.portal_http_request.proofs.Common.{IsBatchOrder, IsReportOrder, IsCloseOrder, issue_of, HeadError}
+use Rattle.portal_http_request.proofs.Common.{Message, message_in, Route, Captive, Plans, Batches, Print}
+use Rattle.portal_http_request.proofs.Common.{Sales, Refunds, Closes, Voucher, Takings, Reports, Sessions}
+use Rattle.portal_http_request.proofs.Common.{method_of, FindsRoute, path_of, query_of, parameter_of}
+use Rattle.portal_http_request.proofs.Common.{Operation, Rejection, Method, Refused, IsGuest, holds_token}
+use Rattle.portal_http_request.proofs.Common.{ReadsKey, fingerprint_of, Gives, SaysBody, GivesCommand}
+use Rattle.portal_http_request.proofs.Common.{NamesBatch, NamesCode, AreDays, AtGuest, AtToken, operation_of}
+use Rattle.portal_http_request.proofs.Common.{AsksForCommand, AtRoute, AtPath, AtMessage, IsChecked}
 use Rattle.std.specs.List.{join_with_byte}
 use Rattle.httparse.specs.Grammar.{RequestHead}
 use Rattle.portal_codes.proofs.Spelling.{unique}
@@ -23,7 +37,8 @@ abbrev joined : List ℕ → List ℕ → List ℕ → List ℕ → List ℕ →
 joined a b c d e f = join_with_byte 58 (a ∷ b ∷ c ∷ d ∷ e ∷ f ∷ [])
 
 -- devices with octets of the same texts have one text
-same_text : (text : List ℕ) (a b c d e f a' b' c' d' e' f' : ℕ) → Layout text a b c d e f → Layout text a' b' c' d' e' f'
+same_text : (text : List ℕ) (a b c d e f a' b' c' d' e' f' : ℕ) → Layout text a b c d e f
+    → Layout text a' b' c' d' e' f'
     → text_of_device (six a b c d e f) ≡ text_of_device (six a' b' c' d' e' f')
 same_text text a b c d e f a' b' c' d' e' f' x y =
     let one : octet_text a ≡ octet_text a' = x.first ∙ sym y.first in
@@ -36,17 +51,22 @@ same_text text a b c d e f a' b' c' d' e' f' x y =
 
 -- devices of one text are one
 one_device : (d e : List ℕ) → IsDevice d → IsDevice e → text_of_device d ≡ text_of_device e → e ≡ d
-one_device d e is other same = (reads-back d is).1 e (subst (λ (text : List ℕ). SpellsDevice text e) (sym same) (reads-back e other).0)
+one_device d e is other same =
+    (reads-back d is).1 e (subst (λ (text : List ℕ). SpellsDevice text e) (sym same) (reads-back e other).0)
 
 spelled_once : (text d e : List ℕ) → SpellsDevice text d → SpellsDevice text e → d ≡ e
-spelled_once text d e is other = sym (one_device d e is.is_device other.is_device (alike d is.is_device e other.is_device is other))
+spelled_once text d e is other =
+    sym (one_device d e is.is_device other.is_device (alike d is.is_device e other.is_device is other))
   where
-    alike : (d : List ℕ) → IsDevice d → (e : List ℕ) → IsDevice e → SpellsDevice text d → SpellsDevice text e → text_of_device d ≡ text_of_device e
+    alike : (d : List ℕ) → IsDevice d → (e : List ℕ) → IsDevice e → SpellsDevice text d → SpellsDevice text e
+        → text_of_device d ≡ text_of_device e
     alike d dev e dev2 =
         as-six (λ x. SpellsDevice text x → SpellsDevice text e → text_of_device x ≡ text_of_device e)
         (λ a b c d' e' f _.
-        as-six (λ y. SpellsDevice text (six a b c d' e' f) → SpellsDevice text y → text_of_device (six a b c d' e' f) ≡ text_of_device y)
-        (λ a2 b2 c2 d2 e2 f2 _ p q. same_text text a b c d' e' f a2 b2 c2 d2 e2 f2 (layout text a b c d' e' f p) (layout text a2 b2 c2 d2 e2 f2 q)) e dev2)
+        as-six (λ y. SpellsDevice text (six a b c d' e' f) → SpellsDevice text y
+        → text_of_device (six a b c d' e' f) ≡ text_of_device y)
+        (λ a2 b2 c2 d2 e2 f2 _ p q. same_text text a b c d' e' f a2 b2 c2 d2 e2 f2
+        (layout text a b c d' e' f p) (layout text a2 b2 c2 d2 e2 f2 q)) e dev2)
         d dev
 
 -- ---- the caller and the number
@@ -58,7 +78,8 @@ guest_once (Some field) (Some d) None is also = absurd (also d is)
 guest_once (Some field) None (Some e) is also = absurd (is e also)
 guest_once (Some field) None None is also = refl
 
-number_once : (field : Result (Option (List ℕ)) HeadError) (n k : Result (Option (List ℕ)) Refusal) → ReadsKey field n → ReadsKey field k → n ≡ k
+number_once : (field : Result (Option (List ℕ)) HeadError) (n k : Result (Option (List ℕ)) Refusal)
+    → ReadsKey field n → ReadsKey field k → n ≡ k
 number_once (Err error) n k is also = is ∙ sym also
 number_once (Ok None) n k is also = is ∙ sym also
 number_once (Ok (Some field)) (Ok n) (Ok k) is also = ap Ok (is.1 ∙ sym also.1)
@@ -68,9 +89,11 @@ number_once (Ok (Some field)) (Err r) (Err s) is also = ap Err (is.0 ∙ sym als
 
 -- ---- one thing or none
 
-gives_once : {A B E : Type 0} (Is : A → Type 0) (made : A → B) (refusal : E) → ((x y : A) → Is x → Is y → x ≡ y) → (one other : Result B E)
+gives_once : {A B E : Type 0} (Is : A → Type 0) (made : A → B) (refusal : E)
+    → ((x y : A) → Is x → Is y → x ≡ y) → (one other : Result B E)
     → Gives Is made refusal one → Gives Is made refusal other → one ≡ other
-gives_once Is made refusal once (Ok a) (Ok b) (x, is, same) (y, also, same2) = ap Ok (same ∙ ap made (once x y is also) ∙ sym same2)
+gives_once Is made refusal once (Ok a) (Ok b) (x, is, same) (y, also, same2) =
+    ap Ok (same ∙ ap made (once x y is also) ∙ sym same2)
 gives_once Is made refusal once (Ok a) (Err f) (x, is, same) (why, none) = absurd (none x is)
 gives_once Is made refusal once (Err e) (Ok b) (why, none) (y, also, same) = absurd (none y also)
 gives_once Is made refusal once (Err e) (Err f) is also = ap Err (is.0 ∙ sym also.0)
@@ -81,7 +104,8 @@ batch_once text id other is also = is.2 ∙ sym also.2
 code_once : (text code other : List ℕ) → NamesCode text code → NamesCode text other → code ≡ other
 code_once text code other is also = sym (unique text code other is.1 also.1)
 
-days_once : (query : Option (List ℕ)) (range other : Span) → AreDays query range → AreDays query other → range ≡ other
+days_once : (query : Option (List ℕ)) (range other : Span) → AreDays query range
+    → AreDays query other → range ≡ other
 days_once query range other is also =
     let first = day_once (codes "from") query range.first other.first is.from also.from in
     let last = day_once (codes "to") query range.last other.last is.to also.to in
@@ -95,18 +119,22 @@ Once {A} Is = (x y : A) → Is x → Is y → x ≡ y
 value_once : (body : List ℕ) (v w : Data) → ReadsJson body v → ReadsJson body w → v ≡ w
 value_once body v w is also = let found = sym is.1 ∙ also.1 in cc
 
-says_once : {A : Type 0} (Of : Data → Result A Refusal → Type 0) (body : List ℕ) → ((value : Data) → Once (Of value)) → Once (SaysBody Of body)
+says_once : {A : Type 0} (Of : Data → Result A Refusal → Type 0) (body : List ℕ)
+    → ((value : Data) → Once (Of value)) → Once (SaysBody Of body)
 says_once Of body once x y (inl (v, reads, is)) (inl (w, reads2, also)) =
     once v x y is (subst (λ (u : Data). Of u y) (sym (value_once body v w reads reads2)) also)
 says_once Of body once x y (inl (v, reads, is)) (inr also) = absurd (also.0 v reads)
 says_once Of body once x y (inr is) (inl (w, reads2, also)) = absurd (is.0 w reads2)
 says_once Of body once x y (inr is) (inr also) = is.1 ∙ sym also.1
 
-orders_once : {A : Type 0} (Of : Data → Result A Refusal → Type 0) (command : A → Command) (body : List ℕ) → ((value : Data) → Once (Of value)) → Once (GivesCommand Of command body)
+orders_once : {A : Type 0} (Of : Data → Result A Refusal → Type 0) (command : A → Command) (body : List ℕ)
+    → ((value : Data) → Once (Of value)) → Once (GivesCommand Of command body)
 orders_once {A} Of command body once x y (s, says, is) (t, says2, also) =
-    go s is (subst (λ (u : Result A Refusal). MatchResult u (λ o. y ≡ Ok (command o)) (λ r. y ≡ Err r)) (sym (says_once Of body once s t says says2)) also)
+    go s is (subst (λ (u : Result A Refusal). MatchResult u (λ o. y ≡ Ok (command o)) (λ r. y ≡ Err r))
+    (sym (says_once Of body once s t says says2)) also)
   where
-    go : (s : Result A Refusal) → MatchResult s (λ o. x ≡ Ok (command o)) (λ r. x ≡ Err r) → MatchResult s (λ o. y ≡ Ok (command o)) (λ r. y ≡ Err r) → x ≡ y
+    go : (s : Result A Refusal) → MatchResult s (λ o. x ≡ Ok (command o)) (λ r. x ≡ Err r)
+        → MatchResult s (λ o. y ≡ Ok (command o)) (λ r. y ≡ Err r) → x ≡ y
     go (Ok o) is also = is ∙ sym also
     go (Err r) is also = is ∙ sym also
 
@@ -125,7 +153,8 @@ spells_once text (Err r) (Err s) is also = ap Err (is.0 ∙ sym also.0)
 code_order_once : (value : Data) → Once (CodeOrder value)
 code_order_once value x y is also = go (text_at (codes "code") value) is also
   where
-    go : (o : Option (List ℕ)) → MatchOption o (x ≡ Err BadRequest) (λ text. CodeText text x) → MatchOption o (y ≡ Err BadRequest) (λ text. CodeText text y) → x ≡ y
+    go : (o : Option (List ℕ)) → MatchOption o (x ≡ Err BadRequest) (λ text. CodeText text x)
+        → MatchOption o (y ≡ Err BadRequest) (λ text. CodeText text y) → x ≡ y
     go None is also = is ∙ sym also
     go (Some text) is also = spells_once text x y is also
 
@@ -150,12 +179,14 @@ batch_order_once value x y is also =
 
 ordered_once : (body : List ℕ) → Once (OrdersBatch body)
 ordered_once body x y (v, reads, is) (w, reads2, also) =
-    batch_order_once v x y is (subst (λ (u : Data). IsBatchOrder u y) (sym (value_once body v w reads reads2)) also)
+    batch_order_once v x y is
+    (subst (λ (u : Data). IsBatchOrder u y) (sym (value_once body v w reads reads2)) also)
 
 -- ---- the routes
 
 -- one of two ways, by a test
-by_test : {A : Type 0} (Is Else : A → Type 0) → Once Is → Once Else → (b : Bool) (one other : A) → MatchBool b (Is one) (Else one) → MatchBool b (Is other) (Else other) → one ≡ other
+by_test : {A : Type 0} (Is Else : A → Type 0) → Once Is → Once Else → (b : Bool) (one other : A)
+    → MatchBool b (Is one) (Else one) → MatchBool b (Is other) (Else other) → one ≡ other
 by_test Is Else is_once else_once true one other x y = is_once one other x y
 by_test Is Else is_once else_once false one other x y = else_once one other x y
 
@@ -168,67 +199,96 @@ IsDenied rejection result = result ≡ Err rejection
 denied_once : (rejection : Rejection) → Once (IsDenied rejection)
 denied_once rejection one other is also = both one other (Err rejection) is also
 
-at_token_once : (token : List ℕ) (m : Message) (Then : Result Operation Rejection → Type 0) → Once Then → Once (AtToken token m Then)
-at_token_once token m Then once = by_test Then (IsDenied (Refused Forbidden)) once (denied_once (Refused Forbidden)) (holds_token token m.token)
+at_token_once : (token : List ℕ) (m : Message) (Then : Result Operation Rejection → Type 0) → Once Then
+    → Once (AtToken token m Then)
+at_token_once token m Then once = by_test Then (IsDenied (Refused Forbidden)) once
+    (denied_once (Refused Forbidden)) (holds_token token m.token)
 
-at_guest_once : (m : Message) (Then : List ℕ → Result Operation Rejection → Type 0) → ((device : List ℕ) → Once (Then device)) → Once (AtGuest m Then)
+at_guest_once : (m : Message) (Then : List ℕ → Result Operation Rejection → Type 0)
+    → ((device : List ℕ) → Once (Then device)) → Once (AtGuest m Then)
 at_guest_once m Then once x y (d, is, then) (e, also, then2) =
-    go d then (subst (λ (o : Option (List ℕ)). MatchOption o (y ≡ Err (Refused BadDevice)) (λ device. Then device y)) (sym (guest_once m.device d e is also)) then2)
+    go d then (subst (λ (o : Option (List ℕ)). MatchOption o (y ≡ Err (Refused BadDevice))
+    (λ device. Then device y)) (sym (guest_once m.device d e is also)) then2)
   where
-    go : (d : Option (List ℕ)) → MatchOption d (x ≡ Err (Refused BadDevice)) (λ device. Then device x) → MatchOption d (y ≡ Err (Refused BadDevice)) (λ device. Then device y) → x ≡ y
+    go : (d : Option (List ℕ)) → MatchOption d (x ≡ Err (Refused BadDevice)) (λ device. Then device x)
+        → MatchOption d (y ≡ Err (Refused BadDevice)) (λ device. Then device y) → x ≡ y
     go None is also = is ∙ sym also
     go (Some device) is also = once device x y is also
 
-requests_are_idempotent : (m : Message) (caller : Caller) (Ordered : Result Command Refusal → Type 0) → Once Ordered → Once (AsksForCommand m caller Ordered)
-requests_are_idempotent m caller Ordered once x y (n, reads, is) (k, reads2, also) = go n is (subst (λ (u : Result (Option (List ℕ)) Refusal). Comes u y) (sym (number_once m.number n k reads reads2)) also)
+requests_are_idempotent : (m : Message) (caller : Caller) (Ordered : Result Command Refusal → Type 0)
+    → Once Ordered → Once (AsksForCommand m caller Ordered)
+requests_are_idempotent m caller Ordered once x y (n, reads, is) (k, reads2, also) = go n is (subst
+    (λ (u : Result (Option (List ℕ)) Refusal). Comes u y) (sym (number_once m.number n k reads reads2)) also)
   where
     Comes : Result (Option (List ℕ)) Refusal → Result Operation Rejection → Type 0
     Comes n result = MatchResult n
-        (λ number. (ordered : Result Command Refusal) × Ordered ordered × (result ≡ operation_of (fingerprint_of m caller number) ordered))
+        (λ number. (ordered : Result Command Refusal) × Ordered ordered
+        × (result ≡ operation_of (fingerprint_of m caller number) ordered))
         (λ r. result ≡ Err (Refused r))
 
     go : (n : Result (Option (List ℕ)) Refusal) → Comes n x → Comes n y → x ≡ y
-    go (Ok number) (o, is, same) (p, also, same2) = same ∙ ap (operation_of (fingerprint_of m caller number)) (once o p is also) ∙ sym same2
+    go (Ok number) (o, is, same) (p, also, same2) =
+        same ∙ ap (operation_of (fingerprint_of m caller number)) (once o p is also) ∙ sym same2
     go (Err r) is also = is ∙ sym also
 
-route_once : (settings : SettingsValue) (seed : List ℕ) (m : Message) (route : Route) → Once (AtRoute settings seed m route)
-route_once settings seed m Captive = at_guest_once m _ (λ device x y is also. both x y (Ok (wanted.State device)) is also)
-route_once settings seed m Redeem = at_guest_once m _ (λ device. requests_are_idempotent m (Guest device) _ (orders_once CodeOrder (Redeems device) m.body code_order_once))
-route_once settings seed m Plans = at_token_once settings.desk_token m _ (requests_are_idempotent m Desk _ (gives_once (IsPlansFile m.body) Load BadPlans (same-file m.body)))
-route_once settings seed m Batches = at_token_once settings.desk_token m _ (requests_are_idempotent m Desk _ (gives_once (OrdersBatch m.body) (issue_of seed) BadRequest (ordered_once m.body)))
+route_once : (settings : SettingsValue) (seed : List ℕ) (m : Message) (route : Route)
+    → Once (AtRoute settings seed m route)
+route_once settings seed m Captive =
+    at_guest_once m _ (λ device x y is also. both x y (Ok (wanted.State device)) is also)
+route_once settings seed m Redeem = at_guest_once m _ (λ device. requests_are_idempotent m (Guest device) _
+    (orders_once CodeOrder (Redeems device) m.body code_order_once))
+route_once settings seed m Plans = at_token_once settings.desk_token m _
+    (requests_are_idempotent m Desk _ (gives_once (IsPlansFile m.body) Load BadPlans (same-file m.body)))
+route_once settings seed m Batches = at_token_once settings.desk_token m _ (requests_are_idempotent m Desk _
+    (gives_once (OrdersBatch m.body) (issue_of seed) BadRequest (ordered_once m.body)))
 route_once settings seed m Print =
-    at_token_once settings.desk_token m _ (gives_once (NamesBatch (parameter_of (path_of m.target))) wanted.Sheet (Refused UnknownBatch) (batch_once (parameter_of (path_of m.target))))
-route_once settings seed m Sales = at_token_once settings.desk_token m _ (requests_are_idempotent m Desk _ (orders_once CodeOrder Sell m.body code_order_once))
-route_once settings seed m Refunds = at_token_once settings.desk_token m _ (requests_are_idempotent m Desk _ (orders_once CodeOrder Refund m.body code_order_once))
-route_once settings seed m Closes = at_token_once settings.desk_token m _ (requests_are_idempotent m Desk _ (orders_once (λ value. Exactly (IsCloseOrder value)) Close m.body close_once))
+    at_token_once settings.desk_token m _ (gives_once (NamesBatch (parameter_of (path_of m.target)))
+    wanted.Sheet (Refused UnknownBatch) (batch_once (parameter_of (path_of m.target))))
+route_once settings seed m Sales = at_token_once settings.desk_token m _
+    (requests_are_idempotent m Desk _ (orders_once CodeOrder Sell m.body code_order_once))
+route_once settings seed m Refunds = at_token_once settings.desk_token m _
+    (requests_are_idempotent m Desk _ (orders_once CodeOrder Refund m.body code_order_once))
+route_once settings seed m Closes = at_token_once settings.desk_token m _ (requests_are_idempotent m Desk _
+    (orders_once (λ value. Exactly (IsCloseOrder value)) Close m.body close_once))
 route_once settings seed m Voucher =
-    at_token_once settings.desk_token m _ (gives_once (NamesCode (parameter_of (path_of m.target))) wanted.Voucher (Refused BadCode) (code_once (parameter_of (path_of m.target))))
+    at_token_once settings.desk_token m _ (gives_once (NamesCode (parameter_of (path_of m.target)))
+    wanted.Voucher (Refused BadCode) (code_once (parameter_of (path_of m.target))))
 route_once settings seed m Takings =
-    at_token_once settings.desk_token m _ (gives_once (AreDays (query_of m.target)) wanted.Takings (Refused BadRequest) (days_once (query_of m.target)))
+    at_token_once settings.desk_token m _ (gives_once (AreDays (query_of m.target)) wanted.Takings
+    (Refused BadRequest) (days_once (query_of m.target)))
 route_once settings seed m Reports = at_token_once settings.gateway_token m _
-    (requests_are_idempotent m Gateway _ (orders_once (λ value. Exactly (IsReportOrder value)) (λ order. Report order.session order.bytes) m.body report_once))
-route_once settings seed m Sessions = at_token_once settings.gateway_token m _ (λ x y is also. both x y (Ok wanted.OpenSessions) is also)
+    (requests_are_idempotent m Gateway _ (orders_once (λ value. Exactly (IsReportOrder value))
+    (λ order. Report order.session order.bytes) m.body report_once))
+route_once settings seed m Sessions =
+    at_token_once settings.gateway_token m _ (λ x y is also. both x y (Ok wanted.OpenSessions) is also)
 
-path_once : (settings : SettingsValue) (seed : List ℕ) (m : Message) (route : Option Route) → Once (AtPath settings seed m route)
+path_once : (settings : SettingsValue) (seed : List ℕ) (m : Message) (route : Option Route)
+    → Once (AtPath settings seed m route)
 path_once settings seed m None one other is also = is ∙ sym also
 path_once settings seed m (Some route) one other is also =
-    by_test (AtRoute settings seed m route) (IsDenied (Method route)) (route_once settings seed m route) (denied_once (Method route)) (bytes_eq m.method (method_of route)) one other is also
+    by_test (AtRoute settings seed m route) (IsDenied (Method route)) (route_once settings seed m route)
+    (denied_once (Method route)) (bytes_eq m.method (method_of route)) one other is also
 
 -- ---- the whole request
 
-found_once : (path : List ℕ) (one other : Option Route) → FindsRoute path one → FindsRoute path other → one ≡ other
+found_once : (path : List ℕ) (one other : Option Route) → FindsRoute path one
+    → FindsRoute path other → one ≡ other
 found_once path one other (inl is) (inl also) = is.1 ∙ sym also.1
 found_once path one other (inl is) (inr also) = absurd (also.0 is.0)
 found_once path one other (inr is) (inl also) = absurd (is.0 also.0)
 found_once path one other (inr is) (inr also) = is.1 ∙ sym also.1
 
-message_once : (settings : SettingsValue) (seed : List ℕ) (m : Result Message HeadError) (one other : Result Operation Rejection)
+message_once : (settings : SettingsValue) (seed : List ℕ) (m : Result Message HeadError)
+    (one other : Result Operation Rejection)
     → AtMessage settings seed m one → AtMessage settings seed m other → one ≡ other
 message_once settings seed (Err error) one other is also = is ∙ sym also
 message_once settings seed (Ok m) one other (route, finds, is) (found, finds2, also) =
-    path_once settings seed m route one other is (subst (λ (x : Option Route). AtPath settings seed m x other) (sym (found_once _ route found finds finds2)) also)
+    path_once settings seed m route one other is (subst (λ (x : Option Route). AtPath settings seed m x other)
+    (sym (found_once _ route found finds finds2)) also)
 
-pub checked_once : (settings : SettingsValue) (seed bytes : List ℕ) (one other : Result Operation Rejection) → IsChecked settings seed bytes one → IsChecked settings seed bytes other → one ≡ other
+pub checked_once : (settings : SettingsValue) (seed bytes : List ℕ) (one other : Result Operation Rejection)
+    → IsChecked settings seed bytes one → IsChecked settings seed bytes other → one ≡ other
 checked_once settings seed bytes one other (head, begins, is) (found, begins2, also) =
     message_once settings seed (message_in head bytes) one other is
-    (subst (λ (h : Option RequestHead). AtMessage settings seed (message_in h bytes) other) (sym (heads_once bytes head found begins begins2)) also)
+    (subst (λ (h : Option RequestHead). AtMessage settings seed (message_in h bytes) other)
+    (sym (heads_once bytes head found begins begins2)) also)

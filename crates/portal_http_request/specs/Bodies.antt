@@ -19,6 +19,8 @@ SaysBody Of body result =
     ⊎ (((value : Data) → ¬ (ReadsJson body value)) × (result ≡ Err BadRequest))
 
 -- the command of that result, or its refusal
-abbrev pub GivesCommand : {A : Type 0} → (Data → Result A Refusal → Type 0) → (A → Command) → List ℕ → Result Command Refusal → Type 0
+abbrev pub GivesCommand : {A : Type 0} → (Data → Result A Refusal → Type 0) → (A → Command) → List ℕ
+    → Result Command Refusal → Type 0
 GivesCommand {A} Of command body result =
-    (said : Result A Refusal) × SaysBody Of body said × MatchResult said (λ x. result ≡ Ok (command x)) (λ r. result ≡ Err r)
+    (said : Result A Refusal) × SaysBody Of body said
+    × MatchResult said (λ x. result ≡ Ok (command x)) (λ r. result ≡ Err r)

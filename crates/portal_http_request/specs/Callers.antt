@@ -1,5 +1,6 @@
 -- Who sends a request, and with which idempotency key.
-use Rattle.std.specs.Prelude.{◌≡◌, ℕ, List, Bool, false, Option, Some, None, option_map, Result, Ok, Err, bytes_eq, IsUtf8}
+use Rattle.std.specs.Prelude.{◌≡◌, ℕ, List, Bool, false, Option, Some, None, option_map, Result, Ok, Err}
+use Rattle.std.specs.Prelude.{bytes_eq, IsUtf8}
 use Rattle.portal_model.specs.declared.refusal.Refusal.{Refusal}
 use Rattle.portal_model.specs.declared.refusal.Refusal.TheVariants.{BadRequest}
 use Rattle.portal_model.specs.Device.{SpellsDevice}
@@ -38,7 +39,8 @@ ReadsKey (Err error) number = number ≡ Err BadRequest
 
 -- the fingerprint of a request with that idempotency key
 abbrev pub fingerprint_with : Message → Caller → List ℕ → Fingerprint
-fingerprint_with m caller number = record { caller = caller; number = number; method = m.method; path = path_of m.target; body = m.body }
+fingerprint_with m caller number =
+    record { caller = caller; number = number; method = m.method; path = path_of m.target; body = m.body }
 
 -- its fingerprint, if it has an idempotency key
 abbrev pub fingerprint_of : Message → Caller → Option (List ℕ) → Option Fingerprint

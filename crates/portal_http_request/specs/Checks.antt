@@ -1,12 +1,16 @@
 -- The result of the checks before the desk is called, in their order: syntax, path, method, caller,
 -- idempotency key, body or parameter.
-use Rattle.std.specs.Prelude.{◌≡◌, ◌≢◌, ◌⊎◌, ℕ, List, Option, Some, None, MatchOption, Result, Ok, Err, MatchResult, bytes_eq, ⊤}
+use Rattle.std.specs.Prelude.{◌≡◌, ◌≢◌, ◌⊎◌, ℕ, List, Option, Some, None, MatchOption, Result, Ok, Err}
+use Rattle.std.specs.Prelude.{MatchResult, bytes_eq, ⊤}
 use Rattle.std.specs.Bool.{MatchBool}
 use Rattle.httparse.specs.Grammar.{RequestHead}
 use Rattle.portal_model.specs.declared.command.Command.{Command}
-use Rattle.portal_model.specs.declared.command.Command.TheVariants.{Load, Sell, Redeem as Redeems, Report, Refund, Close}
+use Rattle.portal_model.specs.declared.command.Command.TheVariants.{Load, Sell, Redeem as Redeems, Report}
+use Rattle.portal_model.specs.declared.command.Command.TheVariants.{Refund, Close}
 use Rattle.portal_model.specs.declared.refusal.Refusal.{Refusal}
-use Rattle.portal_model.specs.declared.refusal.Refusal.TheVariants.{BadRequest, BadCode, BadDevice, BadPlans, Forbidden, NoRoute, UnknownBatch, TooLarge, NotSupported, NoMemory, Stopped}
+use Rattle.portal_model.specs.declared.refusal.Refusal.TheVariants.{BadRequest, BadCode, BadDevice, BadPlans}
+use Rattle.portal_model.specs.declared.refusal.Refusal.TheVariants.{Forbidden, NoRoute, UnknownBatch}
+use Rattle.portal_model.specs.declared.refusal.Refusal.TheVariants.{TooLarge, NotSupported, NoMemory, Stopped}
 use Rattle.portal_model.specs.Verdict.{IsWellFormed}
 use Rattle.portal_ledger.specs.declared.caller.Caller.{Caller}
 use Rattle.portal_ledger.specs.declared.caller.Caller.TheVariants.{Desk, Gateway, Guest}
@@ -16,10 +20,14 @@ use Rattle.portal_files.specs.SettingsFile.{SettingsValue}
 use Rattle.portal_json.specs.Orders.{CodeOrder, Exactly, IsCloseOrder, IsReportOrder}
 use Rattle.portal_http_request.specs.Issues.{ReadsIssue}
 use Rattle.portal_http_message.specs.declared.errors.HeadError.{HeadError}
-use Rattle.portal_http_message.specs.declared.errors.HeadError.TheVariants.{BadRequest as BadShape, TooLarge as TooLong, NotSupported as Coded}
+use Rattle.portal_http_message.specs.declared.errors.HeadError.TheVariants.{BadRequest as BadShape}
+use Rattle.portal_http_message.specs.declared.errors.HeadError.TheVariants.{TooLarge as TooLong}
+use Rattle.portal_http_message.specs.declared.errors.HeadError.TheVariants.{NotSupported as Coded}
 use Rattle.portal_http_message.specs.Message.{HeadOf, Message, message_in}
 use Rattle.portal_http_routes.specs.declared.Route.{Route}
-use Rattle.portal_http_routes.specs.declared.Route.TheVariants.{Captive, Redeem, Plans, Batches, Print, Sales, Refunds, Closes, Voucher, Takings, Reports, Sessions}
+use Rattle.portal_http_routes.specs.declared.Route.TheVariants.{Captive, Redeem, Plans, Batches, Print, Sales}
+use Rattle.portal_http_routes.specs.declared.Route.TheVariants.{Refunds, Closes, Voucher, Takings, Reports}
+use Rattle.portal_http_routes.specs.declared.Route.TheVariants.{Sessions}
 use Rattle.portal_http_routes.specs.Route.{method_of}
 use Rattle.portal_http_routes.specs.Table.{FindsRoute}
 use Rattle.portal_http_routes.specs.Targets.{path_of, query_of, parameter_of}
@@ -42,12 +50,14 @@ OrMemory Is result = (result ≡ Err (Refused NoMemory)) ⊎ Is result
 abbrev pub AtGuest : Message → (List ℕ → Result Operation Rejection → Type 0)
     → Result Operation Rejection → Type 0
 AtGuest m Then result =
-    (device : Option (List ℕ)) × IsGuest m.device device × MatchOption device (result ≡ Err (Refused BadDevice)) (λ d. Then d result)
+    (device : Option (List ℕ)) × IsGuest m.device device
+    × MatchOption device (result ≡ Err (Refused BadDevice)) (λ d. Then d result)
 
 -- the caller's token, and then what the route requires
 abbrev pub AtToken : List ℕ → Message → (Result Operation Rejection → Type 0)
     → Result Operation Rejection → Type 0
-AtToken token m Then result = MatchBool (holds_token token m.token) (Then result) (result ≡ Err (Refused Forbidden))
+AtToken token m Then result =
+    MatchBool (holds_token token m.token) (Then result) (result ≡ Err (Refused Forbidden))
 
 -- ---- commands
 
@@ -61,7 +71,8 @@ abbrev pub AsksForCommand : Message → Caller → (Result Command Refusal → T
     → Result Operation Rejection → Type 0
 AsksForCommand m caller Ordered result =
     (number : Result (Option (List ℕ)) Refusal) × ReadsKey m.number number × MatchResult number
-    (λ n. (ordered : Result Command Refusal) × Ordered ordered × (result ≡ operation_of (fingerprint_of m caller n) ordered))
+    (λ n. (ordered : Result Command Refusal) × Ordered ordered
+    × (result ≡ operation_of (fingerprint_of m caller n) ordered))
     (λ r. result ≡ Err (Refused r))
 
 -- ---- the twelve routes
@@ -69,28 +80,37 @@ AsksForCommand m caller Ordered result =
 -- what each route requires of a request, and the operation that it asks of the desk
 abbrev pub AtRoute : SettingsValue → List ℕ → Message → Route → Result Operation Rejection → Type 0
 AtRoute settings seed m Captive = AtGuest m (λ device result. result ≡ Ok (operations.State device))
-AtRoute settings seed m Redeem = AtGuest m (λ device. AsksForCommand m (Guest device) (GivesCommand CodeOrder (Redeems device) m.body))
-AtRoute settings seed m Plans = AtToken settings.desk_token m (AsksForCommand m Desk (Gives (IsPlansFile m.body) Load BadPlans))
+AtRoute settings seed m Redeem =
+    AtGuest m (λ device. AsksForCommand m (Guest device) (GivesCommand CodeOrder (Redeems device) m.body))
+AtRoute settings seed m Plans =
+    AtToken settings.desk_token m (AsksForCommand m Desk (Gives (IsPlansFile m.body) Load BadPlans))
 AtRoute settings seed m Batches =
     AtToken settings.desk_token m (AsksForCommand m Desk (ReadsIssue seed m.body))
-AtRoute settings seed m Print = AtToken settings.desk_token m (Gives (NamesBatch (parameter_of (path_of m.target))) operations.Sheet (Refused UnknownBatch))
+AtRoute settings seed m Print = AtToken settings.desk_token m
+    (Gives (NamesBatch (parameter_of (path_of m.target))) operations.Sheet (Refused UnknownBatch))
 AtRoute settings seed m Sales =
     AtToken settings.desk_token m (AsksForCommand m Desk (GivesCommand CodeOrder Sell m.body))
 AtRoute settings seed m Refunds =
     AtToken settings.desk_token m (AsksForCommand m Desk (GivesCommand CodeOrder Refund m.body))
-AtRoute settings seed m Closes = AtToken settings.desk_token m (AsksForCommand m Desk (GivesCommand (λ value. Exactly (IsCloseOrder value)) Close m.body))
-AtRoute settings seed m Voucher = AtToken settings.desk_token m (Gives (NamesCode (parameter_of (path_of m.target))) operations.Voucher (Refused BadCode))
-AtRoute settings seed m Takings = AtToken settings.desk_token m (Gives (AreDays (query_of m.target)) operations.Takings (Refused BadRequest))
+AtRoute settings seed m Closes = AtToken settings.desk_token m
+    (AsksForCommand m Desk (GivesCommand (λ value. Exactly (IsCloseOrder value)) Close m.body))
+AtRoute settings seed m Voucher = AtToken settings.desk_token m
+    (Gives (NamesCode (parameter_of (path_of m.target))) operations.Voucher (Refused BadCode))
+AtRoute settings seed m Takings = AtToken settings.desk_token m
+    (Gives (AreDays (query_of m.target)) operations.Takings (Refused BadRequest))
 AtRoute settings seed m Reports =
-    AtToken settings.gateway_token m (AsksForCommand m Gateway (GivesCommand (λ value. Exactly (IsReportOrder value)) (λ order. Report order.session order.bytes) m.body))
-AtRoute settings seed m Sessions = AtToken settings.gateway_token m (λ result. result ≡ Ok operations.OpenSessions)
+    AtToken settings.gateway_token m (AsksForCommand m Gateway (GivesCommand
+    (λ value. Exactly (IsReportOrder value)) (λ order. Report order.session order.bytes) m.body))
+AtRoute settings seed m Sessions =
+    AtToken settings.gateway_token m (λ result. result ≡ Ok operations.OpenSessions)
 
 -- ---- the whole request
 
 -- no route for the path; or the method of the route, and then what the route requires
 abbrev pub AtPath : SettingsValue → List ℕ → Message → Option Route → Result Operation Rejection → Type 0
 AtPath settings seed m None result = result ≡ Err (Refused NoRoute)
-AtPath settings seed m (Some route) result = MatchBool (bytes_eq m.method (method_of route)) (AtRoute settings seed m route result) (result ≡ Err (Method route))
+AtPath settings seed m (Some route) result = MatchBool (bytes_eq m.method (method_of route))
+    (AtRoute settings seed m route result) (result ≡ Err (Method route))
 
 -- the refusal for an error in the syntax of a request (RFC 9112, sections 2, 3.2 and 6; a body over 65,536
 -- bytes; a transfer coding)
@@ -102,12 +122,14 @@ syntax_error Coded = NotSupported
 -- the syntax of the request, then its path
 abbrev pub AtMessage : SettingsValue → List ℕ → Result Message HeadError → Result Operation Rejection → Type 0
 AtMessage settings seed (Err error) result = result ≡ Err (Refused (syntax_error error))
-AtMessage settings seed (Ok m) result = (route : Option Route) × FindsRoute (path_of m.target) route × AtPath settings seed m route result
+AtMessage settings seed (Ok m) result =
+    (route : Option Route) × FindsRoute (path_of m.target) route × AtPath settings seed m route result
 
 -- the result of the checks of a request's bytes, with the seed of its codes: the operation that it asks of
 -- the desk, or the first rejection
 abbrev pub IsChecked : SettingsValue → List ℕ → List ℕ → Result Operation Rejection → Type 0
-IsChecked settings seed bytes result = (head : Option RequestHead) × HeadOf bytes head × AtMessage settings seed (message_in head bytes) result
+IsChecked settings seed bytes result =
+    (head : Option RequestHead) × HeadOf bytes head × AtMessage settings seed (message_in head bytes) result
 
 -- if the operation is a command, it is well formed, as the desk requires
 abbrev pub IsInOrder : Operation → Type 0

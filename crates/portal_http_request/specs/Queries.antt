@@ -17,7 +17,8 @@ NamesCode text code = IsUtf8 text × Spells text code
 -- the day under a key of a query, if the key is in the query exactly once
 abbrev pub IsDayAt : List ℕ → Option (List ℕ) → ℤ → Type 0
 IsDayAt key query day =
-    (text : List ℕ) × (option_and_then (λ q. only_of (values_of key q)) query ≡ Some text) × IsUtf8 text × IsDayText text day
+    (text : List ℕ) × (option_and_then (λ q. only_of (values_of key q)) query ≡ Some text)
+    × IsUtf8 text × IsDayText text day
 
 -- The days from `from` to `to`, both in the range, which is in order and at most 366 days long. Other keys
 -- are ignored.

@@ -1,5 +1,9 @@
 -- A path's route, step by step.
-use Rattle.portal_http_routes.proofs.Common.{◌≡◌, ℕ, zero, suc, ◌-◌, Bool, true, false, cond, eqb, ltb, nat_eq, ◌&&◌, drop, codes, List, [], ◌∷◌, ◌++◌, length, Option, Some, None, refl, ap, ◌∙◌, arith, append-nil, ne_eqb, lt-ltb, length_push, drop_at, ends_with, RowsOf, step, segment, has_slash, or_else, cuts, IsPlain}
+use Rattle.portal_http_routes.proofs.Common.{◌≡◌, ℕ, zero, suc, ◌-◌, Bool, true, false, cond, eqb, ltb}
+use Rattle.portal_http_routes.proofs.Common.{nat_eq, ◌&&◌, drop, codes, List, [], ◌∷◌, ◌++◌, length, Option}
+use Rattle.portal_http_routes.proofs.Common.{Some, None, refl, ap, ◌∙◌, arith, append-nil, ne_eqb, lt-ltb}
+use Rattle.portal_http_routes.proofs.Common.{length_push, drop_at, ends_with, RowsOf, step, segment}
+use Rattle.portal_http_routes.proofs.Common.{has_slash, or_else, cuts, IsPlain}
 use Rattle.std.specs.Cmp.Lexicographic.{pointwise}
 use Rattle.matchit.specs.Seek.{seek, param_step}
 
@@ -18,7 +22,8 @@ seek-nil n [] = refl
 seek-nil (suc n) (b ∷ path) = seek-nil n path
 seek-nil {K} zero (b ∷ path) =
     rw (seek-nil {K = K} 0 path)
-    (ap (λ (o : Option K). or_else o None) (nil_either {K = K} (has_slash (b ∷ path)) (length (b ∷ path)) path (λ m. seek-nil {K = K} m path)))
+    (ap (λ (o : Option K). or_else o None)
+    (nil_either {K = K} (has_slash (b ∷ path)) (length (b ∷ path)) path (λ m. seek-nil {K = K} m path)))
 
 -- the rows after some bytes
 abbrev pub steps : {K : Type 0} → List ℕ → RowsOf K → RowsOf K
@@ -32,7 +37,8 @@ seek-front [] rows path r h = h
 seek-front (b ∷ front) rows path r h = rw (seek-front front (step b rows) path r h)
 
 -- a parameter's bytes are skipped
-pub seek-skip : {K : Type 0} (rows : RowsOf K) (word path : List ℕ) → seek (length word) rows (word ++ path) ≡ seek 0 rows path
+pub seek-skip : {K : Type 0} (rows : RowsOf K) (word path : List ℕ)
+    → seek (length word) rows (word ++ path) ≡ seek 0 rows path
 unfolding seek
 seek-skip rows [] path = refl
 seek-skip rows (b ∷ word) path = seek-skip rows word path
@@ -50,12 +56,17 @@ last_slash word =
 
 cut_word : (b : ℕ) (rest : List ℕ) → cuts (b ∷ rest ++ 47 ∷ []) (47 ∷ []) ≡ true
 cut_word b rest =
-    let long : ltb 1 (length (b ∷ rest ++ 47 ∷ [])) ≡ true = lt-ltb 1 (length (b ∷ rest ++ 47 ∷ [])) (omega (arith, length_push rest 47)) in
-    let ends : ends_with nat_eq (b ∷ rest ++ 47 ∷ []) (47 ∷ []) ≡ true = ap (λ (x : List ℕ). pointwise nat_eq (47 ∷ []) x) (last_slash (b ∷ rest)) in
+    let long : ltb 1 (length (b ∷ rest ++ 47 ∷ [])) ≡ true =
+    lt-ltb 1 (length (b ∷ rest ++ 47 ∷ [])) (omega (arith, length_push rest 47)) in
+    let ends : ends_with nat_eq (b ∷ rest ++ 47 ∷ []) (47 ∷ []) ≡ true =
+    ap (λ (x : List ℕ). pointwise nat_eq (47 ∷ []) x) (last_slash (b ∷ rest)) in
     ap (λ (x : Bool). x && ends_with nat_eq (b ∷ rest ++ 47 ∷ []) (47 ∷ [])) long ∙ ends
 
 param_print : {K : Type 0} (r : K) (b : ℕ) (rest : List ℕ) → IsPlain (b ∷ rest)
-    → param_step ((codes "/print", r) ∷ []) (b ∷ rest ++ codes "/print") ≡ (length (b ∷ rest), (codes "/print", r) ∷ [])
+    → param_step ((codes "/print", r) ∷ []) (b ∷ rest ++ codes "/print") ≡ (
+      length (b ∷ rest),
+      (codes "/print", r) ∷ [],
+    )
 unfolding param_step
 param_print {K} r b rest plain =
     let shorter : length (b ∷ rest ++ 47 ∷ []) - 1 ≡ length (b ∷ rest) = omega (arith, length_push rest 47) in
@@ -66,7 +77,8 @@ pub seek-print : {K : Type 0} (r : K) (b : ℕ) (rest : List ℕ) → IsPlain (b
 unfolding seek
 seek-print {K} r b rest plain =
     let other : eqb 256 b ≡ false = ne_eqb 256 b (λ e. omega (arith, plain.0)) in
-    let skipped : seek (length rest) ((codes "/print", r) ∷ []) (rest ++ codes "/print") ≡ Some r = seek-skip ((codes "/print", r) ∷ []) rest (codes "/print") in
+    let skipped : seek (length rest) ((codes "/print", r) ∷ []) (rest ++ codes "/print") ≡ Some r =
+    seek-skip ((codes "/print", r) ∷ []) rest (codes "/print") in
     let pred : length (b ∷ rest) - 1 ≡ length rest = omega arith in
     rw (other, seek-nil {K = K} 0 (rest ++ codes "/print"), param_print r b rest plain, pred, skipped)
 
@@ -84,7 +96,8 @@ pub seek-last : {K : Type 0} (r : K) (b : ℕ) (rest : List ℕ) → IsPlain (b 
 unfolding seek
 seek-last {K} r b rest plain =
     let other : eqb 256 b ≡ false = ne_eqb 256 b (λ e. omega (arith, plain.0)) in
-    let skipped : seek (length rest) (([], r) ∷ []) (rest ++ []) ≡ Some r = seek-skip (([], r) ∷ []) rest [] in
+    let skipped : seek (length rest) (([], r) ∷ []) (rest ++ []) ≡ Some r =
+    seek-skip (([], r) ∷ []) rest [] in
     let whole : seek (length rest) (([], r) ∷ []) rest ≡ Some r = rw append-nil at skipped in
     let pred : length (b ∷ rest) - 1 ≡ length rest = omega arith in
     rw (other, seek-nil {K = K} 0 rest, param_last r b rest plain, pred, whole)

@@ -1,7 +1,9 @@
 -- The paths of each route.
 use Rattle.std.specs.Prelude.{◌≡◌, ◌≢◌, ◌↔◌, ℕ, ◌<◌, List, [], ◌∷◌, ◌++◌, Some, All, codes, ⊤}
 use Rattle.portal_http_routes.specs.declared.Route.{Route}
-use Rattle.portal_http_routes.specs.declared.Route.TheVariants.{Captive, Redeem, Plans, Batches, Print, Sales, Refunds, Closes, Voucher, Takings, Reports, Sessions}
+use Rattle.portal_http_routes.specs.declared.Route.TheVariants.{Captive, Redeem, Plans, Batches, Print, Sales}
+use Rattle.portal_http_routes.specs.declared.Route.TheVariants.{Refunds, Closes, Voucher, Takings, Reports}
+use Rattle.portal_http_routes.specs.declared.Route.TheVariants.{Sessions}
 use Rattle.portal_http_routes.specs.Targets.{slash, parameter_of}
 use Rattle.portal_http_routes.specs.Table.{route_in}
 
@@ -41,7 +43,8 @@ IsPathOf Sessions path = path ≡ codes "/gateway/sessions"
 -- a path has a route exactly if it is one of the route's paths
 abbrev pub RoutesAreExact : Type 0
 RoutesAreExact =
-    (route : Route) (path : List ℕ) → All (λ b. b < 256) path → (route_in path ≡ Some route) ↔ IsPathOf route path
+    (route : Route) (path : List ℕ) → All (λ b. b < 256) path
+    → (route_in path ≡ Some route) ↔ IsPathOf route path
 
 -- the parameter of a print path is its batch, and that of a voucher's path its code
 abbrev pub ParametersAreExact : Type 0

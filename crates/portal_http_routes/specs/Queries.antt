@@ -1,5 +1,6 @@
 -- The query of a target: its fields, each a key and a value.
-use Rattle.std.specs.Prelude.{ℕ, List, [], ◌∷◌, ◌==◌, if◌then◌else◌, filter, map, Option, Some, None, unwrap_or, bytes_eq}
+use Rattle.std.specs.Prelude.{ℕ, List, [], ◌∷◌, ◌==◌, if◌then◌else◌, filter, map, Option, Some, None}
+use Rattle.std.specs.Prelude.{unwrap_or, bytes_eq}
 use Rattle.portal_http_routes.specs.Targets.{before, after}
 
 -- the byte between the fields of a query

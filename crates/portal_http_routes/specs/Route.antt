@@ -1,7 +1,9 @@
 -- The method of each route, and the role of its callers.
 use Rattle.std.specs.Prelude.{ℕ, List, codes}
 use Rattle.portal_http_routes.specs.declared.Route.{Route}
-use Rattle.portal_http_routes.specs.declared.Route.TheVariants.{Captive, Redeem, Plans, Batches, Print, Sales, Refunds, Closes, Voucher, Takings, Reports, Sessions}
+use Rattle.portal_http_routes.specs.declared.Route.TheVariants.{Captive, Redeem, Plans, Batches, Print, Sales}
+use Rattle.portal_http_routes.specs.declared.Route.TheVariants.{Refunds, Closes, Voucher, Takings, Reports}
+use Rattle.portal_http_routes.specs.declared.Route.TheVariants.{Sessions}
 use Rattle.portal_http_routes.specs.declared.Role.{Role}
 use Rattle.portal_http_routes.specs.declared.Role.TheVariants.{Guest, Desk, Gateway}
 

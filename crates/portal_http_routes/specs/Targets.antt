@@ -1,5 +1,6 @@
 -- The parts of a request's target: its path, its query, and the parameter in the path.
-use Rattle.std.specs.Prelude.{ℕ, List, [], ◌∷◌, Bool, true, false, not, ◌&&◌, ◌==◌, if◌then◌else◌, Option, Some, None, option_map, option_and_then, unwrap_or}
+use Rattle.std.specs.Prelude.{ℕ, List, [], ◌∷◌, Bool, true, false, not, ◌&&◌, ◌==◌, if◌then◌else◌, Option}
+use Rattle.std.specs.Prelude.{Some, None, option_map, option_and_then, unwrap_or}
 
 -- a question mark, which ends the path of a target
 abbrev pub question_mark : ℕ
@@ -30,7 +31,8 @@ query_of target = after question_mark target
 -- no segment from here on is empty; the first argument says whether a slash is just before
 unfoldable pub has_no_empty_segment : Bool → List ℕ → Bool
 has_no_empty_segment behind_slash [] = not behind_slash
-has_no_empty_segment behind_slash (b ∷ rest) = if b == slash then (not behind_slash && has_no_empty_segment true rest) else has_no_empty_segment false rest
+has_no_empty_segment behind_slash (b ∷ rest) = if b
+    == slash then (not behind_slash && has_no_empty_segment true rest) else has_no_empty_segment false rest
 
 -- it begins with a slash, and no segment is empty
 abbrev pub is_path : List ℕ → Bool

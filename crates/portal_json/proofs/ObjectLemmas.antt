@@ -1,5 +1,9 @@
 -- Objects whose keys are put in in byte order.
-use Rattle.portal_json.proofs.Common.{◌≡◌, Bool, true, false, ◌&&◌, List, [], ◌∷◌, ◌++◌, ℕ, Option, Some, None, Result, Ok, Err, refl, sym, ap, ◌∙◌, append_assoc, append-nil, IfOk, String, string_bytes, Data, member, no_members, object, put, compact_text, KeyedValue, members_in_order, put_some, put_all, object_of}
+use Rattle.portal_json.proofs.Common.{◌≡◌, Bool, true, false, ◌&&◌, List, [], ◌∷◌, ◌++◌, ℕ, Option, Some}
+use Rattle.portal_json.proofs.Common.{None, Result, Ok, Err, refl, sym, ap, ◌∙◌, append_assoc, append-nil}
+use Rattle.portal_json.proofs.Common.{IfOk, String, string_bytes, Data, member, no_members, object, put}
+use Rattle.portal_json.proofs.Common.{compact_text, KeyedValue, members_in_order, put_some, put_all}
+use Rattle.portal_json.proofs.Common.{object_of}
 use Rattle.std.specs.declared.alloc.Global.{Global}
 use Rattle.std.specs.declared.cmp.Ordering.{Ordering}
 use Rattle.std.specs.declared.cmp.Ordering.TheVariants.{Less, Equal, Greater}
@@ -33,16 +37,19 @@ greater Greater h = refl
 put-last : (before : List KeyedValue) (key : List ℕ) (d : Data) → is_after before key ≡ true
     → put key d (members_in_order before) ≡ members_in_order (before ++ (key, Some d) ∷ [])
 put-last [] key d h = refl
-put-last ((earlier, None) ∷ rest) key d h = put-last rest key d (both (is_gt (slice_cmp nat_cmp key earlier)) (is_after rest key) h).1
+put-last ((earlier, None) ∷ rest) key d h =
+    put-last rest key d (both (is_gt (slice_cmp nat_cmp key earlier)) (is_after rest key) h).1
 put-last ((earlier, Some e) ∷ rest) key d h =
     let parts = both (is_gt (slice_cmp nat_cmp key earlier)) (is_after rest key) h in
     let ms = members_in_order rest in
-    ap (λ (o : Ordering). match_ordering o (member key d (member earlier e ms)) (member earlier d ms) (member earlier e (put key d ms)))
+    ap (λ (o : Ordering). match_ordering o (member key d (member earlier e ms)) (member earlier d ms)
+    (member earlier e (put key d ms)))
     (greater (slice_cmp nat_cmp key earlier) parts.0)
     ∙ ap (member earlier e) (put-last rest key d parts.1)
 
 -- a key with no value changes nothing
-none-last : (before : List KeyedValue) (key : List ℕ) → members_in_order before ≡ members_in_order (before ++ (key, None) ∷ [])
+none-last : (before : List KeyedValue) (key : List ℕ)
+    → members_in_order before ≡ members_in_order (before ++ (key, None) ∷ [])
 none-last [] key = refl
 none-last ((earlier, None) ∷ rest) key = none-last rest key
 none-last ((earlier, Some e) ∷ rest) key = ap (member earlier e) (none-last rest key)
@@ -62,7 +69,8 @@ put_all-after before ((key, value) ∷ rest) h =
     ∙ ap members_in_order (append_assoc before ((key, value) ∷ []) rest)
 
 -- keys put in in byte order make the object with these keys in this order
-pub put_all-rising : (keys : List KeyedValue) → are_rising keys ≡ true → object (put_all keys no_members) ≡ object_of keys
+pub put_all-rising : (keys : List KeyedValue) → are_rising keys ≡ true
+    → object (put_all keys no_members) ≡ object_of keys
 put_all-rising keys h = ap object (put_all-after [] keys h)
 
 -- the text of a value is the text of an equal one

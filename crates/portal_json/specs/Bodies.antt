@@ -8,7 +8,9 @@ use Rattle.portal_model.specs.declared.captive.Captive.{Captive}
 use Rattle.portal_model.specs.declared.captive.OpenSession.{OpenSession}
 use Rattle.portal_model.specs.declared.record.Voucher.{Voucher}
 use Rattle.portal_model.specs.declared.change.Answer.{Answer}
-use Rattle.portal_model.specs.declared.change.Answer.TheVariants.{LoadAnswer, IssueAnswer, SellAnswer, RedeemAnswer, ReportAnswer, RefundAnswer, CloseAnswer}
+use Rattle.portal_model.specs.declared.change.Answer.TheVariants.{LoadAnswer, IssueAnswer, SellAnswer}
+use Rattle.portal_model.specs.declared.change.Answer.TheVariants.{RedeemAnswer, ReportAnswer, RefundAnswer}
+use Rattle.portal_model.specs.declared.change.Answer.TheVariants.{CloseAnswer}
 use Rattle.portal_model.specs.declared.refusal.Refusal.{Refusal}
 use Rattle.portal_model.specs.Device.{text_of_device}
 use Rattle.portal_model.specs.Refusal.{word_of}
@@ -34,14 +36,20 @@ captive_data state portal_url venue_url = object_of (captive_keys state portal_u
 abbrev pub answer_data : Answer → Data
 answer_data (LoadAnswer plans) = object_of ((codes "plans", Some (integer plans)) ∷ [])
 answer_data (IssueAnswer batch count expires) = object_of (
-    (codes "batch", Some (string batch)) ∷ (codes "count", Some (integer count)) ∷ (codes "expires", Some (integer expires)) ∷ [])
+    (codes "batch", Some (string batch)) ∷ (
+      codes "count",
+      Some (integer count),
+    ) ∷ (codes "expires", Some (integer expires)) ∷ [])
 answer_data (SellAnswer code price) = object_of (
     (codes "code", Some (string (text_of code))) ∷ (codes "price", Some (integer price)) ∷ [])
 answer_data (RedeemAnswer extended session uses_left) = object_of (
     (codes "extended", Some (boolean extended)) ∷ (codes "session", Some (integer session))
     ∷ (codes "uses_left", Some (integer uses_left)) ∷ [])
 answer_data (ReportAnswer still_open session used) = object_of (
-    (codes "open", Some (boolean still_open)) ∷ (codes "session", Some (integer session)) ∷ (codes "used", Some (integer used)) ∷ [])
+    (codes "open", Some (boolean still_open)) ∷ (
+      codes "session",
+      Some (integer session),
+    ) ∷ (codes "used", Some (integer used)) ∷ [])
 answer_data (RefundAnswer amount code) = object_of (
     (codes "amount", Some (integer amount)) ∷ (codes "code", Some (string (text_of code))) ∷ [])
 answer_data (CloseAnswer session) = object_of ((codes "session", Some (integer session)) ∷ [])
@@ -53,14 +61,17 @@ error_data refusal = object_of ((codes "error", Some (string (word_of refusal)))
 -- the state of a voucher; null for a time or an amount that it does not have
 abbrev pub voucher_data : Voucher → Data
 voucher_data v = object_of (
-    (codes "batch", Some (string v.batch)) ∷ (codes "code", Some (string (text_of v.code))) ∷ (codes "expires", Some (integer v.expires))
-    ∷ (codes "plan", Some (string v.plan.id)) ∷ (codes "redeemed", Some (integer v.redeemed)) ∷ (codes "refund", Some (integer_or_null v.refund))
+    (codes "batch", Some (string v.batch)) ∷ (codes "code", Some (string (text_of v.code)))
+    ∷ (codes "expires", Some (integer v.expires))
+    ∷ (codes "plan", Some (string v.plan.id)) ∷ (codes "redeemed", Some (integer v.redeemed))
+    ∷ (codes "refund", Some (integer_or_null v.refund))
     ∷ (codes "sold", Some (integer_or_null v.sold)) ∷ (codes "uses", Some (integer v.plan.uses)) ∷ [])
 
 -- the keys of an open session
 abbrev pub session_keys : OpenSession → List KeyedValue
 session_keys s =
-    (codes "bytes-remaining", option_map integer s.bytes) ∷ (codes "device", Some (string (text_of_device s.device)))
+    (codes "bytes-remaining", option_map integer s.bytes)
+    ∷ (codes "device", Some (string (text_of_device s.device)))
     ∷ (codes "seconds-remaining", option_map integer s.seconds)
     ∷ (codes "session", Some (integer s.number)) ∷ []
 
@@ -70,7 +81,8 @@ session_data s = object_of (session_keys s)
 
 -- open sessions, in the order listed
 abbrev pub sessions_data : List OpenSession → Data
-sessions_data sessions = object_of ((codes "sessions", Some (array (items_of (map session_data sessions)))) ∷ [])
+sessions_data sessions =
+    object_of ((codes "sessions", Some (array (items_of (map session_data sessions)))) ∷ [])
 
 -- the text of a captive state
 unfoldable pub captive_body : Captive → List ℕ → Option (List ℕ) → List ℕ

@@ -1,6 +1,7 @@
 -- The meaning of the bodies of requests. A body is one JSON text in UTF-8 (RFC 8259). Of two members with
 -- one key the last one counts, and members under other keys are ignored.
-use Rattle.std.specs.Prelude.{◌≡◌, ℕ, ◌≤◌, ◌^◌, ◌⊎◌, nat_lt, if◌then◌else◌, List, codes, Option, Some, None, MatchOption, option_and_then, Result, Err, MatchResult, IsUtf8}
+use Rattle.std.specs.Prelude.{◌≡◌, ℕ, ◌≤◌, ◌^◌, ◌⊎◌, nat_lt, if◌then◌else◌, List, codes, Option, Some, None}
+use Rattle.std.specs.Prelude.{MatchOption, option_and_then, Result, Err, MatchResult, IsUtf8}
 use Rattle.serde_json.specs.Data.{Data}
 use Rattle.serde_json.specs.Read.{read}
 use Rattle.serde_json.specs.Find.{get, as_str, as_number, as_u64}
@@ -25,19 +26,23 @@ signed_range n = if nat_lt n (2 ^ 63) then Some n else None
 
 -- the integer under a key, if there is one in that range; a number with a fraction or an exponent is none
 abbrev pub number_at : List ℕ → Data → Option ℕ
-number_at key value = option_and_then signed_range (option_and_then as_u64 (option_and_then as_number (get key value)))
+number_at key value =
+    option_and_then signed_range (option_and_then as_u64 (option_and_then as_number (get key value)))
 
 -- the order in a value, or bad_request exactly if it has none
 abbrev pub Exactly : {A : Type 0} → (A → Type 0) → Result A Refusal → Type 0
-Exactly {A} IsOrder result = MatchResult result IsOrder (λ r. (r ≡ BadRequest) × ((order : A) → ¬ (IsOrder order)))
+Exactly {A} IsOrder result =
+    MatchResult result IsOrder (λ r. (r ≡ BadRequest) × ((order : A) → ¬ (IsOrder order)))
 
 -- the code that a text spells, or bad_code exactly if it spells none
 abbrev pub CodeText : List ℕ → Result (List ℕ) Refusal → Type 0
-CodeText text result = MatchResult result (Spells text) (λ r. (r ≡ BadCode) × ((code : List ℕ) → ¬ (Spells text code)))
+CodeText text result =
+    MatchResult result (Spells text) (λ r. (r ≡ BadCode) × ((code : List ℕ) → ¬ (Spells text code)))
 
 -- the code under `code`, or bad_request if there is no text there
 abbrev pub CodeOrder : Data → Result (List ℕ) Refusal → Type 0
-CodeOrder value result = MatchOption (text_at (codes "code") value) (result ≡ Err BadRequest) (λ text. CodeText text result)
+CodeOrder value result =
+    MatchOption (text_at (codes "code") value) (result ≡ Err BadRequest) (λ text. CodeText text result)
 
 -- The value orders that batch: two ids, and a count of 1 to 500.
 pub record IsBatchOrder (value : Data) (order : BatchOrder) : Type 0 where

@@ -1,5 +1,7 @@
 -- What a repetition is answered.
-use Rattle.portal_ledger.proofs.Common.{◌≡◌, Bool, true, false, cond, Option, Some, None, Result, Ok, Err, refl, Answer, Refusal, KeptRequest, Fingerprint, same_request, Ledger, held_in, repeat_of, repeat_in}
+use Rattle.portal_ledger.proofs.Common.{◌≡◌, Bool, true, false, cond, Option, Some, None, Result, Ok, Err}
+use Rattle.portal_ledger.proofs.Common.{refl, Answer, Refusal, KeptRequest, Fingerprint, same_request, Ledger}
+use Rattle.portal_ledger.proofs.Common.{held_in, repeat_of, repeat_in}
 use Rattle.portal_model.specs.declared.refusal.Refusal.TheVariants.{IdReused}
 
 not_none : (answer : Answer) → ◌≡◌ {A = Result (Option Answer) Refusal} (Ok (Some answer)) (Ok None) → ⊥
@@ -16,18 +18,24 @@ fresh L own e = go (held_in L own) refl e
     go None is h = is
     go (Some k) is h = by (same_request k.mark own) h
       where
-        by : (b : Bool) → ◌≡◌ {A = Result (Option Answer) Refusal} (cond b (Ok (Some k.answer)) (Err IdReused)) (Ok None) → held_in L own ≡ None
+        by : (b : Bool) → ◌≡◌ {A = Result (Option Answer) Refusal}
+            (cond b (Ok (Some k.answer)) (Err IdReused)) (Ok None) → held_in L own ≡ None
         by true h = absurd (not_none k.answer h)
         by false h = absurd (not_ok IdReused h)
 
 -- an answer is that of the kept request
-pub answered_held : (L : Ledger) (own : Fingerprint) (answer : Answer) → repeat_in L (Some own) ≡ Ok (Some answer) → (k : KeptRequest) × (held_in L own ≡ Some k) × (k.answer ≡ answer)
+pub answered_held : (L : Ledger) (own : Fingerprint) (answer : Answer)
+    → repeat_in L (Some own) ≡ Ok (Some answer)
+    → (k : KeptRequest) × (held_in L own ≡ Some k) × (k.answer ≡ answer)
 answered_held L own answer e = go (held_in L own) refl e
   where
-    go : (o : Option KeptRequest) → held_in L own ≡ o → repeat_of o own ≡ Ok (Some answer) → (k : KeptRequest) × (held_in L own ≡ Some k) × (k.answer ≡ answer)
+    go : (o : Option KeptRequest) → held_in L own ≡ o → repeat_of o own ≡ Ok (Some answer)
+        → (k : KeptRequest) × (held_in L own ≡ Some k) × (k.answer ≡ answer)
     go None is h = cc
     go (Some k) is h = by (same_request k.mark own) h
       where
-        by : (b : Bool) → ◌≡◌ {A = Result (Option Answer) Refusal} (cond b (Ok (Some k.answer)) (Err IdReused)) (Ok (Some answer)) → (k : KeptRequest) × (held_in L own ≡ Some k) × (k.answer ≡ answer)
+        by : (b : Bool) → ◌≡◌ {A = Result (Option Answer) Refusal}
+            (cond b (Ok (Some k.answer)) (Err IdReused)) (Ok (Some answer))
+            → (k : KeptRequest) × (held_in L own ≡ Some k) × (k.answer ≡ answer)
         by true h = (k, is, cc)
         by false h = cc

@@ -21,7 +21,8 @@ ReadsThat old Is new = ReadsOf old (λ L. Is (history_of L)) new
 
 -- the changes and the fingerprint are those of this command, and it may be accepted
 abbrev pub Fits : State → MarkedChanges → Accepted → Type 0
-Fits (running L) marked a = MayFollow L a × (changes_of (history_of L) a.command a.at ≡ Some marked.changes) × (marked.mark ≡ a.mark)
+Fits (running L) marked a =
+    MayFollow L a × (changes_of (history_of L) a.command a.at ≡ Some marked.changes) × (marked.mark ≡ a.mark)
 Fits (stopped L doubt) marked a = Unit {0}
 
 -- the command is committed: the ledger has it as its newest
@@ -35,10 +36,12 @@ module _ {RowError : Type 0} (memory over : RowError) where
   -- A read fails: out of memory leaves the state unchanged, an error of the database stops it, and a
   -- stopped one stays stopped.
   abbrev pub FailsToRead : State → RowError → State → Type 0
-  FailsToRead (running L) fault new = ((fault ≡ memory) × (new ≡ running L)) ⊎ ((fault ≡ over) × (new ≡ stopped L None))
+  FailsToRead (running L) fault new =
+      ((fault ≡ memory) × (new ≡ running L)) ⊎ ((fault ≡ over) × (new ≡ stopped L None))
   FailsToRead (stopped L doubt) fault new = (fault ≡ over) × (new ≡ stopped L doubt)
 
   -- A commit fails: the command is not committed, or it is in doubt.
   abbrev pub FailsToKeep : State → Accepted → RowError → State → Type 0
-  FailsToKeep (running L) a fault new = ((fault ≡ memory) × (new ≡ running L)) ⊎ ((fault ≡ over) × (new ≡ stopped L (Some a)))
+  FailsToKeep (running L) a fault new =
+      ((fault ≡ memory) × (new ≡ running L)) ⊎ ((fault ≡ over) × (new ≡ stopped L (Some a)))
   FailsToKeep (stopped L doubt) a fault new = (fault ≡ over) × (new ≡ stopped L doubt)

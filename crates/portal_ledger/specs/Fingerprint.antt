@@ -1,5 +1,6 @@
 -- Idempotency keys and fingerprints of requests.
-use Rattle.std.specs.Prelude.{◌≡◌, ℕ, ◌-◌, ◌≤◌, Bool, true, false, ◌||◌, ◌&&◌, nat_eq, nat_le, List, ◌++◌, length, take, replicate, bytes_eq}
+use Rattle.std.specs.Prelude.{◌≡◌, ℕ, ◌-◌, ◌≤◌, Bool, true, false, ◌||◌, ◌&&◌, nat_eq, nat_le, List, ◌++◌}
+use Rattle.std.specs.Prelude.{length, take, replicate, bytes_eq}
 use Rattle.std.specs.List.{list_all}
 use Rattle.std.specs.Str.{IsUtf8}
 use Rattle.portal_model.specs.Device.{IsDevice}
@@ -8,7 +9,8 @@ use Rattle.portal_ledger.specs.declared.caller.Caller.TheVariants.{Desk, Gateway
 
 -- a letter, a digit or a hyphen
 abbrev pub is_key_character : ℕ → Bool
-is_key_character b = (nat_le 65 b && nat_le b 90) || ((nat_le 97 b && nat_le b 122) || ((nat_le 48 b && nat_le b 57) || nat_eq b 45))
+is_key_character b = (nat_le 65 b && nat_le b 90)
+    || ((nat_le 97 b && nat_le b 122) || ((nat_le 48 b && nat_le b 57) || nat_eq b 45))
 
 -- an idempotency key: 1 to 36 of these characters
 pub record IsKeyText (text : List ℕ) : Type 0 where

@@ -7,7 +7,9 @@ use Rattle.portal_ledger.specs.declared.request.KeptRequest.{KeptRequest}
 use Rattle.portal_ledger.specs.declared.caller.Caller.{Caller}
 use Rattle.portal_ledger.specs.Fingerprint.{Fingerprint, IsCaller, same_key}
 use Rattle.portal_ledger.specs.RequestRow.{IsKeptTyped, text_of_caller, row_of_request}
-use Rattle.portal_ledger.specs.Ledger.{Accepted, Ledger, history_of, answer_in, requests_of, is_under, held_in, request_among, MayFollow, IsSound, all_rows_of, all_rows_after_changes}
+use Rattle.portal_ledger.specs.Ledger.{Accepted, Ledger, history_of, answer_in, requests_of, is_under}
+use Rattle.portal_ledger.specs.Ledger.{held_in, request_among, MayFollow, IsSound, all_rows_of}
+use Rattle.portal_ledger.specs.Ledger.{all_rows_after_changes}
 
 -- the histories of sound ledgers are legal
 abbrev pub SoundIsLegal : Type 0
@@ -15,8 +17,10 @@ SoundIsLegal = (L : Ledger) → IsSound L → IsLegal (history_of L)
 
 -- the rows of all nine tables after an accepted command are those before it with its changes
 abbrev pub ChangesGiveAllRows : Type 0
-ChangesGiveAllRows = (L : Ledger) → IsSound L → (a : Accepted) → MayFollow L a → (changes : Changes) → changes_of (history_of L) a.command a.at ≡ Some changes
-    → all_rows_of (a ∷ L) ≡ all_rows_after_changes (record { changes = changes; mark = a.mark }) (all_rows_of L)
+ChangesGiveAllRows = (L : Ledger) → IsSound L → (a : Accepted) → MayFollow L a → (changes : Changes)
+    → changes_of (history_of L) a.command a.at ≡ Some changes
+    → all_rows_of (a ∷ L)
+    ≡ all_rows_after_changes (record { changes = changes; mark = a.mark }) (all_rows_of L)
 
 -- the kept request with a key is its row
 abbrev pub HeldRequestIsRow : Type 0
@@ -43,11 +47,13 @@ pub record IsKeptFor (L : Ledger) (mark : Fingerprint) (k : KeptRequest) : Type 
   pub answer : answer_in (history_of earlier) by ≡ Some k.answer
 
 abbrev pub KeptAnswerIsGiven : Type 0
-KeptAnswerIsGiven = (L : Ledger) (mark : Fingerprint) (k : KeptRequest) → held_in L mark ≡ Some k → IsKeptFor L mark k
+KeptAnswerIsGiven =
+    (L : Ledger) (mark : Fingerprint) (k : KeptRequest) → held_in L mark ≡ Some k → IsKeptFor L mark k
 
 -- a kept request stays kept
 abbrev pub HeldRequestStays : Type 0
-HeldRequestStays = (L : Ledger) (a : Accepted) (mark : Fingerprint) (k : KeptRequest) → held_in L mark ≡ Some k → held_in (a ∷ L) mark ≡ Some k
+HeldRequestStays = (L : Ledger) (a : Accepted) (mark : Fingerprint) (k : KeptRequest)
+    → held_in L mark ≡ Some k → held_in (a ∷ L) mark ≡ Some k
 
 -- callers with the same text are equal
 abbrev pub CallerIsKnownByText : Type 0
@@ -59,4 +65,5 @@ KeptRequestsAreTyped = (L : Ledger) → IsSound L → All IsKeptTyped (requests_
 
 -- kept requests with the same row are equal
 abbrev pub RequestIsKnownByRow : Type 0
-RequestIsKnownByRow = (k j : KeptRequest) → IsKeptTyped k → IsKeptTyped j → row_of_request k ≡ row_of_request j → k ≡ j
+RequestIsKnownByRow =
+    (k j : KeptRequest) → IsKeptTyped k → IsKeptTyped j → row_of_request k ≡ row_of_request j → k ≡ j

@@ -1,5 +1,6 @@
 -- The ledger: the accepted commands, with the fingerprints of idempotent requests.
-use Rattle.std.specs.Prelude.{◌≡◌, ℕ, Bool, false, cond, List, [], ◌∷◌, ◌++◌, find, Option, Some, None, option_map, option_and_then, Result, Ok, Err}
+use Rattle.std.specs.Prelude.{◌≡◌, ℕ, Bool, false, cond, List, [], ◌∷◌, ◌++◌, find, Option, Some, None}
+use Rattle.std.specs.Prelude.{option_map, option_and_then, Result, Ok, Err}
 use Rattle.std.specs.Option.{option_or, option_to_list}
 use Rattle.portal_model.specs.declared.command.Command.{Command}
 use Rattle.portal_model.specs.declared.change.Answer.{Answer}
@@ -58,7 +59,8 @@ is_under mark (Some own) = same_key own mark
 -- the kept request with the key of that fingerprint
 abbrev pub held_in : Ledger → Fingerprint → Option KeptRequest
 held_in [] mark = None
-held_in (a ∷ L) mark = option_or (held_in L mark) (cond (is_under mark a.mark) (request_kept (history_of L) a) None)
+held_in (a ∷ L) mark =
+    option_or (held_in L mark) (cond (is_under mark a.mark) (request_kept (history_of L) a) None)
 
 -- the same, from the rows
 abbrev pub request_among : List KeptRequest → Fingerprint → Option KeptRequest
@@ -118,4 +120,7 @@ request_row m = option_map (λ mark. kept_with mark (answer_of m.changes)) m.mar
 
 -- the rows after the changes: those of the command, and a row of portal_requests if there is a fingerprint
 abbrev pub all_rows_after_changes : MarkedChanges → AllRows → AllRows
-all_rows_after_changes m r = record { rows = rows_after_changes m.changes r.rows; requests = r.requests ++ option_to_list (request_row m) }
+all_rows_after_changes m r = record {
+  rows = rows_after_changes m.changes r.rows;
+  requests = r.requests ++ option_to_list (request_row m);
+}

@@ -3,7 +3,9 @@ use Rattle.std.specs.Prelude.{ℕ, Bool, true, false, List, codes, Option, Some,
 use Rattle.portal_codes.specs.Code.{IsCode, text_of}
 use Rattle.portal_model.specs.Device.{text_of_device}
 use Rattle.portal_model.specs.declared.change.Answer.{Answer}
-use Rattle.portal_model.specs.declared.change.Answer.TheVariants.{LoadAnswer, IssueAnswer, SellAnswer, RedeemAnswer, ReportAnswer, RefundAnswer, CloseAnswer}
+use Rattle.portal_model.specs.declared.change.Answer.TheVariants.{LoadAnswer, IssueAnswer, SellAnswer}
+use Rattle.portal_model.specs.declared.change.Answer.TheVariants.{RedeemAnswer, ReportAnswer, RefundAnswer}
+use Rattle.portal_model.specs.declared.change.Answer.TheVariants.{CloseAnswer}
 use Rattle.portal_ledger.specs.declared.caller.Caller.{Caller}
 use Rattle.portal_ledger.specs.declared.caller.Caller.TheVariants.{Desk, Gateway, Guest}
 use Rattle.portal_ledger.specs.declared.request.KeptRequest.{KeptRequest}
@@ -28,7 +30,8 @@ abbrev pub cells_of : Answer → AnswerCells
 cells_of (LoadAnswer plans) = cells 1 None plans None None
 cells_of (IssueAnswer batch count expires) = cells 2 (Some batch) count (Some expires) None
 cells_of (SellAnswer code price) = cells 3 (Some (text_of code)) price None None
-cells_of (RedeemAnswer extended session uses_left) = cells 4 None session (Some uses_left) (Some (boolean extended))
+cells_of (RedeemAnswer extended session uses_left) =
+    cells 4 None session (Some uses_left) (Some (boolean extended))
 cells_of (ReportAnswer still_open session used) = cells 5 None session (Some used) (Some (boolean still_open))
 cells_of (RefundAnswer amount code) = cells 6 (Some (text_of code)) amount None None
 cells_of (CloseAnswer session) = cells 7 None session None None

@@ -16,7 +16,15 @@ pub record Fields : Type 0 where
   pub extend : Bool
 
 abbrev pub fields_of : Plan → Fields
-fields_of p = record { id = p.id; price = p.price; uses = p.uses; seconds = p.seconds; bytes = p.bytes; shelf_days = p.shelf_days; extend = p.extend }
+fields_of p = record {
+  id = p.id;
+  price = p.price;
+  uses = p.uses;
+  seconds = p.seconds;
+  bytes = p.bytes;
+  shelf_days = p.shelf_days;
+  extend = p.extend;
+}
 
 abbrev Limits : Fields → Type 0
 Limits t = AreTerms t.price t.uses t.seconds t.bytes t.shelf_days
@@ -63,4 +71,5 @@ same-id_text id = hlevel props
 pub same-plan : (p q : Plan) → fields_of p ≡ fields_of q → p ≡ q
 same-plan p q e =
     subst (λ t. (h : Limits t) (text : IsIdText t.id) → p ≡ plan_with t h text) e
-    (λ h text i. plan_with (fields_of p) (same-limits (fields_of p) (limits_of p) h i) (same-id_text p.id p.id_text text i)) (limits_of q) q.id_text
+    (λ h text i. plan_with (fields_of p) (same-limits (fields_of p) (limits_of p) h i)
+    (same-id_text p.id p.id_text text i)) (limits_of q) q.id_text

@@ -4,7 +4,8 @@ use Rattle.std.specs.Prelude.{ℕ, ◌-◌, true, false, List, map, filter, Opti
 use Rattle.portal_model.specs.declared.record.Session.{Session}
 use Rattle.portal_model.specs.declared.captive.Captive.{Captive}
 use Rattle.portal_model.specs.declared.captive.OpenSession.{OpenSession}
-use Rattle.portal_model.specs.History.{History, effective_moment, kept_if, is_open_at, last_session_of, grants_of}
+use Rattle.portal_model.specs.History.{History, effective_moment, kept_if, is_open_at, last_session_of}
+use Rattle.portal_model.specs.History.{grants_of}
 use Rattle.portal_model.specs.Rows.{openings, session_opened}
 
 -- what is left of a limit, if there is one
@@ -32,7 +33,12 @@ captive_of H device t = captive_state (effective_moment H t) (last_session_of H 
 
 -- an open session as the gateway lists it at t
 abbrev pub open_session : ℕ → Session → OpenSession
-open_session t s = record { bytes = left_below s.used s.allowance; device = s.device; seconds = left_below t s.ends; number = s.number }
+open_session t s = record {
+  bytes = left_below s.used s.allowance;
+  device = s.device;
+  seconds = left_below t s.ends;
+  number = s.number;
+}
 
 -- the sessions of a history, by their numbers
 abbrev pub all_sessions : History → List Session

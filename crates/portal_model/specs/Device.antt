@@ -1,5 +1,6 @@
 -- Devices, by the six octets of their MAC address.
-use Rattle.std.specs.Prelude.{◌≡◌, ℕ, ◌+◌, ◌/◌, ◌%◌, ◌<◌, ◌⊎◌, nat_lt, if◌then◌else◌, List, [], ◌∷◌, length, map, All}
+use Rattle.std.specs.Prelude.{◌≡◌, ℕ, ◌+◌, ◌/◌, ◌%◌, ◌<◌, ◌⊎◌, nat_lt, if◌then◌else◌, List, [], ◌∷◌, length}
+use Rattle.std.specs.Prelude.{map, All}
 use Rattle.std.specs.List.{join_with_byte}
 use Rattle.std.specs.Str.{str_to_ascii_lowercase}
 
@@ -27,9 +28,11 @@ text_of_device octets = text_with 58 octets
 -- the text spells the device: in lower case it is the octets with colons, or with hyphens, between them
 pub record SpellsDevice (text octets : List ℕ) : Type 0 where
   pub is_device : IsDevice octets
-  pub written : (str_to_ascii_lowercase text ≡ text_with 58 octets) ⊎ (str_to_ascii_lowercase text ≡ text_with 45 octets)
+  pub written : (str_to_ascii_lowercase text ≡ text_with 58 octets)
+      ⊎ (str_to_ascii_lowercase text ≡ text_with 45 octets)
 
 -- the text of a device spells that device, and no other
 abbrev pub DeviceTextReadsBack : Type 0
 DeviceTextReadsBack = (device : List ℕ) → IsDevice device
-    → SpellsDevice (text_of_device device) device × ((other : List ℕ) → SpellsDevice (text_of_device device) other → other ≡ device)
+    → SpellsDevice (text_of_device device) device
+    × ((other : List ℕ) → SpellsDevice (text_of_device device) other → other ≡ device)

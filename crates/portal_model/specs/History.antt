@@ -1,6 +1,8 @@
 -- The history of accepted commands, and the records that it determines. Every answer of the desk is a
 -- function of the history.
-use Rattle.std.specs.Prelude.{ℕ, ◌+◌, ◌-◌, ◌*◌, ◌/◌, max, Bool, true, cond, ◌&&◌, nat_eq, nat_lt, List, [], ◌∷◌, length, filter, find, sum_by, Option, Some, None, is_none, option_map, option_and_then, unwrap_or, bytes_eq}
+use Rattle.std.specs.Prelude.{ℕ, ◌+◌, ◌-◌, ◌*◌, ◌/◌, max, Bool, true, cond, ◌&&◌, nat_eq, nat_lt, List, []}
+use Rattle.std.specs.Prelude.{◌∷◌, length, filter, find, sum_by, Option, Some, None, is_none, option_map}
+use Rattle.std.specs.Prelude.{option_and_then, unwrap_or, bytes_eq}
 use Rattle.std.specs.Option.{option_or}
 use Rattle.portal_model.specs.declared.plan.Plan.{Plan}
 use Rattle.portal_model.specs.declared.record.Batch.{Batch}
@@ -8,7 +10,8 @@ use Rattle.portal_model.specs.declared.record.Voucher.{Voucher}
 use Rattle.portal_model.specs.declared.record.Session.{Session}
 use Rattle.portal_model.specs.declared.record.Head.{Head}
 use Rattle.portal_model.specs.declared.command.Command.{Command}
-use Rattle.portal_model.specs.declared.command.Command.TheVariants.{Load, Issue, Sell, Redeem, Report, Refund, Close}
+use Rattle.portal_model.specs.declared.command.Command.TheVariants.{Load, Issue, Sell, Redeem, Report, Refund}
+use Rattle.portal_model.specs.declared.command.Command.TheVariants.{Close}
 
 -- a command with the time at which it was accepted
 pub data Entry : Type 0 where
@@ -41,12 +44,14 @@ expiry t plan = t + plan.shelf_days * 86400
 
 -- a batch of that plan, issued at t
 abbrev pub batch_row : ℕ → List ℕ → ℕ → Plan → Batch
-batch_row t id size plan = record { id = id; plan = plan.id; issued = t; expires = expiry t plan; size = size }
+batch_row t id size plan =
+    record { id = id; plan = plan.id; issued = t; expires = expiry t plan; size = size }
 
 -- the batch of that id, from its issue
 abbrev pub batch_of : History → List ℕ → Option Batch
 batch_of [] id = None
-batch_of (entry t (Issue b p codes) ∷ H) id = cond (bytes_eq b id) (option_map (batch_row t b (length codes)) (plan_of H p)) (batch_of H id)
+batch_of (entry t (Issue b p codes) ∷ H) id =
+    cond (bytes_eq b id) (option_map (batch_row t b (length codes)) (plan_of H p)) (batch_of H id)
 batch_of (_ ∷ H) id = batch_of H id
 
 -- the codes of the batch, in order
@@ -83,7 +88,8 @@ issued_at t b place plan = record { batch = b; place = place; plan = plan; expir
 abbrev pub issued_of : History → List ℕ → Option IssuedVoucher
 issued_of [] code = None
 issued_of (entry t (Issue b p codes) ∷ H) code =
-    option_or (issued_of H code) (option_and_then (λ k. option_map (issued_at t b k.place) (plan_of H p)) (find (λ k. bytes_eq k.code code) (places_from b 0 codes)))
+    option_or (issued_of H code) (option_and_then (λ k. option_map (issued_at t b k.place) (plan_of H p))
+    (find (λ k. bytes_eq k.code code) (places_from b 0 codes)))
 issued_of (_ ∷ H) code = issued_of H code
 
 -- the time at which the code was sold
@@ -115,7 +121,8 @@ refund_entry_at t redeemed v = record { at = t; amount = amount_left v.plan rede
 abbrev pub refund_of : History → List ℕ → Option RefundEntry
 refund_of [] code = None
 refund_of (entry t (Refund c) ∷ H) code =
-    cond (bytes_eq c code) (option_map (refund_entry_at t (uses_of H code)) (issued_of H code)) (refund_of H code)
+    cond (bytes_eq c code)
+    (option_map (refund_entry_at t (uses_of H code)) (issued_of H code)) (refund_of H code)
 refund_of (_ ∷ H) code = refund_of H code
 
 -- the voucher record of that code: its issue with its sale, refund and redemptions so far
@@ -217,7 +224,8 @@ place_of gs None = greatest_session gs + 1
 
 -- the redemptions with one more, of the voucher by the device
 abbrev pub grant_at : ℕ → List ℕ → List ℕ → List Grant → Option Session → IssuedVoucher → List Grant
-grant_at t d c gs running v = record { session = place_of gs running; device = d; code = c; plan = v.plan; at = t } ∷ gs
+grant_at t d c gs running v =
+    record { session = place_of gs running; device = d; code = c; plan = v.plan; at = t } ∷ gs
 
 -- all redemptions, the newest first: each is in the device's last session if that is open, and else in a
 -- new one
@@ -225,7 +233,8 @@ abbrev pub grants_of : History → List Grant
 grants_of [] = []
 grants_of (entry t (Redeem d c) ∷ H) =
     let gs = grants_of H in
-    unwrap_or (option_map (grant_at t d c gs (kept_if (is_open_at t) (session_in gs H (last_number gs d)))) (issued_of H c)) gs
+    unwrap_or (option_map (grant_at t d c gs (kept_if (is_open_at t) (session_in gs H (last_number gs d))))
+    (issued_of H c)) gs
 grants_of (_ ∷ H) = grants_of H
 
 -- the session of that number
@@ -238,4 +247,5 @@ last_session_of H device = session_of H (last_number (grants_of H) device)
 
 -- the head row: the time of the last command, and the numbers of redemptions and of sessions
 abbrev pub head_of : History → Head
-head_of H = record { last = last_moment H; grants = length (grants_of H); sessions = greatest_session (grants_of H) }
+head_of H =
+    record { last = last_moment H; grants = length (grants_of H); sessions = greatest_session (grants_of H) }

@@ -20,13 +20,15 @@ payment at amount = record { at = at; amount = amount }
 -- the price of each voucher sold, the oldest sale first
 abbrev pub sales_of : History → List Payment
 sales_of [] = []
-sales_of (entry t (Sell c) ∷ H) = sales_of H ++ option_to_list (option_map (λ v. payment t v.plan.price) (issued_of H c))
+sales_of (entry t (Sell c) ∷ H) =
+    sales_of H ++ option_to_list (option_map (λ v. payment t v.plan.price) (issued_of H c))
 sales_of (_ ∷ H) = sales_of H
 
 -- the amount of each refund, the oldest first
 abbrev pub refunds_of : History → List Payment
 refunds_of [] = []
-refunds_of (entry t (Refund c) ∷ H) = refunds_of H ++ option_to_list (option_map (λ v. payment t (amount_left v.plan (uses_of H c))) (issued_of H c))
+refunds_of (entry t (Refund c) ∷ H) = refunds_of H
+    ++ option_to_list (option_map (λ v. payment t (amount_left v.plan (uses_of H c))) (issued_of H c))
 refunds_of (_ ∷ H) = refunds_of H
 
 -- payments with their civil days; day_of gives the civil day of a time. The takings of a day are counts and
@@ -42,7 +44,8 @@ plan_of_row r row = option_and_then (λ batch. plan_among r.plans batch.plan) (b
 
 -- the price, if the voucher is sold
 abbrev pub sale_from : Rows → VoucherRow → Option Payment
-sale_from r row = option_and_then (λ at. option_map (λ plan. payment at plan.price) (plan_of_row r row)) row.sold
+sale_from r row =
+    option_and_then (λ at. option_map (λ plan. payment at plan.price) (plan_of_row r row)) row.sold
 
 -- the sales of the rows
 abbrev pub sales_from : Rows → List Payment

@@ -1,7 +1,15 @@
 -- The number, the word and the HTTP status of each error of the desk.
 use Rattle.std.specs.Prelude.{ℕ, List, codes}
 use Rattle.portal_model.specs.declared.refusal.Refusal.{Refusal}
-use Rattle.portal_model.specs.declared.refusal.Refusal.TheVariants.{BadRequest, BadCode, BadDevice, BadPlans, Forbidden, NoRoute, BadMethod, UnknownPlan, UnknownBatch, UnknownCode, UnknownSession, PlanDiffers, BatchExists, CodeTaken, NotSold, SoldAlready, Refunded, Expired, UsedUp, NoExtend, ShapeDiffers, AllowanceFull, ClosedAlready, NothingLeft, MomentRange, NumbersFull, TooLarge, NotSupported, NoMemory, Stopped, IdReused}
+use Rattle.portal_model.specs.declared.refusal.Refusal.TheVariants.{BadRequest, BadCode, BadDevice, BadPlans}
+use Rattle.portal_model.specs.declared.refusal.Refusal.TheVariants.{Forbidden, NoRoute, BadMethod}
+use Rattle.portal_model.specs.declared.refusal.Refusal.TheVariants.{UnknownPlan, UnknownBatch, UnknownCode}
+use Rattle.portal_model.specs.declared.refusal.Refusal.TheVariants.{UnknownSession, PlanDiffers, BatchExists}
+use Rattle.portal_model.specs.declared.refusal.Refusal.TheVariants.{CodeTaken, NotSold, SoldAlready, Refunded}
+use Rattle.portal_model.specs.declared.refusal.Refusal.TheVariants.{Expired, UsedUp, NoExtend, ShapeDiffers}
+use Rattle.portal_model.specs.declared.refusal.Refusal.TheVariants.{AllowanceFull, ClosedAlready, NothingLeft}
+use Rattle.portal_model.specs.declared.refusal.Refusal.TheVariants.{MomentRange, NumbersFull, TooLarge}
+use Rattle.portal_model.specs.declared.refusal.Refusal.TheVariants.{NotSupported, NoMemory, Stopped, IdReused}
 
 -- the errors in order, from 1
 abbrev pub number_of : Refusal → ℕ

@@ -1,5 +1,7 @@
 -- The rows of the tables that a history determines, and how an accepted command changes them.
-use Rattle.std.specs.Prelude.{ℕ, ◌+◌, ℤ, pos, ◌+ℤ◌, ◌-ℤ◌, nat_abs, max, cond, nat_eq, nat_lt, List, [], ◌∷◌, ◌++◌, map, filter, find, length, sum_by, count_by, Option, Some, None, option_map, option_and_then, bytes_eq}
+use Rattle.std.specs.Prelude.{ℕ, ◌+◌, ℤ, pos, ◌+ℤ◌, ◌-ℤ◌, nat_abs, max, cond, nat_eq, nat_lt, List, [], ◌∷◌}
+use Rattle.std.specs.Prelude.{◌++◌, map, filter, find, length, sum_by, count_by, Option, Some, None}
+use Rattle.std.specs.Prelude.{option_map, option_and_then, bytes_eq}
 use Rattle.std.specs.Option.{option_or, option_to_list}
 use Rattle.portal_model.specs.declared.command.Command.TheVariants.{Load, Issue}
 use Rattle.portal_model.specs.declared.plan.Plan.{Plan}
@@ -8,8 +10,12 @@ use Rattle.portal_model.specs.declared.record.Voucher.{Voucher}
 use Rattle.portal_model.specs.declared.record.Session.{Session}
 use Rattle.portal_model.specs.declared.record.Head.{Head}
 use Rattle.portal_model.specs.declared.change.Changes.{Changes}
-use Rattle.portal_model.specs.declared.change.Changes.TheVariants.{LoadChange, IssueChange, SellChange, RedeemChange, ReportChange, RefundChange, CloseChange}
-use Rattle.portal_model.specs.History.{entry, History, plan_of, batch_row, Place, places_from, Grant, grants_of, members, greatest_session, session_row, sold_of, uses_of, refund_of, used_of, closed_of, head_of, limit_or_none}
+use Rattle.portal_model.specs.declared.change.Changes.TheVariants.{LoadChange, IssueChange, SellChange}
+use Rattle.portal_model.specs.declared.change.Changes.TheVariants.{RedeemChange, ReportChange, RefundChange}
+use Rattle.portal_model.specs.declared.change.Changes.TheVariants.{CloseChange}
+use Rattle.portal_model.specs.History.{entry, History, plan_of, batch_row, Place, places_from, Grant}
+use Rattle.portal_model.specs.History.{grants_of, members, greatest_session, session_row, sold_of, uses_of}
+use Rattle.portal_model.specs.History.{refund_of, used_of, closed_of, head_of, limit_or_none}
 use Rattle.portal_model.specs.Change.{plans_to_add, head_after, with_report, plan_among}
 
 -- a row of portal_vouchers
@@ -73,7 +79,8 @@ plans_of (_ ∷ H) = plans_of H
 -- each batch, in order of issue
 abbrev pub batches_of : History → List Batch
 batches_of [] = []
-batches_of (entry t (Issue b p codes) ∷ H) = batches_of H ++ option_to_list (option_map (batch_row t b (length codes)) (plan_of H p))
+batches_of (entry t (Issue b p codes) ∷ H) =
+    batches_of H ++ option_to_list (option_map (batch_row t b (length codes)) (plan_of H p))
 batches_of (_ ∷ H) = batches_of H
 
 -- each issued code, with its place in its batch
@@ -99,7 +106,14 @@ vouchers_of H = map (row_of_place H) (places_of H)
 
 -- the row of the session that a redemption opened
 abbrev pub row_of_opening : History → Grant → SessionRow
-row_of_opening H g = record { number = g.session; device = g.device; plan = g.plan.id; opened = g.at; used = used_of H g.session; closed = closed_of H g.session }
+row_of_opening H g = record {
+  number = g.session;
+  device = g.device;
+  plan = g.plan.id;
+  opened = g.at;
+  used = used_of H g.session;
+  closed = closed_of H g.session;
+}
 
 -- the redemptions that opened a session: those with a new session number
 abbrev pub openings : List Grant → List Grant
@@ -112,7 +126,14 @@ sessions_of H = map (row_of_opening H) (openings (grants_of H))
 
 -- the row of a redemption, with that number
 abbrev pub row_of_grant : ℕ → Grant → GrantRow
-row_of_grant number g = record { number = number; code = g.code; session = g.session; moment = g.at; seconds = g.plan.seconds; bytes = g.plan.bytes }
+row_of_grant number g = record {
+  number = number;
+  code = g.code;
+  session = g.session;
+  moment = g.at;
+  seconds = g.plan.seconds;
+  bytes = g.plan.bytes;
+}
 
 -- each redemption, numbered from 1
 abbrev pub grant_rows : List Grant → List GrantRow
@@ -179,7 +200,8 @@ total_from r s =
     record {
       number = s.number;
       ends = option_and_then (λ p. limit_or_none p.seconds (s.opened + sum_by (λ g. g.seconds) grants)) plan;
-      remaining = remaining_of s.used (option_and_then (λ p. limit_or_none p.bytes (sum_by (λ g. g.bytes) grants)) plan);
+      remaining = remaining_of s.used
+          (option_and_then (λ p. limit_or_none p.bytes (sum_by (λ g. g.bytes) grants)) plan);
     }
 
 -- the totals of all sessions
@@ -195,7 +217,9 @@ with_last_moment t head = record head { last = t }
 -- the rows of the vouchers of a new batch, from place n on
 abbrev pub new_vouchers : List ℕ → ℕ → List (List ℕ) → List VoucherRow
 new_vouchers b n [] = []
-new_vouchers b n (code ∷ codes) = record { code = code; batch = b; place = n; sold = None; refunded = None; amount = None } ∷ new_vouchers b (n + 1) codes
+new_vouchers b n (code ∷ codes) =
+    record { code = code; batch = b; place = n; sold = None; refunded = None; amount = None }
+    ∷ new_vouchers b (n + 1) codes
 
 -- the row, sold at t if it has that code
 abbrev pub sold_if : List ℕ → ℕ → VoucherRow → VoucherRow
@@ -203,7 +227,8 @@ sold_if code t v = cond (bytes_eq code v.code) (record v { sold = Some t }) v
 
 -- the row, refunded at t if it has that code
 abbrev pub refunded_if : List ℕ → ℕ → ℕ → VoucherRow → VoucherRow
-refunded_if code t amount v = cond (bytes_eq code v.code) (record v { refunded = Some t; amount = Some amount }) v
+refunded_if code t amount v =
+    cond (bytes_eq code v.code) (record v { refunded = Some t; amount = Some amount }) v
 
 -- the row, with so many used bytes if it has that number
 abbrev pub used_if : ℕ → ℕ → SessionRow → SessionRow
@@ -216,11 +241,25 @@ closed_if number t s = cond (nat_eq number s.number) (record s { closed = Some t
 -- the new row of portal_sessions of a redemption that opens a session
 abbrev pub new_session : Option Session → Voucher → Session → List SessionRow
 new_session (Some running) v s = []
-new_session None v s = record { number = s.number; device = s.device; plan = v.plan.id; opened = s.opened; used = 0; closed = None } ∷ []
+new_session None v s = record {
+  number = s.number;
+  device = s.device;
+  plan = v.plan.id;
+  opened = s.opened;
+  used = 0;
+  closed = None;
+} ∷ []
 
 -- the new row of portal_grants of a redemption, with the next number
 abbrev pub new_grant : Head → Voucher → Session → ℕ → GrantRow
-new_grant head v s t = record { number = head.grants + 1; code = v.code; session = s.number; moment = t; seconds = v.plan.seconds; bytes = v.plan.bytes }
+new_grant head v s t = record {
+  number = head.grants + 1;
+  code = v.code;
+  session = s.number;
+  moment = t;
+  seconds = v.plan.seconds;
+  bytes = v.plan.bytes;
+}
 
 -- the rows of portal_counts of a new batch
 abbrev pub new_counts : List (List ℕ) → List CountRow
@@ -242,14 +281,16 @@ totals_after None s totals = totals ++ total_row s ∷ []
 
 -- the rows after the changes: some are added at the end, some are changed in place
 abbrev pub rows_after_changes : Changes → Rows → Rows
-rows_after_changes (LoadChange c) r = record r { head = with_last_moment c.at r.head; plans = r.plans ++ c.added }
+rows_after_changes (LoadChange c) r =
+    record r { head = with_last_moment c.at r.head; plans = r.plans ++ c.added }
 rows_after_changes (IssueChange c) r = record r {
   head = with_last_moment c.at r.head;
   batches = r.batches ++ c.batch ∷ [];
   vouchers = r.vouchers ++ new_vouchers c.batch.id 0 c.codes;
   counts = r.counts ++ new_counts c.codes;
 }
-rows_after_changes (SellChange c) r = record r { head = with_last_moment c.at r.head; vouchers = map (sold_if c.voucher.code c.at) r.vouchers }
+rows_after_changes (SellChange c) r =
+    record r { head = with_last_moment c.at r.head; vouchers = map (sold_if c.voucher.code c.at) r.vouchers }
 rows_after_changes (RedeemChange c) r = record r {
   head = head_after r.head c.running c.at;
   sessions = r.sessions ++ new_session c.running c.voucher c.session;
@@ -262,8 +303,13 @@ rows_after_changes (ReportChange c) r = record r {
   sessions = map (used_if c.session.number (max c.bytes c.session.used)) r.sessions;
   totals = map (totalled_if (with_report c.bytes c.session)) r.totals;
 }
-rows_after_changes (RefundChange c) r = record r { head = with_last_moment c.at r.head; vouchers = map (refunded_if c.voucher.code c.at c.amount) r.vouchers }
-rows_after_changes (CloseChange c) r = record r { head = with_last_moment c.at r.head; sessions = map (closed_if c.session.number c.at) r.sessions }
+rows_after_changes (RefundChange c) r = record r {
+  head = with_last_moment c.at r.head;
+  vouchers = map
+      (refunded_if c.voucher.code c.at c.amount) r.vouchers;
+}
+rows_after_changes (CloseChange c) r = record r
+    { head = with_last_moment c.at r.head; sessions = map (closed_if c.session.number c.at) r.sessions }
 
 -- The records, read from the rows by their keys
 
@@ -294,7 +340,9 @@ voucher_of_rows row count batch plan = record {
 -- the voucher of that code
 abbrev pub voucher_from : Rows → List ℕ → Option Voucher
 voucher_from r code =
-    option_and_then (λ row. option_and_then (λ count. option_and_then (λ batch. option_map (voucher_of_rows row count batch) (plan_among r.plans batch.plan)) (batch_among r.batches row.batch)) (count_among r.counts code)) (row_among r.vouchers code)
+    option_and_then (λ row. option_and_then (λ count.
+    option_and_then (λ batch. option_map (voucher_of_rows row count batch) (plan_among r.plans batch.plan))
+    (batch_among r.batches row.batch)) (count_among r.counts code)) (row_among r.vouchers code)
 
 -- the row of the session of that number
 abbrev pub session_among : List SessionRow → ℕ → Option SessionRow
@@ -324,12 +372,15 @@ session_of_rows row total plan = record {
 -- the session of that number
 abbrev pub session_from : Rows → ℕ → Option Session
 session_from r number =
-    option_and_then (λ row. option_and_then (λ total. option_map (session_of_rows row total) (plan_among r.plans row.plan)) (total_among r.totals number)) (session_among r.sessions number)
+    option_and_then (λ row. option_and_then (λ total.
+    option_map (session_of_rows row total) (plan_among r.plans row.plan)) (total_among r.totals number))
+    (session_among r.sessions number)
 
 -- the last row of the sessions of a device
 abbrev pub last_among : List SessionRow → List ℕ → Option SessionRow
 last_among [] device = None
-last_among (s ∷ rows) device = option_or (last_among rows device) (cond (bytes_eq s.device device) (Some s) None)
+last_among (s ∷ rows) device =
+    option_or (last_among rows device) (cond (bytes_eq s.device device) (Some s) None)
 
 -- the last session of the device
 abbrev pub last_session_from : Rows → List ℕ → Option Session

@@ -14,7 +14,8 @@ pub record AreTerms (price uses seconds bytes shelf_days : ℕ) : Type 0 where
   pub limits_something : 0 < seconds + bytes
 
 -- the plan has these terms
-pub record IsPlanOf (id : List ℕ) (price uses seconds bytes shelf_days : ℕ) (extend : Bool) (p : Plan) : Type 0 where
+pub record IsPlanOf (id : List ℕ) (price uses seconds bytes shelf_days : ℕ) (extend : Bool)
+    (p : Plan) : Type 0 where
   pub id_is : p.id ≡ id
   pub price_is : p.price ≡ price
   pub uses_is : p.uses ≡ uses

@@ -1,14 +1,20 @@
 -- Test vectors: histories with the answers to commands and the captive state of devices. Each equation
 -- holds by computing the definitions.
-use Rattle.std.specs.Prelude.{◌≡◌, ℕ, true, false, List, [], ◌∷◌, ◌++◌, replicate, codes, Option, Some, None, option_map}
+use Rattle.std.specs.Prelude.{◌≡◌, ℕ, true, false, List, [], ◌∷◌, ◌++◌, replicate, codes, Option, Some, None}
+use Rattle.std.specs.Prelude.{option_map}
 use Rattle.std.proofs.Common.{refl, lit≤}
 use Rattle.portal_model.specs.declared.command.Command.{Command}
-use Rattle.portal_model.specs.declared.command.Command.TheVariants.{Load, Issue, Sell, Redeem, Report, Refund, Close}
+use Rattle.portal_model.specs.declared.command.Command.TheVariants.{Load, Issue, Sell, Redeem, Report, Refund}
+use Rattle.portal_model.specs.declared.command.Command.TheVariants.{Close}
 use Rattle.portal_model.specs.declared.change.Answer.{Answer}
-use Rattle.portal_model.specs.declared.change.Answer.TheVariants.{LoadAnswer, IssueAnswer, SellAnswer, RedeemAnswer, ReportAnswer, RefundAnswer as PaidBack, CloseAnswer}
+use Rattle.portal_model.specs.declared.change.Answer.TheVariants.{LoadAnswer, IssueAnswer, SellAnswer}
+use Rattle.portal_model.specs.declared.change.Answer.TheVariants.{RedeemAnswer, ReportAnswer}
+use Rattle.portal_model.specs.declared.change.Answer.TheVariants.{RefundAnswer as PaidBack, CloseAnswer}
 use Rattle.portal_model.specs.declared.plan.Plan.{Plan}
 use Rattle.portal_model.specs.declared.refusal.Refusal.{Refusal}
-use Rattle.portal_model.specs.declared.refusal.Refusal.TheVariants.{UnknownSession, NotSold, Refunded, Expired, UsedUp, NoExtend, ShapeDiffers, AllowanceFull, ClosedAlready}
+use Rattle.portal_model.specs.declared.refusal.Refusal.TheVariants.{UnknownSession, NotSold, Refunded}
+use Rattle.portal_model.specs.declared.refusal.Refusal.TheVariants.{Expired, UsedUp, NoExtend, ShapeDiffers}
+use Rattle.portal_model.specs.declared.refusal.Refusal.TheVariants.{AllowanceFull, ClosedAlready}
 use Rattle.portal_model.specs.declared.captive.Captive.{Captive}
 use Rattle.portal_model.specs.History.{entry, History, effective_moment, voucher_of, session_of}
 use Rattle.portal_model.specs.Verdict.{verdict}
@@ -31,15 +37,66 @@ ShowsCaptiveState H t device state = captive_of H device t ≡ state
 
 -- a plan of an hour, one use
 abbrev pub hour : Plan
-hour = record { id = codes "hour"; price = 300; uses = 1; seconds = 3600; bytes = 0; shelf_days = 30; extend = true; id_text = record { least = lit≤ tt; most = lit≤ tt; characters = refl }; price_limit = lit≤ tt; uses_least = lit≤ tt; uses_limit = lit≤ tt; seconds_limit = lit≤ tt; bytes_limit = lit≤ tt; shelf_least = lit≤ tt; shelf_limit = lit≤ tt; limits_something = lit≤ tt }
+hour = record {
+  id = codes "hour";
+  price = 300;
+  uses = 1;
+  seconds = 3600;
+  bytes = 0;
+  shelf_days = 30;
+  extend = true;
+  id_text = record { least = lit≤ tt; most = lit≤ tt; characters = refl };
+  price_limit = lit≤ tt;
+  uses_least = lit≤ tt;
+  uses_limit = lit≤ tt;
+  seconds_limit = lit≤ tt;
+  bytes_limit = lit≤ tt;
+  shelf_least = lit≤ tt;
+  shelf_limit = lit≤ tt;
+  limits_something = lit≤ tt;
+}
 
 -- a plan of a gibibyte, three uses, which does not extend a session
 abbrev pub gig : Plan
-gig = record { id = codes "gig"; price = 500; uses = 3; seconds = 0; bytes = 1073741824; shelf_days = 30; extend = false; id_text = record { least = lit≤ tt; most = lit≤ tt; characters = refl }; price_limit = lit≤ tt; uses_least = lit≤ tt; uses_limit = lit≤ tt; seconds_limit = lit≤ tt; bytes_limit = lit≤ tt; shelf_least = lit≤ tt; shelf_limit = lit≤ tt; limits_something = lit≤ tt }
+gig = record {
+  id = codes "gig";
+  price = 500;
+  uses = 3;
+  seconds = 0;
+  bytes = 1073741824;
+  shelf_days = 30;
+  extend = false;
+  id_text = record { least = lit≤ tt; most = lit≤ tt; characters = refl };
+  price_limit = lit≤ tt;
+  uses_least = lit≤ tt;
+  uses_limit = lit≤ tt;
+  seconds_limit = lit≤ tt;
+  bytes_limit = lit≤ tt;
+  shelf_least = lit≤ tt;
+  shelf_limit = lit≤ tt;
+  limits_something = lit≤ tt;
+}
 
 -- a plan of a petabyte, ten uses
 abbrev pub peta : Plan
-peta = record { id = codes "peta"; price = 100; uses = 10; seconds = 0; bytes = 1000000000000000; shelf_days = 30; extend = true; id_text = record { least = lit≤ tt; most = lit≤ tt; characters = refl }; price_limit = lit≤ tt; uses_least = lit≤ tt; uses_limit = lit≤ tt; seconds_limit = lit≤ tt; bytes_limit = lit≤ tt; shelf_least = lit≤ tt; shelf_limit = lit≤ tt; limits_something = lit≤ tt }
+peta = record {
+  id = codes "peta";
+  price = 100;
+  uses = 10;
+  seconds = 0;
+  bytes = 1000000000000000;
+  shelf_days = 30;
+  extend = true;
+  id_text = record { least = lit≤ tt; most = lit≤ tt; characters = refl };
+  price_limit = lit≤ tt;
+  uses_least = lit≤ tt;
+  uses_limit = lit≤ tt;
+  seconds_limit = lit≤ tt;
+  bytes_limit = lit≤ tt;
+  shelf_least = lit≤ tt;
+  shelf_limit = lit≤ tt;
+  limits_something = lit≤ tt;
+}
 
 -- 02:00:00:00:00:01
 abbrev pub device1 : List ℕ
@@ -101,8 +158,10 @@ hour_redeemed = entry 1000 (Redeem device1 code3) ∷ hour_sold
 abbrev pub IssueSellRedeem : Type 0
 IssueSellRedeem =
     AnswersWith [] 0 (Load (hour ∷ gig ∷ [])) (LoadAnswer 2)
-    × AnswersWith history_with_plans 1000 (issue_of (codes "b1") hour code3) (IssueAnswer (codes "b1") 1 2593000)
-    × AnswersWith (entry 1000 (issue_of (codes "b1") hour code3) ∷ history_with_plans) 1000 (Sell code3) (SellAnswer code3 300)
+    × AnswersWith history_with_plans 1000 (issue_of (codes "b1") hour code3)
+    (IssueAnswer (codes "b1") 1 2593000)
+    × AnswersWith (entry 1000 (issue_of (codes "b1") hour code3) ∷ history_with_plans) 1000
+    (Sell code3) (SellAnswer code3 300)
     × AnswersWith hour_sold 1000 (Redeem device1 code3) (RedeemAnswer false 1 0)
     × ShowsCaptiveState hour_redeemed 4599 device1 (has_seconds 1)
     × ShowsCaptiveState hour_redeemed 4600 device1 is_captive
@@ -198,7 +257,8 @@ CloseSession =
 
 -- the history in which one device redeems the petabyte that often
 abbrev pub peta_redeemed : ℕ → History
-peta_redeemed n = replicate n (entry 1000 (Redeem device1 code1)) ++ sold_on (codes "b1") peta code1 (entry 0 (Load (peta ∷ [])) ∷ [])
+peta_redeemed n = replicate n (entry 1000 (Redeem device1 code1))
+    ++ sold_on (codes "b1") peta code1 (entry 0 (Load (peta ∷ [])) ∷ [])
 
 -- nine petabytes fit in the allowance, and a tenth does not
 abbrev pub AllowanceIsFull : Type 0

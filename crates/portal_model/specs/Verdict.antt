@@ -1,19 +1,28 @@
 -- Which commands the desk refuses, and with which error.
-use Rattle.std.specs.Prelude.{◌≡◌, ℕ, ◌+◌, ◌≤◌, Bool, true, false, cond, not, ◌&&◌, ◌||◌, nat_eq, nat_lt, nat_le, List, [], ◌∷◌, length, map, All, Option, Some, None, is_some, is_none, bytes_eq}
+use Rattle.std.specs.Prelude.{◌≡◌, ℕ, ◌+◌, ◌≤◌, Bool, true, false, cond, not, ◌&&◌, ◌||◌, nat_eq, nat_lt}
+use Rattle.std.specs.Prelude.{nat_le, List, [], ◌∷◌, length, map, All, Option, Some, None, is_some, is_none}
+use Rattle.std.specs.Prelude.{bytes_eq}
 use Rattle.std.specs.List.{list_any}
 use Rattle.portal_codes.specs.Code.{IsCode}
 use Rattle.portal_model.specs.IdText.{IsIdText}
 use Rattle.portal_model.specs.Device.{IsDevice}
 use Rattle.portal_model.specs.declared.command.Command.{Command}
-use Rattle.portal_model.specs.declared.command.Command.TheVariants.{Load, Issue, Sell, Redeem, Report, Refund, Close}
+use Rattle.portal_model.specs.declared.command.Command.TheVariants.{Load, Issue, Sell, Redeem, Report, Refund}
+use Rattle.portal_model.specs.declared.command.Command.TheVariants.{Close}
 use Rattle.portal_model.specs.declared.plan.Plan.{Plan}
 use Rattle.portal_model.specs.declared.record.Batch.{Batch}
 use Rattle.portal_model.specs.declared.record.Voucher.{Voucher}
 use Rattle.portal_model.specs.declared.record.Session.{Session}
 use Rattle.portal_model.specs.declared.record.Head.{Head}
 use Rattle.portal_model.specs.declared.refusal.Refusal.{Refusal}
-use Rattle.portal_model.specs.declared.refusal.Refusal.TheVariants.{UnknownPlan, UnknownCode, UnknownSession, PlanDiffers, BatchExists, CodeTaken, NotSold, SoldAlready, Refunded, Expired, UsedUp, NoExtend, ShapeDiffers, AllowanceFull, ClosedAlready, NothingLeft, MomentRange, NumbersFull}
-use Rattle.portal_model.specs.History.{entry, History, last_moment, plan_of, expiry, batch_of, issued_of, voucher_of, is_open_at, session_of, last_session_of, head_of, kept_if}
+use Rattle.portal_model.specs.declared.refusal.Refusal.TheVariants.{UnknownPlan, UnknownCode, UnknownSession}
+use Rattle.portal_model.specs.declared.refusal.Refusal.TheVariants.{PlanDiffers, BatchExists, CodeTaken}
+use Rattle.portal_model.specs.declared.refusal.Refusal.TheVariants.{NotSold, SoldAlready, Refunded, Expired}
+use Rattle.portal_model.specs.declared.refusal.Refusal.TheVariants.{UsedUp, NoExtend, ShapeDiffers}
+use Rattle.portal_model.specs.declared.refusal.Refusal.TheVariants.{AllowanceFull, ClosedAlready, NothingLeft}
+use Rattle.portal_model.specs.declared.refusal.Refusal.TheVariants.{MomentRange, NumbersFull}
+use Rattle.portal_model.specs.History.{entry, History, last_moment, plan_of, expiry, batch_of, issued_of}
+use Rattle.portal_model.specs.History.{voucher_of, is_open_at, session_of, last_session_of, head_of, kept_if}
 
 -- the last second of the year 9998
 abbrev pub greatest_moment : ℕ
@@ -45,7 +54,8 @@ bool_eq false b = not b
 
 -- the plans are equal but for their ids
 abbrev pub same_terms : Plan → Plan → Bool
-same_terms p q = nat_eq p.price q.price && (nat_eq p.uses q.uses && (nat_eq p.seconds q.seconds && (nat_eq p.bytes q.bytes && (nat_eq p.shelf_days q.shelf_days && bool_eq p.extend q.extend))))
+same_terms p q = nat_eq p.price q.price && (nat_eq p.uses q.uses && (nat_eq p.seconds q.seconds
+    && (nat_eq p.bytes q.bytes && (nat_eq p.shelf_days q.shelf_days && bool_eq p.extend q.extend))))
 
 -- a plan of that id is loaded, with other terms
 abbrev pub differs : Option Plan → Plan → Bool
@@ -89,7 +99,8 @@ sell_verdict (Some v) t = first_refusal (
 
 -- the session and the plan limit the same quantities
 abbrev pub same_limits : Session → Plan → Bool
-same_limits s plan = bool_eq (is_some s.ends) (nat_lt 0 plan.seconds) && bool_eq (is_some s.allowance) (nat_lt 0 plan.bytes)
+same_limits s plan =
+    bool_eq (is_some s.ends) (nat_lt 0 plan.seconds) && bool_eq (is_some s.allowance) (nat_lt 0 plan.bytes)
 
 -- the limit, raised by that much, exceeds the greatest
 abbrev pub is_past : ℕ → Option ℕ → ℕ → Bool
@@ -129,7 +140,8 @@ voucher_verdict (Some v) t = voucher_refusal v t
 -- redeeming: the errors of the voucher, then those of the session
 abbrev pub redeem_verdict : Head → Option Voucher → Option Session → ℕ → Option Refusal
 redeem_verdict head None last t = Some UnknownCode
-redeem_verdict head (Some v) last t = else_verdict (voucher_refusal v t) (place_verdict head v.plan t (kept_if (is_open_at t) last))
+redeem_verdict head (Some v) last t =
+    else_verdict (voucher_refusal v t) (place_verdict head v.plan t (kept_if (is_open_at t) last))
 
 -- Report, refund, close
 

@@ -1,17 +1,27 @@
 -- Test vectors of verdicts: for each command, tables of verdicts at each limit and where two neighbouring
 -- errors both apply. Each line holds by computing the definitions.
-use Rattle.std.specs.Prelude.{◌≡◌, ℕ, ◌-◌, true, false, List, [], ◌∷◌, ◌++◌, replicate, map, codes, Option, Some, None}
+use Rattle.std.specs.Prelude.{◌≡◌, ℕ, ◌-◌, true, false, List, [], ◌∷◌, ◌++◌, replicate, map, codes, Option}
+use Rattle.std.specs.Prelude.{Some, None}
 use Rattle.std.proofs.Common.{refl, lit≤}
 use Rattle.portal_model.specs.declared.command.Command.{Command}
-use Rattle.portal_model.specs.declared.command.Command.TheVariants.{Load, Issue, Sell, Redeem, Report, Refund, Close}
+use Rattle.portal_model.specs.declared.command.Command.TheVariants.{Load, Issue, Sell, Redeem, Report, Refund}
+use Rattle.portal_model.specs.declared.command.Command.TheVariants.{Close}
 use Rattle.portal_model.specs.declared.plan.Plan.{Plan}
 use Rattle.portal_model.specs.declared.record.Head.{Head}
 use Rattle.portal_model.specs.declared.captive.Captive.{Captive}
 use Rattle.portal_model.specs.declared.refusal.Refusal.{Refusal}
-use Rattle.portal_model.specs.declared.refusal.Refusal.TheVariants.{UnknownPlan, UnknownCode, UnknownSession, PlanDiffers, BatchExists, CodeTaken, NotSold, SoldAlready, Refunded, Expired, UsedUp, NoExtend, ShapeDiffers, AllowanceFull, ClosedAlready, NothingLeft, MomentRange, NumbersFull}
-use Rattle.portal_model.specs.History.{entry, History, last_moment, effective_moment, batch_of, voucher_of, last_session_of}
+use Rattle.portal_model.specs.declared.refusal.Refusal.TheVariants.{UnknownPlan, UnknownCode, UnknownSession}
+use Rattle.portal_model.specs.declared.refusal.Refusal.TheVariants.{PlanDiffers, BatchExists, CodeTaken}
+use Rattle.portal_model.specs.declared.refusal.Refusal.TheVariants.{NotSold, SoldAlready, Refunded, Expired}
+use Rattle.portal_model.specs.declared.refusal.Refusal.TheVariants.{UsedUp, NoExtend, ShapeDiffers}
+use Rattle.portal_model.specs.declared.refusal.Refusal.TheVariants.{AllowanceFull, ClosedAlready, NothingLeft}
+use Rattle.portal_model.specs.declared.refusal.Refusal.TheVariants.{MomentRange, NumbersFull}
+use Rattle.portal_model.specs.History.{entry, History, last_moment, effective_moment, batch_of, voucher_of}
+use Rattle.portal_model.specs.History.{last_session_of}
 use Rattle.portal_model.specs.Verdict.{verdict, redeem_verdict}
-use Rattle.portal_model.specs.TestVectors.{ShowsCaptiveState, hour, gig, peta, device1, device2, code1, code2, code3, issue_of, sold_at, sold_on, history_with_plans, hour_sold, hour_redeemed, gig_redeemed, is_captive, has_seconds}
+use Rattle.portal_model.specs.TestVectors.{ShowsCaptiveState, hour, gig, peta, device1, device2, code1, code2}
+use Rattle.portal_model.specs.TestVectors.{code3, issue_of, sold_at, sold_on, history_with_plans, hour_sold}
+use Rattle.portal_model.specs.TestVectors.{hour_redeemed, gig_redeemed, is_captive, has_seconds}
 
 -- after a history, a command at a time is accepted, or refused with that error
 pub data Case : Type 0 where
@@ -112,8 +122,10 @@ abbrev pub LoadVerdicts : Type 0
 LoadVerdicts = AreVerdicts (
     accepted history_with_plans 1000 (Load (hour ∷ gig ∷ []))
     ∷ accepted history_with_plans 1000 (Load (gig ∷ peta ∷ []))
-    ∷ refused history_with_plans 1000 (Load (record hour { price = 301; price_limit = lit≤ tt } ∷ [])) PlanDiffers
-    ∷ refused history_with_plans 1000 (Load (record hour { uses = 2; uses_least = lit≤ tt; uses_limit = lit≤ tt } ∷ [])) PlanDiffers
+    ∷ refused history_with_plans 1000
+    (Load (record hour { price = 301; price_limit = lit≤ tt } ∷ [])) PlanDiffers
+    ∷ refused history_with_plans 1000
+    (Load (record hour { uses = 2; uses_least = lit≤ tt; uses_limit = lit≤ tt } ∷ [])) PlanDiffers
     ∷ refused history_with_plans 1000 (Load (longer ∷ [])) PlanDiffers
     ∷ refused history_with_plans 1000 (Load (limited_in_bytes ∷ [])) PlanDiffers
     ∷ refused history_with_plans 1000 (Load (kept_longer ∷ [])) PlanDiffers
@@ -173,7 +185,8 @@ late_hour t = entry t (Redeem device1 code3) ∷ late_sold
 
 -- and a second hour, not yet redeemed
 abbrev pub late_second : ℕ → History
-late_second t = entry t (Redeem device1 code3) ∷ sold_at (last_second - 2592000) (codes "b2") hour code1 late_sold
+late_second t =
+    entry t (Redeem device1 code3) ∷ sold_at (last_second - 2592000) (codes "b2") hour code1 late_sold
 
 -- 9 times 366 days before the maximum time
 abbrev pub nine_years_before : ℕ
@@ -187,7 +200,8 @@ years n =
 
 -- a petabyte, redeemed so often by one device
 abbrev pub petabytes : ℕ → History
-petabytes n = replicate n (entry 1000 (Redeem device1 code1)) ++ sold_on (codes "b1") peta code1 history_of_plans
+petabytes n =
+    replicate n (entry 1000 (Redeem device1 code1)) ++ sold_on (codes "b1") peta code1 history_of_plans
 
 -- Redeeming, a new session: it may end at the maximum time, and the error for a used-up voucher comes first
 abbrev pub OpeningVerdicts : Type 0
@@ -200,7 +214,8 @@ OpeningVerdicts = AreVerdicts (
 -- an hour of the first device, and a voucher of that plan
 abbrev pub hour_and : Plan → History
 hour_and plan =
-    sold_on (codes "b2") plan code4 (entry 1000 (Redeem device1 code3) ∷ sold_on (codes "b1") hour code3 history_of_plans)
+    sold_on (codes "b2") plan code4
+    (entry 1000 (Redeem device1 code3) ∷ sold_on (codes "b1") hour code3 history_of_plans)
 
 -- so many petabytes of the first device, and a voucher of that plan
 abbrev pub petabytes_and : ℕ → Plan → History
@@ -245,7 +260,8 @@ NumbersAreFull =
     × (after_redemptions 9007199254740991 second code1 2000 ≡ Some NumbersFull)
     × (after_redemptions 9007199254740991 late code1 (last_second - 7199) ≡ Some MomentRange)
 
--- Refunding: an expired voucher too. No legal history has a voucher that was refunded and has no use left, or one that
+-- Refunding: an expired voucher too. No legal history has a voucher that was refunded and has no use left, or
+-- one that
 -- was used or refunded and not sold; the order is stated all the same.
 abbrev pub RefundVerdicts : Type 0
 RefundVerdicts =
@@ -287,7 +303,8 @@ DeskRefusals = AreVerdicts (
 
 -- online for so many seconds and bytes, and may extend
 abbrev pub has_both : ℕ → ℕ → Captive
-has_both seconds bytes = record { captive = false; seconds = Some seconds; bytes = Some bytes; extend = Some true }
+has_both seconds bytes =
+    record { captive = false; seconds = Some seconds; bytes = Some bytes; extend = Some true }
 
 -- a session that is limited in both ends with the first of them
 abbrev pub LimitedInBoth : Type 0

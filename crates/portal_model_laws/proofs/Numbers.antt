@@ -1,5 +1,9 @@
 -- Sessions and grants are numbered without a gap.
-use Rattle.portal_model_laws.proofs.Common.{◌≡◌, ℕ, ◌+◌, ◌<◌, List, map, length, arith, subst, ap, sym, ◌∙◌, range_with_len, length-map, Grant, grants_of, greatest_session, SessionRow, TotalRow, openings, row_of_opening, total_of_opening, sessions_of, grant_rows, VoucherRow, CountRow, places_of, row_of_place, count_of_place, head_of, has_duplicate}
+use Rattle.portal_model_laws.proofs.Common.{◌≡◌, ℕ, ◌+◌, ◌<◌, List, map, length, arith, subst, ap, sym, ◌∙◌}
+use Rattle.portal_model_laws.proofs.Common.{range_with_len, length-map, Grant, grants_of, greatest_session}
+use Rattle.portal_model_laws.proofs.Common.{SessionRow, TotalRow, openings, row_of_opening, total_of_opening}
+use Rattle.portal_model_laws.proofs.Common.{sessions_of, grant_rows, VoucherRow, CountRow, places_of}
+use Rattle.portal_model_laws.proofs.Common.{row_of_place, count_of_place, head_of, has_duplicate}
 use Rattle.std.specs.List.Sorted.{IsStrictlyIncreasing}
 use Rattle.std.proofs.lemmas.List.FromFn.{length-range_with_len, get_or-range_with_len}
 use Rattle.portal_model_laws.specs.Laws.{RowsAreNumbered, KeysAreUnique}
@@ -7,7 +11,8 @@ use Rattle.portal_model_laws.proofs.Basics.{map-map}
 use Rattle.portal_model_laws.proofs.Keys.{plans_apart, batches_apart, codes_apart}
 use Rattle.portal_model_laws.proofs.Placed.{are_placed, openings-numbers, grants-numbers}
 
-length-numbers : {X : Type 0} (f : X → ℕ) (xs : List X) (n : ℕ) → map f xs ≡ range_with_len 1 n → length xs ≡ n
+length-numbers : {X : Type 0} (f : X → ℕ) (xs : List X) (n : ℕ)
+    → map f xs ≡ range_with_len 1 n → length xs ≡ n
 length-numbers f xs n e = sym (length-map xs f) ∙ ap length e ∙ length-range_with_len 1 n
 
 range-rises : (n : ℕ) → IsStrictlyIncreasing (range_with_len 1 n)
@@ -21,7 +26,8 @@ pub rows_are_numbered : RowsAreNumbered
 rows_are_numbered H legal =
     let gs : List Grant = grants_of H in
     let opened = openings-numbers gs (are_placed H legal) in
-    let sessions : map (λ s. s.number) (sessions_of H) ≡ range_with_len 1 (greatest_session gs) = map-map (row_of_opening H) (λ (s : SessionRow). s.number) (openings gs) ∙ opened in
+    let sessions : map (λ s. s.number) (sessions_of H) ≡ range_with_len 1 (greatest_session gs) =
+    map-map (row_of_opening H) (λ (s : SessionRow). s.number) (openings gs) ∙ opened in
     record {
       sessions = sessions;
       totals = map-map (total_of_opening H) (λ (s : TotalRow). s.number) (openings gs) ∙ opened;

@@ -3,14 +3,18 @@ use Rattle.std.specs.Prelude.{ℕ, Bool, List, [], ◌∷◌, ◌++◌, map, fil
 use Rattle.std.specs.List.{list_any, filter_map}
 use Rattle.std.specs.Option.{option_to_list}
 use Rattle.portal_model.specs.declared.command.Command.{Command}
-use Rattle.portal_model.specs.declared.command.Command.TheVariants.{Load, Issue, Sell, Redeem, Report, Refund, Close}
+use Rattle.portal_model.specs.declared.command.Command.TheVariants.{Load, Issue, Sell, Redeem, Report, Refund}
+use Rattle.portal_model.specs.declared.command.Command.TheVariants.{Close}
 use Rattle.portal_model.specs.declared.change.Changes.{Changes}
 use Rattle.portal_model.specs.declared.plan.Plan.{Plan}
 use Rattle.portal_model.specs.declared.record.Session.{Session}
 use Rattle.portal_model.specs.declared.refusal.Refusal.{Refusal}
-use Rattle.portal_model.specs.Change.{plan_among, load_change, issue_change, sell_change, redeem_change, report_change, refund_change, close_change}
-use Rattle.portal_model.specs.Rows.{Rows, VoucherRow, batch_among, row_among, voucher_from, session_from, last_session_from}
-use Rattle.portal_model.specs.Verdict.{load_verdict, issue_verdict, sell_verdict, redeem_verdict, report_verdict, refund_verdict, close_verdict}
+use Rattle.portal_model.specs.Change.{plan_among, load_change, issue_change, sell_change, redeem_change}
+use Rattle.portal_model.specs.Change.{report_change, refund_change, close_change}
+use Rattle.portal_model.specs.Rows.{Rows, VoucherRow, batch_among, row_among, voucher_from, session_from}
+use Rattle.portal_model.specs.Rows.{last_session_from}
+use Rattle.portal_model.specs.Verdict.{load_verdict, issue_verdict, sell_verdict, redeem_verdict}
+use Rattle.portal_model.specs.Verdict.{report_verdict, refund_verdict, close_verdict}
 
 -- the sessions of the rows, in their order
 abbrev pub sessions_from : Rows → List Session
@@ -32,7 +36,8 @@ held_among rows (p ∷ listed) = option_to_list (plan_among rows p.id) ++ held_a
 -- the verdict of each command, over the records that are read from the rows
 abbrev pub verdict_from : Rows → Command → ℕ → Option Refusal
 verdict_from r (Load plans) t = load_verdict (plan_among r.plans) plans
-verdict_from r (Issue b p codes) t = issue_verdict (plan_among r.plans p) (batch_among r.batches b) (any_taken r.vouchers codes) codes t
+verdict_from r (Issue b p codes) t =
+    issue_verdict (plan_among r.plans p) (batch_among r.batches b) (any_taken r.vouchers codes) codes t
 verdict_from r (Sell c) t = sell_verdict (voucher_from r c) t
 verdict_from r (Redeem d c) t = redeem_verdict r.head (voucher_from r c) (last_session_from r d) t
 verdict_from r (Report n bytes) t = report_verdict (session_from r n)

@@ -1,12 +1,16 @@
 -- The words of other crates that the proofs cite, passed on from one place.
-pub use Rattle.std.proofs.Common.{List, None, Option, Some, [], ap, ap₂, arith, false, inl, inr, length, rules, subst, subst₂, suc, sym, true, true≢false, zero, ℕ, ◌<◌, ◌∙◌, ◌∷◌, ◌≡◌}
+pub use Rattle.std.proofs.Common.{List, None, Option, Some, [], ap, ap₂, arith, false, inl, inr, length}
+pub use Rattle.std.proofs.Common.{rules, subst, subst₂, suc, sym, true, true≢false, zero, ℕ, ◌<◌, ◌∙◌, ◌∷◌}
+pub use Rattle.std.proofs.Common.{◌≡◌}
 pub use Rattle.std.specs.Prelude.{Bool, Err, IfErr, IfOk, IsErrAnd, IsTrue, Ok, Result}
-pub use Rattle.portal_os.specs.Opening.{AreCommitted, AreCopied, AreWhole, ComesFrom, HoldsCommits, OpensFiles}
+pub use Rattle.portal_os.specs.Opening.{AreCommitted, AreCopied, AreWhole, ComesFrom, HoldsCommits}
+pub use Rattle.portal_os.specs.Opening.{OpensFiles}
 pub use Rattle.portal_ledger.specs.Ledger.{Ledger}
 pub use Rattle.portal_tables.proofs.PathLemmas.{image}
 pub use Rattle.portal_tables.specs.Images.{ImageHoldsLedger}
 pub use Rattle.sqlite.specs.Closing.{HoldsAlone, IsCopied}
-pub use Rattle.sqlite.specs.Files.{AreFoundIn, FailsToClose, HoldsDatabase, IsClosed, file_state, image_of, over_files}
+pub use Rattle.sqlite.specs.Files.{AreFoundIn, FailsToClose, HoldsDatabase, IsClosed, file_state, image_of}
+pub use Rattle.sqlite.specs.Files.{over_files}
 pub use Rattle.sqlite.specs.Held.{Held}
 pub use Rattle.sqlite_disk.specs.declared.Disk.{Ghosts}
 pub use Rattle.sqlite_disk.specs.declared.Files.{Files}

@@ -1,5 +1,7 @@
 -- What holds of files that were opened, and opened again.
-use Rattle.portal_os.proofs.Common.{◌≡◌, ◌∙◌, sym, subst, Bool, IsTrue, Result, Ok, Err, IfOk, IsErrAnd, Image, ComesFrom, OpensFiles, Ghosts, Held, AreFoundIn, file_state, over_files}
+use Rattle.portal_os.proofs.Common.{◌≡◌, ◌∙◌, sym, subst, Bool, IsTrue, Result, Ok, Err, IfOk, IsErrAnd}
+use Rattle.portal_os.proofs.Common.{Image, ComesFrom, OpensFiles, Ghosts, Held, AreFoundIn, file_state}
+use Rattle.portal_os.proofs.Common.{over_files}
 use Rattle.sqlite_store.specs.declared.store.FileStore.{FileStore}
 use Rattle.sqlite.specs.State.{HasCleanDisk}
 use Rattle.sqlite.specs.Start.{FindsIn}
@@ -27,8 +29,10 @@ honest_on (Ok c) Clean Was Output honest told = λ clean. told (honest clean)
 honest_on (Err e) Clean Was Output honest told = tt
 
 pub stands_on : {C E : Type 0} (again : Result C E) (Clean At : C → Type 0) (Was Before : Type 0)
-    → IfOk again (λ c. Clean c → Was) → (Before → IfOk again (λ c. Clean c → At c)) → (Was → Before) → IfOk again (λ c. Clean c → At c)
-stands_on (Ok c) Clean At Was Before honest represents opened = λ clean. represents (opened (honest clean)) clean
+    → IfOk again (λ c. Clean c → Was) → (Before → IfOk again (λ c. Clean c → At c)) → (Was → Before)
+    → IfOk again (λ c. Clean c → At c)
+stands_on (Ok c) Clean At Was Before honest represents opened =
+    λ clean. represents (opened (honest clean)) clean
 stands_on (Err e) Clean At Was Before honest represents opened = tt
 
 module _ {D : Type 0} {g : Ghosts D} where
@@ -36,11 +40,13 @@ module _ {D : Type 0} {g : Ghosts D} where
   Clean conn = HasCleanDisk (file_state conn)
 
   -- what was opened, and perhaps closed and opened again, finds what the files held
-  pub from_on : {E : Type 0} (again : Result (Held (FileStore D g)) E) (image : Image) (copies : Bool) (first : Held (FileStore D g))
+  pub from_on : {E : Type 0} (again : Result (Held (FileStore D g)) E) (image : Image) (copies : Bool)
+      (first : Held (FileStore D g))
       → IfOk again (λ c. Clean c → Clean first)
       → IfOk again (λ c. Clean c → (file_state c).committed.trees ≡ (file_state first).committed.trees)
       → IfOk again (λ c. Clean c → IsTrue copies → IsReopened first c)
-      → (Clean first → FindsIn image (file_state first)) → IfOk again (λ c. Clean c → ComesFrom image copies c)
+      → (Clean first → FindsIn image (file_state first))
+      → IfOk again (λ c. Clean c → ComesFrom image copies c)
   from_on (Ok c) image copies first honest same reopened found = λ clean.
       let was = found (honest clean) in
       let here : FindsIn image (file_state c) = record {
@@ -51,7 +57,9 @@ module _ {D : Type 0} {g : Ghosts D} where
   from_on (Err e) image copies first honest same reopened found = tt
 
   -- two files that were not opened
-  pub opens_not : {E : Type 0} (image : Image) (purpose : Purpose) (result : Result (Held (FileStore D g)) E) (Q : E → Type 0) → IsErrAnd result Q
+  pub opens_not : {E : Type 0} (image : Image) (purpose : Purpose) (result : Result (Held (FileStore D g)) E)
+      (Q : E → Type 0) → IsErrAnd result Q
       → OpensFiles image purpose result
   opens_not image purpose (Ok conn) Q failed = absurd failed
-  opens_not image purpose (Err e) Q failed = record { opened = λ L shown. tt; found = tt; from = tt; live = tt }
+  opens_not image purpose (Err e) Q failed =
+      record { opened = λ L shown. tt; found = tt; from = tt; live = tt }

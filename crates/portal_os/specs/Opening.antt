@@ -1,5 +1,6 @@
 -- What is inspected before a database file is opened, what opening it leads to, and what a close leaves.
-use Rattle.std.specs.Prelude.{◌≡◌, ◌≢◌, ◌⊎◌, ◌↔◌, ℕ, ◌<◌, List, [], length, Bool, true, false, IsTrue, Result, IfOk}
+use Rattle.std.specs.Prelude.{◌≡◌, ◌≢◌, ◌⊎◌, ◌↔◌, ℕ, ◌<◌, List, [], length, Bool, true, false, IsTrue, Result}
+use Rattle.std.specs.Prelude.{IfOk}
 use Rattle.sqlite_disk.specs.declared.Disk.{Ghosts}
 use Rattle.sqlite_disk.specs.declared.Files.{Files as Pair}
 use Rattle.sqlite_wal.specs.Recovery.{Image, IsCommitted}
@@ -48,7 +49,8 @@ IsLost image = (length image.db ≡ 0) × HoldsCommits image.log
 abbrev pub IsFoundNew : Image → Bool → Type 0
 IsFoundNew image is_new = (IsTrue is_new ↔ (length image.db ≡ 0)) × ¬ IsLost image
 
--- A database may be opened for this purpose: it is not lost; and to ask, it was made, so its file is not empty.
+-- A database may be opened for this purpose: it is not lost; and to ask, it was made, so its file is not
+-- empty.
 abbrev pub IsFoundFor : Image → Purpose → Type 0
 IsFoundFor image purpose = (¬ IsLost image) × (purpose ≡ Ask → length image.db ≢ 0)
 
@@ -74,18 +76,21 @@ module _ {D : Type 0} (g : Ghosts D) where
 abbrev pub RefusesStore : {S : Type 0} → (g : stores.Ghosts S) → Held S → Held S → ProgramError → Type 0
 RefusesStore g conn left error =
     (cause : OpenFault) × (error ≡ error_of_open cause)
-    × (ConnIsFaultFree g left → ConnIsFaultFree g conn × IsCause g conn cause × ((L : Ledger) → ConnRepresents g conn L → (cause ≡ Memory) ⊎ (cause ≡ Store)))
+    × (ConnIsFaultFree g left → ConnIsFaultFree g conn × IsCause g conn cause
+    × ((L : Ledger) → ConnRepresents g conn L → (cause ≡ Memory) ⊎ (cause ≡ Store)))
 
 module _ {D : Type 0} {g : Ghosts D} where
   -- Two files that held this image were not opened, and nothing is left; or their database was not attached,
   -- which is tried only if it may be opened for this purpose, and the connection to it is left. The error is
-  -- the one that belongs to that. A database that holds a ledger is never called foreign or newer. One that is
+  -- the one that belongs to that. A database that holds a ledger is never called foreign or newer. One that
+  -- is
   -- not to be attached gets no crash state, and after all errors but `file` the database is as it was.
   abbrev pub RefusesFiles : Image → Purpose → Remains D g → ProgramError → Type 0
   RefusesFiles image purpose Nothing error = (cause : OpeningError) × (error ≡ program_error_of cause)
   RefusesFiles image purpose (Refused left) error =
       (cause : OpenFault) × (error ≡ error_of_open cause) × (conn : Held (FileStore D g))
-      × (ConnIsFaultFree over_files left → IsFoundFor image purpose × FindsIn image (file_state conn) × IsCause over_files conn cause
+      × (ConnIsFaultFree over_files left
+      → IsFoundFor image purpose × FindsIn image (file_state conn) × IsCause over_files conn cause
       × ((L : Ledger) → ImageHoldsLedger image L → (cause ≡ Memory) ⊎ (cause ≡ Store))
       × (error ≢ File → IsAsItWas over_files conn left))
       × (¬ MayBeAttached over_files conn → IsSpared over_files conn left)
@@ -98,38 +103,50 @@ module _ {D : Type 0} {g : Ghosts D} where
   abbrev pub ComesFrom : Image → Bool → Held (FileStore D g) → Type 0
   ComesFrom image copies conn =
       FindsIn image (file_state conn)
-      × (IsTrue copies → (first : Held (FileStore D g)) × FindsIn image (file_state first) × IsReopened first conn)
+      × (IsTrue copies → (first : Held (FileStore D g)) × FindsIn image (file_state first)
+      × IsReopened first conn)
 
   -- Two files that held this image were opened for a purpose. As long as the disk of the connection is clean:
   -- it represents the ledger that they hold; the database may be opened for this purpose; and the connection
   -- finds all tables that they held, and is open.
-  pub record OpensFiles {E : Type 0} (image : Image) (purpose : Purpose) (result : Result (Held (FileStore D g)) E) : Type 0 where
-    pub opened : (L : Ledger) → ImageHoldsLedger image L → IfOk result (λ conn. HasCleanDisk (file_state conn) → ConnRepresents over_files conn L)
+  pub record OpensFiles {E : Type 0} (image : Image) (purpose : Purpose)
+      (result : Result (Held (FileStore D g)) E) : Type 0 where
+    pub opened : (L : Ledger) → ImageHoldsLedger image L
+        → IfOk result (λ conn. HasCleanDisk (file_state conn) → ConnRepresents over_files conn L)
     pub found : IfOk result (λ conn. HasCleanDisk (file_state conn) → IsFoundFor image purpose)
-    pub from : IfOk result (λ conn. HasCleanDisk (file_state conn) → ComesFrom image (copies_for purpose) conn)
+    pub from : IfOk result
+        (λ conn. HasCleanDisk (file_state conn) → ComesFrom image (copies_for purpose) conn)
     pub live : IfOk result (λ conn. HasCleanDisk (file_state conn) → IsTrue (file_state conn).is_open)
 
   -- The files of a connection were closed and opened again, if that was asked for. As long as the disk of the
-  -- new connection is clean: so was that of the old one; it represents the same ledger, finds the same tables,
+  -- new connection is clean: so was that of the old one; it represents the same ledger, finds the same
+  -- tables,
   -- and is open if the old one was.
-  pub record OpensAgain {E : Type 0} (conn : Held (FileStore D g)) (copies : Bool) (result : Result (Held (FileStore D g)) E) : Type 0 where
+  pub record OpensAgain {E : Type 0} (conn : Held (FileStore D g)) (copies : Bool)
+      (result : Result (Held (FileStore D g)) E) : Type 0 where
     pub fault_free : IfOk result (λ again. HasCleanDisk (file_state again) → HasCleanDisk (file_state conn))
-    pub represents : (L : Ledger) → ConnRepresents over_files conn L → IfOk result (λ again. HasCleanDisk (file_state again) → ConnRepresents over_files again L)
-    pub same : IfOk result (λ again. HasCleanDisk (file_state again) → (file_state again).committed.trees ≡ (file_state conn).committed.trees)
-    pub reopened : IfOk result (λ again. HasCleanDisk (file_state again) → IsTrue copies → IsReopened conn again)
-    pub live : IsTrue (file_state conn).is_open → IfOk result (λ again. HasCleanDisk (file_state again) → IsTrue (file_state again).is_open)
+    pub represents : (L : Ledger) → ConnRepresents over_files conn L
+        → IfOk result (λ again. HasCleanDisk (file_state again) → ConnRepresents over_files again L)
+    pub same : IfOk result (λ again. HasCleanDisk (file_state again)
+        → (file_state again).committed.trees ≡ (file_state conn).committed.trees)
+    pub reopened : IfOk result
+        (λ again. HasCleanDisk (file_state again) → IsTrue copies → IsReopened conn again)
+    pub live : IsTrue (file_state conn).is_open
+        → IfOk result (λ again. HasCleanDisk (file_state again) → IsTrue (file_state again).is_open)
 
   -- The desk attached the database of a connection to two files that hold a ledger: it represents that
   -- ledger, and keeps the tables of others.
   abbrev pub AttachesAll : Image → Held (FileStore D g) → StoreDesk (FileStore D g) → Type 0
   AttachesAll image conn desk =
-      (L : Ledger) → ImageHoldsLedger image L → ConnRepresents over_files conn L × DeskRepresents over_files desk (running L) × AttachesOthers over_files conn desk.tables
+      (L : Ledger) → ImageHoldsLedger image L → ConnRepresents over_files conn L
+      × DeskRepresents over_files desk (running L) × AttachesOthers over_files conn desk.tables
 
   -- A desk over two files that held this image and were opened for a purpose, as long as it has been
   -- fault-free.
   abbrev pub OpensTo : Image → Purpose → StoreDesk (FileStore D g) → Type 0
   OpensTo image purpose desk =
-      DeskIsFaultFree over_files desk → (conn : Held (FileStore D g)) × ComesFrom image (copies_for purpose) conn × AttachesAll image conn desk
+      DeskIsFaultFree over_files desk → (conn : Held (FileStore D g))
+      × ComesFrom image (copies_for purpose) conn × AttachesAll image conn desk
 
 -- ---- what a close leaves
 
@@ -137,20 +154,23 @@ module _ {D : Type 0} {g : Ghosts D} where
   -- In every crash state at this moment two files hold all tables that the desk's database had committed,
   -- ours and those of others, and so does the database file with an empty log.
   abbrev pub AreCopied : StoreDesk (FileStore D g) → Pair D → Type 0
-  AreCopied desk files = (image : Image) → outcomes g files.log files.db image → HoldsAlone image (file_state desk.tables.conn).committed.trees
+  AreCopied desk files = (image : Image) → outcomes g files.log files.db image
+      → HoldsAlone image (file_state desk.tables.conn).committed.trees
 
   -- The desk was closed: the two files that are left hold what it represented, as long as the disk has been
   -- fault-free.
   abbrev pub IsClosed : StoreDesk (FileStore D g) → Remains D g → Type 0
   IsClosed desk (Closed files) =
-      AreClean g files.log files.db → AreCopied desk files × ((L : Ledger) → DeskRepresents over_files desk (running L) → AreWhole g files L)
+      AreClean g files.log files.db → AreCopied desk files
+      × ((L : Ledger) → DeskRepresents over_files desk (running L) → AreWhole g files L)
   IsClosed desk Nothing = ⊥
   IsClosed desk (Refused conn) = ⊥
   IsClosed desk (Unclosed store) = ⊥
 
   -- The desk was not closed: the crash states of the store that is left are crash states of the desk.
   abbrev pub IsUnclosed : StoreDesk (FileStore D g) → Remains D g → Type 0
-  IsUnclosed desk (Unclosed store) = (tables : Tables) → IsCrashStateOfStore store tables → IsCrashStateOfDesk over_files desk tables
+  IsUnclosed desk (Unclosed store) =
+      (tables : Tables) → IsCrashStateOfStore store tables → IsCrashStateOfDesk over_files desk tables
   IsUnclosed desk Nothing = ⊥
   IsUnclosed desk (Refused conn) = ⊥
   IsUnclosed desk (Closed files) = ⊥

@@ -42,7 +42,8 @@ host_place g image desk = record {
 
 -- The hosts at the ports of the loopback address, any of which may be bound or not. Which listener may be
 -- bound at an address is what is assumed of the socket.
-abbrev pub host_network : {H Reader Writer B : Type 0} → HostOf (Loopback H) Reader Writer → ReadOf Reader → WriteOf Writer → SocketOf B → B → NetworkValue
+abbrev pub host_network : {H Reader Writer B : Type 0} → HostOf (Loopback H) Reader Writer → ReadOf Reader
+    → WriteOf Writer → SocketOf B → B → NetworkValue
 host_network host reader writer socket at = record {
   host = host_of host reader writer;
   listens = λ port bound. BindsLoopback (socket.binds at) port bound.listener;

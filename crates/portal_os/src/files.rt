@@ -99,7 +99,8 @@ impl<'h, P: FilePair> Place for HostFiles<'h, P> {
         ensures fails { IfErr result (λ e. RefusesFiles P.image purpose e.1 e.0.error) }
         ensures same_settings { IfOk result (λ desk. settings_of desk ≡ settings) }
         ensures represents { (L : Ledger) → ImageHoldsLedger P.image L
-            → IfOk result (λ desk. DeskIsFaultFree over_files desk → DeskRepresents over_files desk (running L)) }
+            → IfOk result
+            (λ desk. DeskIsFaultFree over_files desk → DeskRepresents over_files desk (running L)) }
         ensures found { IfOk result (λ desk.
             DeskIsFaultFree over_files desk → IsFoundFor P.image purpose) }
         ensures opened { IfOk result (λ desk. OpensTo P.image purpose desk) }

@@ -12,8 +12,8 @@ use std::fs;
 use std::io::ErrorKind;
 
 /// Checks that the files at a path may be opened for a purpose, by their names and lengths alone. Errors, to
-/// ask: `NoDatabase`, if there is no file, or an empty one without a log; `Lost`, if there is no file, but its
-/// log holds commits. Whatever else is there is judged once it is locked.
+/// ask: `NoDatabase`, if there is no file, or an empty one without a log; `Lost`, if there is no file, but
+/// its log holds commits. Whatever else is there is judged once it is locked.
 pub fn find_database(host: &HostRuntime, path: &str, purpose: Purpose) -> Result<(), OpeningError>
     ensures { OnErr result (purpose ≡ Purpose.Ask) }
 {

@@ -1,6 +1,6 @@
-//! What a crash leaves of the two files of a connection and of a desk: the laws of the kit's store, passed on to the
-//! tables of a desk. A crash is modelled as a release of the files without a further write. The program does not
-//! call these functions.
+//! What a crash leaves of the two files of a connection and of a desk: the laws of the kit's store, passed on
+//! to the tables of a desk. A crash is modelled as a release of the files without a further write. The
+//! program does not call these functions.
 ghost use Rattle.sqlite_wal.specs.Reads.{AreClean};
 ghost use Rattle.sqlite.specs.Files.{over_files};
 ghost use Rattle.portal_ledger.specs.States.{State};

@@ -9,8 +9,8 @@ use portal_server::{Loopback, ProgramError, SeedSource, Socket, WallClock, bind_
 use std::alloc::Global;
 use std::fmt::Display;
 
-/// The loopback address of the machine, 127.0.0.1: its clock and its source of seeds, and a socket, with which
-/// one port can be bound.
+/// The loopback address of the machine, 127.0.0.1: its clock and its source of seeds, and a socket, with
+/// which one port can be bound.
 #[derive(Drop)]
 pub struct HostNetwork<'h, H, B> {
     pub host: &'h H,

@@ -117,8 +117,8 @@ fn copies_for(purpose: Purpose) -> bool
 }
 
 /// Opens a connection to a database file and its log; to serve, the log is then copied into the file. Errors
-/// among others: `Lost`, if the file is empty but its log holds commits: it is never taken for a new database;
-/// `NoDatabase`, to ask of a database that has yet to be made: then nothing is written.
+/// among others: `Lost`, if the file is empty but its log holds commits: it is never taken for a new
+/// database; `NoDatabase`, to ask of a database that has yet to be made: then nothing is written.
 pub fn open_database_files<D: Disk + Drop>(
     alloc: Global,
     mut files: Files<D>,
@@ -179,13 +179,13 @@ fn open_with_clock<D: Disk + Drop>(
 }
 
 /// Opens a connection to the database file at a path. To serve or to answer, the file is made if it is
-/// missing. To serve, the files are opened, closed, so that the log is copied into the file, and opened again.
-/// The connection finds all tables that the file and its log held, ours and those of others, and holds the
-/// file's lock until it is released.
+/// missing. To serve, the files are opened, closed, so that the log is copied into the file, and opened
+/// again. The connection finds all tables that the file and its log held, ours and those of others, and holds
+/// the file's lock until it is released.
 ///
-/// No contract ties a path to what its file holds: `pair` stands for that. If it holds a ledger, the connection
-/// represents it. Errors among others: `Lost`, if the file is empty but its log holds commits; `NoDatabase`, to
-/// ask where no database was made: then nothing is made or written.
+/// No contract ties a path to what its file holds: `pair` stands for that. If it holds a ledger, the
+/// connection represents it. Errors among others: `Lost`, if the file is empty but its log holds commits;
+/// `NoDatabase`, to ask where no database was made: then nothing is made or written.
 pub fn open_store<P: FilePair>(
     host: &HostRuntime,
     path: &str,

@@ -18,8 +18,8 @@ use std::convert::AsStr;
 use std::io::{Read, Write};
 use std::net::TcpStream;
 
-/// Runs the program over a pair of files and the machine's loopback address, as `run_program` does, and returns
-/// the exit code.
+/// Runs the program over a pair of files and the machine's loopback address, as `run_program` does, and
+/// returns the exit code.
 fn run_over_pair<P: FilePair, T: AsStr, R: Read, W: Write, E: Write>(
     host: &HostRuntime,
     pair: P,

@@ -1,5 +1,5 @@
-//! The law of the program's runs. The function does nothing: its contract is the law, which `Sessions.antt` of
-//! portal_commands states.
+//! The law of the program's runs. The function does nothing: its contract is the law, which `Sessions.antt`
+//! of portal_commands states.
 ghost use Rattle.sqlite_wal.specs.Files.{image_at};
 ghost use Rattle.portal_os.specs.Running.{host_network, host_place};
 ghost use Rattle.portal_commands.specs.Sessions.{RunsKeep};
@@ -12,9 +12,9 @@ use sqlite_disk::Disk;
 use std::io::{Read, Write};
 use std::net::TcpStream;
 
-/// Law: if the two files hold a ledger, each crash state of the desk of a run of the program on the machine holds
-/// that ledger, then the commands that were newly accepted with a 200, in order, and at most one command more. This
-/// holds as long as the disk has been fault-free.
+/// Law: if the two files hold a ledger, each crash state of the desk of a run of the program on the machine
+/// holds that ledger, then the commands that were newly accepted with a 200, in order, and at most one
+/// command more. This holds as long as the disk has been fault-free.
 #[tactic(auto, using(portal_commands::proofs::SessionLemmas::runs_keep))]
 pub fn runs_are_kept<S: Start>(host: &HostRuntime, start: S)
     ensures { RunsKeep

@@ -13,7 +13,8 @@ use Rattle.portal_server.specs.Errors.{line_of, exit_code_of}
 abbrev pub EndsPrinting : List ℕ → ℕ → Outlets → ℕ → Type 0
 EndsPrinting text good o status =
     ((status ≡ good) × Appends o.output o.output_after text × Keeps o.errors o.errors_after)
-    ⊎ ((written : ℕ) × (status ≡ 3) × (written < length text) × Appends o.output o.output_after (take written text)
+    ⊎ ((written : ℕ) × (status ≡ 3) × (written < length text)
+    × Appends o.output o.output_after (take written text)
     × Prints o.errors o.errors_after (line_of Cut))
 
 -- An output goes to standard output, and the line of an error to standard error.
@@ -21,4 +22,5 @@ abbrev pub EndsWith : Result Output ProgramError → Outlets → ℕ → Type 0
 EndsWith (Ok (Text text)) o status = EndsPrinting text.items 0 o status
 EndsWith (Ok Agrees) o status = EndsPrinting (codes "ok\n") 0 o status
 EndsWith (Ok Differs) o status = EndsPrinting (codes "differs\n") 1 o status
-EndsWith (Err error) o status = (status ≡ exit_code_of error) × Keeps o.output o.output_after × Prints o.errors o.errors_after (line_of error)
+EndsWith (Err error) o status = (status ≡ exit_code_of error) × Keeps o.output o.output_after
+    × Prints o.errors o.errors_after (line_of error)

@@ -2,7 +2,8 @@
 use Rattle.std.specs.Prelude.{ℕ, List, ◌++◌, codes}
 use Rattle.portal_model.specs.Refusal.{word_of as word_of_refusal}
 use Rattle.portal_server.specs.declared.error.ProgramError.{ProgramError}
-use Rattle.portal_server.specs.declared.error.ProgramError.TheVariants.{Usage, Settings, NotOurs, Newer, File, Network, Cut, NoMemory, Refused}
+use Rattle.portal_server.specs.declared.error.ProgramError.TheVariants.{Usage, Settings, NotOurs, Newer, File}
+use Rattle.portal_server.specs.declared.error.ProgramError.TheVariants.{Network, Cut, NoMemory, Refused}
 use Rattle.portal_model.specs.declared.refusal.Refusal.{Refusal}
 use Rattle.portal_model.specs.declared.refusal.Refusal.TheVariants.{Stopped}
 

@@ -10,4 +10,5 @@ IsLoopbackAt port address = (ipv4_octets (v4_ip address) ≡ 127 ∷ 0 ∷ 0 ∷
 
 -- A listener was bound at that address. `binds` says which one may be bound at an address.
 abbrev pub BindsLoopback : {L : Type 0} → (SocketAddrV4 → L → Type 0) → ℕ → L → Type 0
-BindsLoopback binds port listener = (address : SocketAddrV4) × IsLoopbackAt port address × binds address listener
+BindsLoopback binds port listener =
+    (address : SocketAddrV4) × IsLoopbackAt port address × binds address listener

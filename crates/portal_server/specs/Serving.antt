@@ -1,5 +1,6 @@
 -- What serving leaves of a desk, and what is printed meanwhile.
-use Rattle.std.specs.Prelude.{◌≡◌, ◌⊎◌, ℕ, ◌≤◌, List, [], ◌∷◌, length, ⊤, Option, Some, None, true, false, Result, Ok, Err}
+use Rattle.std.specs.Prelude.{◌≡◌, ◌⊎◌, ℕ, ◌≤◌, List, [], ◌∷◌, length, ⊤, Option, Some, None, true, false}
+use Rattle.std.specs.Prelude.{Result, Ok, Err}
 use Rattle.std.specs.Io.KnownBytes.{Keeps}
 use Rattle.std.specs.declared.io.ErrorKind.{ErrorKind}
 use Rattle.std.specs.declared.io.ErrorKind.TheVariants as kind
@@ -17,7 +18,8 @@ use Rattle.portal_http.specs.declared.exchanges.Cut.{Cut as Broken}
 -- For so many connections: at most so many requests were served. `IsRun` says which requests with which
 -- responses are a run.
 abbrev pub ServesAtMost : ℕ → (List Arrived → List (List ℕ) → Type 0) → Type 0
-ServesAtMost count IsRun = (arrivals : List Arrived) × (responses : List (List ℕ)) × (length arrivals ≤ count) × IsRun arrivals responses
+ServesAtMost count IsRun = (arrivals : List Arrived) × (responses : List (List ℕ)) × (length arrivals ≤ count)
+    × IsRun arrivals responses
 
 -- each of these requests arrived at that time and with that seed
 abbrev pub ComeWith : ℕ → List ℕ → List Arrived → Type 0
@@ -28,7 +30,8 @@ ComeWith moment seed (one ∷ more) = (one.moment ≡ moment) × (one.seed ≡ s
 -- written
 abbrev pub PrintsOfConnection : Option ProgramError → Option (List ℕ) → Option (List ℕ) → Type 0
 PrintsOfConnection None printed printed_after = Keeps printed printed_after
-PrintsOfConnection (Some error) printed printed_after = ((error ≡ Cut) ⊎ (error ≡ Network)) × Prints printed printed_after (line_of error)
+PrintsOfConnection (Some error) printed printed_after =
+    ((error ≡ Cut) ⊎ (error ≡ Network)) × Prints printed printed_after (line_of error)
 
 -- what is printed for an exchange that ended so: nothing, or that the connection broke off
 abbrev pub said_of : Result Done Broken → Option ProgramError

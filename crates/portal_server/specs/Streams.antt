@@ -25,4 +25,5 @@ Prints printed printed_after text = (written : ℕ) × Appends printed printed_a
 
 -- A part of the text is written, and not all of it.
 abbrev pub IsCutOff : Option (List ℕ) → Option (List ℕ) → List ℕ → Type 0
-IsCutOff printed printed_after text = (written : ℕ) × (written < length text) × Appends printed printed_after (take written text)
+IsCutOff printed printed_after text =
+    (written : ℕ) × (written < length text) × Appends printed printed_after (take written text)

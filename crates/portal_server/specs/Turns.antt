@@ -1,5 +1,6 @@
 -- What a host returns, and what is made of it: one turn after another.
-use Rattle.std.specs.Prelude.{◌≡◌, ◌⊎◌, ℕ, ◌≤◌, ◌/◌, zero, suc, min, Bool, true, false, List, [], ◌∷◌, Option, Some, None, Result, Ok, Err}
+use Rattle.std.specs.Prelude.{◌≡◌, ◌⊎◌, ℕ, ◌≤◌, ◌/◌, zero, suc, min, Bool, true, false, List, [], ◌∷◌, Option}
+use Rattle.std.specs.Prelude.{Some, None, Result, Ok, Err}
 use Rattle.std.specs.IoError.{error_kind}
 use Rattle.std.specs.declared.io.Error.{Error}
 use Rattle.std.specs.declared.io.ErrorKind.TheVariants.{InvalidData}
@@ -42,7 +43,8 @@ pub record HostValue : Type 1 where
   pub sent : Writer → Option (List ℕ)
 
 -- that of a host, of the bytes that its peers send, and of those that are sent to them
-abbrev pub host_of : {Host Reader Writer : Type 0} → HostOf Host Reader Writer → ReadOf Reader → WriteOf Writer → HostValue
+abbrev pub host_of : {Host Reader Writer : Type 0} → HostOf Host Reader Writer → ReadOf Reader
+    → WriteOf Writer → HostValue
 host_of host reader writer = record {
   Host = _;
   Reader = _;
@@ -63,11 +65,14 @@ wire_of r w reader reader_after writer writer_after =
 -- A peer that was accepted is served: the clock is read and a seed drawn; then there is one exchange with
 -- it, at that time and with that seed; and then its connection is closed. `said` is what is printed for it:
 -- that it broke off, if it did.
-abbrev pub ServesPeer : (host : HostValue) → SettingsValue → host.Host → host.Reader → host.Writer → State → Option ProgramError → host.Host → State → Type 0
+abbrev pub ServesPeer : (host : HostValue) → SettingsValue → host.Host → host.Reader → host.Writer → State
+    → Option ProgramError → host.Host → State → Type 0
 ServesPeer host settings before reader writer old said after new =
-    (moment : ℕ) × (seed : List ℕ) × (stamped : host.Host) × (reader_after : host.Reader) × (writer_after : host.Writer) × (ended : Result Done Cut)
+    (moment : ℕ) × (seed : List ℕ) × (stamped : host.Host) × (reader_after : host.Reader)
+    × (writer_after : host.Writer) × (ended : Result Done Cut)
     × host.stamps before (Ok (moment, seed)) stamped
-    × EndsExchange (between (host.unread reader) (host.unread reader_after) (host.sent writer) (host.sent writer_after))
+    × EndsExchange (between (host.unread reader) (host.unread reader_after) (host.sent writer)
+    (host.sent writer_after))
     moment seed (λ arrivals responses. ServesInOrder settings old arrivals responses new) ended
     × (said ≡ said_of ended)
     × host.closes stamped reader_after writer_after after
@@ -79,18 +84,24 @@ Pauses host false before after = after ≡ before
 
 -- One turn, after one in which accepting failed or did not: accepting fails, which is printed, and only a
 -- pause follows; or a peer is accepted and served. And whether accepting failed.
-abbrev pub IsTurn : (host : HostValue) → SettingsValue → Bool → host.Host → State → Option ProgramError → host.Host → State → Bool → Type 0
+abbrev pub IsTurn : (host : HostValue) → SettingsValue → Bool → host.Host → State → Option ProgramError
+    → host.Host → State → Bool → Type 0
 IsTurn host settings has_failed before old said after new fails =
-    ((fails ≡ true) × (new ≡ old) × (said ≡ Some Network) × (broken : host.Host) × host.accepts before None broken × Pauses host has_failed broken after)
-    ⊎ ((fails ≡ false) × (peer : host.Reader × host.Writer) × (accepted : host.Host) × host.accepts before (Some peer) accepted
+    ((fails ≡ true) × (new ≡ old) × (said ≡ Some Network) × (broken : host.Host)
+    × host.accepts before None broken × Pauses host has_failed broken after)
+    ⊎ ((fails ≡ false) × (peer : host.Reader × host.Writer) × (accepted : host.Host)
+    × host.accepts before (Some peer) accepted
     × ServesPeer host settings accepted peer.0 peer.1 old said after new)
 
 -- So many turns, one after another, and whether accepting failed in the last one. What is printed for
 -- each is listed, the newest first.
-abbrev pub Turns : (host : HostValue) → SettingsValue → ℕ → host.Host → State → List (Option ProgramError) → host.Host → State → Bool → Type 0
-Turns host settings zero before old said after new fails = (after ≡ before) × (new ≡ old) × (said ≡ []) × (fails ≡ false)
+abbrev pub Turns : (host : HostValue) → SettingsValue → ℕ → host.Host → State → List (Option ProgramError)
+    → host.Host → State → Bool → Type 0
+Turns host settings zero before old said after new fails =
+    (after ≡ before) × (new ≡ old) × (said ≡ []) × (fails ≡ false)
 Turns host settings (suc more) before old said after new fails =
-    (mid : host.Host) × (between_them : State) × (failed : Bool) × (told : List (Option ProgramError)) × (last : Option ProgramError)
+    (mid : host.Host) × (between_them : State) × (failed : Bool) × (told : List (Option ProgramError))
+    × (last : Option ProgramError)
     × (said ≡ last ∷ told)
     × Turns host settings more before old told mid between_them failed
     × IsTurn host settings failed mid between_them last after new fails
@@ -98,12 +109,15 @@ Turns host settings (suc more) before old said after new fails =
 -- a peer was accepted, and then the clock or the source of seeds failed
 abbrev pub FailsAt : (host : HostValue) → host.Host → ProgramError → host.Host → Type 0
 FailsAt host before error after =
-    (peer : host.Reader × host.Writer) × (accepted : host.Host) × host.accepts before (Some peer) accepted × host.stamps accepted (Err error) after
+    (peer : host.Reader × host.Writer) × (accepted : host.Host) × host.accepts before (Some peer) accepted
+    × host.stamps accepted (Err error) after
 
 -- How the turns ended: all were taken; or fewer, as the desk has stopped or the host failed. If the host
 -- failed, nothing is printed for the peer that it had accepted.
-abbrev pub TakesTurns : (host : HostValue) → SettingsValue → ℕ → host.Host → State → List (Option ProgramError) → Result (Unit {0}) ProgramError → host.Host → State → Type 0
-TakesTurns host settings count before old said (Ok done) after new = (fails : Bool) × Turns host settings count before old said after new fails
+abbrev pub TakesTurns : (host : HostValue) → SettingsValue → ℕ → host.Host → State
+    → List (Option ProgramError) → Result (Unit {0}) ProgramError → host.Host → State → Type 0
+TakesTurns host settings count before old said (Ok done) after new =
+    (fails : Bool) × Turns host settings count before old said after new fails
 TakesTurns host settings count before old said (Err error) after new =
     (few : ℕ) × (last : host.Host) × (fails : Bool) × (told : List (Option ProgramError)) × (few ≤ count)
     × Turns host settings few before old told last new fails

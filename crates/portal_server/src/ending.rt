@@ -42,7 +42,8 @@ pub fn print_result<W: Write, E: Write>(
     output: &mut W,
     errors: &mut E,
 ) -> u8
-    ensures { EndsWith outcome.now (outlets W.Write E.Write output.old output.new errors.old errors.new) result }
+    ensures { EndsWith outcome.now
+        (outlets W.Write E.Write output.old output.new errors.old errors.new) result }
 {
     match outcome {
         Ok(Output::Text(text)) => print_for_exit_code(text.as_slice(), 0, output, errors),

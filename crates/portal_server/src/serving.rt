@@ -33,7 +33,8 @@ fn serve_connection<D: Desk, H: Host, E: Write>(
         × PrintsOfConnection said (E.contents errors.old) (E.contents errors.new) }
     ensures serves { LeadsDesk D.Desk desk.old desk.new (ServesRun (D.settings desk.old) 1) }
     ensures meets { LeadsDesk D.Desk desk.old desk.new (λ old new. MatchResult result
-        (λ _. (said : Option Failure) × PrintsOfConnection said (E.contents errors.old) (E.contents errors.new)
+        (λ _. (said : Option Failure)
+        × PrintsOfConnection said (E.contents errors.old) (E.contents errors.new)
         × ServesPeer (host_of H.Host H.Reader.Read H.Writer.Write)
         (D.settings desk.old) host.old reader writer old said host.new new)
         (λ error. (new ≡ old) × Keeps (E.contents errors.old) (E.contents errors.new)

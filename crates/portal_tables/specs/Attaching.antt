@@ -9,20 +9,21 @@ use Rattle.sqlite.specs.Held.{Held}
 use Rattle.sqlite_trees.specs.declared.store.Store.{Ghosts}
 use Rattle.portal_ledger.specs.Ledger.{Ledger}
 use Rattle.portal_tables_rows.specs.Contents.{Contents}
-use Rattle.portal_tables_schema.specs.Creation.{new_store}
+use Rattle.portal_tables_rows.specs.Creation.{new_store}
 use Rattle.portal_tables_rows.specs.Holds.{Holds, HoldsIn, CrashStateHoldsRows, this_schema_version}
-use Rattle.portal_tables_rows.specs.Schema.{head_name}
+use Rattle.portal_tables_sql.specs.Tables.{head_name}
 use Rattle.portal_tables_rows.specs.Others.{KeepsOthers, CrashStateHasOthers}
-use Rattle.portal_tables_schema.specs.SchemaVersions.{GivesSchemaVersion, has_no_action_on_ours}
-use Rattle.portal_tables_schema.specs.Migrations.{MayMigrate, version_number, migrated_rows}
-use Rattle.portal_tables_schema.specs.declared.schema_versions.OldSchema.{OldSchema}
-use Rattle.portal_tables_schema.specs.declared.schema_versions.OldSchema.TheVariants.{Fourth}
+use Rattle.portal_tables_rows.specs.SchemaVersions.{GivesSchemaVersion, has_no_action_on_ours}
+use Rattle.portal_tables_rows.specs.Migrations.{MayMigrate, version_number, migrated_rows}
+use Rattle.portal_tables_rows.specs.declared.schema_versions.OldSchema.{OldSchema}
+use Rattle.portal_tables_rows.specs.declared.schema_versions.OldSchema.TheVariants.{Fourth}
 use Rattle.portal_tables.specs.declared.errors.OpenFault.{OpenFault}
 use Rattle.portal_tables.specs.declared.errors.OpenFault.TheVariants.{NotOurs, Newer, Memory, Store}
 use Rattle.portal_tables.specs.declared.attaching.Refused.{Refused}
 use Rattle.portal_tables.specs.declared.tables.Tables.{Tables}
 use Rattle.portal_tables.specs.StoreHolds.{IsNoNameTaken, IsAnyNameTaken}
-use Rattle.portal_tables.specs.TablesRepresent.{ConnRepresents, CrashStatesOfConnHold, CrashStatesHaveOthers, OthersStay}
+use Rattle.portal_tables.specs.TablesRepresent.{ConnRepresents, CrashStatesOfConnHold, CrashStatesHaveOthers}
+use Rattle.portal_tables.specs.TablesRepresent.{OthersStay}
 
 -- ---- by the tables that exist
 
@@ -87,7 +88,9 @@ MayBeMigrated from old trees = HasNoActionOnOurs old.now.schema × MayMigrate fr
 
 -- a database of this schema version has its index, and all is committed
 pub record IsCompleted (old new : State) : Type 0 where
-  pub holds : ((t : Contents) → HoldsIn this_schema_version false old.now t → Holds new.now t) ⊎ ((t : Contents) → HoldsIn this_schema_version false old.now t → Holds new.now (migrated_rows Fourth t))
+  pub holds : ((t : Contents) → HoldsIn this_schema_version false old.now t → Holds new.now t)
+      ⊎ ((t : Contents) → HoldsIn this_schema_version false old.now t
+      → Holds new.now (migrated_rows Fourth t))
   pub others : (t : Contents) → HoldsIn this_schema_version false old.now t → KeepsOthers old.now new.now
   pub is_open : IsTrue new.is_open
   pub ended : new.in_transaction ≡ false
@@ -95,12 +98,15 @@ pub record IsCompleted (old new : State) : Type 0 where
 
 -- the rows of the product's tables stay in this schema version, and the other tables are kept
 abbrev pub Stays : Database → Database → Type 0
-Stays db after = GivesSchemaVersion db (Some this_schema_version) × ((t : Contents) → HoldsIn this_schema_version false db t → Holds after t × KeepsOthers db after)
+Stays db after = GivesSchemaVersion db (Some this_schema_version)
+    × ((t : Contents) → HoldsIn this_schema_version false db t → Holds after t × KeepsOthers db after)
 
 -- the rows of an older schema version, or of this one without its index, are migrated to this one, and the
 -- other tables are kept
 abbrev pub IsMigrated : Database → Database → Type 0
-IsMigrated db after = (from : OldSchema) × GivesSchemaVersion db (Some (version_number from)) × ((t : Contents) → HoldsIn (version_number from) false db t → Holds after (migrated_rows from t) × KeepsOthers db after)
+IsMigrated db after =
+    (from : OldSchema) × GivesSchemaVersion db (Some (version_number from)) × ((t : Contents)
+    → HoldsIn (version_number from) false db t → Holds after (migrated_rows from t) × KeepsOthers db after)
 
 -- one of the two
 abbrev pub KeepsOrMigrates : Database → Database → Type 0
@@ -108,12 +114,15 @@ KeepsOrMigrates db after = Stays db after ⊎ IsMigrated db after
 
 -- the trees of a crash state hold the migrated rows, and the other tables
 abbrev pub CrashStateCarries : Database → Trees → Type 0
-CrashStateCarries db trees = (from : OldSchema) × GivesSchemaVersion db (Some (version_number from)) × ((t : Contents) → HoldsIn (version_number from) false db t → CrashStateHoldsRows trees (migrated_rows from t) × CrashStateHasOthers db trees)
+CrashStateCarries db trees = (from : OldSchema) × GivesSchemaVersion db (Some (version_number from))
+    × ((t : Contents) → HoldsIn (version_number from) false db t
+    → CrashStateHoldsRows trees (migrated_rows from t) × CrashStateHasOthers db trees)
 
 -- The crash states that are added: a new database if the product's tables did not exist, or else the rows
 -- that were there. There are none if a foreign key acts on one of the product's tables.
 abbrev pub MayAttach : Database → Trees → Type 0
-MayAttach db trees = HasNoActionOnOurs db.schema × ((IsNoNameTaken db.schema × CrashStateHoldsRows trees new_store × CrashStateHasOthers db trees) ⊎ (IsAnyNameTaken db.schema × CrashStateCarries db trees))
+MayAttach db trees = HasNoActionOnOurs db.schema × ((IsNoNameTaken db.schema × CrashStateHoldsRows trees
+    new_store × CrashStateHasOthers db trees) ⊎ (IsAnyNameTaken db.schema × CrashStateCarries db trees))
 
 -- the rows of the product's tables are kept or migrated, and all is committed
 pub record IsCarried (old new : State) : Type 0 where
@@ -124,7 +133,8 @@ pub record IsCarried (old new : State) : Type 0 where
 
 -- the tables are ready and committed: new ones if there were none, or with the rows that were there
 pub record AreTablesReady (old new : State) : Type 0 where
-  pub holds : (IsNoNameTaken old.now.schema × Holds new.now new_store × KeepsOthers old.now new.now) ⊎ (IsAnyNameTaken old.now.schema × KeepsOrMigrates old.now new.now)
+  pub holds : (IsNoNameTaken old.now.schema × Holds new.now new_store × KeepsOthers old.now new.now)
+      ⊎ (IsAnyNameTaken old.now.schema × KeepsOrMigrates old.now new.now)
   pub is_open : IsTrue new.is_open
   pub ended : new.in_transaction ≡ false
   pub same : new.committed ≡ new.now

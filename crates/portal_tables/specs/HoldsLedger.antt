@@ -43,7 +43,13 @@ count_kept k = record k { code = text_of k.code }
 
 -- the one row of portal_head
 abbrev pub head_kept : ℕ → Head → HeadRow
-head_kept schema_version h = record { id = 1; schema_version = schema_version; last = h.last; grants = h.grants; sessions = h.sessions }
+head_kept schema_version h = record {
+  id = 1;
+  schema_version = schema_version;
+  last = h.last;
+  grants = h.grants;
+  sessions = h.sessions;
+}
 
 -- the rows as the tables store them, with these rows of portal_requests
 abbrev pub contents_of : List RequestRow → ℕ → Rows → Contents
@@ -69,14 +75,16 @@ HoldsLedger L db = IsSound L × Holds db (all_contents_of this_schema_version (a
 
 -- all tables but portal_requests hold just the rows of the history
 abbrev pub HoldsHistory : History → Database → Type 0
-HoldsHistory h db = IsLegal h × ((requests : List RequestRow) × Holds db (contents_of requests this_schema_version (rows_of h)))
+HoldsHistory h db = IsLegal h
+    × ((requests : List RequestRow) × Holds db (contents_of requests this_schema_version (rows_of h)))
 
 -- what holds of each history that the open connection held
 abbrev pub OfHistory : State → State → (History → Type 0) → Type 0
 OfHistory old new Is = HasCleanDisk new → IsTrue old.is_open → (h : History) → HoldsHistory h old.now → Is h
 
 -- A call that reads such a history: Is holds of the history and the result. It writes nothing.
-pub record ReadsHistory {S A : Type 0} (g : Ghosts S) (old new : Held S) (result : Result A RowError) (Is : History → A → Type 0) : Type 0 where
+pub record ReadsHistory {S A : Type 0} (g : Ghosts S) (old new : Held S) (result : Result A RowError)
+    (Is : History → A → Type 0) : Type 0 where
   pub found : OfHistory (state g old) (state g new) (λ h. IfOk result (Is h))
   pub looks : Looks HasTables result (state g old) (state g new)
 
@@ -92,4 +100,5 @@ OfLedger old new Is = HasCleanDisk new → IsTrue old.is_open → (L : Ledger) �
 
 -- what is found is the request that the ledger holds under the caller and the idempotency key
 abbrev pub IsHeldUnder : Ledger → Caller → List ℕ → Option KeptRequest → Type 0
-IsHeldUnder L caller number found = (mark : Fingerprint) → mark.caller ≡ caller → mark.number ≡ number → found ≡ held_in L mark
+IsHeldUnder L caller number found =
+    (mark : Fingerprint) → mark.caller ≡ caller → mark.number ≡ number → found ≡ held_in L mark

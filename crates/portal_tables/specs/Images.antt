@@ -29,7 +29,8 @@ ImageHolds image files = HoldsDatabase image files
 
 -- The image holds the ledger if its tables do. An image with no database yet holds the empty ledger.
 abbrev pub ImageHoldsLedger : Image → Ledger → Type 0
-ImageHoldsLedger image L = ((files : Files) × ImageHolds image files × FilesHold files L) ⊎ (IsNothing image × (L ≡ []))
+ImageHoldsLedger image L =
+    ((files : Files) × ImageHolds image files × FilesHold files L) ⊎ (IsNothing image × (L ≡ []))
 
 -- the image holds a database whose pages end in checksums; this product makes none
 abbrev pub HasSums : Image → Type 0
@@ -49,8 +50,10 @@ module _ {D : Type 0} {g : Ghosts D} where
   -- The leftover of files that were not opened still holds the ledger after a crash. This is not promised of
   -- a database whose pages end in checksums.
   abbrev pub LeftoverHolds : Image → Leftover D g → Ledger → Type 0
-  LeftoverHolds before (left.Files now) L = (image : Image) → outcomes g now.log now.db image → ∥ ImageHoldsLedger image L ∥₁
-  LeftoverHolds before (left.Unopened now) L = (image : Image) → (state_of now).may_leave image → ∥ ImageHoldsLedger image L ⊎ HasSums before ∥₁
+  LeftoverHolds before (left.Files now) L =
+      (image : Image) → outcomes g now.log now.db image → ∥ ImageHoldsLedger image L ∥₁
+  LeftoverHolds before (left.Unopened now) L =
+      (image : Image) → (state_of now).may_leave image → ∥ ImageHoldsLedger image L ⊎ HasSums before ∥₁
   LeftoverHolds before (left.Store now) L =
       (files : Files) → IsCrashStateOfStore now files → FilesHold files L
 
@@ -63,11 +66,13 @@ module _ {D : Type 0} {g : Ghosts D} where
   -- and so do those after them if the disk has returned what was written to it.
   abbrev pub ClosedHold : Pair D → Leftover D g → Ledger → Type 0
   ClosedHold closed left L =
-      ((image : Image) → outcomes g closed.log closed.db image → ∥ ImageHoldsLedger image L ∥₁) × (IsCleanLeft left → LeftoverHolds (image_of g closed) left L)
+      ((image : Image) → outcomes g closed.log closed.db image → ∥ ImageHoldsLedger image L ∥₁)
+      × (IsCleanLeft left → LeftoverHolds (image_of g closed) left L)
 
   -- The leftover of files that were not closed, or not opened again, still holds the ledger after a crash. Of
   -- files that were closed this is promised if the disk had returned what was written to it by then.
   abbrev pub UnopenedHolds : Unopened D g → Ledger → Type 0
   UnopenedHolds (Unclosed error store) L =
       (files : Files) → IsCrashStateOfStore store files → FilesHold files L
-  UnopenedHolds (Refused error left) L = (closed : Pair D) × (AreClean g closed.log closed.db → ClosedHold closed left L)
+  UnopenedHolds (Refused error left) L =
+      (closed : Pair D) × (AreClean g closed.log closed.db → ClosedHold closed left L)

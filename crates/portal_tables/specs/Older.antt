@@ -3,15 +3,16 @@ use Rattle.std.specs.Prelude.{◌≡◌, ◌⊎◌, ◌<◌, ◌≤◌, ℕ, fal
 use Rattle.sqlite.specs.Tree.{Trees}
 use Rattle.sqlite.specs.Effect.{Database}
 use Rattle.portal_model.specs.declared.command.Command.{Command}
-use Rattle.portal_model.specs.declared.command.Command.TheVariants.{Load, Issue, Sell, Redeem, Report, Refund, Close}
+use Rattle.portal_model.specs.declared.command.Command.TheVariants.{Load, Issue, Sell, Redeem, Report, Refund}
+use Rattle.portal_model.specs.declared.command.Command.TheVariants.{Close}
 use Rattle.portal_model.specs.declared.plan.Plan.{Plan}
 use Rattle.portal_ledger.specs.Ledger.{Accepted, Ledger, IsSound, all_rows_of}
 use Rattle.portal_tables_sql.specs.Represents.{CrashStateHolds}
 use Rattle.portal_tables_rows.specs.Holds.{HoldsIn}
-use Rattle.portal_tables_rows.specs.Schema.{counts_name, totals_name, requests_name}
-use Rattle.portal_tables_schema.specs.SchemaVersions.{is_name_taken}
-use Rattle.portal_tables_schema.specs.Migrations.{version_number}
-use Rattle.portal_tables_schema.specs.declared.schema_versions.OldSchema.{OldSchema}
+use Rattle.portal_tables_sql.specs.Tables.{counts_name, totals_name, requests_name}
+use Rattle.portal_tables_rows.specs.SchemaVersions.{is_name_taken}
+use Rattle.portal_tables_rows.specs.Migrations.{version_number}
+use Rattle.portal_tables_rows.specs.declared.schema_versions.OldSchema.{OldSchema}
 use Rattle.portal_tables.specs.HoldsLedger.{all_contents_of, HoldsLedger}
 
 -- no request of the ledger has an idempotency key

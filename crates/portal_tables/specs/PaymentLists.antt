@@ -6,7 +6,7 @@ use Rattle.portal_model.specs.History.{History, kept_if, is_open_at, session_of}
 use Rattle.portal_model.specs.Payments.{Payment, payment, sales_of, sale_from, refunds_of, refund_from}
 use Rattle.portal_model.specs.Rows.{VoucherRow, rows_of, vouchers_of}
 use Rattle.portal_model.specs.declared.record.Session.{Session}
-use Rattle.portal_tables_queries.specs.Lists.{is_within, by_refund, by_sale}
+use Rattle.portal_tables_rows.specs.Lists.{is_within, by_refund, by_sale}
 use Rattle.portal_tables.specs.HoldsLedger.{voucher_kept}
 
 -- the time and the amount of an answer, as a payment
@@ -29,7 +29,8 @@ by_printed_refund a b = by_refund (voucher_kept a) (voucher_kept b)
 -- issued. So there is one such answer.
 pub record AreSales (h : History) (from to : ℕ) (answer : List (ℕ × ℕ)) : Type 0 where
   pub payments : IsPermutation (filter (is_paid_within from to) (sales_of h)) (map payment_of answer)
-  pub each : map (sale_from (rows_of h)) (filter (λ v. is_within from to v.sold) (vouchers_of h)) ≡ map (λ p. Some (payment_of p)) answer
+  pub each : map (sale_from (rows_of h)) (filter (λ v. is_within from to v.sold) (vouchers_of h))
+      ≡ map (λ p. Some (payment_of p)) answer
 
 -- The answer has the sales of the history between the two times, ordered by time and then by the printed code
 -- of the voucher. No two vouchers have one code, so there is one such answer.

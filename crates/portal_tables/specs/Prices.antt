@@ -8,7 +8,9 @@ use Rattle.portal_model.specs.Rows.{batch_among}
 
 -- the price of the plan of the batch with the id
 abbrev pub price_among : List Plan → List Batch → List ℕ → Option ℕ
-price_among plans batches id = option_and_then (λ batch. option_map (λ plan. plan.price) (plan_among plans batch.plan)) (batch_among batches id)
+price_among plans batches id =
+    option_and_then (λ batch. option_map (λ plan. plan.price) (plan_among plans batch.plan))
+    (batch_among batches id)
 
 -- each batch has its price, and there is no other
 pub record ArePrices (plans : List Plan) (batches : List Batch) (price_of : List ℕ → Option ℕ) : Type 0 where

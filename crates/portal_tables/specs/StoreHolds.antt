@@ -3,9 +3,9 @@ use Rattle.std.specs.Prelude.{◌≡◌, ◌⊎◌, false, true, []}
 use Rattle.sqlite.specs.Schema.{Schema}
 use Rattle.sqlite.specs.Effect.{Database}
 use Rattle.portal_ledger.specs.Ledger.{Ledger}
-use Rattle.portal_tables_schema.specs.SchemaVersions.{is_any_name_taken}
-use Rattle.portal_tables_schema.specs.Migrations.{version_number}
-use Rattle.portal_tables_schema.specs.declared.schema_versions.OldSchema.{OldSchema}
+use Rattle.portal_tables_rows.specs.SchemaVersions.{is_any_name_taken}
+use Rattle.portal_tables_rows.specs.Migrations.{version_number}
+use Rattle.portal_tables_rows.specs.declared.schema_versions.OldSchema.{OldSchema}
 use Rattle.portal_tables.specs.Older.{HoldsLedgerIn}
 use Rattle.portal_tables.specs.HoldsLedger.{HoldsLedger}
 

@@ -60,7 +60,8 @@ module _ {S : Type 0} (g : Ghosts S) where
   unfoldable pub TablesRepresent : Tables S → DeskState → Type 0
   TablesRepresent tables (running L) =
       (tables.is_stopped ≡ false) × Represents (HoldsLedger L) (state g tables.conn)
-  TablesRepresent tables (stopped L doubt) = (tables.is_stopped ≡ true) × ((trees : Trees) → (state g tables.conn).may_leave trees → AllowedByState (stopped L doubt) trees)
+  TablesRepresent tables (stopped L doubt) = (tables.is_stopped ≡ true)
+      × ((trees : Trees) → (state g tables.conn).may_leave trees → AllowedByState (stopped L doubt) trees)
 
   -- the files are a crash state of the tables
   unfoldable pub IsCrashState : Tables S → Files → Type 0
@@ -94,7 +95,8 @@ module _ {S : Type 0} (g : Ghosts S) where
 
   -- after `Memory` the tables are stopped or working as they were; after `Stopped` they have stopped
   abbrev pub FaultGivesStop : Tables S → Tables S → StoreFault → Type 0
-  FaultGivesStop old new fault = ((fault ≡ Memory) × (new.is_stopped ≡ old.is_stopped)) ⊎ ((fault ≡ Stopped) × IsStopped new)
+  FaultGivesStop old new fault =
+      ((fault ≡ Memory) × (new.is_stopped ≡ old.is_stopped)) ⊎ ((fault ≡ Stopped) × IsStopped new)
 
   -- after `Stopped` the tables have stopped; after any other result they are stopped or working as they were,
   -- whatever the disk did
@@ -106,7 +108,8 @@ module _ {S : Type 0} (g : Ghosts S) where
   -- was added.
   pub record GivesFault (old new : Tables S) (fault : StoreFault) : Type 0 where
     pub gives_fault : FaultGivesStop old new fault
-    pub same : HasCleanDisk (state g new.conn) → fault ≡ Memory → IsUnchanged (state g old.conn) (state g new.conn)
+    pub same : HasCleanDisk (state g new.conn) → fault ≡ Memory
+        → IsUnchanged (state g old.conn) (state g new.conn)
     pub survives : Survives (state g old.conn) (state g new.conn) (λ _. ⊥)
 
   -- each crash state is one of those before
@@ -115,9 +118,12 @@ module _ {S : Type 0} (g : Ghosts S) where
 
   -- A call that reads the tables: it gives what holds of the ledger that they represent and changes nothing,
   -- or it fails. Tables that have stopped give `Stopped` and stay as they are.
-  pub record ReadsTables {A : Type 0} (old new : Tables S) (result : Result A StoreFault) (Is : Ledger → A → Type 0) : Type 0 where
+  pub record ReadsTables {A : Type 0} (old new : Tables S) (result : Result A StoreFault)
+      (Is : Ledger → A → Type 0) : Type 0 where
     pub fault_free : IsFaultFree new → IsFaultFree old
     pub stopped : IsStopped old → IsErrOf result Stopped × (new ≡ old)
     pub stops : TablesKeepStop old new result
-    pub found : IsFaultFree new → (before : DeskState) → TablesRepresent old before → (after : DeskState) × TablesRepresent new after × AddsNoCrashState old new
-        × MatchResult result (λ found. ReadsOf before (λ L. Is L found) after) (λ fault. FailsToRead Memory Stopped before fault after)
+    pub found : IsFaultFree new → (before : DeskState) → TablesRepresent old before
+        → (after : DeskState) × TablesRepresent new after × AddsNoCrashState old new
+        × MatchResult result (λ found. ReadsOf before (λ L. Is L found) after)
+        (λ fault. FailsToRead Memory Stopped before fault after)

@@ -6,12 +6,12 @@ ghost use Rattle.std.specs.Prelude.{MatchResult};
 ghost use Rattle.sqlite.specs.Held.{state};
 ghost use Rattle.sqlite.specs.State.{HasCleanDisk, IsUnchanged, Survives};
 ghost use Rattle.portal_tables_sql.specs.States.{IsAsBefore};
-ghost use Rattle.portal_tables_schema.specs.Creation.{IsCommitted, new_store};
+ghost use Rattle.portal_tables_rows.specs.Creation.{IsCommitted, new_store};
 ghost use Rattle.portal_tables_rows.specs.Holds.{Holds, CrashStateHoldsRows};
 ghost use Rattle.portal_tables_rows.specs.Others.{KeepsOthers, CrashStateHasOthers};
-ghost use Rattle.portal_tables_schema.specs.SchemaVersions.{GivesSchemaVersion};
-ghost use Rattle.portal_tables_schema.specs.Migrations.{HasMigrated};
-ghost use Rattle.portal_tables_schema.specs.declared.schema_versions.OldSchema.TheVariants.{Fourth};
+ghost use Rattle.portal_tables_rows.specs.SchemaVersions.{GivesSchemaVersion};
+ghost use Rattle.portal_tables_rows.specs.Migrations.{HasMigrated};
+ghost use Rattle.portal_tables_rows.specs.declared.schema_versions.OldSchema.TheVariants.{Fourth};
 ghost use Rattle.portal_tables.specs.Attaching.{IsCarried, IsCompleted, IsKnown, AreTablesReady, IsCauseIn};
 ghost use Rattle.portal_tables.specs.Attaching.{
   CrashStateCarries,
@@ -25,8 +25,8 @@ ghost use Rattle.portal_tables.specs.declared.errors.OpenFault.TheVariants.{NotO
 use crate::errors::{OpenFault, open_fault_of};
 use crate::migration::migrate_database;
 use portal_tables_rows::rows::RowError;
-use portal_tables_schema::creation::{can_add_tables, create_schema};
-use portal_tables_schema::schema_versions::{
+use portal_tables_rows::creation::{can_add_tables, create_schema};
+use portal_tables_rows::schema_versions::{
     OldSchema, has_no_action_on_ours, is_any_name_taken, is_indexed, is_usable_schema,
     schema_version_in, select_schema_version,
 };

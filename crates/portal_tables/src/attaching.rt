@@ -14,7 +14,7 @@ ghost use Rattle.portal_tables.specs.Attaching.{
   IsCauseIn,
 };
 ghost use Rattle.portal_tables.specs.Attaching.{AttachesOthers};
-ghost use Rattle.portal_tables_schema.specs.SchemaVersions.{GivesSchemaVersion};
+ghost use Rattle.portal_tables_rows.specs.SchemaVersions.{GivesSchemaVersion};
 ghost use Rattle.portal_tables_rows.specs.Holds.{this_schema_version};
 ghost use Rattle.portal_tables.specs.StoreHolds.{IsAnyNameTaken};
 ghost use Rattle.portal_tables.specs.TablesRepresent.{

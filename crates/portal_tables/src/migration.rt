@@ -7,14 +7,14 @@ ghost use Rattle.sqlite.specs.State.{HasCleanDisk, IsUnchanged, Survives};
 ghost use Rattle.portal_ledger.specs.Ledger.{Ledger};
 ghost use Rattle.portal_tables_sql.specs.States.{IsAsBefore};
 ghost use Rattle.portal_tables_sql.specs.Represents.{Represents};
-ghost use Rattle.portal_tables_schema.specs.Migrations.{HasMigrated, MayMigrate, version_number};
+ghost use Rattle.portal_tables_rows.specs.Migrations.{HasMigrated, MayMigrate, version_number};
 ghost use Rattle.portal_tables.specs.Older.{HoldsLedgerIn, CrashStateHoldsEither};
 ghost use Rattle.portal_tables.specs.HoldsLedger.{HoldsLedger};
 ghost use Rattle.portal_tables.specs.declared.errors.OpenFault.TheVariants.{Memory, Store};
 
 use crate::errors::{OpenFault, open_fault_of};
-use portal_tables_schema::from_versions;
-use portal_tables_schema::schema_versions::OldSchema;
+use portal_tables_rows::from_versions;
+use portal_tables_rows::schema_versions::OldSchema;
 use sqlite::{Alter, Connection};
 
 /// Migrates a database of an older schema version to this version, with the index of the sessions, in

@@ -82,7 +82,8 @@ pub fn reopen<D: Disk + Drop>(
     ensures opened { (L : Ledger) → ConnRepresents over_files conn L
         → IfOk result (λ again. HasCleanDisk (file_state again) → ConnRepresents over_files again L) }
     ensures reopened { IfOk result (λ again. HasCleanDisk (file_state again) → IsReopened conn again) }
-    ensures live { IfOk result (λ again. HasCleanDisk (file_state again) → IsTrue (file_state again).is_open) }
+    ensures live { IfOk result
+        (λ again. HasCleanDisk (file_state again) → IsTrue (file_state again).is_open) }
     ensures fails_to_open { (L : Ledger) → ConnRepresents over_files conn L
         → IfErr result (λ e. UnopenedHolds e L) }
 {

@@ -2,7 +2,7 @@
 
 ghost use Rattle.std.specs.Prelude.{◌≡◌, IfOk, Some, bytes_eq, map};
 ghost use Rattle.std.specs.HashMap.{get_by};
-ghost use Rattle.portal_tables_queries.specs.Lists.{sale_read};
+ghost use Rattle.portal_tables_rows.specs.Lists.{sale_read};
 ghost use Rattle.portal_model.specs.Change.{plan_among};
 ghost use Rattle.portal_tables.specs.PaymentLists.{payment_of};
 ghost use Rattle.portal_tables.specs.Prices.{ArePrices, payment_at};
@@ -10,8 +10,8 @@ ghost use Rattle.portal_tables.specs.Prices.{ArePrices, payment_at};
 use portal_model::moment::Moment;
 use portal_model::plan::Plan;
 use portal_model::record::Batch;
-use portal_tables_queries::lists::SaleValue;
-use portal_tables_queries::sums::first_plan_with;
+use portal_tables_rows::lists::SaleValue;
+use portal_tables_rows::sums::first_plan_with;
 use portal_tables_rows::rows::RowError;
 use std::alloc::Global;
 use std::collections::HashMap;

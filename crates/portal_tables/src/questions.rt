@@ -20,7 +20,7 @@ use portal_model::moment::Moment;
 use portal_model::name::{Device, Id};
 use portal_model::plan::Plan;
 use portal_model::record::{Batch, Head, Session, Voucher};
-use portal_tables_queries::lists::{list_batch_codes, list_refunds};
+use portal_tables_rows::lists::{list_batch_codes, list_refunds};
 use portal_tables_rows::finds::{read_batch_row, read_head_row, read_plan_row};
 use portal_tables_rows::requests::read_request_row;
 use portal_tables_rows::rows::RowError;

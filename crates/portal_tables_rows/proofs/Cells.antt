@@ -1,31 +1,55 @@
 -- The rows of each table, as SELECT gives them, are the cells of its values, and these determine the values.
-use Rattle.portal_tables_rows.proofs.Common.{◌≡◌, ℕ, Bool, true, false, List, ◌∷◌, map, refl, ap, Value, Int, column, Trees, Stores, whole_row, less_rowid, fields, rows_in, opens_keyed, opens_numbered, rows_shown, exact_null, exact_signed, Plan, VoucherRow, SessionRow, GrantRow, CountRow, TotalRow, head, plans, batches, vouchers, sessions, grants, counts, totals, HeadRow, flag, batch_cells, count_cells, grant_cells, grant_stored, head_cells, head_stored, plan_cells, session_cells, session_stored, total_cells, total_stored, voucher_cells}
+use Rattle.portal_tables_rows.proofs.Common.{◌≡◌, ℕ, Bool, true, false, List, ◌∷◌, map, refl, ap, Value, Int}
+use Rattle.portal_tables_rows.proofs.Common.{column, Trees, Stores, whole_row, less_rowid, fields, rows_in}
+use Rattle.portal_tables_rows.proofs.Common.{opens_keyed, opens_numbered, rows_shown, exact_null}
+use Rattle.portal_tables_rows.proofs.Common.{exact_signed, Plan, VoucherRow, SessionRow, GrantRow, CountRow}
+use Rattle.portal_tables_rows.proofs.Common.{TotalRow, head, plans, batches, vouchers, sessions, grants}
+use Rattle.portal_tables_rows.proofs.Common.{counts, totals, HeadRow, flag, batch_cells, count_cells}
+use Rattle.portal_tables_rows.proofs.Common.{grant_cells, grant_stored, head_cells, head_stored, plan_cells}
+use Rattle.portal_tables_rows.proofs.Common.{session_cells, session_stored, total_cells, total_stored}
+use Rattle.portal_tables_rows.proofs.Common.{voucher_cells}
 use Rattle.portal_model.specs.declared.record.Batch.{Batch}
 use Rattle.portal_model.proofs.SamePlan.{same-plan}
 
-pub heads_in : (db : Trees) (tree : ℕ) (ps : List HeadRow) → Stores whole_row head_stored (db tree) ps → rows_in (head tree) db ≡ map head_cells ps
-heads_in db tree ps h = rows_shown whole_row head_stored head_cells (λ n p. head_stored p) (opens_numbered head_stored) (fields (head tree)) (λ n p. refl) (db tree) ps h.are.keyed h.is
+pub heads_in : (db : Trees) (tree : ℕ) (ps : List HeadRow) → Stores whole_row head_stored (db tree) ps
+    → rows_in (head tree) db ≡ map head_cells ps
+heads_in db tree ps h = rows_shown whole_row head_stored head_cells (λ n p. head_stored p)
+    (opens_numbered head_stored) (fields (head tree)) (λ n p. refl) (db tree) ps h.are.keyed h.is
 
-pub plans_in : (db : Trees) (tree : ℕ) (ps : List Plan) → Stores less_rowid plan_cells (db tree) ps → rows_in (plans tree) db ≡ map plan_cells ps
-plans_in db tree ps h = rows_shown less_rowid plan_cells plan_cells (λ n p. Int n ∷ plan_cells p) (opens_keyed plan_cells) (fields (plans tree)) (λ n p. refl) (db tree) ps h.are.keyed h.is
+pub plans_in : (db : Trees) (tree : ℕ) (ps : List Plan) → Stores less_rowid plan_cells (db tree) ps
+    → rows_in (plans tree) db ≡ map plan_cells ps
+plans_in db tree ps h = rows_shown less_rowid plan_cells plan_cells (λ n p. Int n ∷ plan_cells p)
+    (opens_keyed plan_cells) (fields (plans tree)) (λ n p. refl) (db tree) ps h.are.keyed h.is
 
-pub batches_in : (db : Trees) (tree : ℕ) (ps : List Batch) → Stores less_rowid batch_cells (db tree) ps → rows_in (batches tree) db ≡ map batch_cells ps
-batches_in db tree ps h = rows_shown less_rowid batch_cells batch_cells (λ n p. Int n ∷ batch_cells p) (opens_keyed batch_cells) (fields (batches tree)) (λ n p. refl) (db tree) ps h.are.keyed h.is
+pub batches_in : (db : Trees) (tree : ℕ) (ps : List Batch) → Stores less_rowid batch_cells (db tree) ps
+    → rows_in (batches tree) db ≡ map batch_cells ps
+batches_in db tree ps h = rows_shown less_rowid batch_cells batch_cells (λ n p. Int n ∷ batch_cells p)
+    (opens_keyed batch_cells) (fields (batches tree)) (λ n p. refl) (db tree) ps h.are.keyed h.is
 
-pub vouchers_in : (db : Trees) (tree : ℕ) (ps : List VoucherRow) → Stores less_rowid voucher_cells (db tree) ps → rows_in (vouchers tree) db ≡ map voucher_cells ps
-vouchers_in db tree ps h = rows_shown less_rowid voucher_cells voucher_cells (λ n p. Int n ∷ voucher_cells p) (opens_keyed voucher_cells) (fields (vouchers tree)) (λ n p. refl) (db tree) ps h.are.keyed h.is
+pub vouchers_in : (db : Trees) (tree : ℕ) (ps : List VoucherRow)
+    → Stores less_rowid voucher_cells (db tree) ps → rows_in (vouchers tree) db ≡ map voucher_cells ps
+vouchers_in db tree ps h = rows_shown less_rowid voucher_cells voucher_cells (λ n p. Int n ∷ voucher_cells p)
+    (opens_keyed voucher_cells) (fields (vouchers tree)) (λ n p. refl) (db tree) ps h.are.keyed h.is
 
-pub sessions_in : (db : Trees) (tree : ℕ) (ps : List SessionRow) → Stores whole_row session_stored (db tree) ps → rows_in (sessions tree) db ≡ map session_cells ps
-sessions_in db tree ps h = rows_shown whole_row session_stored session_cells (λ n p. session_stored p) (opens_numbered session_stored) (fields (sessions tree)) (λ n p. refl) (db tree) ps h.are.keyed h.is
+pub sessions_in : (db : Trees) (tree : ℕ) (ps : List SessionRow)
+    → Stores whole_row session_stored (db tree) ps → rows_in (sessions tree) db ≡ map session_cells ps
+sessions_in db tree ps h = rows_shown whole_row session_stored session_cells (λ n p. session_stored p)
+    (opens_numbered session_stored) (fields (sessions tree)) (λ n p. refl) (db tree) ps h.are.keyed h.is
 
-pub grants_in : (db : Trees) (tree : ℕ) (ps : List GrantRow) → Stores whole_row grant_stored (db tree) ps → rows_in (grants tree) db ≡ map grant_cells ps
-grants_in db tree ps h = rows_shown whole_row grant_stored grant_cells (λ n p. grant_stored p) (opens_numbered grant_stored) (fields (grants tree)) (λ n p. refl) (db tree) ps h.are.keyed h.is
+pub grants_in : (db : Trees) (tree : ℕ) (ps : List GrantRow) → Stores whole_row grant_stored (db tree) ps
+    → rows_in (grants tree) db ≡ map grant_cells ps
+grants_in db tree ps h = rows_shown whole_row grant_stored grant_cells (λ n p. grant_stored p)
+    (opens_numbered grant_stored) (fields (grants tree)) (λ n p. refl) (db tree) ps h.are.keyed h.is
 
-pub counts_in : (db : Trees) (tree : ℕ) (ps : List CountRow) → Stores less_rowid count_cells (db tree) ps → rows_in (counts tree) db ≡ map count_cells ps
-counts_in db tree ps h = rows_shown less_rowid count_cells count_cells (λ n p. Int n ∷ count_cells p) (opens_keyed count_cells) (fields (counts tree)) (λ n p. refl) (db tree) ps h.are.keyed h.is
+pub counts_in : (db : Trees) (tree : ℕ) (ps : List CountRow) → Stores less_rowid count_cells (db tree) ps
+    → rows_in (counts tree) db ≡ map count_cells ps
+counts_in db tree ps h = rows_shown less_rowid count_cells count_cells (λ n p. Int n ∷ count_cells p)
+    (opens_keyed count_cells) (fields (counts tree)) (λ n p. refl) (db tree) ps h.are.keyed h.is
 
-pub totals_in : (db : Trees) (tree : ℕ) (ps : List TotalRow) → Stores whole_row total_stored (db tree) ps → rows_in (totals tree) db ≡ map total_cells ps
-totals_in db tree ps h = rows_shown whole_row total_stored total_cells (λ n p. total_stored p) (opens_numbered total_stored) (fields (totals tree)) (λ n p. refl) (db tree) ps h.are.keyed h.is
+pub totals_in : (db : Trees) (tree : ℕ) (ps : List TotalRow) → Stores whole_row total_stored (db tree) ps
+    → rows_in (totals tree) db ≡ map total_cells ps
+totals_in db tree ps h = rows_shown whole_row total_stored total_cells (λ n p. total_stored p)
+    (opens_numbered total_stored) (fields (totals tree)) (λ n p. refl) (db tree) ps h.are.keyed h.is
 
 exact_flag : (a b : Bool) → ◌≡◌ {A = Value} (flag a) (flag b) → a ≡ b
 exact_flag true true e = refl
@@ -40,7 +64,13 @@ exact_head a b e =
     let last_is : a.last ≡ b.last = cc in
     let grants_is : a.grants ≡ b.grants = cc in
     let sessions_is : a.sessions ≡ b.sessions = cc in
-    λ i. record { id = id_is i; schema_version = layout_is i; last = last_is i; grants = grants_is i; sessions = sessions_is i }
+    λ i. record {
+      id = id_is i;
+      schema_version = layout_is i;
+      last = last_is i;
+      grants = grants_is i;
+      sessions = sessions_is i;
+    }
 
 pub exact_plan : (a b : Plan) → plan_cells a ≡ plan_cells b → a ≡ b
 exact_plan a b e =
@@ -51,7 +81,15 @@ exact_plan a b e =
     let bytes_is : a.bytes ≡ b.bytes = cc in
     let shelf_days_is : a.shelf_days ≡ b.shelf_days = cc in
     let extend_is = exact_flag a.extend b.extend (ap (λ r. column r 6) e) in
-    same-plan a b (λ i. record { id = id_is i; price = price_is i; uses = uses_is i; seconds = seconds_is i; bytes = bytes_is i; shelf_days = shelf_days_is i; extend = extend_is i })
+    same-plan a b (λ i. record {
+      id = id_is i;
+      price = price_is i;
+      uses = uses_is i;
+      seconds = seconds_is i;
+      bytes = bytes_is i;
+      shelf_days = shelf_days_is i;
+      extend = extend_is i;
+    })
 
 pub exact_batch : (a b : Batch) → batch_cells a ≡ batch_cells b → a ≡ b
 exact_batch a b e =
@@ -60,7 +98,8 @@ exact_batch a b e =
     let issued_is : a.issued ≡ b.issued = cc in
     let expires_is : a.expires ≡ b.expires = cc in
     let size_is : a.size ≡ b.size = cc in
-    λ i. record { id = id_is i; plan = plan_is i; issued = issued_is i; expires = expires_is i; size = size_is i }
+    λ i.
+    record { id = id_is i; plan = plan_is i; issued = issued_is i; expires = expires_is i; size = size_is i }
 
 pub exact_voucher : (a b : VoucherRow) → voucher_cells a ≡ voucher_cells b → a ≡ b
 exact_voucher a b e =
@@ -70,7 +109,14 @@ exact_voucher a b e =
     let sold_is = exact_null a.sold b.sold (ap (λ r. column r 3) e) in
     let refunded_is = exact_null a.refunded b.refunded (ap (λ r. column r 4) e) in
     let amount_is = exact_null a.amount b.amount (ap (λ r. column r 5) e) in
-    λ i. record { code = code_is i; batch = batch_is i; place = place_is i; sold = sold_is i; refunded = refunded_is i; amount = amount_is i }
+    λ i. record {
+      code = code_is i;
+      batch = batch_is i;
+      place = place_is i;
+      sold = sold_is i;
+      refunded = refunded_is i;
+      amount = amount_is i;
+    }
 
 pub exact_session : (a b : SessionRow) → session_cells a ≡ session_cells b → a ≡ b
 exact_session a b e =
@@ -80,7 +126,14 @@ exact_session a b e =
     let opened_is : a.opened ≡ b.opened = cc in
     let used_is : a.used ≡ b.used = cc in
     let closed_is = exact_null a.closed b.closed (ap (λ r. column r 5) e) in
-    λ i. record { number = number_is i; device = device_is i; plan = plan_is i; opened = opened_is i; used = used_is i; closed = closed_is i }
+    λ i. record {
+      number = number_is i;
+      device = device_is i;
+      plan = plan_is i;
+      opened = opened_is i;
+      used = used_is i;
+      closed = closed_is i;
+    }
 
 pub exact_grant : (a b : GrantRow) → grant_cells a ≡ grant_cells b → a ≡ b
 exact_grant a b e =
@@ -90,7 +143,14 @@ exact_grant a b e =
     let moment_is : a.moment ≡ b.moment = cc in
     let seconds_is : a.seconds ≡ b.seconds = cc in
     let bytes_is : a.bytes ≡ b.bytes = cc in
-    λ i. record { number = number_is i; code = code_is i; session = session_is i; moment = moment_is i; seconds = seconds_is i; bytes = bytes_is i }
+    λ i. record {
+      number = number_is i;
+      code = code_is i;
+      session = session_is i;
+      moment = moment_is i;
+      seconds = seconds_is i;
+      bytes = bytes_is i;
+    }
 
 pub exact_count : (a b : CountRow) → count_cells a ≡ count_cells b → a ≡ b
 exact_count a b e =

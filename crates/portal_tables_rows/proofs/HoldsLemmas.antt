@@ -1,5 +1,20 @@
 -- A statement on one table does not change the others.
-use Rattle.portal_tables_rows.proofs.Common.{◌≡◌, ◌==◌, ◌≤◌, ℕ, Bool, List, false, refl, sym, ap, subst, ◌∙◌, true≢false, slice_index_or, eq-eqb, Schema, Table, Row, Database, IsDatabase, State, Has, TableExists, Stores, whole_row, less_rowid, Plan, VoucherRow, SessionRow, GrantRow, CountRow, TotalRow, head, plans, batches, vouchers, sessions, grants, counts, totals, requests, Contents, HeadRow, head_stored, plan_cells, batch_cells, voucher_cells, session_stored, grant_stored, count_cells, total_stored, request_cells, RequestRow, HoldsIn, TablesExist, StoresRows}
+use Rattle.portal_tables_rows.proofs.Common.{◌≡◌, ◌==◌, ◌≤◌, ℕ, Bool, List, true, false, cond, inl, inr, refl}
+use Rattle.portal_tables_rows.proofs.Common.{sym, ap, subst, ◌∙◌, true≢false, slice_index_or, eq-eqb}
+use Rattle.portal_tables_rows.proofs.Common.{eqb-true, cases_Bool, Schema, Table, Row, Database, IsDatabase}
+use Rattle.portal_tables_rows.proofs.Common.{State, Has, TableExists, Stores, whole_row, less_rowid, Plan}
+use Rattle.portal_tables_rows.proofs.Common.{VoucherRow, SessionRow, GrantRow, CountRow, TotalRow, head}
+use Rattle.portal_tables_rows.proofs.Common.{plans, batches, vouchers, sessions, grants, counts, totals}
+use Rattle.portal_tables_rows.proofs.Common.{requests, Contents, HeadRow, head_stored, plan_cells}
+use Rattle.portal_tables_rows.proofs.Common.{batch_cells, voucher_cells, session_stored, grant_stored}
+use Rattle.portal_tables_rows.proofs.Common.{count_cells, total_stored, request_cells, RequestRow, HoldsIn}
+use Rattle.portal_tables_rows.proofs.Common.{TablesExist}
+use Rattle.portal_tables_sql.specs.Stored.{Keeps}
+use Rattle.portal_tables_sql.specs.Tables.{table_of, name_of, since}
+use Rattle.portal_tables_sql.specs.declared.our_tables.OurTable.{OurTable}
+use Rattle.portal_tables_sql.specs.declared.our_tables.OurTable.TheVariants as our
+use Rattle.portal_tables_sql.proofs.TableLemmas.{for_each, name_is, tree_is}
+use Rattle.portal_tables_rows.specs.Holds.{StoresIn, shown, cut_of}
 use Rattle.sqlite_rules.specs.Edit.{Edit}
 use Rattle.sqlite_rules.proofs.ListLemmas.{all_has}
 use Rattle.sqlite_catalog.proofs.AlterLemmas.{place_has}
@@ -10,7 +25,8 @@ use Rattle.portal_model.specs.declared.record.Batch.{Batch}
 abbrev pub initial : Table → ℕ
 initial t = slice_index_or t.name 7 0
 
-pub apart : (schema : Schema) (a b : ℕ) (x y : Table) → TableExists schema a x → TableExists schema b y → (initial x == initial y) ≡ false → x.tree ≡ y.tree → ⊥
+pub apart : (schema : Schema) (a b : ℕ) (x y : Table) → TableExists schema a x → TableExists schema b y
+    → (initial x == initial y) ≡ false → x.tree ≡ y.tree → ⊥
 apart schema a b x y p q off same =
     let e = q.only x (place_has schema.tables a x p.there) (eq-eqb _ _ same) in
     true≢false (sym (eq-eqb (initial x) (initial y) (ap initial e)) ∙ off)
@@ -18,96 +34,134 @@ apart schema a b x y p q off same =
 -- the statement did not change the schema, the tables of other names and each table but this one
 pub record Touches (db : Database) (table : Table) (after : Database) : Type 0 where
   pub schema : after.schema ≡ db.schema
-  pub others : (a : ℕ) (x : Table) → TableExists db.schema a x → (initial x == initial table) ≡ false → after.trees x.tree ≡ db.trees x.tree
+  pub others : (a : ℕ) (x : Table) → TableExists db.schema a x → (initial x == initial table) ≡ false
+      → after.trees x.tree ≡ db.trees x.tree
   pub beside : (x : Table) → Has db.schema.tables x → (x ≡ table → ⊥) → after.trees x.tree ≡ db.trees x.tree
   pub sound : IsDatabase after
 
-pub touches : {old new : State} {edit : Edit} (b : ℕ) → TableExists old.now.schema b edit.table → Edits old new old.now.schema edit → Touches old.now edit.table new.now
+pub touches : {old new : State} {edit : Edit} (b : ℕ) → TableExists old.now.schema b edit.table
+    → Edits old new old.now.schema edit → Touches old.now edit.table new.now
 touches {old = old} {edit = edit} b here e = record {
   schema = e.schema_is;
-  others = λ a x exists off. all_has _ old.now.schema.tables x e.applies.tables (place_has old.now.schema.tables a x exists.there) (apart old.now.schema a b x edit.table exists here off);
-  beside = λ x has other. all_has _ old.now.schema.tables x e.applies.tables has (λ same. other (here.only x has (eq-eqb _ _ same)));
+  others = λ a x exists off. all_has _ old.now.schema.tables x e.applies.tables (place_has
+      old.now.schema.tables a x exists.there) (apart old.now.schema a b x edit.table exists here off);
+  beside = λ x has other. all_has _ old.now.schema.tables x e.applies.tables has
+      (λ same. other (here.only x has (eq-eqb _ _ same)));
   sound = e.sound;
 }
 
-pub moved : {P : Type 0} {cut : Row → Row} {stored : P → Row} {rows now : List Row} {ps : List P} → now ≡ rows → Stores cut stored rows ps → Stores cut stored now ps
-moved {cut = cut} {stored = stored} {ps = ps} same h = subst (λ r. Stores cut stored r ps) (sym same) h
+pub moved : {cut : Row → Row} {rows now shown : List Row} → now ≡ rows
+    → Keeps cut rows shown → Keeps cut now shown
+moved {cut = cut} {shown = shown} same h = subst (λ r. Keeps cut r shown) (sym same) h
 
 -- ---- each table but the one that was touched stores the rows that it stored
 
-module _ {schema_version : ℕ} {indexed : Bool} {db after : Database} {t : Contents} (h : HoldsIn schema_version indexed db t) {touched : Table} (k : Touches db touched after) where
-  abbrev IsOther : Table → Type 0
-  IsOther x = (initial x == initial touched) ≡ false
+abbrev initial_of : OurTable → ℕ
+initial_of x = slice_index_or (name_of x) 7 0
 
-  stays : {P : Type 0} {cut : Row → Row} {stored : P → Row} {ps : List P} (x : Table) {at : ℕ} → TableExists db.schema at x → IsOther x → Stores cut stored (db.trees x.tree) ps → Stores cut stored (after.trees x.tree) ps
-  stays x {at = at} exists off stored = moved (k.others at x exists off) stored
+abbrev by_initial : ℕ → OurTable
+by_initial n =
+    cond (n == 104) our.Head (cond (n == 112) our.Plans
+    (cond (n == 98) our.Batches (cond (n == 118) our.Vouchers (cond (n == 115) our.Sessions
+    (cond (n == 103) our.Grants (cond (n == 99) our.Counts (cond (n == 116) our.Totals (our.Requests))))))))
 
-  heads_stay : IsOther (head h.places.heads.tree) → Stores whole_row head_stored (after.trees h.places.heads.tree) t.heads
-  heads_stay off = stays (head h.places.heads.tree) h.tables_exist.heads.exists off h.store.heads
+named_so : (x : OurTable) → by_initial (initial_of x) ≡ x
+named_so = for_each _ refl refl refl refl refl refl refl refl refl
 
-  plans_stay : IsOther (plans h.places.plans.tree) → Stores less_rowid plan_cells (after.trees h.places.plans.tree) t.plans
-  plans_stay off = stays (plans h.places.plans.tree) h.tables_exist.plans.exists off h.store.plans
+same_table : (x y : OurTable) → (initial_of x == initial_of y) ≡ true → x ≡ y
+same_table x y same =
+    sym (named_so x) ∙ ap by_initial (eqb-true (initial_of x) (initial_of y) same) ∙ named_so y
 
-  batches_stay : IsOther (batches h.places.batches.tree) → Stores less_rowid batch_cells (after.trees h.places.batches.tree) t.batches
-  batches_stay off = stays (batches h.places.batches.tree) h.tables_exist.batches.exists off h.store.batches
+-- the rows of the other tables are the same
+abbrev Unless : Bool → Type 0 → Type 0
+Unless true P = Unit {0}
+Unless false P = P
 
-  vouchers_stay : IsOther (vouchers h.places.vouchers.tree) → Stores less_rowid voucher_cells (after.trees h.places.vouchers.tree) t.vouchers
-  vouchers_stay off = stays (vouchers h.places.vouchers.tree) h.tables_exist.vouchers.exists off h.store.vouchers
+abbrev Differ : OurTable → Contents → Contents → Type 0
+Differ y t now = (x : OurTable) → Unless (initial_of x == initial_of y) (shown x t ≡ shown x now)
 
-  sessions_stay : IsOther (sessions h.places.sessions.tree) → Stores whole_row session_stored (after.trees h.places.sessions.tree) t.sessions
-  sessions_stay off = stays (sessions h.places.sessions.tree) h.tables_exist.sessions.exists off h.store.sessions
+module _ {v : ℕ} {indexed : Bool} {db after : Database} {t : Contents} (h : HoldsIn v indexed db t)
+    (y : OurTable) (k : Touches db (table_of y (h.places y).tree) after) where
+  initials : (x z : OurTable) (n m : ℕ) → (initial_of x == initial_of z) ≡ false
+      → (initial (table_of x n) == initial (table_of z m)) ≡ false
+  initials x z n m off = rw (name_is x n, name_is z m) off
 
-  grants_stay : IsOther (grants h.places.grants.tree) → Stores whole_row grant_stored (after.trees h.places.grants.tree) t.grants
-  grants_stay off = stays (grants h.places.grants.tree) h.tables_exist.grants.exists off h.store.grants
+  stays : (x : OurTable) → since x ≤ v → (initial_of x == initial_of y) ≡ false
+      → StoresIn x (after.trees (h.places x).tree) t
+  stays x on off =
+      let table = table_of x (h.places x).tree in
+      let same : after.trees table.tree ≡ db.trees table.tree =
+      k.others (h.places x).at table (h.tables_exist.tables x on).exists (initials x y _ _ off) in
+      moved (subst (λ n. after.trees n ≡ db.trees n) (tree_is x (h.places x).tree) same) (h.store x on)
 
-  counts_stay : IsOther (counts h.places.counts.tree) → 2 ≤ schema_version → Stores less_rowid count_cells (after.trees h.places.counts.tree) t.counts
-  counts_stay off on = stays (counts h.places.counts.tree) (h.tables_exist.counts on).exists off (h.store.counts on)
-
-  totals_stay : IsOther (totals h.places.totals.tree) → 2 ≤ schema_version → Stores whole_row total_stored (after.trees h.places.totals.tree) t.totals
-  totals_stay off on = stays (totals h.places.totals.tree) (h.tables_exist.totals on).exists off (h.store.totals on)
-
-  requests_stay : IsOther (requests h.places.requests.tree) → 3 ≤ schema_version → Stores less_rowid request_cells (after.trees h.places.requests.tree) t.requests
-  requests_stay off on = stays (requests h.places.requests.tree) (h.tables_exist.requests on).exists off (h.store.requests on)
-
-  -- all are where they were
-  now_holds : (now : Contents) → StoresRows schema_version h.places after.trees now → HoldsIn schema_version indexed after now
-  now_holds now store = record { places = h.places; tables_exist = subst (λ s. TablesExist schema_version indexed s h.places) (sym k.schema) h.tables_exist; store = store; sound = k.sound }
+  -- the touched table stores these rows now
+  holds_now : (now : Contents) → StoresIn y (after.trees (h.places y).tree) now → Differ y t now
+      → HoldsIn v indexed after now
+  holds_now now stored differ = record {
+    places = h.places;
+    tables_exist = subst (λ s. TablesExist v indexed s h.places) (sym k.schema) h.tables_exist;
+    store = λ x on. elim (cases_Bool (initial_of x == initial_of y)) [
+      | inl same ↦
+          subst (λ z. StoresIn z (after.trees (h.places z).tree) now) (sym (same_table x y same)) stored
+      | inr off ↦
+          subst (Keeps (cut_of x) (after.trees (h.places x).tree)) (rw off at (differ x)) (stays x on off)
+    ];
+    sound = k.sound;
+  }
 
 -- ---- the touched table stores these rows now
 
-module _ {schema_version : ℕ} {indexed : Bool} {db after : Database} {t : Contents} (h : HoldsIn schema_version indexed db t) where
-  pub heads_now : (now : List HeadRow) → Touches db (head h.places.heads.tree) after → Stores whole_row head_stored (after.trees h.places.heads.tree) now → HoldsIn schema_version indexed after (record t { heads = now })
+module _ {v : ℕ} {indexed : Bool} {db after : Database} {t : Contents} (h : HoldsIn v indexed db t) where
+  pub heads_now : (now : List HeadRow) → Touches db (head (h.places our.Head).tree) after
+      → Stores whole_row head_stored (after.trees (h.places our.Head).tree) now
+      → HoldsIn v indexed after (record t { heads = now })
   heads_now now k stored =
-      now_holds h k _ (record { heads = stored; plans = plans_stay h k refl; batches = batches_stay h k refl; vouchers = vouchers_stay h k refl; sessions = sessions_stay h k refl; grants = grants_stay h k refl; counts = counts_stay h k refl; totals = totals_stay h k refl; requests = requests_stay h k refl })
+      holds_now h our.Head k _ stored (for_each _ tt refl refl refl refl refl refl refl refl)
 
-  pub plans_now : (now : List Plan) → Touches db (plans h.places.plans.tree) after → Stores less_rowid plan_cells (after.trees h.places.plans.tree) now → HoldsIn schema_version indexed after (record t { plans = now })
+  pub plans_now : (now : List Plan) → Touches db (plans (h.places our.Plans).tree) after
+      → Stores less_rowid plan_cells (after.trees (h.places our.Plans).tree) now
+      → HoldsIn v indexed after (record t { plans = now })
   plans_now now k stored =
-      now_holds h k _ (record { heads = heads_stay h k refl; plans = stored; batches = batches_stay h k refl; vouchers = vouchers_stay h k refl; sessions = sessions_stay h k refl; grants = grants_stay h k refl; counts = counts_stay h k refl; totals = totals_stay h k refl; requests = requests_stay h k refl })
+      holds_now h our.Plans k _ stored (for_each _ refl tt refl refl refl refl refl refl refl)
 
-  pub batches_now : (now : List Batch) → Touches db (batches h.places.batches.tree) after → Stores less_rowid batch_cells (after.trees h.places.batches.tree) now → HoldsIn schema_version indexed after (record t { batches = now })
+  pub batches_now : (now : List Batch) → Touches db (batches (h.places our.Batches).tree) after
+      → Stores less_rowid batch_cells (after.trees (h.places our.Batches).tree) now
+      → HoldsIn v indexed after (record t { batches = now })
   batches_now now k stored =
-      now_holds h k _ (record { heads = heads_stay h k refl; plans = plans_stay h k refl; batches = stored; vouchers = vouchers_stay h k refl; sessions = sessions_stay h k refl; grants = grants_stay h k refl; counts = counts_stay h k refl; totals = totals_stay h k refl; requests = requests_stay h k refl })
+      holds_now h our.Batches k _ stored (for_each _ refl refl tt refl refl refl refl refl refl)
 
-  pub vouchers_now : (now : List VoucherRow) → Touches db (vouchers h.places.vouchers.tree) after → Stores less_rowid voucher_cells (after.trees h.places.vouchers.tree) now → HoldsIn schema_version indexed after (record t { vouchers = now })
+  pub vouchers_now : (now : List VoucherRow) → Touches db (vouchers (h.places our.Vouchers).tree) after
+      → Stores less_rowid voucher_cells (after.trees (h.places our.Vouchers).tree) now
+      → HoldsIn v indexed after (record t { vouchers = now })
   vouchers_now now k stored =
-      now_holds h k _ (record { heads = heads_stay h k refl; plans = plans_stay h k refl; batches = batches_stay h k refl; vouchers = stored; sessions = sessions_stay h k refl; grants = grants_stay h k refl; counts = counts_stay h k refl; totals = totals_stay h k refl; requests = requests_stay h k refl })
+      holds_now h our.Vouchers k _ stored (for_each _ refl refl refl tt refl refl refl refl refl)
 
-  pub sessions_now : (now : List SessionRow) → Touches db (sessions h.places.sessions.tree) after → Stores whole_row session_stored (after.trees h.places.sessions.tree) now → HoldsIn schema_version indexed after (record t { sessions = now })
+  pub sessions_now : (now : List SessionRow) → Touches db (sessions (h.places our.Sessions).tree) after
+      → Stores whole_row session_stored (after.trees (h.places our.Sessions).tree) now
+      → HoldsIn v indexed after (record t { sessions = now })
   sessions_now now k stored =
-      now_holds h k _ (record { heads = heads_stay h k refl; plans = plans_stay h k refl; batches = batches_stay h k refl; vouchers = vouchers_stay h k refl; sessions = stored; grants = grants_stay h k refl; counts = counts_stay h k refl; totals = totals_stay h k refl; requests = requests_stay h k refl })
+      holds_now h our.Sessions k _ stored (for_each _ refl refl refl refl tt refl refl refl refl)
 
-  pub grants_now : (now : List GrantRow) → Touches db (grants h.places.grants.tree) after → Stores whole_row grant_stored (after.trees h.places.grants.tree) now → HoldsIn schema_version indexed after (record t { grants = now })
+  pub grants_now : (now : List GrantRow) → Touches db (grants (h.places our.Grants).tree) after
+      → Stores whole_row grant_stored (after.trees (h.places our.Grants).tree) now
+      → HoldsIn v indexed after (record t { grants = now })
   grants_now now k stored =
-      now_holds h k _ (record { heads = heads_stay h k refl; plans = plans_stay h k refl; batches = batches_stay h k refl; vouchers = vouchers_stay h k refl; sessions = sessions_stay h k refl; grants = stored; counts = counts_stay h k refl; totals = totals_stay h k refl; requests = requests_stay h k refl })
+      holds_now h our.Grants k _ stored (for_each _ refl refl refl refl refl tt refl refl refl)
 
-  pub counts_now : (now : List CountRow) → Touches db (counts h.places.counts.tree) after → Stores less_rowid count_cells (after.trees h.places.counts.tree) now → HoldsIn schema_version indexed after (record t { counts = now })
+  pub counts_now : (now : List CountRow) → Touches db (counts (h.places our.Counts).tree) after
+      → Stores less_rowid count_cells (after.trees (h.places our.Counts).tree) now
+      → HoldsIn v indexed after (record t { counts = now })
   counts_now now k stored =
-      now_holds h k _ (record { heads = heads_stay h k refl; plans = plans_stay h k refl; batches = batches_stay h k refl; vouchers = vouchers_stay h k refl; sessions = sessions_stay h k refl; grants = grants_stay h k refl; counts = λ on. stored; totals = totals_stay h k refl; requests = requests_stay h k refl })
+      holds_now h our.Counts k _ stored (for_each _ refl refl refl refl refl refl tt refl refl)
 
-  pub totals_now : (now : List TotalRow) → Touches db (totals h.places.totals.tree) after → Stores whole_row total_stored (after.trees h.places.totals.tree) now → HoldsIn schema_version indexed after (record t { totals = now })
+  pub totals_now : (now : List TotalRow) → Touches db (totals (h.places our.Totals).tree) after
+      → Stores whole_row total_stored (after.trees (h.places our.Totals).tree) now
+      → HoldsIn v indexed after (record t { totals = now })
   totals_now now k stored =
-      now_holds h k _ (record { heads = heads_stay h k refl; plans = plans_stay h k refl; batches = batches_stay h k refl; vouchers = vouchers_stay h k refl; sessions = sessions_stay h k refl; grants = grants_stay h k refl; counts = counts_stay h k refl; totals = λ on. stored; requests = requests_stay h k refl })
+      holds_now h our.Totals k _ stored (for_each _ refl refl refl refl refl refl refl tt refl)
 
-  pub requests_now : (now : List RequestRow) → Touches db (requests h.places.requests.tree) after → Stores less_rowid request_cells (after.trees h.places.requests.tree) now → HoldsIn schema_version indexed after (record t { requests = now })
+  pub requests_now : (now : List RequestRow) → Touches db (requests (h.places our.Requests).tree) after
+      → Stores less_rowid request_cells (after.trees (h.places our.Requests).tree) now
+      → HoldsIn v indexed after (record t { requests = now })
   requests_now now k stored =
-      now_holds h k _ (record { heads = heads_stay h k refl; plans = plans_stay h k refl; batches = batches_stay h k refl; vouchers = vouchers_stay h k refl; sessions = sessions_stay h k refl; grants = grants_stay h k refl; counts = counts_stay h k refl; totals = totals_stay h k refl; requests = λ on. stored })
+      holds_now h our.Requests k _ stored (for_each _ refl refl refl refl refl refl refl refl tt)

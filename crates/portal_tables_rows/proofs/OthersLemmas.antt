@@ -1,49 +1,30 @@
 -- Statements on the product's tables keep the rows of the other tables.
-use Rattle.portal_tables_rows.proofs.Common.{◌≡◌, true, true≢false, refl, sym, ap, subst, ◌∙◌, Schema, Table, Database, Has, head_name, plans_name, batches_name, vouchers_name, sessions_name, grants_name, counts_name, totals_name, requests_name, is_own, KeepsOthers}
+use Rattle.portal_tables_rows.proofs.Common.{◌≡◌, true, true≢false, refl, sym, ap, subst, ◌∙◌, Schema, Table}
+use Rattle.portal_tables_rows.proofs.Common.{Database, Has, is_own, KeepsOthers}
 use Rattle.sqlite_schema.specs.Names.{same_name}
+use Rattle.portal_tables_sql.specs.Tables.{name_of}
+use Rattle.portal_tables_sql.specs.declared.our_tables.OurTable.{OurTable}
+use Rattle.portal_tables_sql.specs.declared.our_tables.OurTable.TheVariants as our
 use Rattle.portal_tables_rows.proofs.HoldsLemmas.{Touches}
 
 -- ---- our names
 
-pub own_head : is_own head_name ≡ true
+pub own_named : (x : OurTable) → is_own (name_of x) ≡ true
 unfolding same_name
-own_head = refl
-
-pub own_plans : is_own plans_name ≡ true
-unfolding same_name
-own_plans = refl
-
-pub own_batches : is_own batches_name ≡ true
-unfolding same_name
-own_batches = refl
-
-pub own_vouchers : is_own vouchers_name ≡ true
-unfolding same_name
-own_vouchers = refl
-
-pub own_sessions : is_own sessions_name ≡ true
-unfolding same_name
-own_sessions = refl
-
-pub own_grants : is_own grants_name ≡ true
-unfolding same_name
-own_grants = refl
-
-pub own_counts : is_own counts_name ≡ true
-unfolding same_name
-own_counts = refl
-
-pub own_totals : is_own totals_name ≡ true
-unfolding same_name
-own_totals = refl
-
-pub own_requests : is_own requests_name ≡ true
-unfolding same_name
-own_requests = refl
+own_named our.Head = refl
+own_named our.Plans = refl
+own_named our.Batches = refl
+own_named our.Vouchers = refl
+own_named our.Sessions = refl
+own_named our.Grants = refl
+own_named our.Counts = refl
+own_named our.Totals = refl
+own_named our.Requests = refl
 
 -- ---- statements
 
-pub kept_others : (db : Database) (table : Table) (after : Database) → is_own table.name ≡ true → Touches db table after → KeepsOthers db after
+pub kept_others : (db : Database) (table : Table) (after : Database) → is_own table.name ≡ true
+    → Touches db table after → KeepsOthers db after
 kept_others db table after own k x has other = (
   subst (λ (s : Schema). Has s.tables x) (sym k.schema) has,
   k.beside x has (λ is. true≢false (sym own ∙ ap (λ (t : Table). is_own t.name) (sym is) ∙ other)),

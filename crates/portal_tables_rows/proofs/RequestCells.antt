@@ -1,5 +1,9 @@
--- The rows of portal_requests, as SELECT gives them, are the cells of its values, and these determine the values.
-use Rattle.portal_tables_rows.proofs.Common.{◌≡◌, ℕ, List, ◌∷◌, map, Option, Some, None, refl, ap, Int, column, Trees, Stores, less_rowid, fields, rows_in, opens_keyed, rows_shown, exact_null, RequestRow, requests, request_cells, text_or_null}
+-- The rows of portal_requests, as SELECT gives them, are the cells of its values, and these determine the
+-- values.
+use Rattle.portal_tables_rows.proofs.Common.{◌≡◌, ℕ, List, ◌∷◌, map, Option, Some, None, refl, ap, Int}
+use Rattle.portal_tables_rows.proofs.Common.{column, Trees, Stores, less_rowid, fields, rows_in, opens_keyed}
+use Rattle.portal_tables_rows.proofs.Common.{rows_shown, exact_null, RequestRow, requests, request_cells}
+use Rattle.portal_tables_rows.proofs.Common.{text_or_null}
 use Rattle.sqlite.specs.Values.{bound_value}
 use Rattle.sqlite.specs.Cast.{cast}
 use Rattle.sqlite.specs.Kind.TheVariants as kind
@@ -7,8 +11,10 @@ use Rattle.portal_tables_rows.specs.Words.{word_cell, word_in}
 use Rattle.portal_tables_rows.specs.declared.answers.Word.{Word}
 use Rattle.portal_tables_rows.specs.declared.answers.Word.TheVariants.{Nothing, Batch, Code}
 
-pub requests_in : (db : Trees) (tree : ℕ) (ps : List RequestRow) → Stores less_rowid request_cells (db tree) ps → rows_in (requests tree) db ≡ map request_cells ps
-requests_in db tree ps h = rows_shown less_rowid request_cells request_cells (λ n p. Int n ∷ request_cells p) (opens_keyed request_cells) (fields (requests tree)) (λ n p. refl) (db tree) ps h.are.keyed h.is
+pub requests_in : (db : Trees) (tree : ℕ) (ps : List RequestRow)
+    → Stores less_rowid request_cells (db tree) ps → rows_in (requests tree) db ≡ map request_cells ps
+requests_in db tree ps h = rows_shown less_rowid request_cells request_cells (λ n p. Int n ∷ request_cells p)
+    (opens_keyed request_cells) (fields (requests tree)) (λ n p. refl) (db tree) ps h.are.keyed h.is
 
 pub exact_text : (a b : Option (List ℕ)) → text_or_null a ≡ text_or_null b → a ≡ b
 exact_text None None e = refl
@@ -32,7 +38,14 @@ exact_request a b e =
     let n1_is : a.answer.n1 ≡ b.answer.n1 = cc in
     let n2_is = exact_null a.answer.n2 b.answer.n2 (ap (λ r. column r 8) e) in
     let n3_is = exact_null a.answer.n3 b.answer.n3 (ap (λ r. column r 9) e) in
-    λ i. record { caller = caller_is i; number = number_is i; method = method_is i; path = path_is i; body = body_is i; answer = record { kind = kind_is i; word = word_is i; n1 = n1_is i; n2 = n2_is i; n3 = n3_is i } }
+    λ i. record {
+      caller = caller_is i;
+      number = number_is i;
+      method = method_is i;
+      path = path_is i;
+      body = body_is i;
+      answer = record { kind = kind_is i; word = word_is i; n1 = n1_is i; n2 = n2_is i; n3 = n3_is i };
+    }
 
 pub bound_word : (w : Word) → bound_value (word_cell w) ≡ text_or_null (word_in w)
 bound_word Nothing = refl

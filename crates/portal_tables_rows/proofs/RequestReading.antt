@@ -1,36 +1,57 @@
 -- The result of the SELECT, by the rows that the table holds, and the request that is found.
-use Rattle.portal_tables_rows.proofs.Common.{ℕ, Option, Result, option_map, Ghosts, Held, RequestRow, Finds, key_of, request_read, List, [], ◌∷◌, map, filter, refl, subst, Equal, lit<, lit≤, IsPermutation, Text, Row, Schema, understood, State, Shown, IsPlain, selected, requests, Contents, request_cells, Holds, HasTables, has_keys}
-use Rattle.portal_tables_rows.proofs.RequestTexts as texts
+use Rattle.portal_tables_rows.proofs.Common.{ℕ, Option, Result, option_map, Ghosts, Held, RequestRow, Finds}
+use Rattle.portal_tables_rows.proofs.Common.{key_of, request_read, List, [], ◌∷◌, map, filter, refl, subst}
+use Rattle.portal_tables_rows.proofs.Common.{Equal, lit<, lit≤, IsPermutation, Text, Row, Schema, understood}
+use Rattle.portal_tables_rows.proofs.Common.{State, Shown, IsPlain, selected, requests, Contents}
+use Rattle.portal_tables_rows.proofs.Common.{request_cells, Holds, HasTables, has_keys}
+use Rattle.portal_tables_sql.proofs.RequestTexts as texts
 use Rattle.portal_tables_rows.specs.Selects.{ReadsOne, ReadsRow}
 use Rattle.portal_tables_rows.specs.declared.rows.RowError.{RowError}
 use Rattle.portal_tables_rows.specs.declared.stored_requests.StoredRequest.{StoredRequest}
 use Rattle.portal_tables_rows.proofs.Finding.{reads_one}
 use Rattle.portal_tables_rows.proofs.RequestCells.{exact_request, requests_in}
 use Rattle.portal_tables_rows.proofs.Pairs.{pair_meets, pair_only, pair_tests, tested_none, tested_some}
+use Rattle.portal_tables_sql.specs.declared.our_tables.OurTable.TheVariants as our
 
 pub request_plain : (schema : Schema) → HasTables schema → IsPlain (understood schema texts.request_text)
-request_plain schema h = let place = h.0.requests in (texts.request_means schema place.at place.tree (h.1.requests (lit≤ tt)).exists).plain
+request_plain schema h = let place = (h.0 our.Requests) in
+    (texts.request_means schema place.at place.tree (h.1.tables our.Requests (lit≤ tt)).exists).plain
 
-pub request_rows_are : (old new : State) (caller id : List ℕ) (rows : List Row) → Shown texts.request_text (Text caller ∷ Text id ∷ []) old new rows → (t : Contents) → Holds old.now t
+pub request_rows_are : (old new : State) (caller id : List ℕ) (rows : List Row)
+    → Shown texts.request_text (Text caller ∷ Text id ∷ []) old new rows → (t : Contents) → Holds old.now t
     → IsPermutation (filter (has_keys 0 (Text caller) 1 (Text id)) (map request_cells t.requests)) rows
 request_rows_are old new caller id rows shown t h =
-    let place = h.places.requests in
+    let place = (h.places our.Requests) in
     let table = requests place.tree in
-    let it = selected texts.request_text table _ [] (Text caller ∷ Text id ∷ []) old new texts.request_columns (has_keys 0 (Text caller) 1 (Text id)) (pair_tests table 0 1 (Text caller) (Text id) [] (lit< tt) (lit< tt) refl refl) (λ _ _. Equal) (λ _ _. refl)
-    (texts.request_means old.now.schema place.at place.tree (h.tables_exist.requests (lit≤ tt)).exists) rows shown in
-    subst (λ xs. IsPermutation (filter (has_keys 0 (Text caller) 1 (Text id)) xs) rows) (requests_in old.now.trees place.tree t.requests (h.store.requests (lit≤ tt))) it.same
+    let it = selected texts.request_text table _ [] (Text caller ∷ Text id ∷ []) old new texts.request_columns
+    (has_keys 0 (Text caller) 1 (Text id)) (pair_tests table 0 1 (Text caller) (Text id) [] (lit< tt)
+    (lit< tt) refl refl) (λ _ _. Equal) (λ _ _. refl)
+    (texts.request_means old.now.schema place.at place.tree
+    (h.tables_exist.tables our.Requests (lit≤ tt)).exists) rows shown in
+    subst (λ xs. IsPermutation (filter (has_keys 0 (Text caller) 1 (Text id)) xs) rows)
+    (requests_in old.now.trees place.tree t.requests (h.store our.Requests (lit≤ tt))) it.same
 
-pub reads_request : {S : Type 0} (g : Ghosts S) {old new : Held S} (caller id : List ℕ) {result : Result (Option StoredRequest) RowError}
-    → ReadsOne g (λ (r : StoredRequest). request_cells (request_read r)) 10 (λ _. Unit {0}) (λ _. Unit {0}) texts.request_text (Text caller ∷ Text id ∷ []) old new result
-    → ReadsRow g old new result (λ t found. Finds key_of (caller, id) t.requests (option_map request_read found)) (λ t. Unit {0})
+pub reads_request : {S : Type 0} (g : Ghosts S) {old new : Held S} (caller id : List ℕ)
+    {result : Result (Option StoredRequest) RowError}
+    → ReadsOne g (λ (r : StoredRequest). request_cells (request_read r)) 10 (λ _. Unit {0}) (λ _. Unit {0})
+    texts.request_text (Text caller ∷ Text id ∷ []) old new result
+    → ReadsRow g old new result
+    (λ t found. Finds key_of (caller, id) t.requests (option_map request_read found)) (λ t. Unit {0})
 reads_request g caller id =
-    let only = pair_only request_cells 0 1 (λ (k : RequestRow). k.caller) (λ (k : RequestRow). k.number) (λ k. refl) (λ k. refl) caller id in
-    let meets = pair_meets request_cells 0 1 (λ (k : RequestRow). k.caller) (λ (k : RequestRow). k.number) (λ k. refl) (λ k. refl) caller id in
+    let only = pair_only request_cells 0 1 (λ (k : RequestRow). k.caller) (λ (k : RequestRow). k.number)
+    (λ k. refl) (λ k. refl) caller id in
+    let meets = pair_meets request_cells 0 1 (λ (k : RequestRow). k.caller) (λ (k : RequestRow). k.number)
+    (λ k. refl) (λ k. refl) caller id in
     reads_one g texts.request_text _ request_plain
     (λ rows shown t h.
     let answer = request_rows_are _ _ caller id rows shown t h in
     record {
-      some = λ row x got is. tested_some request_cells key_of (caller, id) (has_keys 0 (Text caller) 1 (Text id)) only meets 10 (λ k. refl) exact_request t.requests rows answer row (request_read x) got is;
-      none = λ got. tested_none request_cells key_of (caller, id) (has_keys 0 (Text caller) 1 (Text id)) only meets 10 (λ k. refl) exact_request t.requests rows answer got;
+      some = λ row x got is. tested_some request_cells key_of (
+        caller,
+        id,
+      ) (has_keys 0 (Text caller) 1 (Text id)) only meets 10 (λ k. refl) exact_request t.requests rows answer
+          row (request_read x) got is;
+      none = λ got. tested_none request_cells key_of (caller, id) (has_keys 0 (Text caller) 1 (Text id)) only
+          meets 10 (λ k. refl) exact_request t.requests rows answer got;
       owns = λ own row got. tt;
     })

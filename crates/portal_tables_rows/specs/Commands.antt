@@ -20,7 +20,10 @@ use Rattle.portal_ledger.specs.Ledger.{kept_with}
 use Rattle.portal_ledger.specs.RequestRow.{cells_of, row_of_request}
 use Rattle.portal_ledger.specs.declared.marked.MarkedChanges.{MarkedChanges}
 use Rattle.portal_tables_rows.specs.Contents.{Contents}
-use Rattle.portal_tables_rows.specs.Steps.{with_plans, with_batch, with_vouchers, with_counts, with_session, with_grant, with_total, with_sale, with_refund, with_moment, with_numbers, with_use, with_close, with_redeemed, with_ends, with_request, opened_row, granted_row}
+use Rattle.portal_tables_rows.specs.Steps.{with_plans, with_batch, with_vouchers, with_counts, with_session}
+use Rattle.portal_tables_rows.specs.Steps.{with_grant, with_total, with_sale, with_refund, with_moment}
+use Rattle.portal_tables_rows.specs.Steps.{with_numbers, with_use, with_close, with_redeemed, with_ends}
+use Rattle.portal_tables_rows.specs.Steps.{with_request, opened_row, granted_row}
 
 -- the rows after a load
 abbrev pub after_load : LoadChange → Contents → Contents
@@ -28,7 +31,9 @@ after_load c t = with_moment c.at (with_plans c.added t)
 
 -- the rows after an issue
 abbrev pub after_issue : IssueChange → Contents → Contents
-after_issue c t = let texts = map text_of c.codes in with_moment c.at (with_counts (new_counts texts) (with_vouchers (new_vouchers c.batch.id 0 texts) (with_batch c.batch t)))
+after_issue c t = let texts = map text_of c.codes in
+    with_moment c.at
+    (with_counts (new_counts texts) (with_vouchers (new_vouchers c.batch.id 0 texts) (with_batch c.batch t)))
 
 -- the rows after a sale
 abbrev pub after_sell : SellChange → Contents → Contents
@@ -41,11 +46,13 @@ after_placing None s plan t = with_total (total_row s) (with_session (opened_row
 
 -- the rows after the session and the row of a redemption were written
 abbrev pub after_grant : RedeemChange → Contents → Contents
-after_grant c t = with_grant (granted_row (c.head.grants + 1) (text_of c.voucher.code) c.session.number c.at c.voucher.plan) (after_placing c.running c.session c.voucher.plan t)
+after_grant c t = with_grant (granted_row (c.head.grants + 1) (text_of c.voucher.code) c.session.number c.at
+    c.voucher.plan) (after_placing c.running c.session c.voucher.plan t)
 
 -- the rows after a redemption
 abbrev pub after_redeem : RedeemChange → Contents → Contents
-after_redeem c t = with_numbers c.at (c.head.grants + 1) (sessions_after c.head.sessions c.running) (with_redeemed (text_of c.voucher.code) (c.voucher.redeemed + 1) (after_grant c t))
+after_redeem c t = with_numbers c.at (c.head.grants + 1) (sessions_after c.head.sessions c.running)
+    (with_redeemed (text_of c.voucher.code) (c.voucher.redeemed + 1) (after_grant c t))
 
 -- the rows after a session's remaining allowance was set; a session without an allowance keeps its row
 abbrev pub after_remainder : Option ℕ → TotalRow → Contents → Contents
@@ -54,7 +61,8 @@ after_remainder (Some allowance) total t = with_ends total t
 
 -- the rows after a usage report
 abbrev pub after_report : ReportChange → Contents → Contents
-after_report c t = with_moment c.at (after_remainder c.session.allowance (total_row (with_report c.bytes c.session)) (with_use c.session.number (max c.bytes c.session.used) t))
+after_report c t = with_moment c.at (after_remainder c.session.allowance
+    (total_row (with_report c.bytes c.session)) (with_use c.session.number (max c.bytes c.session.used) t))
 
 -- the rows after a refund
 abbrev pub after_refund : RefundChange → Contents → Contents

@@ -41,16 +41,20 @@ signed_or_null = nullable Int
 abbrev pub text_or_null : Option (List ℕ) → Value
 text_or_null = nullable Text
 
--- The stored row of a table with an INTEGER PRIMARY KEY: the rowid is the key, and the key's own column is NULL.
+-- The stored row of a table with an INTEGER PRIMARY KEY: the rowid is the key, and the key's own column is
+-- NULL.
 
 abbrev pub head_stored : HeadRow → Row
-head_stored h = number h.id ∷ Null ∷ number h.schema_version ∷ number h.last ∷ number h.grants ∷ number h.sessions ∷ []
+head_stored h =
+    number h.id ∷ Null ∷ number h.schema_version ∷ number h.last ∷ number h.grants ∷ number h.sessions ∷ []
 
 abbrev pub session_stored : SessionRow → Row
-session_stored s = number s.number ∷ Null ∷ Text s.device ∷ Text s.plan ∷ number s.opened ∷ number s.used ∷ or_null s.closed ∷ []
+session_stored s = number s.number ∷ Null ∷ Text s.device ∷ Text s.plan ∷ number s.opened
+    ∷ number s.used ∷ or_null s.closed ∷ []
 
 abbrev pub grant_stored : GrantRow → Row
-grant_stored g = number g.number ∷ Null ∷ Text g.code ∷ number g.session ∷ number g.moment ∷ number g.seconds ∷ number g.bytes ∷ []
+grant_stored g = number g.number ∷ Null ∷ Text g.code ∷ number g.session ∷ number g.moment
+    ∷ number g.seconds ∷ number g.bytes ∷ []
 
 abbrev pub total_stored : TotalRow → Row
 total_stored m = number m.number ∷ Null ∷ or_null m.ends ∷ signed_or_null m.remaining ∷ []
@@ -62,19 +66,23 @@ head_cells h =
     number h.id ∷ number h.schema_version ∷ number h.last ∷ number h.grants ∷ number h.sessions ∷ []
 
 abbrev pub plan_cells : Plan → Row
-plan_cells p = Text p.id ∷ number p.price ∷ number p.uses ∷ number p.seconds ∷ number p.bytes ∷ number p.shelf_days ∷ flag p.extend ∷ []
+plan_cells p = Text p.id ∷ number p.price ∷ number p.uses ∷ number p.seconds ∷ number p.bytes
+    ∷ number p.shelf_days ∷ flag p.extend ∷ []
 
 abbrev pub batch_cells : Batch → Row
 batch_cells b = Text b.id ∷ Text b.plan ∷ number b.issued ∷ number b.expires ∷ number b.size ∷ []
 
 abbrev pub voucher_cells : VoucherRow → Row
-voucher_cells v = Text v.code ∷ Text v.batch ∷ number v.place ∷ or_null v.sold ∷ or_null v.refunded ∷ or_null v.amount ∷ []
+voucher_cells v =
+    Text v.code ∷ Text v.batch ∷ number v.place ∷ or_null v.sold ∷ or_null v.refunded ∷ or_null v.amount ∷ []
 
 abbrev pub session_cells : SessionRow → Row
-session_cells s = number s.number ∷ Text s.device ∷ Text s.plan ∷ number s.opened ∷ number s.used ∷ or_null s.closed ∷ []
+session_cells s =
+    number s.number ∷ Text s.device ∷ Text s.plan ∷ number s.opened ∷ number s.used ∷ or_null s.closed ∷ []
 
 abbrev pub grant_cells : GrantRow → Row
-grant_cells g = number g.number ∷ Text g.code ∷ number g.session ∷ number g.moment ∷ number g.seconds ∷ number g.bytes ∷ []
+grant_cells g = number g.number ∷ Text g.code ∷ number g.session ∷ number g.moment
+    ∷ number g.seconds ∷ number g.bytes ∷ []
 
 abbrev pub count_cells : CountRow → Row
 count_cells k = Text k.code ∷ number k.redeemed ∷ []
@@ -83,4 +91,6 @@ abbrev pub total_cells : TotalRow → Row
 total_cells m = number m.number ∷ or_null m.ends ∷ signed_or_null m.remaining ∷ []
 
 abbrev pub request_cells : RequestRow → Row
-request_cells k = Text k.caller ∷ Text k.number ∷ Text k.method ∷ Text k.path ∷ Blob k.body ∷ number k.answer.kind ∷ text_or_null k.answer.word ∷ number k.answer.n1 ∷ or_null k.answer.n2 ∷ or_null k.answer.n3 ∷ []
+request_cells k =
+    Text k.caller ∷ Text k.number ∷ Text k.method ∷ Text k.path ∷ Blob k.body ∷ number k.answer.kind
+    ∷ text_or_null k.answer.word ∷ number k.answer.n1 ∷ or_null k.answer.n2 ∷ or_null k.answer.n3 ∷ []

@@ -132,5 +132,6 @@ abbrev pub SparesOwn : {P C X : Type 0} → (P → C) → (P → Type 0) → C �
 SparesOwn {P = P} cells IsOwn shown r = (p : P) → IsOwn p → cells p ≡ shown → NotForeign r
 
 -- A call gives ForeignRow only if the database does not hold rows of which Own is true.
-abbrev pub BlamesForeign : {X : Type 0} → (Database → Contents → Type 0) → (Contents → Type 0) → State → State → Result X RowError → Type 0
+abbrev pub BlamesForeign : {X : Type 0} → (Database → Contents → Type 0) → (Contents → Type 0) → State → State
+    → Result X RowError → Type 0
 BlamesForeign Holds Own old new r = HasCleanDisk new → (t : Contents) → Holds old.now t → Own t → NotForeign r

@@ -1,18 +1,23 @@
 -- When a database holds rows in the product's tables of a schema version, wherever those tables are among
 -- others.
-use Rattle.std.specs.Prelude.{◌≡◌, ℕ, ◌≤◌, Bool, true, IsTrue, List, [], ◌∷◌, codes}
+use Rattle.std.specs.Prelude.{◌≡◌, ℕ, ◌≤◌, Bool, true, IsTrue, List, [], ◌∷◌, map, codes}
 use Rattle.sqlite.specs.Schema.{Schema}
 use Rattle.sqlite.specs.Table.{Table}
 use Rattle.sqlite_schema.specs.declared.schema.Index.{Index}
 use Rattle.sqlite_schema.specs.Names.{same_name}
 use Rattle.sqlite_rules.specs.Lists.{Has}
 use Rattle.sqlite.specs.Tree.{Trees}
+use Rattle.sqlite.specs.Order.{Row}
 use Rattle.sqlite.specs.Effect.{Database, IsDatabase}
 use Rattle.portal_tables_sql.specs.TableExists.{TableExists, IsUnacted}
 use Rattle.portal_tables_sql.specs.Represents.{CrashStateHolds}
-use Rattle.portal_tables_sql.specs.Stored.{Stores, whole_row, less_rowid}
-use Rattle.portal_tables_rows.specs.Schema.{head, plans, batches, vouchers, sessions, grants, counts, totals, requests}
-use Rattle.portal_tables_rows.specs.Contents.{Contents, head_stored, plan_cells, batch_cells, voucher_cells, session_stored, grant_stored, count_cells, total_stored, request_cells}
+use Rattle.portal_tables_sql.specs.Stored.{Keeps, whole_row, less_rowid}
+use Rattle.portal_tables_sql.specs.Tables.{table_of, since}
+use Rattle.portal_tables_sql.specs.declared.our_tables.OurTable.{OurTable}
+use Rattle.portal_tables_sql.specs.declared.our_tables.OurTable.TheVariants as our
+use Rattle.portal_tables_rows.specs.Contents.{Contents, head_stored, plan_cells, batch_cells, voucher_cells}
+use Rattle.portal_tables_rows.specs.Contents.{session_stored, grant_stored, count_cells, total_stored}
+use Rattle.portal_tables_rows.specs.Contents.{request_cells}
 
 -- where a table is: its index among the tables of the schema, and its tree
 pub record TablePlace : Type 0 where
@@ -20,16 +25,8 @@ pub record TablePlace : Type 0 where
   pub tree : ℕ
 
 -- where each of the product's tables is
-pub record TablePlaces : Type 0 where
-  pub heads : TablePlace
-  pub plans : TablePlace
-  pub batches : TablePlace
-  pub vouchers : TablePlace
-  pub sessions : TablePlace
-  pub grants : TablePlace
-  pub counts : TablePlace
-  pub totals : TablePlace
-  pub requests : TablePlace
+abbrev pub TablePlaces : Type 0
+TablePlaces = OurTable → TablePlace
 
 -- the table exists at this place, and no foreign key acts on it
 pub record IsTableAt (schema : Schema) (table : ℕ → Table) (place : TablePlace) : Type 0 where
@@ -40,7 +37,8 @@ pub record IsTableAt (schema : Schema) (table : ℕ → Table) (place : TablePla
 abbrev pub index_name : List ℕ
 index_name = codes "portal_sessions_by_device"
 
--- an index by which the last session of a device is found: on the devices, and then the numbers, of the sessions in the tree
+-- an index by which the last session of a device is found: on the devices, and then the numbers, of the
+-- sessions in the tree
 pub record IsSessionIndex (index : Index) (tree : ℕ) : Type 0 where
   pub name : same_name index.name index_name ≡ true
   pub table : index.table ≡ tree
@@ -49,32 +47,46 @@ pub record IsSessionIndex (index : Index) (tree : ℕ) : Type 0 where
 abbrev pub HasSessionIndex : Schema → ℕ → Type 0
 HasSessionIndex schema tree = (index : Index) × Has schema.indexes index × IsSessionIndex index tree
 
--- The tables of the schema version exist at these places. Version 2 added the two tables of counters, and
--- version 3 the table of requests. A database of any version may have the index of the sessions.
-pub record TablesExist (schema_version : ℕ) (indexed : Bool) (schema : Schema) (places : TablePlaces) : Type 0 where
-  pub heads : IsTableAt schema head places.heads
-  pub plans : IsTableAt schema plans places.plans
-  pub batches : IsTableAt schema batches places.batches
-  pub vouchers : IsTableAt schema vouchers places.vouchers
-  pub sessions : IsTableAt schema sessions places.sessions
-  pub grants : IsTableAt schema grants places.grants
-  pub counts : 2 ≤ schema_version → IsTableAt schema counts places.counts
-  pub totals : 2 ≤ schema_version → IsTableAt schema totals places.totals
-  pub requests : 3 ≤ schema_version → IsTableAt schema requests places.requests
-  pub index : IsTrue indexed → HasSessionIndex schema places.sessions.tree
+-- The tables of the schema version exist at these places. A database of any version may have the index of the
+-- sessions.
+pub record TablesExist (schema_version : ℕ) (indexed : Bool) (schema : Schema)
+    (places : TablePlaces) : Type 0 where
+  pub tables : (x : OurTable) → since x ≤ schema_version → IsTableAt schema (table_of x) (places x)
+  pub index : IsTrue indexed → HasSessionIndex schema (places our.Sessions).tree
+
+-- the rows that the table stores, with the rowid where it is the key
+abbrev pub shown : OurTable → Contents → List Row
+shown our.Head t = map head_stored t.heads
+shown our.Plans t = map plan_cells t.plans
+shown our.Batches t = map batch_cells t.batches
+shown our.Vouchers t = map voucher_cells t.vouchers
+shown our.Sessions t = map session_stored t.sessions
+shown our.Grants t = map grant_stored t.grants
+shown our.Counts t = map count_cells t.counts
+shown our.Totals t = map total_stored t.totals
+shown our.Requests t = map request_cells t.requests
+
+-- what of a stored row is not shown: the rowid where it is not the key
+abbrev pub cut_of : OurTable → Row → Row
+cut_of our.Head = whole_row
+cut_of our.Plans = less_rowid
+cut_of our.Batches = less_rowid
+cut_of our.Vouchers = less_rowid
+cut_of our.Sessions = whole_row
+cut_of our.Grants = whole_row
+cut_of our.Counts = less_rowid
+cut_of our.Totals = whole_row
+cut_of our.Requests = less_rowid
+
+-- the rows of a tree are those of the table
+abbrev pub StoresIn : OurTable → List Row → Contents → Type 0
+StoresIn x rows t = Keeps (cut_of x) rows (shown x t)
 
 -- the trees of the tables store these rows; the rows of a table that the schema version does not have are
 -- ignored
-pub record StoresRows (schema_version : ℕ) (places : TablePlaces) (trees : Trees) (t : Contents) : Type 0 where
-  pub heads : Stores whole_row head_stored (trees places.heads.tree) t.heads
-  pub plans : Stores less_rowid plan_cells (trees places.plans.tree) t.plans
-  pub batches : Stores less_rowid batch_cells (trees places.batches.tree) t.batches
-  pub vouchers : Stores less_rowid voucher_cells (trees places.vouchers.tree) t.vouchers
-  pub sessions : Stores whole_row session_stored (trees places.sessions.tree) t.sessions
-  pub grants : Stores whole_row grant_stored (trees places.grants.tree) t.grants
-  pub counts : 2 ≤ schema_version → Stores less_rowid count_cells (trees places.counts.tree) t.counts
-  pub totals : 2 ≤ schema_version → Stores whole_row total_stored (trees places.totals.tree) t.totals
-  pub requests : 3 ≤ schema_version → Stores less_rowid request_cells (trees places.requests.tree) t.requests
+abbrev pub StoresRows : ℕ → TablePlaces → Trees → Contents → Type 0
+StoresRows schema_version places trees t =
+    (x : OurTable) → since x ≤ schema_version → StoresIn x (trees (places x).tree) t
 
 -- the database holds just these rows in the tables of the schema version
 pub record HoldsIn (schema_version : ℕ) (indexed : Bool) (db : Database) (t : Contents) : Type 0 where

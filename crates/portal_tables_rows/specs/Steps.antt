@@ -1,5 +1,6 @@
 -- The rows after each statement, and the promises of statements and transactions.
-use Rattle.std.specs.Prelude.{◌≡◌, ℕ, cond, nat_eq, true, false, IsTrue, List, [], ◌∷◌, ◌++◌, map, None, Result}
+use Rattle.std.specs.Prelude.{◌≡◌, ℕ, cond, nat_eq, true, false, IsTrue, List, [], ◌∷◌, ◌++◌, map, None}
+use Rattle.std.specs.Prelude.{Result}
 use Rattle.sqlite.specs.Store.{Ghosts}
 use Rattle.sqlite.specs.Tree.{Trees}
 use Rattle.sqlite.specs.State.{State}
@@ -11,7 +12,8 @@ use Rattle.portal_model.specs.declared.plan.Plan.{Plan}
 use Rattle.portal_model.specs.declared.record.Batch.{Batch}
 use Rattle.portal_model.specs.declared.record.Session.{Session}
 use Rattle.portal_model.specs.Device.{text_of_device}
-use Rattle.portal_model.specs.Rows.{VoucherRow, SessionRow, GrantRow, CountRow, TotalRow, sold_if, refunded_if, used_if, closed_if, counted_if}
+use Rattle.portal_model.specs.Rows.{VoucherRow, SessionRow, GrantRow, CountRow, TotalRow, sold_if}
+use Rattle.portal_model.specs.Rows.{refunded_if, used_if, closed_if, counted_if}
 use Rattle.portal_tables_rows.specs.declared.column_values.Total.{Total}
 use Rattle.portal_ledger.specs.RequestRow.{RequestRow}
 use Rattle.portal_tables_rows.specs.Contents.{Contents, HeadRow}
@@ -22,15 +24,30 @@ use Rattle.portal_tables_rows.specs.Others.{KeepsOthers, CrashStateHasOthers}
 
 -- a voucher that is neither sold nor refunded
 abbrev pub new_voucher : List ℕ → ℕ → List ℕ → VoucherRow
-new_voucher batch place code = record { code = code; batch = batch; place = place; sold = None; refunded = None; amount = None }
+new_voucher batch place code =
+    record { code = code; batch = batch; place = place; sold = None; refunded = None; amount = None }
 
 -- a session that is opened on the plan
 abbrev pub opened_row : Session → List ℕ → SessionRow
-opened_row s plan = record { number = s.number; device = text_of_device s.device; plan = plan; opened = s.opened; used = 0; closed = None }
+opened_row s plan = record {
+  number = s.number;
+  device = text_of_device s.device;
+  plan = plan;
+  opened = s.opened;
+  used = 0;
+  closed = None;
+}
 
 -- a redemption on the terms of the plan
 abbrev pub granted_row : ℕ → List ℕ → ℕ → ℕ → Plan → GrantRow
-granted_row number code session at plan = record { number = number; code = code; session = session; moment = at; seconds = plan.seconds; bytes = plan.bytes }
+granted_row number code session at plan = record {
+  number = number;
+  code = code;
+  session = session;
+  moment = at;
+  seconds = plan.seconds;
+  bytes = plan.bytes;
+}
 
 -- how often the voucher with the code was redeemed
 abbrev pub count_row : List ℕ → ℕ → CountRow
@@ -105,7 +122,8 @@ with_moment at t = record t { heads = map (with_moment_if at) t.heads }
 
 -- the head row with this time of the last command and these numbers of rows
 abbrev pub with_numbers_if : ℕ → ℕ → ℕ → HeadRow → HeadRow
-with_numbers_if at grants sessions h = cond (nat_eq 1 h.id) (record h { last = at; grants = grants; sessions = sessions }) h
+with_numbers_if at grants sessions h =
+    cond (nat_eq 1 h.id) (record h { last = at; grants = grants; sessions = sessions }) h
 
 -- the time of the last command and the numbers of redemptions and sessions are these
 abbrev pub with_numbers : ℕ → ℕ → ℕ → Contents → Contents
@@ -152,7 +170,8 @@ pub record MakesRows (f : Contents → Contents) (old new : State) : Type 0 wher
   pub mode : new.in_transaction ≡ true
 
 -- a call on a transaction that changes the rows by f
-abbrev pub Writes : {S : Type 0} → Ghosts S → (Contents → Contents) → Transaction S → Transaction S → Result (Unit {0}) Error → Type 0
+abbrev pub Writes : {S : Type 0} → Ghosts S → (Contents → Contents) → Transaction S → Transaction S
+    → Result (Unit {0}) Error → Type 0
 Writes g f = Inside g (MakesRows f)
 
 -- A command changed the rows by f and kept the other tables. It is committed, and the connection is outside a

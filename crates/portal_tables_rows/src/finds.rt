@@ -20,35 +20,11 @@ use portal_codes::Code;
 use portal_model::name::{Device, Id};
 use portal_model::plan::Plan;
 use portal_model::record::Batch;
+use portal_tables_sql::statements::{
+    SELECT_BATCH, SELECT_COUNT, SELECT_HEAD, SELECT_LAST_SESSION, SELECT_PLAN, SELECT_SESSION,
+    SELECT_TOTAL, SELECT_VOUCHER,
+};
 use sqlite::{Alter, Connection, params};
-
-/// The head row.
-const HEAD: &str = "SELECT id, layout, last_moment, grants, sessions FROM portal_head WHERE id = 1";
-
-/// The plan with an id.
-const PLAN: &str =
-    "SELECT id, price, uses, seconds, bytes, shelf_days, extend FROM portal_plans WHERE id = ?1";
-
-/// The batch with an id.
-const BATCH: &str = "SELECT id, plan_id, issued, expires, size FROM portal_batches WHERE id = ?1";
-
-/// The voucher with a code.
-const VOUCHER: &str =
-    "SELECT code, batch_id, place, sold, refunded, amount FROM portal_vouchers WHERE code = ?1";
-
-/// The session with a number.
-const SESSION: &str =
-    "SELECT number, device, plan_id, opened, used, closed FROM portal_sessions WHERE number = ?1";
-
-/// How often the voucher with a code was redeemed.
-const COUNT: &str = "SELECT code, redeemed FROM portal_counts WHERE code = ?1";
-
-/// The end and the remaining allowance of the session with a number.
-const TOTAL: &str = "SELECT number, ends, remaining FROM portal_totals WHERE number = ?1";
-
-/// The device's session with the greatest number.
-const LAST_SESSION: &str = "SELECT number, device, plan_id, opened, used, closed \
-         FROM portal_sessions WHERE device = ?1 ORDER BY number DESC LIMIT 1";
 
 /// Reads the head row: the schema version, the time of the last command, and the numbers of redemptions
 /// and sessions.
@@ -57,7 +33,7 @@ pub fn read_head_row<S: Alter>(conn: &mut Connection<S>) -> Result<Option<HeadVa
         (λ t found. Finds (λ (x : HeadRow). x.id) 1 t.heads (option_map head_read found))
         (λ t. AreOwn IsOwnHead t.heads) }
 {
-    read_one(conn, HEAD, &[])
+    read_one(conn, SELECT_HEAD, &[])
 }
 
 /// Reads the plan with this id.
@@ -66,7 +42,7 @@ pub fn read_plan_row<S: Alter>(conn: &mut Connection<S>, id: &Id) -> Result<Opti
         (λ t found. Finds (λ (x : Plan). x.id) id.now t.plans found)
         (λ t. AreOwn IsOwnPlan t.plans) }
 {
-    read_one(conn, PLAN, params![id.text()])
+    read_one(conn, SELECT_PLAN, params![id.text()])
 }
 
 /// Reads the batch with this id.
@@ -78,7 +54,7 @@ pub fn read_batch_row<S: Alter>(
         (λ t found. Finds (λ (x : Batch). x.id) id.now t.batches found)
         (λ t. AreOwn IsOwnBatch t.batches) }
 {
-    read_one(conn, BATCH, params![id.text()])
+    read_one(conn, SELECT_BATCH, params![id.text()])
 }
 
 /// Reads the row of the voucher with this code.
@@ -95,7 +71,7 @@ pub fn read_voucher_row<S: Alter>(
     let text = code.text();
     read_one(
         conn,
-        VOUCHER,
+        SELECT_VOUCHER,
         params![PrintedText {
             bytes: text.as_bytes()
         }],
@@ -113,7 +89,7 @@ pub fn read_session_row<S: Alter>(
         (λ t found. Finds (λ (x : SessionRow). x.number) number t.sessions (option_map session_read found))
         (λ t. AreOwn IsOwnSession t.sessions) }
 {
-    read_one(conn, SESSION, params![number as i64])
+    read_one(conn, SELECT_SESSION, params![number as i64])
 }
 
 /// Reads how often the voucher with this code was redeemed.
@@ -129,7 +105,7 @@ pub fn read_count_row<S: Alter>(
     let text = code.text();
     read_one(
         conn,
-        COUNT,
+        SELECT_COUNT,
         params![PrintedText {
             bytes: text.as_bytes()
         }],
@@ -147,7 +123,7 @@ pub fn read_total_row<S: Alter>(
         (λ t found. Finds (λ (x : TotalRow). x.number) number t.totals (option_map ends_row found))
         (λ t. AreOwn IsOwnTotal t.totals) }
 {
-    read_one(conn, TOTAL, params![number as i64])
+    read_one(conn, SELECT_TOTAL, params![number as i64])
 }
 
 /// Reads the row of the device's last session: the one with the greatest number.
@@ -163,5 +139,9 @@ pub fn read_last_session_row<S: Alter>(
         (λ t. AreOwn IsOwnSession t.sessions) }
 {
     let text = device.text();
-    read_one(conn, LAST_SESSION, params![PrintedText { bytes: &text }])
+    read_one(
+        conn,
+        SELECT_LAST_SESSION,
+        params![PrintedText { bytes: &text }],
+    )
 }

@@ -20,6 +20,10 @@ use portal_model::name::Id;
 use portal_model::plan::Plan;
 use portal_model::record::{Batch, Session};
 use portal_tables_sql::query::write;
+use portal_tables_sql::statements::{
+    INSERT_BATCH, INSERT_COUNT, INSERT_GRANT, INSERT_HEAD, INSERT_PLAN, INSERT_SESSION,
+    INSERT_TOTAL, INSERT_VOUCHER,
+};
 use sqlite::{Alter, Error, Transaction, params};
 
 /// Inserts a plan.
@@ -28,8 +32,7 @@ pub(crate) fn insert_plan<S: Alter>(tx: &mut Transaction<'_, S>, plan: &Plan) ->
 {
     write(
         tx,
-        "INSERT INTO portal_plans (id, price, uses, seconds, bytes, shelf_days, extend) \
-         VALUES (?1, ?2, ?3, ?4, ?5, ?6, ?7)",
+        INSERT_PLAN,
         params![
             plan.id.text(),
             plan.price,
@@ -52,7 +55,7 @@ pub(crate) fn insert_batch<S: Alter>(
 {
     write(
         tx,
-        "INSERT INTO portal_batches (id, plan_id, issued, expires, size) VALUES (?1, ?2, ?3, ?4, ?5)",
+        INSERT_BATCH,
         params![
             batch.id.text(),
             batch.plan.text(),
@@ -77,7 +80,7 @@ pub(crate) fn insert_voucher<S: Alter>(
     let text = code.text();
     write(
         tx,
-        "INSERT INTO portal_vouchers (code, batch_id, place) VALUES (?1, ?2, ?3)",
+        INSERT_VOUCHER,
         params![
             PrintedText {
                 bytes: text.as_bytes()
@@ -100,7 +103,7 @@ pub(crate) fn insert_session<S: Alter>(
     let text = session.device.text();
     write(
         tx,
-        "INSERT INTO portal_sessions (number, device, plan_id, opened, used) VALUES (?1, ?2, ?3, ?4, 0)",
+        INSERT_SESSION,
         params![
             session.number as i64,
             PrintedText { bytes: &text },
@@ -127,8 +130,7 @@ pub(crate) fn insert_grant<S: Alter>(
     let text = code.text();
     write(
         tx,
-        "INSERT INTO portal_grants (number, code, session, moment, seconds, bytes) \
-         VALUES (?1, ?2, ?3, ?4, ?5, ?6)",
+        INSERT_GRANT,
         params![
             number as i64,
             PrintedText {
@@ -154,7 +156,7 @@ pub fn insert_count<S: Alter>(
     let text = code.text();
     write(
         tx,
-        "INSERT INTO portal_counts (code, redeemed) VALUES (?1, ?2)",
+        INSERT_COUNT,
         params![
             PrintedText {
                 bytes: text.as_bytes()
@@ -172,7 +174,7 @@ pub fn insert_total<S: Alter>(tx: &mut Transaction<'_, S>, total: &Total) -> Res
     let ends = seconds_or_null(total.ends);
     write(
         tx,
-        "INSERT INTO portal_totals (number, ends, remaining) VALUES (?1, ?2, ?3)",
+        INSERT_TOTAL,
         params![total.number as i64, ends, total.remaining],
     )
 }
@@ -182,9 +184,5 @@ pub fn insert_head<S: Alter>(tx: &mut Transaction<'_, S>, schema_version: u64) -
     requires { schema_version < 2 ^ 63 }
     ensures { Writes S.Store (with_head (first_head schema_version)) tx.old tx.new result }
 {
-    write(
-        tx,
-        "INSERT INTO portal_head (id, layout, last_moment, grants, sessions) VALUES (1, ?1, 0, 0, 0)",
-        params![schema_version as i64],
-    )
+    write(tx, INSERT_HEAD, params![schema_version as i64])
 }

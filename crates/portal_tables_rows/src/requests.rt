@@ -20,12 +20,9 @@ use portal_ledger::caller::Caller;
 use portal_ledger::request::{KeptRequest, RequestMark, RequestNumber};
 use portal_model::change::Answer;
 use portal_tables_sql::query::write;
+use portal_tables_sql::statements::{INSERT_REQUEST, SELECT_REQUEST};
 use sqlite::{Alter, Connection, Error, Transaction, params};
 use std::alloc::Global;
-
-/// The request with a caller and an idempotency key.
-const REQUEST: &str = "SELECT caller, number, method, path, body, kind, word, n1, n2, n3 \
-         FROM portal_requests WHERE caller = ?1 AND number = ?2";
 
 /// Converts an optional number below 2^63 to the integer in a column. `None` is NULL.
 fn integer_or_null(number: Option<u64>) -> Option<i64>
@@ -54,8 +51,7 @@ pub fn insert_request<S: Alter>(
     let n3 = integer_or_null(row.n3);
     write(
         tx,
-        "INSERT INTO portal_requests (caller, number, method, path, body, kind, word, n1, n2, n3) \
-         VALUES (?1, ?2, ?3, ?4, ?5, ?6, ?7, ?8, ?9, ?10)",
+        INSERT_REQUEST,
         params![
             PrintedText {
                 bytes: text.as_bytes()
@@ -91,7 +87,7 @@ pub fn read_request_row<S: Alter>(
     let text = CallerText::of(caller);
     let found: Option<StoredRequest> = read_one(
         conn,
-        REQUEST,
+        SELECT_REQUEST,
         params![
             PrintedText {
                 bytes: text.as_bytes()

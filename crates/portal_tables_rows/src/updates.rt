@@ -22,6 +22,10 @@ use crate::column_values::{PrintedText, Total, seconds_or_null};
 use portal_codes::Code;
 use portal_model::moment::Moment;
 use portal_tables_sql::query::write;
+use portal_tables_sql::statements::{
+    SET_CLOSED, SET_HEAD_NUMBERS, SET_LAST_MOMENT, SET_REDEEMED, SET_REFUNDED, SET_SCHEMA_VERSION,
+    SET_SESSION_TOTAL, SET_SOLD, SET_USED,
+};
 use sqlite::{Alter, Error, Transaction, params};
 
 /// Sets when the voucher was sold.
@@ -35,7 +39,7 @@ pub(crate) fn set_sold<S: Alter>(
     let text = code.text();
     write(
         tx,
-        "UPDATE portal_vouchers SET sold = ?2 WHERE code = ?1",
+        SET_SOLD,
         params![
             PrintedText {
                 bytes: text.as_bytes()
@@ -58,7 +62,7 @@ pub(crate) fn set_refunded<S: Alter>(
     let text = code.text();
     write(
         tx,
-        "UPDATE portal_vouchers SET refunded = ?2, amount = ?3 WHERE code = ?1",
+        SET_REFUNDED,
         params![
             PrintedText {
                 bytes: text.as_bytes()
@@ -76,11 +80,7 @@ pub(crate) fn set_last_moment<S: Alter>(
 ) -> Result<(), Error>
     ensures { Writes S.Store (with_moment at) tx.old tx.new result }
 {
-    write(
-        tx,
-        "UPDATE portal_head SET last_moment = ?1 WHERE id = 1",
-        params![at.get() as i64],
-    )
+    write(tx, SET_LAST_MOMENT, params![at.get() as i64])
 }
 
 /// Sets the time of the last command and the numbers of redemptions and sessions in the head row.
@@ -96,7 +96,7 @@ pub(crate) fn set_head_numbers<S: Alter>(
 {
     write(
         tx,
-        "UPDATE portal_head SET last_moment = ?1, grants = ?2, sessions = ?3 WHERE id = 1",
+        SET_HEAD_NUMBERS,
         params![at.get() as i64, grants as i64, sessions as i64],
     )
 }
@@ -109,11 +109,7 @@ pub fn set_schema_version<S: Alter>(
     requires { schema_version < 2 ^ 63 }
     ensures { Writes S.Store (with_schema_version schema_version) tx.old tx.new result }
 {
-    write(
-        tx,
-        "UPDATE portal_head SET layout = ?1 WHERE id = 1",
-        params![schema_version as i64],
-    )
+    write(tx, SET_SCHEMA_VERSION, params![schema_version as i64])
 }
 
 /// Sets how many bytes the session has used.
@@ -126,11 +122,7 @@ pub(crate) fn set_used<S: Alter>(
     requires used_fits { used < 2 ^ 63 }
     ensures { Writes S.Store (with_use number used) tx.old tx.new result }
 {
-    write(
-        tx,
-        "UPDATE portal_sessions SET used = ?2 WHERE number = ?1",
-        params![number as i64, used as i64],
-    )
+    write(tx, SET_USED, params![number as i64, used as i64])
 }
 
 /// Sets when the session was closed.
@@ -142,11 +134,7 @@ pub(crate) fn set_closed<S: Alter>(
     requires { number < 2 ^ 63 }
     ensures { Writes S.Store (with_close number at) tx.old tx.new result }
 {
-    write(
-        tx,
-        "UPDATE portal_sessions SET closed = ?2 WHERE number = ?1",
-        params![number as i64, at.get() as i64],
-    )
+    write(tx, SET_CLOSED, params![number as i64, at.get() as i64])
 }
 
 /// Sets how often the voucher was redeemed.
@@ -161,7 +149,7 @@ pub(crate) fn set_redeemed<S: Alter>(
     let text = code.text();
     write(
         tx,
-        "UPDATE portal_counts SET redeemed = ?2 WHERE code = ?1",
+        SET_REDEEMED,
         params![
             PrintedText {
                 bytes: text.as_bytes()
@@ -182,7 +170,7 @@ pub(crate) fn set_session_total<S: Alter>(
     let ends = seconds_or_null(total.ends);
     write(
         tx,
-        "UPDATE portal_totals SET ends = ?2, remaining = ?3 WHERE number = ?1",
+        SET_SESSION_TOTAL,
         params![total.number as i64, ends, total.remaining],
     )
 }

@@ -1,5 +1,8 @@
 -- What the test of a schema means, and the query that reads no table.
-use Rattle.portal_tables_sql.proofs.Common.{◌≡◌, ◌⊎◌, inl, inr, ℕ, List, Bool, true, false, ◌&&◌, ◌||◌, not, refl, ◌∙◌, Schema, State, IsUnchanged, NoAction, Restrict, Cascade, SetNull, SetDefault, test_has, IsUnactedBy, IsUndone, IsAsBefore}
+use Rattle.portal_tables_sql.proofs.Common.{◌≡◌, ◌⊎◌, inl, inr, ℕ, List, Bool, true, false, ◌&&◌, ◌||◌, not}
+use Rattle.portal_tables_sql.proofs.Common.{refl, ◌∙◌, Schema, State, IsUnchanged, NoAction, Restrict}
+use Rattle.portal_tables_sql.proofs.Common.{Cascade, SetNull, SetDefault, test_has, IsUnactedBy, IsUndone}
+use Rattle.portal_tables_sql.proofs.Common.{IsAsBefore}
 use Rattle.sqlite_schema.specs.declared.schema.Action.{Action}
 use Rattle.portal_tables_sql.specs.Harmless.{has_no_action, is_harmless, are_harmless}
 
@@ -19,7 +22,8 @@ harmless_by false j true e = absurd (cc)
 -- a schema that passes the test has no foreign key that acts on a table of the name
 pub unacted_of : (schema : Schema) (name : List ℕ) → are_harmless name schema ≡ true → IsUnactedBy schema name
 unacted_of schema name all child ref listed has =
-    let one = test_has (is_harmless name) child.references ref (test_has _ schema.tables child all listed) has in
+    let one =
+    test_has (is_harmless name) child.references ref (test_has _ schema.tables child all listed) has in
     elim (harmless_by (has_no_action ref.on_delete) (has_no_action ref.on_update) _ one) [
       | inl idle ↦ inl (idle_is ref.on_delete idle.0, idle_is ref.on_update idle.1)
       | inr other ↦ inr other

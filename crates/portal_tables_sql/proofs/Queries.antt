@@ -1,5 +1,6 @@
 -- The queries that the texts compile to: one table, with terms in WHERE, terms of the result, and an order.
-use Rattle.portal_tables_sql.proofs.Common.{ℕ, ℤ, pos, negsuc, List, [], ◌∷◌, false, None, Int, Term, lit, op2, Query, Join, inner, end, Eq, Key, Binary, Draft}
+use Rattle.portal_tables_sql.proofs.Common.{ℕ, ℤ, pos, negsuc, List, [], ◌∷◌, false, None, Int, Term, lit}
+use Rattle.portal_tables_sql.proofs.Common.{op2, Query, Join, inner, end, Eq, Key, Binary, Draft}
 use Rattle.sqlite_sql.specs.declared.ops.BinaryOp.TheVariants as by
 use Rattle.sqlite_draft.specs.declared.join.Step.TheVariants.{Inner}
 use Rattle.sqlite_draft.specs.Join.{chain}

@@ -32,7 +32,8 @@ IsSimple (Ok c) = (c.returning ≡ None) × IsDirect c.command
 IsSimple (Err e) = ⊥
 
 -- the rows of the result have the cells of the values in their first columns
-pub record AnswersCells {V : Type 0} (Shows : List Row → Type 0) (cells : V → Row) (width : ℕ) (values : List V) : Type 0 where
+pub record AnswersCells {V : Type 0} (Shows : List Row → Type 0) (cells : V → Row) (width : ℕ)
+    (values : List V) : Type 0 where
   pub rows : List Row
   pub shown : Shows rows
   pub are : map cells values ≡ map (columns width) rows

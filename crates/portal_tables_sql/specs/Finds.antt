@@ -19,7 +19,8 @@ Finds key k values (Some p) = Has values p × (key p ≡ k)
 -- the value with the greatest number among those with the key, or None
 abbrev pub FindsLast : {P K : Type 0} → (P → K) → K → (P → ℕ) → List P → Option P → Type 0
 FindsLast {P = P} key k number values None = (p : P) → Has values p → key p ≡ k → ⊥
-FindsLast {P = P} key k number values (Some p) = Has values p × (key p ≡ k) × ((q : P) → Has values q → key q ≡ k → number q ≤ number p)
+FindsLast {P = P} key k number values (Some p) =
+    Has values p × (key p ≡ k) × ((q : P) → Has values q → key q ≡ k → number q ≤ number p)
 
 -- the values of the columns of a stored row, in the order of the table
 abbrev pub fields : Table → Row → Row

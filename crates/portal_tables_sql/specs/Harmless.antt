@@ -5,7 +5,8 @@ use Rattle.sqlite.specs.Table.{Table}
 use Rattle.sqlite.specs.Schema.{Schema}
 use Rattle.sqlite_schema.specs.declared.schema.Reference.{Reference}
 use Rattle.sqlite_schema.specs.declared.schema.Action.{Action}
-use Rattle.sqlite_schema.specs.declared.schema.Action.TheVariants.{NoAction, Restrict, Cascade, SetNull, SetDefault}
+use Rattle.sqlite_schema.specs.declared.schema.Action.TheVariants.{NoAction, Restrict, Cascade, SetNull}
+use Rattle.sqlite_schema.specs.declared.schema.Action.TheVariants.{SetDefault}
 use Rattle.sqlite_schema.specs.Names.{same_name}
 
 -- the action is NO ACTION

@@ -9,9 +9,11 @@ use Rattle.sqlite.specs.declared.transaction.Transaction.{Transaction}
 
 -- A call on a transaction, which stays with its connection. If the disk is clean and the call succeeds, the
 -- state changes as Does says. Whatever its result, it commits nothing and adds no crash state.
-pub record Inside {S : Type 0} (g : Ghosts S) (Does : State → State → Type 0) (old new : Transaction S) (result : Result (Unit {0}) Error) : Type 0 where
+pub record Inside {S : Type 0} (g : Ghosts S) (Does : State → State → Type 0) (old new : Transaction S)
+    (result : Result (Unit {0}) Error) : Type 0 where
   pub same_reference : new.conn.ghost_name ≡ old.conn.ghost_name
-  pub steps : HasCleanDisk (state g new.conn.now) → IsTrue old.conn.now.in_transaction → OnOk result (Does (state g old.conn.now) (state g new.conn.now))
+  pub steps : HasCleanDisk (state g new.conn.now) → IsTrue old.conn.now.in_transaction
+      → OnOk result (Does (state g old.conn.now) (state g new.conn.now))
   pub kept : HasCleanDisk (state g new.conn.now) → KeepsCommit (state g old.conn.now) (state g new.conn.now)
   pub survives : Survives (state g old.conn.now) (state g new.conn.now) (λ _. ⊥)
 

@@ -5,7 +5,8 @@ pub mod Harmless
 pub mod Inside
 pub mod Looks
 pub mod Made
-pub mod TableExists
 pub mod Represents
 pub mod States
 pub mod Stored
+pub mod TableExists
+pub mod Tables

@@ -12,7 +12,8 @@ module _ (Has : Schema → Type 0) where
 
   -- The call failed. Nothing changed, if the connection is still open, and no crash state was added.
   pub record Fails (old new : State) : Type 0 where
-    pub undone : HasCleanDisk new → IsTrue old.is_open → Has old.now.schema → old.in_transaction ≡ false → old.now ≡ old.committed → IsUndone old new
+    pub undone : HasCleanDisk new → IsTrue old.is_open → Has old.now.schema → old.in_transaction ≡ false
+        → old.now ≡ old.committed → IsUndone old new
     pub crash : Survives old new (λ _. IsTrue old.is_open → ¬ Has old.now.schema)
 
   -- one of the two, by the result

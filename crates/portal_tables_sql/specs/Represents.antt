@@ -9,7 +9,8 @@ use Rattle.sqlite.specs.State.{State}
 module _ (Encodes : Database → Type 0) where
   -- the trees of a crash state hold the value under the one schema that they list
   abbrev pub CrashStateHolds : Trees → Type 0
-  CrashStateHolds trees = (schema : Schema) × IsSound schema trees × Encodes (record { schema = schema; trees = trees })
+  CrashStateHolds trees =
+      (schema : Schema) × IsSound schema trees × Encodes (record { schema = schema; trees = trees })
 
   -- the connection is open and outside a transaction, and its database holds the value, now and in each crash
   -- state

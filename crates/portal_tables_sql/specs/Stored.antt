@@ -22,10 +22,14 @@ pub record AreRows (rows : List Row) : Type 0 where
   pub rise : IsTable rows
   pub keyed : AllByRecursion (λ r. IsTrue (is_int (rowid r))) rows
 
--- the rows of a tree, without what `cut` removes, are those of the values
-pub record Stores {P : Type 0} (cut : Row → Row) (stored : P → Row) (rows : List Row) (values : List P) : Type 0 where
+-- the rows of a tree, without what `cut` removes, are these
+pub record Keeps (cut : Row → Row) (rows shown : List Row) : Type 0 where
   pub are : AreRows rows
-  pub is : map cut rows ≡ map stored values
+  pub is : map cut rows ≡ shown
+
+-- they are those of the values
+abbrev pub Stores : {P : Type 0} → (Row → Row) → (P → Row) → List Row → List P → Type 0
+Stores cut stored rows values = Keeps cut rows (map stored values)
 
 -- the row with its rowid
 abbrev pub whole_row : Row → Row
@@ -38,4 +42,5 @@ less_rowid = drop 1
 -- the list with the value at its place by number, which it takes from a value with the same number
 abbrev pub put_by : {X : Type 0} → (X → ℕ) → X → List X → List X
 put_by key new [] = new ∷ []
-put_by key new (x ∷ xs) = match_ordering (value_cmp (number (key x)) (number (key new))) (x ∷ put_by key new xs) (new ∷ xs) (new ∷ x ∷ xs)
+put_by key new (x ∷ xs) = match_ordering (value_cmp (number (key x)) (number (key new)))
+    (x ∷ put_by key new xs) (new ∷ xs) (new ∷ x ∷ xs)

@@ -1,5 +1,6 @@
 -- A table that exists in a schema among others.
-use Rattle.std.specs.Prelude.{◌≡◌, ◌⊎◌, ℕ, List, ◌^◌, true, false, Some, IfSome, slice_get, find, ◌==◌, nat_le}
+use Rattle.std.specs.Prelude.{◌≡◌, ◌⊎◌, ℕ, List, ◌^◌, true, false, Some, IfSome, slice_get, find, ◌==◌}
+use Rattle.std.specs.Prelude.{nat_le}
 use Rattle.sqlite_schema.specs.declared.schema.Reference.{Reference}
 use Rattle.sqlite_schema.specs.declared.schema.Action.TheVariants.{NoAction}
 use Rattle.sqlite_schema.specs.Rules.{parent_key}
@@ -19,9 +20,11 @@ pub record TableExists (schema : Schema) (at : ℕ) (table : Table) : Type 0 whe
 -- a foreign key that points at the tree does nothing where its parent changes
 abbrev pub IsUnacted : Schema → ℕ → Type 0
 IsUnacted schema tree = (child : Table) (ref : Reference) → Has schema.tables child → Has child.references ref
-    → ((ref.on_delete ≡ NoAction) × (ref.on_update ≡ NoAction)) ⊎ IfSome (parent_key schema.tables ref) (λ key. (key.0 == tree) ≡ false)
+    → ((ref.on_delete ≡ NoAction) × (ref.on_update ≡ NoAction))
+    ⊎ IfSome (parent_key schema.tables ref) (λ key. (key.0 == tree) ≡ false)
 
 -- each foreign key that names the table has NO ACTION
 abbrev pub IsUnactedBy : Schema → List ℕ → Type 0
-IsUnactedBy schema name = (child : Table) (ref : Reference) → Has schema.tables child → Has child.references ref
+IsUnactedBy schema name =
+    (child : Table) (ref : Reference) → Has schema.tables child → Has child.references ref
     → ((ref.on_delete ≡ NoAction) × (ref.on_update ≡ NoAction)) ⊎ (same_name name ref.parent ≡ false)

@@ -62,7 +62,8 @@ fn has_no_database(rt: &HostRuntime, path: &str) -> bool {
     }
 }
 
-/// To ask, nothing is made at a path where there is no file, an empty file, or an empty file and an empty log.
+/// To ask, nothing is made at a path where there is no file, an empty file, or an empty file and an empty
+/// log.
 #[test]
 fn asking_makes_nothing(rt: HostRuntime) -> Result<(), Fail> {
     let is_refused = has_no_database(&rt, MISSING) && has_no_database(&rt, NOWHERE);

@@ -1,7 +1,8 @@
 -- What a CSV writer has written.
 use Rattle.std.specs.Prelude.{◌≡◌, ℕ, List, [], ◌∷◌, ◌++◌, Vec, false}
 use Rattle.std.specs.declared.alloc.Global.{Global}
-use Rattle.csv.specs.Writing.{default_writer, row_text, writer_setup, fields_written, has_written, writer_under, writer_pending}
+use Rattle.csv.specs.Writing.{default_writer, row_text, writer_setup, fields_written, has_written}
+use Rattle.csv.specs.Writing.{writer_under, writer_pending}
 use Rattle.csv.specs.declared.writer.Writer.{Writer}
 use Rattle.portal_codes.specs.Code.{text_of}
 use Rattle.portal_files.specs.PrintFile.{header}
@@ -26,7 +27,8 @@ pub record Shared : Type 0 where
 
 -- those of the same texts
 abbrev pub shared_of : (plan seconds bytes price expires : List ℕ) → Shared
-shared_of plan seconds bytes price expires = record { plan = plan; seconds = seconds; bytes = bytes; price = price; expires = expires }
+shared_of plan seconds bytes price expires =
+    record { plan = plan; seconds = seconds; bytes = bytes; price = price; expires = expires }
 
 -- a record of six fields
 abbrev pub row : Shared → List ℕ → List ℕ

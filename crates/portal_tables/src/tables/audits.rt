@@ -2,14 +2,14 @@
 
 ghost use Rattle.std.specs.Prelude.{◌≡◌, ◌↔◌, true, IfOk, IsTrue};
 ghost use Rattle.sqlite.specs.Held.{state};
-ghost use Rattle.portal_tables_queries.specs.Audit.{IsAudited};
+ghost use Rattle.portal_tables_rows.specs.Audit.{IsAudited};
 ghost use Rattle.portal_tables_rows.specs.Contents.{Contents};
 ghost use Rattle.portal_tables_rows.specs.Holds.{Holds};
 ghost use Rattle.portal_tables.specs.TablesRepresent.{IsFaultFree, ReadsTables};
 
 use super::Tables;
 use crate::errors::StoreFault;
-use portal_tables_queries::audits::audit;
+use portal_tables_rows::audits::audit;
 use sqlite::Alter;
 
 impl<S: Alter> Tables<S> {

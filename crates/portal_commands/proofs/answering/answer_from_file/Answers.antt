@@ -1,11 +1,13 @@
-use Rattle.portal_commands.proofs.Common.{inl, subst, SettingsValue, running, is_stopped_state, between, ServesInOrder, EndsAnswering}
+use Rattle.portal_commands.proofs.Common.{inl, subst, SettingsValue, running, is_stopped_state, between}
+use Rattle.portal_commands.proofs.Common.{ServesInOrder, EndsAnswering}
 use Rattle.portal_commands.proofs.answering.answer_from_file.Goals as goal
 
 pub returns-in-Ok : goal.returns-in-Ok
 returns-in-Ok g c =
     let call = c.answer_at-answered in
     let ends = c.exit_code_of_answer-status in
-    let wire = between (g.R.Read.remaining c.args.input.now) (g.R.Read.remaining call.new.input) (g.W.Write.contents c.args.output.now) (g.W.Write.contents call.new.output) in
+    let wire = between (g.R.Read.remaining c.args.input.now) (g.R.Read.remaining call.new.input)
+    (g.W.Write.contents c.args.output.now) (g.W.Write.contents call.new.output) in
     inl (
       c.in-Ok.desk,
       call.new.desk,
@@ -24,10 +26,13 @@ returns-in-Ok g c =
                   (
                     it.0,
                     it.1,
-                    λ files may. let left = g.met.P.Stored.Desk.leaves call.new.desk it.0 it.1 files may in (left.0, left.1, left.2, g.met.P.Stored.Desk.sound files left.0 left.2),
+                    λ files may. let left = g.met.P.Stored.Desk.leaves call.new.desk it.0 it.1 files may in
+                        (left.0, left.1, left.2, g.met.P.Stored.Desk.sound files left.0 left.2),
                     (
                       call.result,
-                      subst (λ (s : SettingsValue). EndsAnswering wire c.args.moment c.args.seed (λ arrivals responses. ServesInOrder s (running L) arrivals responses it.0) (is_stopped_state it.0) call.result)
+                      subst (λ (s : SettingsValue). EndsAnswering wire c.args.moment c.args.seed
+                          (λ arrivals responses. ServesInOrder s (running L) arrivals responses it.0)
+                          (is_stopped_state it.0) call.result)
                           c.in-Ok.ensures.same_settings it.2,
                       ends.ensures,
                     ),

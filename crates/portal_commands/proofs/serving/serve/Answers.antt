@@ -2,7 +2,11 @@ use Rattle.portal_commands.proofs.Common.{inl, inr, Keeps-refl, running}
 use Rattle.portal_commands.proofs.serving.serve.Goals as goal
 
 pub returns-in-Err : goal.returns-in-Err
-returns-in-Err g c = inl (c.in-Err.trouble, c.in-Err.ensures.why, (c.report.ensures.status, Keeps-refl _, c.report.ensures.prints))
+returns-in-Err g c = inl (
+  c.in-Err.trouble,
+  c.in-Err.ensures.why,
+  (c.report.ensures.status, Keeps-refl _, c.report.ensures.prints),
+)
 
 pub returns-in-Ok : goal.returns-in-Ok
 returns-in-Ok g c =
@@ -23,8 +27,16 @@ returns-in-Ok g c =
               c.in-Ok.ensures.found was,
               λ L holds_ledger.
                   let at = c.in-Ok.ensures.represents L holds_ledger was in
-                  let it = call.ensures.serves honest (running L) at in
-                  (at, (it.0, it.1, λ files may. let left = g.met.P.Stored.Desk.leaves call.new.desk it.0 it.1 files may in (left.0, left.1, left.2, g.met.P.Stored.Desk.sound files left.0 left.2), it.2)),
+                  let it = call.ensures.serves honest (running L) at in (
+                    at,
+                    (
+                      it.0,
+                      it.1,
+                      λ files may. let left = g.met.P.Stored.Desk.leaves call.new.desk it.0 it.1 files may in
+                          (left.0, left.1, left.2, g.met.P.Stored.Desk.sound files left.0 left.2),
+                      it.2,
+                    ),
+                  ),
             ),
       ),
       (
@@ -40,8 +52,16 @@ returns-in-Ok g c =
               c.in-Ok.ensures.found was,
               λ L holds_ledger.
                   let at = c.in-Ok.ensures.represents L holds_ledger was in
-                  let it = call.ensures.turns honest (running L) at in
-                  (at, (it.0, it.1, λ files may. let left = g.met.P.Stored.Desk.leaves call.new.desk it.0 it.1 files may in (left.0, left.1, left.2, g.met.P.Stored.Desk.sound files left.0 left.2), it.2)),
+                  let it = call.ensures.turns honest (running L) at in (
+                    at,
+                    (
+                      it.0,
+                      it.1,
+                      λ files may. let left = g.met.P.Stored.Desk.leaves call.new.desk it.0 it.1 files may in
+                          (left.0, left.1, left.2, g.met.P.Stored.Desk.sound files left.0 left.2),
+                      it.2,
+                    ),
+                  ),
             ),
       ),
     )

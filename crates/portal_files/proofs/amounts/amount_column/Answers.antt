@@ -8,4 +8,7 @@ returns c =
     let below : n % 100 < 100 = omega arith in
     let whole = right-column 14 (decimal (n / 100)) in
     let cents = two-places (n % 100) below in
-    IfOk-weaker c.format.result _ _ (λ s e. rw (c.laid_out.ensures, c.laid_out-2.ensures) at e ∙ (λ i. whole i ++ 46 ∷ cents i) ∙ amount-column n) c.format.ensures.ok
+    IfOk-weaker c.format.result _ _ (λ s e. rw (
+      c.laid_out.ensures,
+      c.laid_out-2.ensures,
+    ) at e ∙ (λ i. whole i ++ 46 ∷ cents i) ∙ amount-column n) c.format.ensures.ok

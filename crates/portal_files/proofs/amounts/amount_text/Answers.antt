@@ -7,4 +7,5 @@ returns c =
     let n = c.args.amount in
     let below : n % 100 < 100 = omega arith in
     let cents = two-places (n % 100) below in
-    IfOk-weaker c.format.result _ _ (λ s e. rw c.laid_out.ensures at e ∙ (λ i. decimal (n / 100) ++ 46 ∷ cents i)) c.format.ensures.ok
+    IfOk-weaker c.format.result _ _
+    (λ s e. rw c.laid_out.ensures at e ∙ (λ i. decimal (n / 100) ++ 46 ∷ cents i)) c.format.ensures.ok

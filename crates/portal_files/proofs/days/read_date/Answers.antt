@@ -1,10 +1,12 @@
-use Rattle.portal_files.proofs.Common.{◌≡◌, ◌<◌, ℤ, pos, ◌+ℤ◌, ◌*ℤ◌, to_z, of_z, w8, w16, is_some, is_ok, true, false, ap, sym, ◌∙◌, arith, false≢true, ints}
+use Rattle.portal_files.proofs.Common.{◌≡◌, ◌<◌, ℤ, pos, ◌+ℤ◌, ◌*ℤ◌, to_z, of_z, w8, w16, is_some, is_ok}
+use Rattle.portal_files.proofs.Common.{true, false, ap, sym, ◌∙◌, arith, false≢true, ints}
 use Rattle.portal_files.proofs.DateTexts.{WasReadAt, date-text, text-date, date-made}
 use Rattle.portal_files.proofs.Tables.{some-from_ok}
 use Rattle.portal_files.proofs.days.read_date.Goals as goal
 use Rattle.portal_files.proofs.days.read_date.Goals.{After-ok}
 
-was_read : (c : After-ok) → WasReadAt c.args.text.now c.in_ok-century.century c.in_ok-year.year c.in_ok-month.month c.in_ok-day.day
+was_read : (c : After-ok)
+    → WasReadAt c.args.text.now c.in_ok-century.century c.in_ok-year.year c.in_ok-month.month c.in_ok-day.day
 was_read c = record {
   ten = c.if-text-ne10.false;
   first_hyphen = c.if-text-ne45.false;
@@ -22,8 +24,10 @@ returns-clause-some c =
     let b = c.in_ok-year.year in
     let m = c.in_ok-month.month in
     let d = c.in_ok-day.day in
-    let below : (a < 100) × (b < 100) × (m < 100) × (d < 100) = (read.century.below, read.year.below, read.month.below, read.day.below) in
-    some-from_ok c.ok.result c.new.result _ _ c.ok.ensures.value (λ date ymd. date-text c.args.text.now a b m d date read
+    let below : (a < 100) × (b < 100) × (m < 100) × (d < 100) =
+    (read.century.below, read.year.below, read.month.below, read.day.below) in
+    some-from_ok c.ok.result c.new.result _ _ c.ok.ensures.value
+    (λ date ymd. date-text c.args.text.now a b m d date read
     (omega (arith, ints, ymd.0, c.from.ensures, c.from-2.ensures))
     (omega (arith, ints, ymd.1))
     (omega (arith, ints, ymd.2))) c.new.ensures.value
@@ -35,9 +39,11 @@ returns-clause-none c = λ none date shown.
     let b = c.in_ok-year.year in
     let m = c.in_ok-month.month in
     let d = c.in_ok-day.day in
-    let below : (a < 100) × (b < 100) × (m < 100) × (d < 100) = (read.century.below, read.year.below, read.month.below, read.day.below) in
+    let below : (a < 100) × (b < 100) × (m < 100) × (d < 100) =
+    (read.century.below, read.year.below, read.month.below, read.day.below) in
     let is = text-date c.args.text.now a b m d date read shown.year shown.text_is in
-    let y : ℤ = to_z w16 (of_z w16 (to_z w16 (of_z w16 (to_z w16 (of_z w16 c.from.result) *ℤ pos 100)) +ℤ to_z w16 (of_z w16 c.from-2.result))) in
+    let y : ℤ = to_z w16 (of_z w16 (to_z w16 (of_z w16 (to_z w16 (of_z w16 c.from.result) *ℤ pos 100))
+    +ℤ to_z w16 (of_z w16 c.from-2.result))) in
     let calendar = date-made y (to_z w8 m) (to_z w8 d) date
     (omega (arith, ints, is.0, c.from.ensures, c.from-2.ensures))
     (omega (arith, ints, is.1))

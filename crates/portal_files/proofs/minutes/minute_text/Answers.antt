@@ -6,4 +6,7 @@ pub returns : goal.returns
 returns c =
     let date = c.date-date.ensures in
     let time = c.to_plain-time.ensures ∙ c.time.ensures in
-    IfOk-weaker c.format.result _ _ (λ s e. rw (c.laid_out.ensures, c.laid_out-2.ensures) at e ∙ minute-parts c.args.at c.date-date.result c.to_plain-time.result date time) c.format.ensures.ok
+    IfOk-weaker c.format.result _ _ (λ s e. rw (
+      c.laid_out.ensures,
+      c.laid_out-2.ensures,
+    ) at e ∙ minute-parts c.args.at c.date-date.result c.to_plain-time.result date time) c.format.ensures.ok

@@ -7,4 +7,5 @@ pub returns : goal.returns
 returns c =
     IfOk-weaker c.format.result _ _ (λ s e. rw (c.laid_out.ensures, c.laid_out-2.ensures) at e
     ∙ number-line c.args.label.now _ _ _ _ c.args.sold c.args.sales c.args.refunded c.args.refunds c.requires
-    (right-column 8 (decimal c.args.sold)) c.in_ok-sales.ensures (right-column 8 (decimal c.args.refunded)) c.in_ok-refunds.ensures) c.format.ensures.ok
+    (right-column 8 (decimal c.args.sold)) c.in_ok-sales.ensures (right-column 8 (decimal c.args.refunded))
+    c.in_ok-refunds.ensures) c.format.ensures.ok

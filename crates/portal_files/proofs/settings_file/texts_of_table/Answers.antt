@@ -10,7 +10,8 @@ pub returns-then-len-key_count-clause-none : goal.returns-then-len-key_count-cla
 returns-then-len-key_count-clause-none c = λ _ s is.
     let count = member_count-view c.args.table.now.entries in
     let len = c.len.ensures.len in
-    let venue = same-venue (table_view c.args.table.now) _ s.venue_url c.in_ok-venue_url.ensures.some is.venue_url in
+    let venue =
+    same-venue (table_view c.args.table.now) _ s.venue_url c.in_ok-venue_url.ensures.some is.venue_url in
     let keys = c.key_count.ensures ∙ ap key_count venue in
     let counted = is.count in
     let test = c.if-len-key_count.true in

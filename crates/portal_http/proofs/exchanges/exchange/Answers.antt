@@ -17,9 +17,12 @@ returns g c =
       serves = carried.step;
       survives = λ honest L represents.
           let it = carried.step honest (running L) represents in
-          ends_also (λ (xs : List Arrived). λ (rs : List (List ℕ)). ServesInOrder settings (running L) xs rs it.0)
-          (λ (xs : List Arrived). λ (rs : List (List ℕ)). Survives desk.Files left desk.holds_ledger settings L xs rs)
-          (λ xs rs is. survives settings desk.Files left desk.holds_ledger L xs rs it.0 is (λ files may. g.met.D.Desk.leaves c.read_serve_and_write.new.desk it.0 it.1 files may)
+          ends_also
+          (λ (xs : List Arrived). λ (rs : List (List ℕ)). ServesInOrder settings (running L) xs rs it.0)
+          (λ (xs : List Arrived). λ (rs : List (List ℕ)).
+          Survives desk.Files left desk.holds_ledger settings L xs rs)
+          (λ xs rs is. survives settings desk.Files left desk.holds_ledger L xs rs it.0 is
+          (λ files may. g.met.D.Desk.leaves c.read_serve_and_write.new.desk it.0 it.1 files may)
           (λ files found shown. g.met.D.Desk.sound files found shown))
           _ c.args.moment c.args.seed c.read_serve_and_write.result it.2;
     }

@@ -1,11 +1,13 @@
-use Rattle.portal_http.proofs.Common.{◌≡◌, ℕ, List, length, take, ap, subst, inr, arith, ⊤, Appends, Arrived, ServesInOrder}
+use Rattle.portal_http.proofs.Common.{◌≡◌, ℕ, List, length, take, ap, subst, inr, arith, ⊤, Appends, Arrived}
+use Rattle.portal_http.proofs.Common.{ServesInOrder}
 use Rattle.std.proofs.KnownBytes.{Keeps-refl}
 use Rattle.portal_http.proofs.ExchangeLemmas.{whole_goes_out, one_served, no_room}
 use Rattle.portal_http.proofs.exchanges.read_serve_and_write.Goals as goal
 
 pub returns-in_default-clause-wire : goal.returns-in_default-clause-wire
 returns-in_default-clause-wire g c =
-    no_room (λ (xs : List Arrived). λ (rs : List (List ℕ)). ⊤) _ c.args.moment c.args.seed c.cut_without_response-in_default.result c.cut_without_response-in_default.ensures
+    no_room (λ (xs : List Arrived). λ (rs : List (List ℕ)). ⊤) _ c.args.moment c.args.seed
+    c.cut_without_response-in_default.result c.cut_without_response-in_default.ensures
     (inr (c.in-Ok.received, c.in-Ok.ensures)) (Keeps-refl _) tt
 
 pub returns-in_default-clause-desk : goal.returns-in_default-clause-desk
@@ -17,8 +19,10 @@ returns-in_default-clause-desk g c = record {
       let it = c.in_default.ensures.desk.step honest old represents in (
         it.0,
         it.1,
-        no_room (λ (xs : List Arrived). λ (rs : List (List ℕ)). ServesInOrder (g.D.Desk.settings c.args.desk.now) old xs rs it.0) _ c.args.moment c.args.seed
-            c.cut_without_response-in_default.result c.cut_without_response-in_default.ensures (inr (c.in-Ok.received, c.in-Ok.ensures)) (Keeps-refl _) it.2,
+        no_room (λ (xs : List Arrived). λ (rs : List (List ℕ)).
+            ServesInOrder (g.D.Desk.settings c.args.desk.now) old xs rs it.0) _ c.args.moment c.args.seed
+            c.cut_without_response-in_default.result c.cut_without_response-in_default.ensures
+            (inr (c.in-Ok.received, c.in-Ok.ensures)) (Keeps-refl _) it.2,
       );
 }
 
@@ -31,8 +35,10 @@ returns-in-Ok-write_response-clause-desk g c = record {
       let step = c.in-Ok-serve_request.ensures.desk.step honest old represents in
       let response = c.in-Ok-serve_request.response in
       let shown = c.as_slice.ensures.value in
-      let whole : c.len-whole.result ≡ length response.bytes.items = omega (arith, c.len-whole.ensures, c.as_slice.ensures.len, ap length shown) in
-      let out = Appends (g.W.Write.contents c.args.writer.now) (g.W.Write.contents c.write_response.new.writer) in (
+      let whole : c.len-whole.result ≡ length response.bytes.items =
+      omega (arith, c.len-whole.ensures, c.as_slice.ensures.len, ap length shown) in
+      let out =
+      Appends (g.W.Write.contents c.args.writer.now) (g.W.Write.contents c.write_response.new.writer) in (
         step.0,
         step.1,
         (
@@ -42,7 +48,8 @@ returns-in-Ok-write_response-clause-desk g c = record {
           (
             c.in-Ok.received,
             c.in-Ok.ensures,
-            one_served (g.D.Desk.settings c.args.desk.now) old step.0 _ _ response.bytes.items c.at-arrival.ensures step.2,
+            one_served (g.D.Desk.settings c.args.desk.now) old step.0 _ _ response.bytes.items
+                c.at-arrival.ensures step.2,
             whole_goes_out _ _ _ (subst out shown c.in-Ok-write_response.ensures),
           ),
         ),
@@ -58,8 +65,10 @@ returns-clause-desk g c = record {
       let step = c.in-Ok-serve_request.ensures.desk.step honest old represents in
       let response = c.in-Ok-serve_request.response in
       let shown = c.as_slice.ensures.value in
-      let whole : c.len-whole.result ≡ length response.bytes.items = omega (arith, c.len-whole.ensures, c.as_slice.ensures.len, ap length shown) in
-      let out = Appends (g.W.Write.contents c.args.writer.now) (g.W.Write.contents c.write_response.new.writer) in (
+      let whole : c.len-whole.result ≡ length response.bytes.items =
+      omega (arith, c.len-whole.ensures, c.as_slice.ensures.len, ap length shown) in
+      let out =
+      Appends (g.W.Write.contents c.args.writer.now) (g.W.Write.contents c.write_response.new.writer) in (
         step.0,
         step.1,
         (
@@ -69,7 +78,8 @@ returns-clause-desk g c = record {
           (
             c.in-Ok.received,
             c.in-Ok.ensures,
-            one_served (g.D.Desk.settings c.args.desk.now) old step.0 _ _ response.bytes.items c.at-arrival.ensures step.2,
+            one_served (g.D.Desk.settings c.args.desk.now) old step.0 _ _ response.bytes.items
+                c.at-arrival.ensures step.2,
             subst (λ (r : List ℕ). out (take c.in-Err.error.written r)) shown c.in-Err.ensures.1,
           ),
         ),

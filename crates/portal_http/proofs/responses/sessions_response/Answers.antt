@@ -7,4 +7,5 @@ use Rattle.portal_http.proofs.responses.sessions_response.Goals as goal
 pub returns : goal.returns
 unfolding AreSessions
 returns c =
-    with_body Json c.args.moment c.as_bytes.result.now (sessions_body c.args.sessions.now) c.ok_response.result (c.as_bytes.ensures.value ∙ c.in_ok-body.ensures.ok) c.ok_response.ensures
+    with_body Json c.args.moment c.as_bytes.result.now (sessions_body c.args.sessions.now)
+    c.ok_response.result (c.as_bytes.ensures.value ∙ c.in_ok-body.ensures.ok) c.ok_response.ensures

@@ -7,5 +7,6 @@ use Rattle.portal_http.proofs.responses.sheet_response.Goals as goal
 pub returns : goal.returns
 unfolding IsSheet
 returns c =
-    with_text (IsPrintFile c.args.settings.now.zone c.args.sheet.now) Csv c.args.moment c.as_slice.result.now c.in-Ok.body.items c.ok_response.result
+    with_text (IsPrintFile c.args.settings.now.zone c.args.sheet.now) Csv c.args.moment c.as_slice.result.now
+    c.in-Ok.body.items c.ok_response.result
     c.in-Ok.ensures.ok c.as_slice.ensures.value c.ok_response.ensures

@@ -9,4 +9,5 @@ returns-in-Err g c =
     let settings = g.D.Desk.settings c.args.desk.now in
     let bytes = c.refusal_or_spare.result.bytes.items in
     moved_at_error g.D.Desk _ _ c.in-Err.refusal _ _ call.same_settings call.fault_free call.stops call.step
-    (λ old new error. fails settings (operation.Takings c.args.range) c.args.moment bytes (λ L told. (told, refl)) (λ L. refl) old new c.in-Err.refusal error c.refusal_or_spare.ensures)
+    (λ old new error. fails settings (operation.Takings c.args.range) c.args.moment bytes
+    (λ L told. (told, refl)) (λ L. refl) old new c.in-Err.refusal error c.refusal_or_spare.ensures)

@@ -10,4 +10,9 @@ returns-in-Err g c =
     let settings = g.D.Desk.settings c.args.desk.now in
     let bytes = c.refusal_or_spare.result.bytes.items in
     moved_at_error g.D.Desk _ _ c.in-Err.refusal _ _ call.same_settings call.fault_free call.stops call.step
-    (λ old new error. misses settings (operation.Voucher c.args.code) c.args.moment bytes (λ L told. (told, refl)) (λ L. refl) UnknownCode (λ H. voucher_of H c.args.code) old new c.in-Err.refusal error c.refusal_or_spare.ensures (λ H none told. subst (λ o. MatchOption o (IsRefusal UnknownCode c.args.moment bytes) (λ voucher. IsVoucher voucher c.args.moment bytes)) none told))
+    (λ old new error. misses settings (operation.Voucher c.args.code) c.args.moment bytes (λ L told. (
+      told,
+      refl,
+    )) (λ L. refl) UnknownCode (λ H. voucher_of H c.args.code) old new c.in-Err.refusal error
+    c.refusal_or_spare.ensures (λ H none told. subst (λ o. MatchOption o (IsRefusal UnknownCode
+    c.args.moment bytes) (λ voucher. IsVoucher voucher c.args.moment bytes)) none told))

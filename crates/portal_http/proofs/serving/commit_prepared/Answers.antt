@@ -12,8 +12,11 @@ returns-in-Ok-finish g c = record {
       let bytes = c.in-Ok.response.bytes.items in
       let answered : IsAnswer (answer_of c.args.prepared.changes) c.args.moment bytes =
       subst (λ (x : Answer). IsAnswer x c.args.moment bytes) c.answer.ensures c.in-Ok.ensures.ok in
-      let done = c.in-Ok-finish.ensures.finish honest (running L) at a fits in
-      (done.0, done.1, kept L a (answer_of c.args.prepared.changes) c.args.moment bytes done.0 done.2 answered);
+      let done = c.in-Ok-finish.ensures.finish honest (running L) at a fits in (
+        done.0,
+        done.1,
+        kept L a (answer_of c.args.prepared.changes) c.args.moment bytes done.0 done.2 answered,
+      );
 }
 
 pub returns-in-Err-finish : goal.returns-in-Err-finish
@@ -26,7 +29,9 @@ returns-in-Err-finish g c = record {
       let spare = c.args.spare in (
         done.0,
         done.1,
-        unkept L a (answer_of c.args.prepared.changes) c.args.moment c.commit_failure_response.result.bytes.items c.in-Err-finish.refusal spare.no_memory.bytes.items
-            spare.stopped.bytes.items done.0 done.2 c.requires.no_memory c.requires.stopped c.commit_failure_response.ensures.stopped c.commit_failure_response.ensures.no_memory,
+        unkept L a (answer_of c.args.prepared.changes) c.args.moment
+            c.commit_failure_response.result.bytes.items c.in-Err-finish.refusal spare.no_memory.bytes.items
+            spare.stopped.bytes.items done.0 done.2 c.requires.no_memory c.requires.stopped
+            c.commit_failure_response.ensures.stopped c.commit_failure_response.ensures.no_memory,
       );
 }

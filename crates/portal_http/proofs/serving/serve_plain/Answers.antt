@@ -7,7 +7,8 @@ returns-in-Err g c =
     let call = c.in-Err.ensures in
     let settings = g.D.Desk.settings c.args.desk.now in
     moved_at_error g.D.Desk _ _ c.in-Err.refusal _ _ call.same_settings call.fault_free call.stops call.step
-    (λ old new fails. refused settings c.args.command None c.args.moment old c.in-Err.refusal c.refusal_or_spare.result.bytes.items new fails c.refusal_or_spare.ensures)
+    (λ old new fails. refused settings c.args.command None c.args.moment old c.in-Err.refusal
+    c.refusal_or_spare.result.bytes.items new fails c.refusal_or_spare.ensures)
 
 pub returns-in-Ok : goal.returns-in-Ok
 returns-in-Ok g c = record {
@@ -15,7 +16,10 @@ returns-in-Ok g c = record {
   fault_free = λ honest. c.in-Ok.ensures.fault_free (c.commit_prepared.ensures.fault_free honest);
   stays = λ over. c.commit_prepared.ensures.stays (c.in-Ok.ensures.stops ∙ over);
   step = λ honest old at.
-      prepared (g.D.Desk.settings c.args.desk.now) c.args.command None c.args.moment (λ s. g.D.Desk.represents c.prepare.new.self s)
-      (λ s. g.D.Desk.represents c.commit_prepared.new.desk s) c.in-Ok.prepared c.commit_prepared.result.bytes.items
-      (λ L mid a fits. c.commit_prepared.ensures.finishes honest L mid a fits) old (c.in-Ok.ensures.step (c.commit_prepared.ensures.fault_free honest) old at);
+      prepared (g.D.Desk.settings c.args.desk.now) c.args.command None c.args.moment
+      (λ s. g.D.Desk.represents c.prepare.new.self s)
+      (λ s. g.D.Desk.represents c.commit_prepared.new.desk s) c.in-Ok.prepared
+      c.commit_prepared.result.bytes.items
+      (λ L mid a fits. c.commit_prepared.ensures.finishes honest L mid a fits) old
+      (c.in-Ok.ensures.step (c.commit_prepared.ensures.fault_free honest) old at);
 }

@@ -10,7 +10,8 @@ returns-in-Ok c =
 pub returns-in-Unfinished : goal.returns-in-Unfinished
 returns-in-Unfinished c =
     let none = subst (IsFinding c.args.bytes.now) c.in-Unfinished.is c.requires in
-    decided_when_past c.args.bytes.now c.exceeds_head_limits.result none.0 none.1 c.exceeds_head_limits.ensures
+    decided_when_past c.args.bytes.now c.exceeds_head_limits.result none.0 none.1
+    c.exceeds_head_limits.ensures
 
 pub returns-in-Invalid : goal.returns-in-Invalid
 returns-in-Invalid c =

@@ -1,4 +1,6 @@
-use Rattle.portal_http_message.proofs.Common.{◌≡◌, ◌∙◌, sym, ap, arith, ◌+◌, ◌-◌, ◌*◌, min, ℕ, Bool, true, ◌&&◌, get_or, drop, nat_tests, at_drop_more, list_all, is_ascii_digit, digit_value}
+use Rattle.portal_http_message.proofs.Common.{◌≡◌, ◌∙◌, sym, ap, arith, ◌+◌, ◌-◌, ◌*◌, min, ℕ, Bool, true}
+use Rattle.portal_http_message.proofs.Common.{◌&&◌, get_or, drop, nat_tests, at_drop_more, list_all}
+use Rattle.portal_http_message.proofs.Common.{is_ascii_digit, digit_value}
 use Rattle.std.proofs.lemmas.Int.Digits.{digits_value_more}
 use Rattle.portal_http_message.proofs.lengths.capped_number.Goals as goal
 
@@ -16,8 +18,10 @@ loop-digit-preserved c =
     let rest = list_all is_ascii_digit (drop (i + 1) c.args.digits.now) in
     let v = digits_value_more 10 c.args.digits.now i (omega arith) in
     let digit : is_ascii_digit x ≡ true = sym c.if-not-is_ascii_digit.ensures.value in
-    let all = at_drop_more (list_all is_ascii_digit) c.args.digits.now i 0 (omega arith) ∙ ap (λ (b : Bool). b && rest) digit in
+    let all = at_drop_more (list_all is_ascii_digit) c.args.digits.now i 0 (omega arith)
+    ∙ ap (λ (b : Bool). b && rest) digit in
     record {
       digits_left = sym all ∙ c.loop-digit.invariant.digits_left;
-      so_far = capped_more _ _ _ _ _ _ c.loop-digit.invariant.so_far v (digit_is x digit ∙ sym c.from.ensures) c.min-number.ensures;
+      so_far = capped_more _ _ _ _ _ _ c.loop-digit.invariant.so_far v
+          (digit_is x digit ∙ sym c.from.ensures) c.min-number.ensures;
     }

@@ -1,4 +1,5 @@
-use Rattle.portal_http_message.proofs.Common.{◌≡◌, ◌∙◌, sym, ◌<◌, nat_lt, true, false, arith, nat_tests, digits_value, body_limit}
+use Rattle.portal_http_message.proofs.Common.{◌≡◌, ◌∙◌, sym, ◌<◌, nat_lt, true, false, arith, nat_tests}
+use Rattle.portal_http_message.proofs.Common.{digits_value, body_limit}
 use Rattle.portal_http_message.specs.Lengths.{length_in}
 use Rattle.portal_http_message.proofs.lengths.read_length.Goals as goal
 

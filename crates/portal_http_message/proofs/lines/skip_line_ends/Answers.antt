@@ -22,4 +22,5 @@ returns-then-not-is_line_end c =
     let rest = drop (c.loop-at.at + 1) c.args.bytes.now in
     let e = start_at c.args.bytes.now c.loop-at.at c.loop-at-test.true in
     let t = sym c.is_line_end.ensures ∙ c.if-not-is_line_end.true in
-    c.split_at.ensures.back ∙ drop_cons c.args.bytes.now c.loop-at.at c.loop-at-test.true ∙ sym (e ∙ ap (λ (b : Bool). cond b (from_start rest) (x ∷ rest)) t) ∙ c.loop-at.invariant
+    c.split_at.ensures.back ∙ drop_cons c.args.bytes.now c.loop-at.at c.loop-at-test.true
+    ∙ sym (e ∙ ap (λ (b : Bool). cond b (from_start rest) (x ∷ rest)) t) ∙ c.loop-at.invariant

@@ -6,5 +6,6 @@ abbrev pub invariant-loop-i : goal.invariant-loop-i
 invariant-loop-i l = record {
   size : length l.words ≡ 15;
   place : l.rng ≡ record l.fn.rng { word_pos = l.fn.rng.word_pos + l.i };
-  filled : (k : ℕ) → k < l.i → get_or l.words k 0 ≡ word_at 10 l.fn.rng.key l.fn.rng.stream (l.fn.rng.word_pos + k);
+  filled : (k : ℕ) → k < l.i
+      → get_or l.words k 0 ≡ word_at 10 l.fn.rng.key l.fn.rng.stream (l.fn.rng.word_pos + k);
 }

@@ -8,6 +8,9 @@ returns-clause-checks c = λ settings seed.
     let m = c.args.asked.now in
     let device = c.in_ok-device.device in
     let guest = subst (IsGuest _) c.in_ok-device.ensures.ok_part c.guest_device.ensures in
-    let acted = ordered_by m (Guest device) (GivesCommand CodeOrder (λ code. Redeem device code)) c.body.result.now c.redeem_command-ordered.result c.command_operation.result
+    let acted = ordered_by m (Guest device) (GivesCommand CodeOrder (λ code. Redeem device code))
+    c.body.result.now c.redeem_command-ordered.result c.command_operation.result
     c.body.ensures c.redeem_command-ordered.ensures.orders c.command_operation.ensures.checks in
-    let_guest_in _ m device (λ device. AsksForCommand m (Guest device) (GivesCommand CodeOrder (λ code. Redeem device code) m.body)) c.command_operation.result c.device.ensures guest acted
+    let_guest_in _ m device
+    (λ device. AsksForCommand m (Guest device) (GivesCommand CodeOrder (λ code. Redeem device code) m.body))
+    c.command_operation.result c.device.ensures guest acted

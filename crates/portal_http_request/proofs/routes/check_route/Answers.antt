@@ -4,34 +4,48 @@ use Rattle.portal_http_request.proofs.RouteLemmas.{at_route}
 use Rattle.portal_http_request.proofs.routes.check_route.Goals as goal
 
 pub returns-in-Captive-clause-checks : goal.returns-in-Captive-clause-checks
-returns-in-Captive-clause-checks c = at_route c.args.settings.now c.args.seed c.args.asked.now c.args.route route.Captive c.check_captive.result c.in-Captive.is (inr (c.check_captive.ensures.checks c.args.settings.now c.args.seed))
+returns-in-Captive-clause-checks c = at_route c.args.settings.now c.args.seed
+    c.args.asked.now c.args.route route.Captive c.check_captive.result c.in-Captive.is
+    (inr (c.check_captive.ensures.checks c.args.settings.now c.args.seed))
 
 pub returns-in-Redeem-clause-checks : goal.returns-in-Redeem-clause-checks
-returns-in-Redeem-clause-checks c = at_route c.args.settings.now c.args.seed c.args.asked.now c.args.route route.Redeem c.check_redeem.result c.in-Redeem.is (c.check_redeem.ensures.checks c.args.settings.now c.args.seed)
+returns-in-Redeem-clause-checks c =
+    at_route c.args.settings.now c.args.seed c.args.asked.now c.args.route route.Redeem c.check_redeem.result
+    c.in-Redeem.is (c.check_redeem.ensures.checks c.args.settings.now c.args.seed)
 
 pub returns-in-Plans-clause-checks : goal.returns-in-Plans-clause-checks
-returns-in-Plans-clause-checks c = at_route c.args.settings.now c.args.seed c.args.asked.now c.args.route route.Plans c.check_plans.result c.in-Plans.is (c.check_plans.ensures.checks c.args.seed)
+returns-in-Plans-clause-checks c = at_route c.args.settings.now c.args.seed c.args.asked.now c.args.route
+    route.Plans c.check_plans.result c.in-Plans.is (c.check_plans.ensures.checks c.args.seed)
 
 pub returns-in-Print-clause-checks : goal.returns-in-Print-clause-checks
-returns-in-Print-clause-checks c = at_route c.args.settings.now c.args.seed c.args.asked.now c.args.route route.Print c.check_print.result c.in-Print.is (inr (c.check_print.ensures.checks c.args.seed))
+returns-in-Print-clause-checks c = at_route c.args.settings.now c.args.seed c.args.asked.now c.args.route
+    route.Print c.check_print.result c.in-Print.is (inr (c.check_print.ensures.checks c.args.seed))
 
 pub returns-in-Sales-clause-checks : goal.returns-in-Sales-clause-checks
-returns-in-Sales-clause-checks c = at_route c.args.settings.now c.args.seed c.args.asked.now c.args.route route.Sales c.check_sales.result c.in-Sales.is (c.check_sales.ensures.checks c.args.seed)
+returns-in-Sales-clause-checks c = at_route c.args.settings.now c.args.seed c.args.asked.now c.args.route
+    route.Sales c.check_sales.result c.in-Sales.is (c.check_sales.ensures.checks c.args.seed)
 
 pub returns-in-Refunds-clause-checks : goal.returns-in-Refunds-clause-checks
-returns-in-Refunds-clause-checks c = at_route c.args.settings.now c.args.seed c.args.asked.now c.args.route route.Refunds c.check_refunds.result c.in-Refunds.is (c.check_refunds.ensures.checks c.args.seed)
+returns-in-Refunds-clause-checks c = at_route c.args.settings.now c.args.seed c.args.asked.now c.args.route
+    route.Refunds c.check_refunds.result c.in-Refunds.is (c.check_refunds.ensures.checks c.args.seed)
 
 pub returns-in-Closes-clause-checks : goal.returns-in-Closes-clause-checks
-returns-in-Closes-clause-checks c = at_route c.args.settings.now c.args.seed c.args.asked.now c.args.route route.Closes c.check_closes.result c.in-Closes.is (c.check_closes.ensures.checks c.args.seed)
+returns-in-Closes-clause-checks c = at_route c.args.settings.now c.args.seed c.args.asked.now c.args.route
+    route.Closes c.check_closes.result c.in-Closes.is (c.check_closes.ensures.checks c.args.seed)
 
 pub returns-in-Voucher-clause-checks : goal.returns-in-Voucher-clause-checks
-returns-in-Voucher-clause-checks c = at_route c.args.settings.now c.args.seed c.args.asked.now c.args.route route.Voucher c.check_voucher.result c.in-Voucher.is (inr (c.check_voucher.ensures.checks c.args.seed))
+returns-in-Voucher-clause-checks c = at_route c.args.settings.now c.args.seed c.args.asked.now c.args.route
+    route.Voucher c.check_voucher.result c.in-Voucher.is (inr (c.check_voucher.ensures.checks c.args.seed))
 
 pub returns-in-Takings-clause-checks : goal.returns-in-Takings-clause-checks
-returns-in-Takings-clause-checks c = at_route c.args.settings.now c.args.seed c.args.asked.now c.args.route route.Takings c.check_takings.result c.in-Takings.is (inr (c.check_takings.ensures.checks c.args.seed))
+returns-in-Takings-clause-checks c = at_route c.args.settings.now c.args.seed c.args.asked.now c.args.route
+    route.Takings c.check_takings.result c.in-Takings.is (inr (c.check_takings.ensures.checks c.args.seed))
 
 pub returns-in-Reports-clause-checks : goal.returns-in-Reports-clause-checks
-returns-in-Reports-clause-checks c = at_route c.args.settings.now c.args.seed c.args.asked.now c.args.route route.Reports c.check_reports.result c.in-Reports.is (c.check_reports.ensures.checks c.args.seed)
+returns-in-Reports-clause-checks c = at_route c.args.settings.now c.args.seed c.args.asked.now c.args.route
+    route.Reports c.check_reports.result c.in-Reports.is (c.check_reports.ensures.checks c.args.seed)
 
 pub returns-in-Sessions-clause-checks : goal.returns-in-Sessions-clause-checks
-returns-in-Sessions-clause-checks c = at_route c.args.settings.now c.args.seed c.args.asked.now c.args.route route.Sessions c.check_sessions.result c.in-Sessions.is (inr (c.check_sessions.ensures.checks c.args.seed))
+returns-in-Sessions-clause-checks c =
+    at_route c.args.settings.now c.args.seed c.args.asked.now c.args.route route.Sessions
+    c.check_sessions.result c.in-Sessions.is (inr (c.check_sessions.ensures.checks c.args.seed))

@@ -6,7 +6,8 @@ use Rattle.portal_http_routes.proofs.queries.only_value.Given as goal
 -- the values found, and those of the fields that are left
 abbrev pub invariant-loop-left : goal.invariant-loop-left
 invariant-loop-left l =
-    seen (option_map (λ value. value.now) l.found) ++ values_left l.key (option_map (λ fields. fields.now) l.left)
+    seen (option_map (λ value. value.now) l.found)
+    ++ values_left l.key (option_map (λ fields. fields.now) l.left)
     ≡ values_of l.key l.query
 
 abbrev pub decreases-loop-left : goal.decreases-loop-left

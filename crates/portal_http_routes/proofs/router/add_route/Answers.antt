@@ -4,7 +4,8 @@ use Rattle.matchit.specs.declared.error.InsertError.{InsertError}
 use Rattle.portal_http_routes.specs.Table.{place_read, place_route}
 use Rattle.portal_http_routes.proofs.router.add_route.Goals as goal
 
-placed_ok : (x : Result Scan InsertError) (value : Route) (old new : RowsOf (RouteOf Route)) (r : Result (Unit {0}) InsertError)
+placed_ok : (x : Result Scan InsertError) (value : Route) (old new : RowsOf (RouteOf Route))
+    (r : Result (Unit {0}) InsertError)
     → InsertsRead x value old new r → OnOk r (new ≡ place_read x value old)
 placed_ok (Ok s) value old new (Ok u) h = h.1
 placed_ok (Ok s) value old new (Err e) h = tt

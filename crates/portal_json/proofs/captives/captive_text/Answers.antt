@@ -1,4 +1,5 @@
-use Rattle.portal_json.proofs.Common.{◌≡◌, refl, ◌∙◌, option_map, List, ℕ, Bor, Option, object, no_members, put_all, captive_keys, captive_data}
+use Rattle.portal_json.proofs.Common.{◌≡◌, refl, ◌∙◌, option_map, List, ℕ, Bor, Option, object, no_members}
+use Rattle.portal_json.proofs.Common.{put_all, captive_keys, captive_data}
 use Rattle.portal_model.specs.declared.captive.Captive.{Captive}
 use Rattle.portal_json.specs.Bodies.{captive_body}
 use Rattle.portal_json.proofs.ObjectLemmas.{put_all-rising, text_along}

@@ -8,4 +8,5 @@ ok P Q text (Ok a) h m = refl
 ok P Q text (Err e) h m = absurd (m.0 h)
 
 pub unwrap-requires : goal.unwrap-requires
-unwrap-requires c = ok _ _ c.args.bytes.now c.from_utf8.result (IsUtf8-from_ascii c.args.bytes.now c.requires) c.from_utf8.ensures.cases
+unwrap-requires c = ok _ _ c.args.bytes.now c.from_utf8.result (IsUtf8-from_ascii c.args.bytes.now c.requires)
+    c.from_utf8.ensures.cases

@@ -9,4 +9,5 @@ text_of_value-requires c = ap has_float c.in_ok-value.ensures ∙ sessions_whole
 
 pub returns-clause-ok : goal.returns-clause-ok
 unfolding sessions_body
-returns-clause-ok c = text_along c.text_of_value.result _ (sessions_data c.args.sessions.now) c.in_ok-value.ensures c.text_of_value.ensures.ok
+returns-clause-ok c = text_along c.text_of_value.result _ (sessions_data c.args.sessions.now)
+    c.in_ok-value.ensures c.text_of_value.ensures.ok

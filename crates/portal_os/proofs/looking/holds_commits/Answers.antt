@@ -11,14 +11,17 @@ returns-in-Some-clause-value g c =
     let log = disk.seen c.args.files.now.log in
     let probed = c.probe_page_size.new.files in
     let ended = c.has_valid_frames.new.log in
-    holds_on c.has_valid_frames.result (IsClean disk ended) (AreClean disk ended probed.db) log (disk.seen probed.log) c.in-Some.size
+    holds_on c.has_valid_frames.result (IsClean disk ended) (AreClean disk ended probed.db) log
+    (disk.seen probed.log) c.in-Some.size
     c.has_valid_frames.ensures.value (λ clean. (halves disk ended probed.db clean).0) c.in-Ok.ensures.log.seen
     (λ clean read.
     let half = halves disk ended probed.db clean in
     subst (λ (f : Option PageSize). Names f (be32 log 8)) c.in-Some.is
-    (c.in-Ok.ensures.by_log (and_from (disk.is_clean probed.log) (disk.is_clean probed.db) (c.has_valid_frames.ensures.same.clean half.0) half.1) read))
+    (c.in-Ok.ensures.by_log (and_from (disk.is_clean probed.log) (disk.is_clean probed.db)
+    (c.has_valid_frames.ensures.same.clean half.0) half.1) read))
 
 pub returns-in-None-clause-value : goal.returns-in-None-clause-value
 returns-in-None-clause-value g c clean holds =
     let log = g.D.Disk.seen c.args.files.now.log in
-    absurd (none_named log (λ read. subst (λ (f : Option PageSize). Names f (be32 log 8)) c.in-None.is (c.in-Ok.ensures.by_log clean read)) holds)
+    absurd (none_named log (λ read. subst (λ (f : Option PageSize). Names f (be32 log 8)) c.in-None.is
+    (c.in-Ok.ensures.by_log clean read)) holds)

@@ -1,37 +1,57 @@
-use Rattle.portal_tables.proofs.Common.{ℕ, inl, inr, true, false, IsTrue, sym, subst, ◌∙◌, rules, state, Schema, survives_weaker, TablePlaces, TablesExist, this_schema_version, others_none, HasNoActionOnOurs}
-use Rattle.portal_tables_schema.proofs.IndexedLemmas.{as_indexed}
+use Rattle.portal_tables.proofs.Common.{ℕ, inl, inr, true, false, IsTrue, sym, subst, ◌∙◌, rules, state}
+use Rattle.portal_tables.proofs.Common.{Schema, survives_weaker, TablePlaces, TablesExist}
+use Rattle.portal_tables.proofs.Common.{this_schema_version, others_none, HasNoActionOnOurs}
+use Rattle.portal_tables_rows.proofs.IndexedLemmas.{as_indexed}
 use Rattle.portal_tables.proofs.AttachLemmas.{whole_spares}
 use Rattle.portal_tables.proofs.attach_steps.add_session_index.Goals as goal
 
 pub returns-then-is_indexed-clause-done : goal.returns-then-is_indexed-clause-done
 returns-then-is_indexed-clause-done g c clean live settled =
     let old = state g.S.Store c.args.conn.now in
-    let law = subst (λ (s : Schema). (schema_version : ℕ) (places : TablePlaces) → TablesExist schema_version false s places → TablesExist schema_version true s places) c.schema-2.ensures.value (c.is_indexed.ensures.index c.if-is_indexed.true) in
-    record { holds = inl (λ t h. as_indexed true this_schema_version old.now t (λ _. law) h); others = λ t h. others_none old.now; is_open = live; ended = c.requires; same = sym settled }
+    let law = subst (λ (s : Schema). (schema_version : ℕ) (places : TablePlaces)
+    → TablesExist schema_version false s places → TablesExist schema_version true s places)
+    c.schema-2.ensures.value (c.is_indexed.ensures.index c.if-is_indexed.true) in
+    record {
+      holds = inl (λ t h. as_indexed true this_schema_version old.now t (λ _. law) h);
+      others = λ t h. others_none old.now;
+      is_open = live;
+      ended = c.requires;
+      same = sym settled;
+    }
 
 pub returns-then-is_indexed-clause-spares : goal.returns-then-is_indexed-clause-spares
 returns-then-is_indexed-clause-spares g c =
     let whole : IsTrue c.is_usable_schema.result = search rules in
-    subst HasNoActionOnOurs c.schema.ensures.value (whole_spares c.schema.result.now (sym c.is_usable_schema.ensures ∙ whole))
+    subst HasNoActionOnOurs c.schema.ensures.value
+    (whole_spares c.schema.result.now (sym c.is_usable_schema.ensures ∙ whole))
 
 pub returns-clause-done : goal.returns-clause-done
 returns-clause-done g c clean live settled =
     let did = c.in_ok-migrate_database.ensures.done clean live in
-    record { holds = inr did.holds; others = did.others; is_open = did.is_open; ended = did.ended; same = did.committed }
+    record {
+      holds = inr did.holds;
+      others = did.others;
+      is_open = did.is_open;
+      ended = did.ended;
+      same = did.committed;
+    }
 
 pub returns-clause-spares : goal.returns-clause-spares
 returns-clause-spares g c =
     let whole : IsTrue c.is_usable_schema.result = search rules in
-    subst HasNoActionOnOurs c.schema.ensures.value (whole_spares c.schema.result.now (sym c.is_usable_schema.ensures ∙ whole))
+    subst HasNoActionOnOurs c.schema.ensures.value
+    (whole_spares c.schema.result.now (sym c.is_usable_schema.ensures ∙ whole))
 
 pub returns-clause-crash : goal.returns-clause-crash
 returns-clause-crash g c =
     let whole : IsTrue c.is_usable_schema.result = search rules in
-    let spared = subst HasNoActionOnOurs c.schema.ensures.value (whole_spares c.schema.result.now (sym c.is_usable_schema.ensures ∙ whole)) in
+    let spared = subst HasNoActionOnOurs c.schema.ensures.value
+    (whole_spares c.schema.result.now (sym c.is_usable_schema.ensures ∙ whole)) in
     survives_weaker _ _ _ _ (λ _ db may. (spared, may)) c.migrate_database.ensures.crash
 
 pub returns-in_err-migrate_database-clause-crash : goal.returns-in_err-migrate_database-clause-crash
 returns-in_err-migrate_database-clause-crash g c =
     let whole : IsTrue c.is_usable_schema.result = search rules in
-    let spared = subst HasNoActionOnOurs c.schema.ensures.value (whole_spares c.schema.result.now (sym c.is_usable_schema.ensures ∙ whole)) in
+    let spared = subst HasNoActionOnOurs c.schema.ensures.value
+    (whole_spares c.schema.result.now (sym c.is_usable_schema.ensures ∙ whole)) in
     survives_weaker _ _ _ _ (λ _ db may. (spared, may)) c.migrate_database.ensures.crash

@@ -9,11 +9,13 @@ returns-clause-spares g c =
 pub returns-clause-crash : goal.returns-clause-crash
 returns-clause-crash g c =
     let spares : IsTrue c.has_no_action_on_ours.result = search rules in
-    let spared = subst HasNoActionOnOurs c.schema.ensures.value (sym c.has_no_action_on_ours.ensures ∙ spares) in
+    let spared =
+    subst HasNoActionOnOurs c.schema.ensures.value (sym c.has_no_action_on_ours.ensures ∙ spares) in
     survives_weaker _ _ _ _ (λ _ db may. (spared, may)) c.migrate_database.ensures.crash
 
 pub returns-in_err-migrate_database-clause-crash : goal.returns-in_err-migrate_database-clause-crash
 returns-in_err-migrate_database-clause-crash g c =
     let spares : IsTrue c.has_no_action_on_ours.result = search rules in
-    let spared = subst HasNoActionOnOurs c.schema.ensures.value (sym c.has_no_action_on_ours.ensures ∙ spares) in
+    let spared =
+    subst HasNoActionOnOurs c.schema.ensures.value (sym c.has_no_action_on_ours.ensures ∙ spares) in
     survives_weaker _ _ _ _ (λ _ db may. (spared, may)) c.migrate_database.ensures.crash

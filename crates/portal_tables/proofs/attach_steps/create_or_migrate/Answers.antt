@@ -1,34 +1,47 @@
-use Rattle.portal_tables.proofs.Common.{inl, inr, sym, subst, ◌∙◌, survives_weaker, IsNoNameTaken, IsAnyNameTaken}
+use Rattle.portal_tables.proofs.Common.{inl, inr, sym, subst, ◌∙◌, survives_weaker, IsNoNameTaken}
+use Rattle.portal_tables.proofs.Common.{IsAnyNameTaken}
 use Rattle.portal_tables.proofs.attach_steps.create_or_migrate.Goals as goal
 
 pub returns-in_ok-migrate_existing-clause-why : goal.returns-in_ok-migrate_existing-clause-why
 returns-in_ok-migrate_existing-clause-why g c clean =
-    let named = subst IsAnyNameTaken c.schema.ensures.value (sym c.is_any_name_taken.ensures ∙ c.if-is_any_name_taken.true) in
+    let named = subst IsAnyNameTaken c.schema.ensures.value
+    (sym c.is_any_name_taken.ensures ∙ c.if-is_any_name_taken.true) in
     let told = c.in_ok-migrate_existing.ensures.why clean in
     (told.0, inr (named, told.1))
 
 pub returns-in_ok-migrate_existing-clause-crash : goal.returns-in_ok-migrate_existing-clause-crash
 returns-in_ok-migrate_existing-clause-crash g c =
-    let named = subst IsAnyNameTaken c.schema.ensures.value (sym c.is_any_name_taken.ensures ∙ c.if-is_any_name_taken.true) in
-    survives_weaker _ _ _ _ (λ _ db carried. (carried.0, inr (named, carried.1))) c.migrate_existing.ensures.crash
+    let named = subst IsAnyNameTaken c.schema.ensures.value
+    (sym c.is_any_name_taken.ensures ∙ c.if-is_any_name_taken.true) in
+    survives_weaker _ _ _ _ (λ _ db carried. (carried.0, inr (named, carried.1)))
+    c.migrate_existing.ensures.crash
 
 pub returns-in_ok-create_tables-clause-why : goal.returns-in_ok-create_tables-clause-why
 returns-in_ok-create_tables-clause-why g c clean =
-    let bare = subst IsNoNameTaken c.schema.ensures.value (sym c.is_any_name_taken.ensures ∙ c.if-is_any_name_taken.false) in
+    let bare = subst IsNoNameTaken c.schema.ensures.value
+    (sym c.is_any_name_taken.ensures ∙ c.if-is_any_name_taken.false) in
     (c.in_ok-create_tables.ensures.spares, inl bare)
 
 pub returns-in_ok-create_tables-clause-ready : goal.returns-in_ok-create_tables-clause-ready
 returns-in_ok-create_tables-clause-ready g c clean live =
-    let bare = subst IsNoNameTaken c.schema.ensures.value (sym c.is_any_name_taken.ensures ∙ c.if-is_any_name_taken.false) in
+    let bare = subst IsNoNameTaken c.schema.ensures.value
+    (sym c.is_any_name_taken.ensures ∙ c.if-is_any_name_taken.false) in
     let made = c.in_ok-create_tables.ensures.made clean in
-    record { holds = inl (bare, made.0, made.1); is_open = made.2.is_open; ended = made.2.ended; same = made.2.same }
+    record {
+      holds = inl (bare, made.0, made.1);
+      is_open = made.2.is_open;
+      ended = made.2.ended;
+      same = made.2.same;
+    }
 
 pub returns-in_ok-create_tables-clause-crash : goal.returns-in_ok-create_tables-clause-crash
 returns-in_ok-create_tables-clause-crash g c =
-    let bare = subst IsNoNameTaken c.schema.ensures.value (sym c.is_any_name_taken.ensures ∙ c.if-is_any_name_taken.false) in
+    let bare = subst IsNoNameTaken c.schema.ensures.value
+    (sym c.is_any_name_taken.ensures ∙ c.if-is_any_name_taken.false) in
     survives_weaker _ _ _ _ (λ _ db made. (made.0, inl (bare, made.1, made.2))) c.create_tables.ensures.crash
 
 pub returns-in_err-create_tables-clause-crash : goal.returns-in_err-create_tables-clause-crash
 returns-in_err-create_tables-clause-crash g c =
-    let bare = subst IsNoNameTaken c.schema.ensures.value (sym c.is_any_name_taken.ensures ∙ c.if-is_any_name_taken.false) in
+    let bare = subst IsNoNameTaken c.schema.ensures.value
+    (sym c.is_any_name_taken.ensures ∙ c.if-is_any_name_taken.false) in
     survives_weaker _ _ _ _ (λ _ db made. (made.0, inl (bare, made.1, made.2))) c.create_tables.ensures.crash

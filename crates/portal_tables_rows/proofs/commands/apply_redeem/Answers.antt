@@ -11,5 +11,8 @@ returns g c =
       | in-Some w ↦ w.sessions-is ∙ ap (sessions_after r.head.sessions) (sym w.in-Some.is)
       | in-None w ↦ w.sessions-is ∙ ap (sessions_after r.head.sessions) (sym w.in-None.is)
     ] in
-    let three = subst (λ (n : ℕ). Writes g.S.Store (with_numbers r.at (r.head.grants + 1) n) c.set_redeemed.new.tx c.set_head_numbers.new.tx c.set_head_numbers.result) after c.set_head_numbers.ensures in
-    writes_then g.S.Store (writes_then g.S.Store c.in_ok-apply_grant.ensures c.in_ok-set_redeemed.ensures) three
+    let three = subst (λ (n : ℕ). Writes g.S.Store (with_numbers r.at (r.head.grants + 1) n)
+    c.set_redeemed.new.tx c.set_head_numbers.new.tx c.set_head_numbers.result)
+    after c.set_head_numbers.ensures in
+    writes_then g.S.Store
+    (writes_then g.S.Store c.in_ok-apply_grant.ensures c.in_ok-set_redeemed.ensures) three

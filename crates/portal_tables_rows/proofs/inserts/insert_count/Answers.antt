@@ -6,4 +6,10 @@ use Rattle.portal_tables_rows.proofs.inserts.insert_count.Goals as goal
 pub returns : goal.returns
 returns g c =
     writes_run g.S.Store (add_count (count_row (text_of c.args.code.now) c.args.redeemed))
-    (rw (c.params-to_sql.ensures, c.params-to_sql-2.ensures, c.as_bytes.ensures, c.text-text.ensures.value, to_z_pos w64 c.args.redeemed c.requires) at c.write.ensures)
+    (rw (
+      c.params-to_sql.ensures,
+      c.params-to_sql-2.ensures,
+      c.as_bytes.ensures,
+      c.text-text.ensures.value,
+      to_z_pos w64 c.args.redeemed c.requires,
+    ) at c.write.ensures)

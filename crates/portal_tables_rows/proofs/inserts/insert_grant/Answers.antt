@@ -7,5 +7,20 @@ pub returns : goal.returns
 returns g c =
     let moment : c.get.result < 2 ^ 63 = omega arith in
     let bytes : c.args.plan.now.bytes < 2 ^ 63 = omega arith in
-    writes_run g.S.Store (add_grant (granted_row c.args.number (text_of c.args.code.now) c.args.session c.args.at c.args.plan.now))
-    (rw (c.params-to_sql.ensures, c.params-to_sql-2.ensures, c.params-to_sql-3.ensures, c.params-to_sql-4.ensures, c.params-to_sql-5.ensures, c.params-to_sql-6.ensures, to_z_pos w64 c.args.number c.requires.number_fits, c.as_bytes.ensures, c.text-text.ensures.value, to_z_pos w64 c.args.session c.requires.session_fits, to_z_pos w64 c.get.result moment, c.get.ensures.value, to_z_pos w64 c.args.plan.now.bytes bytes) at c.write.ensures)
+    writes_run g.S.Store
+    (add_grant (granted_row c.args.number (text_of c.args.code.now) c.args.session c.args.at c.args.plan.now))
+    (rw (
+      c.params-to_sql.ensures,
+      c.params-to_sql-2.ensures,
+      c.params-to_sql-3.ensures,
+      c.params-to_sql-4.ensures,
+      c.params-to_sql-5.ensures,
+      c.params-to_sql-6.ensures,
+      to_z_pos w64 c.args.number c.requires.number_fits,
+      c.as_bytes.ensures,
+      c.text-text.ensures.value,
+      to_z_pos w64 c.args.session c.requires.session_fits,
+      to_z_pos w64 c.get.result moment,
+      c.get.ensures.value,
+      to_z_pos w64 c.args.plan.now.bytes bytes,
+    ) at c.write.ensures)

@@ -7,4 +7,14 @@ pub returns : goal.returns
 returns g c =
     let opened : c.get.result < 2 ^ 63 = omega arith in
     writes_run g.S.Store (add_session (opened_row c.args.session.now c.args.plan.now) (refl, refl))
-    (rw (c.params-to_sql.ensures, c.params-to_sql-2.ensures, c.params-to_sql-3.ensures, c.params-to_sql-4.ensures, to_z_pos w64 c.args.session.now.number c.requires, c.text-text.ensures.value, c.text.ensures.value, to_z_pos w64 c.get.result opened, c.get.ensures.value) at c.write.ensures)
+    (rw (
+      c.params-to_sql.ensures,
+      c.params-to_sql-2.ensures,
+      c.params-to_sql-3.ensures,
+      c.params-to_sql-4.ensures,
+      to_z_pos w64 c.args.session.now.number c.requires,
+      c.text-text.ensures.value,
+      c.text.ensures.value,
+      to_z_pos w64 c.get.result opened,
+      c.get.ensures.value,
+    ) at c.write.ensures)

@@ -6,4 +6,12 @@ use Rattle.portal_tables_rows.proofs.inserts.insert_total.Goals as goal
 pub returns : goal.returns
 returns g c =
     writes_run g.S.Store (add_total (ends_row c.args.total.now))
-    (rw (c.params-to_sql.ensures, c.params-to_sql-2.ensures, c.params-to_sql-3.ensures, to_z_pos w64 c.args.total.now.number c.requires, c.seconds_or_null-ends.ensures, bound_number c.args.total.now.ends, bound_signed c.args.total.now.remaining) at c.write.ensures)
+    (rw (
+      c.params-to_sql.ensures,
+      c.params-to_sql-2.ensures,
+      c.params-to_sql-3.ensures,
+      to_z_pos w64 c.args.total.now.number c.requires,
+      c.seconds_or_null-ends.ensures,
+      bound_number c.args.total.now.ends,
+      bound_signed c.args.total.now.remaining,
+    ) at c.write.ensures)

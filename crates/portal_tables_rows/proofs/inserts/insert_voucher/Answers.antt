@@ -5,5 +5,14 @@ use Rattle.portal_tables_rows.proofs.inserts.insert_voucher.Goals as goal
 
 pub returns : goal.returns
 returns g c =
-    writes_run g.S.Store (add_voucher (new_voucher c.args.batch.now c.args.place (text_of c.args.code.now)) (refl, refl, refl))
-    (rw (c.params-to_sql.ensures, c.params-to_sql-2.ensures, c.params-to_sql-3.ensures, c.as_bytes.ensures, c.text-text.ensures.value, c.text.ensures.value, to_z_pos w64 c.args.place c.requires) at c.write.ensures)
+    writes_run g.S.Store
+    (add_voucher (new_voucher c.args.batch.now c.args.place (text_of c.args.code.now)) (refl, refl, refl))
+    (rw (
+      c.params-to_sql.ensures,
+      c.params-to_sql-2.ensures,
+      c.params-to_sql-3.ensures,
+      c.as_bytes.ensures,
+      c.text-text.ensures.value,
+      c.text.ensures.value,
+      to_z_pos w64 c.args.place c.requires,
+    ) at c.write.ensures)

@@ -1,8 +1,10 @@
-use Rattle.portal_tables_rows.proofs.Common.{refl, ◌∙◌, rules, err_from_is_err_and, state, HasCleanDisk, columns, looks_read}
+use Rattle.portal_tables_rows.proofs.Common.{refl, ◌∙◌, rules, err_from_is_err_and, state, HasCleanDisk}
+use Rattle.portal_tables_rows.proofs.Common.{columns, looks_read}
 use Rattle.sqlite.specs.Values.{bound}
 use Rattle.portal_tables_sql.specs.Asks.{Asks}
 use Rattle.portal_tables_sql.specs.Looks.{Looks}
-use Rattle.portal_tables_sql.proofs.Streaming.{begins_reading, fails_refused, fails_on, own_row, reads_all, reads_row, reads_value}
+use Rattle.portal_tables_sql.proofs.Streaming.{begins_reading, fails_refused, fails_on, own_row, reads_all}
+use Rattle.portal_tables_sql.proofs.Streaming.{reads_row, reads_value}
 use Rattle.portal_tables_rows.proofs.queries.read_many.Goals as goal
 
 pub returns-in_err-rows : goal.returns-in_err-rows
@@ -10,7 +12,8 @@ returns-in_err-rows g c =
     let told = err_from_is_err_and c.from_residual.result c.from_residual.ensures.1 in
     record {
       rows = λ clean asks. rw told.1 tt;
-      looks = rw told.1 (fails_refused g.S.Store c.args.sql.now (bound c.args.params.now) c.args.conn.now c.query.follows.lender-at-none c.query.result _ c.in_err-rows.was c.query.follows.holds-at-none);
+      looks = rw told.1 (fails_refused g.S.Store c.args.sql.now (bound c.args.params.now) c.args.conn.now
+          c.query.follows.lender-at-none c.query.result _ c.in_err-rows.was c.query.follows.holds-at-none);
       own = λ clean simple own. rw (told.1, told.2) tt;
     }
 
@@ -19,7 +22,9 @@ rows-init g c =
     let made = c.in_ok-rows.ensures in
     record {
       lender = refl;
-      reads = begins_reading g.S.Store c.args.sql.now (bound c.args.params.now) g.T.FromRow.cells g.T.FromRow.width c.args.conn.now _ made.begun made.survives c.new-values.result.items c.new-values.ensures.items;
+      reads = begins_reading g.S.Store c.args.sql.now (bound c.args.params.now) g.T.FromRow.cells
+          g.T.FromRow.width c.args.conn.now _ made.begun made.survives c.new-values.result.items
+          c.new-values.ensures.items;
     }
 
 pub rows-preserved : goal.rows-preserved
@@ -27,23 +32,40 @@ rows-preserved g c =
     let moved = c.next.follows.holds-at-none in
     record {
       lender = moved.same_reference ∙ c.rows.invariant.lender;
-      reads = reads_value g.S.Store c.args.sql.now (bound c.args.params.now) g.T.FromRow.cells g.T.FromRow.width (state g.S.Store c.args.conn.now) c.rows.rows c.next.follows.lender-at-none c.rows.values.items c.rows.invariant.reads c.next.result c.next.follows.holds-at-none c.in-Some.row (rw c.in-Some.is at c.in_ok-row.was) c.in_ok-from_row.field-0 c.in_ok-from_row.ensures.cells c.push.new.self.items c.in_ok-push.ensures.items;
+      reads = reads_value g.S.Store c.args.sql.now (bound c.args.params.now) g.T.FromRow.cells
+          g.T.FromRow.width (state g.S.Store c.args.conn.now) c.rows.rows c.next.follows.lender-at-none
+          c.rows.values.items c.rows.invariant.reads c.next.result c.next.follows.holds-at-none c.in-Some.row
+          (rw c.in-Some.is at c.in_ok-row.was) c.in_ok-from_row.field-0 c.in_ok-from_row.ensures.cells
+          c.push.new.self.items c.in_ok-push.ensures.items;
     }
 
 pub returns-in_err-row : goal.returns-in_err-row
 returns-in_err-row g c =
     let told = err_from_is_err_and c.from_residual-in_err-row.result c.from_residual-in_err-row.ensures.1 in
-    let failed = fails_on g.S.Store c.args.sql.now (bound c.args.params.now) g.T.FromRow.cells g.T.FromRow.width (state g.S.Store c.args.conn.now) c.rows.rows c.next.follows.lender-at-none c.rows.values.items c.rows.invariant.reads c.next.result c.next.follows.holds-at-none _ c.in_err-row.was in
-    let looks : Looks (Asks c.args.sql.now) c.from_residual-in_err-row.result (state g.S.Store c.args.conn.now) (state g.S.Store c.next.follows.lender-at-none.conn.now) = rw told.1 failed in
-    record { rows = λ clean asks. rw told.1 tt; looks = search rules; own = λ clean simple own. rw (told.1, told.2) tt }
+    let failed =
+    fails_on g.S.Store c.args.sql.now (bound c.args.params.now) g.T.FromRow.cells g.T.FromRow.width
+    (state g.S.Store c.args.conn.now) c.rows.rows c.next.follows.lender-at-none c.rows.values.items
+    c.rows.invariant.reads c.next.result c.next.follows.holds-at-none _ c.in_err-row.was in
+    let looks : Looks (Asks c.args.sql.now) c.from_residual-in_err-row.result (state g.S.Store
+    c.args.conn.now) (state g.S.Store c.next.follows.lender-at-none.conn.now) = rw told.1 failed in
+    record {
+      rows = λ clean asks. rw told.1 tt;
+      looks = search rules;
+      own = λ clean simple own. rw (told.1, told.2) tt;
+    }
 
 pub returns-in_default : goal.returns-in_default
 returns-in_default g c =
-    let read = reads_row g.S.Store c.args.sql.now (bound c.args.params.now) g.T.FromRow.cells g.T.FromRow.width (state g.S.Store c.args.conn.now) c.rows.rows c.next.follows.lender-at-none c.rows.values.items c.rows.invariant.reads c.next.result c.next.follows.holds-at-none _ c.in_ok-row.was in
+    let read = reads_row g.S.Store c.args.sql.now (bound c.args.params.now) g.T.FromRow.cells
+    g.T.FromRow.width (state g.S.Store c.args.conn.now) c.rows.rows c.next.follows.lender-at-none
+    c.rows.values.items c.rows.invariant.reads c.next.result c.next.follows.holds-at-none _ c.in_ok-row.was in
     record {
       rows = λ clean asks.
           let late : HasCleanDisk (state g.S.Store c.next.follows.lender-at-none.conn.now) = search rules in
-          let all = reads_all g.S.Store c.args.sql.now (bound c.args.params.now) g.T.FromRow.cells g.T.FromRow.width (state g.S.Store c.args.conn.now) c.rows.rows c.next.follows.lender-at-none c.rows.values.items c.rows.invariant.reads c.next.result c.next.follows.holds-at-none (rw c.in_default.is at c.in_ok-row.was) late asks in
+          let all = reads_all g.S.Store c.args.sql.now (bound c.args.params.now) g.T.FromRow.cells
+          g.T.FromRow.width (state g.S.Store c.args.conn.now) c.rows.rows c.next.follows.lender-at-none
+          c.rows.values.items c.rows.invariant.reads c.next.result c.next.follows.holds-at-none
+          (rw c.in_default.is at c.in_ok-row.was) late asks in
           search rules;
       looks = search rules;
       own = λ clean simple own. tt;
@@ -51,20 +73,37 @@ returns-in_default g c =
 
 pub returns-in_err-from_row : goal.returns-in_err-from_row
 returns-in_err-from_row g c =
-    let told = err_from_is_err_and c.from_residual-in_err-from_row.result c.from_residual-in_err-from_row.ensures.1 in
-    let read = reads_row g.S.Store c.args.sql.now (bound c.args.params.now) g.T.FromRow.cells g.T.FromRow.width (state g.S.Store c.args.conn.now) c.rows.rows c.next.follows.lender-at-none c.rows.values.items c.rows.invariant.reads c.next.result c.next.follows.holds-at-none _ c.in_ok-row.was in
+    let told =
+    err_from_is_err_and c.from_residual-in_err-from_row.result c.from_residual-in_err-from_row.ensures.1 in
+    let read = reads_row g.S.Store c.args.sql.now (bound c.args.params.now) g.T.FromRow.cells
+    g.T.FromRow.width (state g.S.Store c.args.conn.now) c.rows.rows c.next.follows.lender-at-none
+    c.rows.values.items c.rows.invariant.reads c.next.result c.next.follows.holds-at-none _ c.in_ok-row.was in
     let looks = looks_read (Asks c.args.sql.now) c.from_residual-in_err-from_row.result _ _ read in
     record {
       rows = λ clean asks. rw told.1 tt;
       looks = search rules;
       own = λ clean simple own.
           let late : HasCleanDisk (state g.S.Store c.next.follows.lender-at-none.conn.now) = search rules in
-          rw (told.1, told.2) (c.in_err-from_row.ensures.own (own_row g.S.Store c.args.sql.now (bound c.args.params.now) g.T.FromRow.cells g.T.FromRow.width (state g.S.Store c.args.conn.now) c.rows.rows c.next.follows.lender-at-none c.rows.values.items c.rows.invariant.reads c.next.result c.next.follows.holds-at-none (λ row. g.T.FromRow.own (columns g.T.FromRow.width row)) c.in-Some.row (rw c.in-Some.is at c.in_ok-row.was) late simple (λ rows shown. own rows (search rules))));
+          rw (
+            told.1,
+            told.2,
+          ) (c.in_err-from_row.ensures.own
+          (own_row g.S.Store c.args.sql.now (bound c.args.params.now) g.T.FromRow.cells
+          g.T.FromRow.width (state g.S.Store c.args.conn.now) c.rows.rows c.next.follows.lender-at-none
+          c.rows.values.items c.rows.invariant.reads c.next.result c.next.follows.holds-at-none
+          (λ row. g.T.FromRow.own (columns g.T.FromRow.width row)) c.in-Some.row
+          (rw c.in-Some.is at c.in_ok-row.was) late simple (λ rows shown. own rows (search rules))));
     }
 
 pub returns-in_err-push : goal.returns-in_err-push
 returns-in_err-push g c =
     let told = err_from_is_err_and c.from_residual-in_err-push.result c.from_residual-in_err-push.ensures.1 in
-    let read = reads_row g.S.Store c.args.sql.now (bound c.args.params.now) g.T.FromRow.cells g.T.FromRow.width (state g.S.Store c.args.conn.now) c.rows.rows c.next.follows.lender-at-none c.rows.values.items c.rows.invariant.reads c.next.result c.next.follows.holds-at-none _ c.in_ok-row.was in
+    let read = reads_row g.S.Store c.args.sql.now (bound c.args.params.now) g.T.FromRow.cells
+    g.T.FromRow.width (state g.S.Store c.args.conn.now) c.rows.rows c.next.follows.lender-at-none
+    c.rows.values.items c.rows.invariant.reads c.next.result c.next.follows.holds-at-none _ c.in_ok-row.was in
     let looks = looks_read (Asks c.args.sql.now) c.from_residual-in_err-push.result _ _ read in
-    record { rows = λ clean asks. rw told.1 tt; looks = search rules; own = λ clean simple own. rw (told.1, told.2) tt }
+    record {
+      rows = λ clean asks. rw told.1 tt;
+      looks = search rules;
+      own = λ clean simple own. rw (told.1, told.2) tt;
+    }

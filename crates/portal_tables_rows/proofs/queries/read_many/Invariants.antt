@@ -6,5 +6,6 @@ use Rattle.portal_tables_rows.proofs.queries.read_many.Given as goal
 abbrev pub invariant-rows : goal.invariant-rows
 invariant-rows g l = record {
   lender : l.rows.conn.ghost_name ≡ l.initial.rows.conn.ghost_name;
-  reads : ReadsOn g.S.Store l.sql (bound l.params) g.T.FromRow.cells g.T.FromRow.width (state g.S.Store l.fn.conn) l.rows.conn.now l.values.items;
+  reads : ReadsOn g.S.Store l.sql (bound l.params) g.T.FromRow.cells g.T.FromRow.width
+      (state g.S.Store l.fn.conn) l.rows.conn.now l.values.items;
 }

@@ -1,4 +1,5 @@
-use Rattle.portal_tables_rows.proofs.Common.{List, sym, ap, ◌∙◌, slice_get, Row, state, err_from_is_err_and, reads_fails}
+use Rattle.portal_tables_rows.proofs.Common.{List, sym, ap, ◌∙◌, slice_get, Row, state, err_from_is_err_and}
+use Rattle.portal_tables_rows.proofs.Common.{reads_fails}
 use Rattle.sqlite.specs.Values.{bound}
 use Rattle.portal_tables_sql.proofs.AskLemmas.{asks_looks}
 use Rattle.portal_tables_rows.proofs.queries.read_one.Goals as goal
@@ -6,7 +7,9 @@ use Rattle.portal_tables_rows.proofs.queries.read_one.Goals as goal
 pub returns-in_err-rows : goal.returns-in_err-rows
 returns-in_err-rows g c =
     let told = err_from_is_err_and c.from_residual.result c.from_residual.ensures.1 in
-    let looks = asks_looks c.args.sql.now (bound c.args.params.now) (state g.S.Store c.args.conn.now) (state g.S.Store c.query_all.new.self) (λ rows. rows.items) c.query_all.result c.query_all.ensures.ok c.query_all.ensures.err c.query_all.ensures.mode c.query_all.ensures.survives in
+    let looks = asks_looks c.args.sql.now (bound c.args.params.now) (state g.S.Store c.args.conn.now)
+    (state g.S.Store c.query_all.new.self) (λ rows. rows.items) c.query_all.result c.query_all.ensures.ok
+    c.query_all.ensures.err c.query_all.ensures.mode c.query_all.ensures.survives in
     record {
       rows = λ clean. rw told.1 tt;
       proper = rw told.1 tt;
@@ -16,22 +19,34 @@ returns-in_err-rows g c =
 
 pub returns-in_err-from_row-in-Some : goal.returns-in_err-from_row-in-Some
 returns-in_err-from_row-in-Some g c =
-    let told = err_from_is_err_and c.from_residual-in_err-from_row-in-Some.result c.from_residual-in_err-from_row-in-Some.ensures.1 in
-    let looks = asks_looks c.args.sql.now (bound c.args.params.now) (state g.S.Store c.args.conn.now) (state g.S.Store c.query_all.new.self) (λ rows. rows.items) c.query_all.result c.query_all.ensures.ok c.query_all.ensures.err c.query_all.ensures.mode c.query_all.ensures.survives in
-    let got = ap (λ (rows : List Row). slice_get rows 0) (sym c.deref.ensures.value) ∙ sym c.in-Some.ensures.value in
+    let told = err_from_is_err_and c.from_residual-in_err-from_row-in-Some.result
+    c.from_residual-in_err-from_row-in-Some.ensures.1 in
+    let looks = asks_looks c.args.sql.now (bound c.args.params.now) (state g.S.Store c.args.conn.now)
+    (state g.S.Store c.query_all.new.self) (λ rows. rows.items) c.query_all.result c.query_all.ensures.ok
+    c.query_all.ensures.err c.query_all.ensures.mode c.query_all.ensures.survives in
+    let got =
+    ap (λ (rows : List Row). slice_get rows 0) (sym c.deref.ensures.value) ∙ sym c.in-Some.ensures.value in
     record {
       rows = λ clean. rw told.1 tt;
       proper = rw told.1 tt;
       looks = rw told.1 (reads_fails _ _ _ (rw c.in_ok-rows.was at looks));
-      own = λ clean owns. rw (told.1, told.2) (c.in_err-from_row-in-Some.ensures.own (owns _ (c.in_ok-rows.ensures.ok clean) c.in-Some.row.now got));
+      own = λ clean owns. rw (told.1, told.2) (c.in_err-from_row-in-Some.ensures.own
+          (owns _ (c.in_ok-rows.ensures.ok clean) c.in-Some.row.now got));
     }
 
 pub returns-in-Some : goal.returns-in-Some
 returns-in-Some g c =
-    let looks = asks_looks c.args.sql.now (bound c.args.params.now) (state g.S.Store c.args.conn.now) (state g.S.Store c.query_all.new.self) (λ rows. rows.items) c.query_all.result c.query_all.ensures.ok c.query_all.ensures.err c.query_all.ensures.mode c.query_all.ensures.survives in
-    let got = ap (λ (rows : List Row). slice_get rows 0) (sym c.deref.ensures.value) ∙ sym c.in-Some.ensures.value in
+    let looks = asks_looks c.args.sql.now (bound c.args.params.now) (state g.S.Store c.args.conn.now)
+    (state g.S.Store c.query_all.new.self) (λ rows. rows.items) c.query_all.result c.query_all.ensures.ok
+    c.query_all.ensures.err c.query_all.ensures.mode c.query_all.ensures.survives in
+    let got =
+    ap (λ (rows : List Row). slice_get rows 0) (sym c.deref.ensures.value) ∙ sym c.in-Some.ensures.value in
     record {
-      rows = λ clean. (c.in_ok-rows.rows.items, c.in_ok-rows.ensures.ok clean, (c.in-Some.row.now, got, c.in_ok-from_row-in-Some.ensures.cells));
+      rows = λ clean. (
+        c.in_ok-rows.rows.items,
+        c.in_ok-rows.ensures.ok clean,
+        (c.in-Some.row.now, got, c.in_ok-from_row-in-Some.ensures.cells),
+      );
       proper = c.in_ok-from_row-in-Some.ensures.proper;
       looks = rw c.in_ok-rows.was at looks;
       own = λ clean owns. tt;
@@ -39,8 +54,11 @@ returns-in-Some g c =
 
 pub returns : goal.returns
 returns g c =
-    let looks = asks_looks c.args.sql.now (bound c.args.params.now) (state g.S.Store c.args.conn.now) (state g.S.Store c.query_all.new.self) (λ rows. rows.items) c.query_all.result c.query_all.ensures.ok c.query_all.ensures.err c.query_all.ensures.mode c.query_all.ensures.survives in
-    let got = ap (λ (rows : List Row). slice_get rows 0) (sym c.deref.ensures.value) ∙ sym c.in-None.ensures.value in
+    let looks = asks_looks c.args.sql.now (bound c.args.params.now) (state g.S.Store c.args.conn.now)
+    (state g.S.Store c.query_all.new.self) (λ rows. rows.items) c.query_all.result c.query_all.ensures.ok
+    c.query_all.ensures.err c.query_all.ensures.mode c.query_all.ensures.survives in
+    let got =
+    ap (λ (rows : List Row). slice_get rows 0) (sym c.deref.ensures.value) ∙ sym c.in-None.ensures.value in
     record {
       rows = λ clean. (c.in_ok-rows.rows.items, c.in_ok-rows.ensures.ok clean, got);
       proper = tt;

@@ -15,7 +15,8 @@ returns-clause-own c p own e =
     let exists = c.in_ok-text.ensures.ok.1 in
     let shown = c.deref.ensures in
     let same : p ≡ c.deref.result.now = cc in
-    let printed = code_printed p c.in-Ok.code own (subst (λ text. Spells text c.in-Ok.code) (sym same) c.in-Ok.ensures.ok) in
+    let printed = code_printed p c.in-Ok.code own
+    (subst (λ text. Spells text c.in-Ok.code) (sym same) c.in-Ok.ensures.ok) in
     let text = c.text-printed.ensures.value in
     let characters = c.as_bytes.ensures in
     let bytes = c.as_bytes-2.ensures.value in

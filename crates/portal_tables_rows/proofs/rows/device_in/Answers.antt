@@ -15,7 +15,8 @@ returns-clause-own c p own e =
     let exists = c.in_ok-text.ensures.ok.1 in
     let shown = c.deref.ensures in
     let same : p ≡ c.deref.result.now = cc in
-    let printed = device_printed p c.in-Ok.device own (subst (λ text. SpellsDevice text c.in-Ok.device) (sym same) c.in-Ok.ensures.ok) in
+    let printed = device_printed p c.in-Ok.device own
+    (subst (λ text. SpellsDevice text c.in-Ok.device) (sym same) c.in-Ok.ensures.ok) in
     let text = c.text-printed.ensures.value in
     let slice = c.as_slice.ensures in
     let bytes = c.as_bytes.ensures.value in

@@ -7,4 +7,10 @@ pub returns : goal.returns
 returns g c =
     let moment : c.get.result < 2 ^ 63 = omega arith in
     writes_run g.S.Store (set_closed c.args.number c.args.at)
-    (rw (c.params-to_sql.ensures, c.params-to_sql-2.ensures, to_z_pos w64 c.args.number c.requires, to_z_pos w64 c.get.result moment, c.get.ensures.value) at c.write.ensures)
+    (rw (
+      c.params-to_sql.ensures,
+      c.params-to_sql-2.ensures,
+      to_z_pos w64 c.args.number c.requires,
+      to_z_pos w64 c.get.result moment,
+      c.get.ensures.value,
+    ) at c.write.ensures)

@@ -7,4 +7,12 @@ pub returns : goal.returns
 returns g c =
     let fits : c.get.result < 2 ^ 63 = omega arith in
     writes_run g.S.Store (set_numbers c.args.at c.args.grants c.args.sessions)
-    (rw (c.params-to_sql.ensures, c.params-to_sql-2.ensures, c.params-to_sql-3.ensures, to_z_pos w64 c.get.result fits, c.get.ensures.value, to_z_pos w64 c.args.grants c.requires.grants_fit, to_z_pos w64 c.args.sessions c.requires.sessions_fit) at c.write.ensures)
+    (rw (
+      c.params-to_sql.ensures,
+      c.params-to_sql-2.ensures,
+      c.params-to_sql-3.ensures,
+      to_z_pos w64 c.get.result fits,
+      c.get.ensures.value,
+      to_z_pos w64 c.args.grants c.requires.grants_fit,
+      to_z_pos w64 c.args.sessions c.requires.sessions_fit,
+    ) at c.write.ensures)

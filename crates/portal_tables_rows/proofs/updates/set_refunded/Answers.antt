@@ -7,4 +7,13 @@ pub returns : goal.returns
 returns g c =
     let moment : c.get.result < 2 ^ 63 = omega arith in
     writes_run g.S.Store (refund (text_of c.args.code.now) c.args.at c.args.amount)
-    (rw (c.params-to_sql.ensures, c.params-to_sql-2.ensures, c.params-to_sql-3.ensures, c.as_bytes.ensures, c.text-text.ensures.value, to_z_pos w64 c.get.result moment, c.get.ensures.value, to_z_pos w64 c.args.amount c.requires) at c.write.ensures)
+    (rw (
+      c.params-to_sql.ensures,
+      c.params-to_sql-2.ensures,
+      c.params-to_sql-3.ensures,
+      c.as_bytes.ensures,
+      c.text-text.ensures.value,
+      to_z_pos w64 c.get.result moment,
+      c.get.ensures.value,
+      to_z_pos w64 c.args.amount c.requires,
+    ) at c.write.ensures)

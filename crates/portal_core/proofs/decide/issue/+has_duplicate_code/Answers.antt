@@ -9,5 +9,6 @@ pub returns-else-holds_code : goal.returns-else-holds_code
 returns-else-holds_code t c =
     let codes = c.args.codes.now in
     let step = twice-step codes c.first-item.result c.in-len1-up.len_at_least c.first-item.is in
-    let none : list_any (bytes_eq c.first-item.result) (rest_of codes) ≡ false = sym c.holds_code.ensures ∙ c.if-holds_code.false in
+    let none : list_any (bytes_eq c.first-item.result) (rest_of codes) ≡ false =
+    sym c.holds_code.ensures ∙ c.if-holds_code.false in
     c.has_duplicate_code.ensures ∙ sym (step ∙ ap (λ (b : Bool). b || has_duplicate (rest_of codes)) none)

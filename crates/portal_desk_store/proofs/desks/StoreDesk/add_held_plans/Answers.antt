@@ -1,4 +1,6 @@
-use Rattle.portal_desk_store.proofs.Common.{List, ◌++◌, ap, arith, subst, sym, take, ◌∙◌, append_assoc, option_to_list, Plan, plans_of, held_among, history_of, State, running}
+use Rattle.portal_desk_store.proofs.Common.{List, ◌++◌, ap, arith, subst, sym, take, ◌∙◌, append_assoc}
+use Rattle.portal_desk_store.proofs.Common.{option_to_list, Plan, plans_of, held_among, history_of, State}
+use Rattle.portal_desk_store.proofs.Common.{running}
 use Rattle.portal_tables.specs.TablesRepresent.{TablesRepresent}
 use Rattle.portal_desk_store.proofs.JudgeLemmas.{held_more}
 use Rattle.portal_desk_store.proofs.desks.StoreDesk.add_held_plans.Goals as goal
@@ -18,6 +20,7 @@ loop-plan-preserved g c = record {
         subst (λ (s : State). TablesRepresent g.S.Store c.read.new.self s) one.3.1 one.1,
         c.in_ok-add_plan_if_found.ensures.ok ∙ ap (λ (ps : List Plan). ps ++ option_to_list found) before.1
             ∙ append_assoc front (held_among rows (take i c.args.listed.now)) (option_to_list found)
-            ∙ ap (λ (ps : List Plan). front ++ ps) (sym (held_more (history_of L) c.args.listed.now i c.plan-item.result found (omega arith) one.3.0 c.plan-item.is)),
+            ∙ ap (λ (ps : List Plan). front ++ ps) (sym (held_more (history_of L) c.args.listed.now i
+            c.plan-item.result found (omega arith) one.3.0 c.plan-item.is)),
       );
 }

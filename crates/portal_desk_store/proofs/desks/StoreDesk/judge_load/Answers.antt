@@ -9,5 +9,6 @@ returns g c =
     and_then c.in_ok-add_held_plans.ensures (decides_at c.decide_plans.ensures (Load plans) c.args.t)
     (λ L held x judge.
     let alike = loads_alike (history_of L) c.args.t plans c.as_slice.result.now
-    (c.as_slice.ensures.value ∙ held ∙ ap (λ (ps : List Plan). ps ++ held_among (plans_of (history_of L)) plans) c.new-held.ensures.items) in
+    (c.as_slice.ensures.value ∙ held
+    ∙ ap (λ (ps : List Plan). ps ++ held_among (plans_of (history_of L)) plans) c.new-held.ensures.items) in
     judge alike.0 alike.1)

@@ -11,8 +11,10 @@ returns g c =
     let voucher = c.in_ok-voucher.voucher in
     let decision = c.decide_redeem.ensures in
     and_then (from_ledger (answered c.in_ok-voucher.ensures)) (and_then
-    {Whole = λ L x. voucher ≡ voucher_of (history_of L) code → head ≡ head_of (history_of L) → Judges c.decide_redeem.result (Redeem device code) c.args.t L x}
+    {Whole = λ L x. voucher ≡ voucher_of (history_of L) code → head ≡ head_of (history_of L)
+    → Judges c.decide_redeem.result (Redeem device code) c.args.t L x}
     (from_ledger (answered c.in_ok-last.ensures))
-    (redeems_at head voucher c.in_ok-last.last device code c.args.t decision.accepts decision.refuses decision.own decision.change)
+    (redeems_at head voucher c.in_ok-last.last device code c.args.t decision.accepts decision.refuses
+    decision.own decision.change)
     (λ L last x judge found. judge found last))
     (λ L found x judge. judge found)

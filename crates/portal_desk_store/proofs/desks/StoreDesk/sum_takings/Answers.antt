@@ -1,4 +1,5 @@
-use Rattle.portal_desk_store.proofs.Common.{◌≡◌, ap, IsLegal, history_of, running, AreSales, Returns, takings_over, paid_days}
+use Rattle.portal_desk_store.proofs.Common.{◌≡◌, ap, IsLegal, history_of, running, AreSales, Returns}
+use Rattle.portal_desk_store.proofs.Common.{takings_over, paid_days}
 use Rattle.portal_desk_store.proofs.StepLemmas.{and_then, answered, from_ledger, go_on}
 use Rattle.portal_desk_store.proofs.TakingLemmas.{adds_at}
 use Rattle.portal_desk_store.proofs.desks.StoreDesk.sum_takings.Goals as goal
@@ -12,7 +13,8 @@ returns-clause-reads g c =
     {Whole = λ L x. IsLegal (history_of L) → AreSales (history_of L) from to c.in_ok-sales.sales.items
     → Returns c.add_payments.result (λ v H. v.items ≡ takings_over zone H c.args.range) (running L) x}
     (from_ledger (answered c.in_ok-refunds.ensures))
-    (adds_at (λ v. v.items) zone c.args.range from to c.moments_of_range-from.ensures c.in_ok-sales.sales.items c.in_ok-refunds.refunds.items _ _
+    (adds_at (λ v. v.items) zone c.args.range from to c.moments_of_range-from.ensures
+    c.in_ok-sales.sales.items c.in_ok-refunds.refunds.items _ _
     (ap (paid_days zone) c.as_slice.ensures.value)
     (ap (paid_days zone) c.as_slice-2.ensures.value)
     c.add_payments.ensures.days c.add_payments.ensures.memory)

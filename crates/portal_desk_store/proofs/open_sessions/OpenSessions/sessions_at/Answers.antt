@@ -1,4 +1,5 @@
-use Rattle.portal_desk_store.proofs.Common.{List, ap, map, ◌∙◌, filter, max, Session, open_session, is_open_at, OpenAt}
+use Rattle.portal_desk_store.proofs.Common.{List, ap, map, ◌∙◌, filter, max, Session, open_session}
+use Rattle.portal_desk_store.proofs.Common.{is_open_at, OpenAt}
 use Rattle.std.proofs.lemmas.List.{take_all}
 use Rattle.portal_desk_store.proofs.OpenSessionLemmas.{tells}
 use Rattle.portal_desk_store.proofs.open_sessions.OpenSessions.sessions_at.Goals as goal
@@ -8,5 +9,8 @@ returns c H is =
     let t = c.effective-t.result in
     let told : List Session → _ = λ (xs : List Session). map (open_session t) (filter (is_open_at t) xs) in
     c.loop-session.invariant
-    ∙ ap told (take_all c.loop-session.session-index c.deref-session-items.result.now c.loop-session-test.false ∙ c.deref-session-items.ensures.value ∙ ap (λ (o : OpenAt). o.sessions) c.self.view_is)
-    ∙ tells H c.args.moment c.args.self.now is t (c.effective-t.ensures ∙ ap (λ (o : OpenAt). max c.args.moment o.moment) c.self.view_is)
+    ∙ ap told
+    (take_all c.loop-session.session-index c.deref-session-items.result.now c.loop-session-test.false
+    ∙ c.deref-session-items.ensures.value ∙ ap (λ (o : OpenAt). o.sessions) c.self.view_is)
+    ∙ tells H c.args.moment c.args.self.now is t
+    (c.effective-t.ensures ∙ ap (λ (o : OpenAt). max c.args.moment o.moment) c.self.view_is)

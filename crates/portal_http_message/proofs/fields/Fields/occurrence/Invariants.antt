@@ -6,5 +6,6 @@ use Rattle.portal_http_message.proofs.fields.Fields.occurrence.Given as goal
 abbrev pub invariant-loop-field : goal.invariant-loop-field
 invariant-loop-field l =
     (seen : List (List ℕ)) × IsOccurrence seen l.found
-    × (seen ++ values_of l.name (map (header_bytes l.self-inside.bytes.now) (drop l.field-index l.self-inside.spans.now))
+    × (seen ++ values_of l.name
+    (map (header_bytes l.self-inside.bytes.now) (drop l.field-index l.self-inside.spans.now))
     ≡ values_of l.name (map (header_bytes l.self-inside.bytes.now) l.self-inside.spans.now))

@@ -7,14 +7,18 @@ use Rattle.portal_model.proofs.name.Id.read.Goals as goal
 pub invariant_of-result : goal.invariant_of-result
 invariant_of-result c =
     let copied = c.copy_from_slice.ensures.after in
-    let fills : length c.as_bytes-characters.result.now ≡ length c.copy_from_slice.new.self = sym (ap length copied) in
+    let fills : length c.as_bytes-characters.result.now ≡ length c.copy_from_slice.new.self =
+    sym (ap length copied) in
     let test : list_all is_id_character c.as_bytes-characters.result.now ≡ true = cc in
-    let is : IsIdText c.as_bytes-characters.result.now = record { least = omega arith; most = omega arith; characters = test } in
-    padded-front c.copy_from_slice.new.self (length c.as_bytes-characters.result.now) fills (omega arith) (subst IsIdText (sym copied) is)
+    let is : IsIdText c.as_bytes-characters.result.now =
+    record { least = omega arith; most = omega arith; characters = test } in
+    padded-front c.copy_from_slice.new.self (length c.as_bytes-characters.result.now) fills (omega arith)
+    (subst IsIdText (sym copied) is)
 
 pub returns-clause-value : goal.returns-clause-value
 returns-clause-value c =
-    take-front c.copy_from_slice.new.self _ (length c.as_bytes-characters.result.now) (sym (ap length c.copy_from_slice.ensures.after))
+    take-front c.copy_from_slice.new.self _ (length c.as_bytes-characters.result.now)
+    (sym (ap length c.copy_from_slice.ensures.after))
     ∙ c.copy_from_slice.ensures.after ∙ c.as_bytes-characters.ensures.value
 
 pub returns-clause-some : goal.returns-clause-some

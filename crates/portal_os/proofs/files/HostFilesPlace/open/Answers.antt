@@ -9,7 +9,8 @@ returns-in-Ok-attach_store-clause-represents g c L shown = λ is.
     c.in-Ok-attach_store.ensures.attaches L (c.in-Ok.ensures.opened L shown clean) is
 
 pub returns-in-Ok-attach_store-clause-found : goal.returns-in-Ok-attach_store-clause-found
-returns-in-Ok-attach_store-clause-found g c = λ is. c.in-Ok.ensures.found (clean_by c.in-Ok.conn (c.in-Ok-attach_store.ensures.fault_free is))
+returns-in-Ok-attach_store-clause-found g c =
+    λ is. c.in-Ok.ensures.found (clean_by c.in-Ok.conn (c.in-Ok-attach_store.ensures.fault_free is))
 
 pub returns-in-Ok-attach_store-clause-opened : goal.returns-in-Ok-attach_store-clause-opened
 returns-in-Ok-attach_store-clause-opened g c = λ is.
@@ -34,7 +35,8 @@ returns-in-Err-attach_store-clause-fails g c =
             (c.in-Ok.ensures.from clean).0,
             refused.1,
             λ L shown. refused.2 L (c.in-Ok.ensures.opened L shown clean),
-            λ other. it.kept honest (open_by c.in-Ok.conn (c.in-Ok.ensures.live clean)) (λ is. other (c.plain.ensures.error ∙ is)),
+            λ other. it.kept honest (open_by c.in-Ok.conn (c.in-Ok.ensures.live clean))
+                (λ is. other (c.plain.ensures.error ∙ is)),
           ),
       it.spares,
     )
@@ -43,4 +45,7 @@ pub returns-in-Err-clause-fails : goal.returns-in-Err-clause-fails
 returns-in-Err-clause-fails g c = (c.in-Err.error, c.trouble_at.ensures.error ∙ c.program_error.ensures)
 
 pub returns-in-Err-attach_store-clause-why : goal.returns-in-Err-attach_store-clause-why
-returns-in-Err-attach_store-clause-why g c = (subst IsDatabaseError (sym c.plain.ensures.error) c.in-Err-attach_store.ensures.why, rw c.plain.ensures.line tt)
+returns-in-Err-attach_store-clause-why g c = (
+  subst IsDatabaseError (sym c.plain.ensures.error) c.in-Err-attach_store.ensures.why,
+  rw c.plain.ensures.line tt,
+)

@@ -6,4 +6,5 @@ use Rattle.portal_tables.proofs.questions.BatchOfQuestion.ask.Goals as goal
 pub returns-clause-found : goal.returns-clause-found
 returns-clause-found g c clean live L shown =
     let held = history_shown L _ shown in
-    ok_then c.read_batch_row.result (batch_found _ held.0 c.args.self.id.now) (c.read_batch_row.ensures.found clean _ held.1.1)
+    ok_then c.read_batch_row.result (batch_found _ held.0 c.args.self.id.now)
+    (c.read_batch_row.ensures.found clean _ held.1.1)

@@ -1,5 +1,0 @@
-use Rattle.portal_tables_queries.proofs.Common.{◌≡◌, map, take, total_from, session_read, ends_row, grant_read, rows_for_sums}
-use Rattle.portal_tables_queries.proofs.sums.sum_totals.Given as goal
-
-abbrev pub invariant-loop-session : goal.invariant-loop-session
-invariant-loop-session l = map ends_row l.totals.items ≡ map (λ s. total_from (rows_for_sums l.plans (map grant_read l.grants)) (session_read s)) (take l.session-index l.sessions)

@@ -1,9 +1,0 @@
-use Rattle.portal_tables_queries.proofs.Common.{refl, batch_cells, IsOwnBatch, exact_batch}
-use Rattle.portal_tables_queries.proofs.ManyValues.{reads_many, tells_whole}
-use Rattle.portal_tables_queries.proofs.WholeReading.{all_batches_are, all_batches_simple}
-use Rattle.portal_tables_queries.proofs.whole.read_all_batches.Goals as goal
-
-pub returns : goal.returns
-returns g c =
-    reads_many g.S.Store _ _ all_batches_simple
-    (λ rows shown t h. tells_whole batch_cells 5 (λ x. refl) exact_batch IsOwnBatch (λ v. v.items) (λ v. refl) t.batches rows (all_batches_are _ _ rows shown t h)) c.read_table.ensures

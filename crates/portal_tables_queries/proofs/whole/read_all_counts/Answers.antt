@@ -1,9 +1,0 @@
-use Rattle.portal_tables_queries.proofs.Common.{refl, map, map-map, count_cells, IsOwnCount, exact_count, count_read}
-use Rattle.portal_tables_queries.proofs.ManyValues.{reads_many, tells_whole}
-use Rattle.portal_tables_queries.proofs.WholeReading.{all_counts_are, all_counts_simple}
-use Rattle.portal_tables_queries.proofs.whole.read_all_counts.Goals as goal
-
-pub returns : goal.returns
-returns g c =
-    reads_many g.S.Store _ _ all_counts_simple
-    (λ rows shown t h. tells_whole count_cells 2 (λ x. refl) exact_count IsOwnCount (λ v. map count_read v.items) (λ v. map-map count_cells count_read v.items) t.counts rows (all_counts_are _ _ rows shown t h)) c.read_table.ensures

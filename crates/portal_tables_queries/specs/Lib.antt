@@ -1,4 +1,0 @@
-pub mod Audit
-pub mod Lists
-pub mod Selects
-pub mod Sums

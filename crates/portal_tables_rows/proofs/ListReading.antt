@@ -1,0 +1,163 @@
+-- The result of each SELECT of a list, by the rows that the tables hold.
+use Rattle.portal_tables_rows.proofs.Common.{◌≡◌, ◌<◌, ℕ, List, [], ◌∷◌, ◌++◌, Bool, map, filter, length}
+use Rattle.portal_tables_rows.proofs.Common.{true, false, refl, sym, ap, ap₂, subst, ◌∙◌, lit<, bytes_eq}
+use Rattle.portal_tables_rows.proofs.Common.{Ordering, lit≤, Key, then-Equal, value_cmp-Text, Text, Row}
+use Rattle.portal_tables_rows.proofs.Common.{column, value_cmp, Schema, Table, Term, State, Shown, understood}
+use Rattle.portal_tables_rows.proofs.Common.{means_simple, key_tests, map-map, filter-map, number, has_key}
+use Rattle.portal_tables_rows.proofs.Common.{by_column, fields, IsSelection, text_test, selected, field_at}
+use Rattle.portal_tables_rows.proofs.Common.{orders_by, by, passes, keys_of, VoucherRow, TotalRow, vouchers}
+use Rattle.portal_tables_rows.proofs.Common.{totals, Contents, voucher_cells, total_cells, Holds, HasTables}
+use Rattle.portal_tables_rows.proofs.Common.{ListsAs, is_within, by_place, by_refund, by_sale, by_number}
+use Rattle.portal_tables_rows.proofs.Common.{sale_columns, sale_cells, IsSimple}
+use Rattle.portal_tables_rows.proofs.Cells.{vouchers_in, totals_in}
+use Rattle.portal_tables_sql.proofs.SelectTexts.{total_columns, voucher_columns}
+use Rattle.std.specs.Ordering.{ordering_then}
+use Rattle.sqlite.specs.Query.{key_cmp}
+use Rattle.portal_tables_rows.proofs.Listing.{number_order, option_order, sql_within, within_is, cells_listed}
+use Rattle.portal_tables_sql.proofs.WholeTables.{some_columns}
+use Rattle.portal_tables_sql.proofs.WholeTexts.{all_totals_means, all_totals_text}
+use Rattle.portal_tables_sql.proofs.ListTexts as texts
+use Rattle.portal_tables_sql.specs.declared.our_tables.OurTable.TheVariants as our
+use Rattle.portal_tables_sql.proofs.TableLemmas.{always}
+
+-- ---- two columns
+
+abbrev by_columns : ℕ → ℕ → Row → Row → Ordering
+by_columns first second a b = ordering_then (by_column first a b) (by_column second a b)
+
+-- ORDER BY two columns
+orders_by_two : (table : Table) (first second : ℕ) (params : Row) → first < length table.columns
+    → second < length table.columns → (a b : Row)
+    → key_cmp 0 (map (λ (k : Term × Key). k.1) (by table first false ++ by table second false))
+    (keys_of (by table first false ++ by table second false) params a)
+    (keys_of (by table first false ++ by table second false) params b)
+    ≡ by_columns first second (fields table a) (fields table b)
+orders_by_two table first second params in_first in_second a b =
+    ap₂ ordering_then
+    (ap₂ value_cmp (sym (field_at table first a in_first)) (sym (field_at table first b in_first)))
+    (then-Equal _ ∙ ap₂ value_cmp (sym (field_at table second a in_second))
+    (sym (field_at table second b in_second)))
+
+-- WHERE column >= ?1 AND column <= ?2
+within_tests : (table : Table) (at from to : ℕ) → at < length table.columns
+    → (r : Row) → passes (texts.within_terms table at) (number from ∷ number to ∷ []) r
+    ≡ sql_within (column (fields table r) at) (number from) (number to)
+within_tests table at from to within r =
+    ap (λ v. sql_within v (number from) (number to)) (sym (field_at table at r within))
+
+-- ---- the vouchers of a batch
+
+pub batch_rows_are : (old new : State) (batch : List ℕ) (rows : List Row)
+    → Shown texts.batch_vouchers_text (Text batch ∷ []) old new rows → (t : Contents) → Holds old.now t
+    → ListsAs voucher_cells (λ v. bytes_eq batch v.batch) by_place t.vouchers rows
+batch_rows_are old new batch rows shown t h =
+    let place = (h.places our.Vouchers) in
+    let table = vouchers place.tree in
+    let it = selected texts.batch_vouchers_text table _ _ (Text batch ∷ []) old new voucher_columns
+    (has_key 1 (Text batch)) (key_tests table 1 (Text batch) [] (lit< tt) refl) (by_column 2)
+    (orders_by table 2 (Text batch ∷ []) (lit< tt))
+    (texts.batch_vouchers_means old.now.schema place.at place.tree
+    (h.tables_exist.tables our.Vouchers (always _)).exists) rows shown in
+    let all = subst (λ xs. IsSelection (has_key 1 (Text batch)) (by_column 2) xs rows)
+    (vouchers_in old.now.trees place.tree t.vouchers (h.store our.Vouchers (always _))) it in
+    cells_listed voucher_cells (λ (v : VoucherRow). bytes_eq batch v.batch) by_place
+    t.vouchers (has_key 1 (Text batch)) (by_column 2) (λ v. text_test v.batch batch)
+    (λ a b. number_order a.place b.place) rows all
+
+pub batch_simple : (schema : Schema) → HasTables schema
+    → IsSimple (understood schema texts.batch_vouchers_text)
+batch_simple schema h = let place = (h.0 our.Vouchers) in
+    means_simple schema texts.batch_vouchers_text _ _
+    (texts.batch_vouchers_means schema place.at place.tree (h.1.tables our.Vouchers (always _)).exists)
+
+-- ---- the ends of all sessions
+
+pub totals_rows_are : (old new : State) (rows : List Row) → Shown all_totals_text [] old new rows
+    → (t : Contents) → Holds old.now t → ListsAs total_cells (λ _. true) by_number t.totals rows
+totals_rows_are old new rows shown t h =
+    let place = (h.places our.Totals) in
+    let table = totals place.tree in
+    let it = selected all_totals_text table [] _ [] old new total_columns (λ _. true) (λ r. refl)
+    (by_column 0) (orders_by table 0 [] (lit< tt)) (all_totals_means old.now.schema place.at place.tree
+    (h.tables_exist.tables our.Totals (lit≤ tt)).exists) rows shown in
+    let all = subst (λ xs. IsSelection (λ _. true) (by_column 0) xs rows)
+    (totals_in old.now.trees place.tree t.totals (h.store our.Totals (lit≤ tt))) it in
+    cells_listed total_cells (λ (_ : TotalRow). true) by_number t.totals (λ _. true) (by_column 0) (λ m. refl)
+    (λ a b. number_order a.number b.number) rows all
+
+-- ---- the vouchers with a time between two
+
+module _ (old new : State) (from to : ℕ) (rows : List Row) (t : Contents) (h : Holds old.now t) where
+  abbrev params : Row
+  params = number from ∷ number to ∷ []
+
+  pub sold_rows_are : Shown texts.sold_text params old new rows
+      → rows ≡ map sale_cells (map sale_columns (filter (λ v. is_within from to v.sold) t.vouchers))
+  sold_rows_are shown =
+      let place = (h.places our.Vouchers) in
+      let table = vouchers place.tree in
+      let sold : Row → Bool = λ r. sql_within (column r 3) (number from) (number to) in
+      let two : Row → Row = λ r. column r 1 ∷ column r 3 ∷ [] in
+      let listed = filter (λ (v : VoucherRow). is_within from to v.sold) t.vouchers in
+      some_columns texts.sold_text table (texts.within_terms table 3) (texts.sold_terms table) params
+      texts.sold_columns old new sold (within_tests table 3 from to (lit< tt)) two
+      (λ r. ap₂ (λ a b. a ∷ b ∷ []) (sym (field_at table 1 r (lit< tt))) (sym (field_at table 3 r (lit< tt))))
+      (texts.sold_means old.now.schema place.at place.tree (h.tables_exist.tables our.Vouchers
+      (always _)).exists) (h.store our.Vouchers (always _)).are.rise rows shown
+      ∙ ap (λ xs. map two (filter sold xs))
+      (vouchers_in old.now.trees place.tree t.vouchers (h.store our.Vouchers (always _)))
+      ∙ ap (map two) (filter-map sold voucher_cells t.vouchers
+      ∙ (λ i. map voucher_cells (filter (λ (v : VoucherRow). within_is v.sold from to i) t.vouchers)))
+      ∙ map-map two voucher_cells listed
+      ∙ sym (map-map sale_cells sale_columns listed)
+
+  pub ordered_rows_are : Shown texts.ordered_text params old new rows
+      → ListsAs voucher_cells (λ v. is_within from to v.sold) by_sale t.vouchers rows
+  ordered_rows_are shown =
+      let place = (h.places our.Vouchers) in
+      let table = vouchers place.tree in
+      let it = selected texts.ordered_text table (texts.within_terms table 3) _ params
+      old new voucher_columns (λ r. sql_within (column r 3) (number from) (number to))
+      (within_tests table 3 from to (lit< tt)) (by_columns 3 0)
+      (orders_by_two table 3 0 params (lit< tt) (lit< tt)) (texts.ordered_means old.now.schema place.at
+      place.tree (h.tables_exist.tables our.Vouchers (always _)).exists) rows shown in
+      let all = subst (λ xs.
+      IsSelection (λ r. sql_within (column r 3) (number from) (number to)) (by_columns 3 0) xs rows)
+      (vouchers_in old.now.trees place.tree t.vouchers (h.store our.Vouchers (always _))) it in
+      cells_listed voucher_cells (λ (v : VoucherRow). is_within from to v.sold) by_sale
+      t.vouchers (λ r. sql_within (column r 3) (number from) (number to)) (by_columns 3 0)
+      (λ v. within_is v.sold from to)
+      (λ a b. ap₂ ordering_then (option_order a.sold b.sold) (value_cmp-Text a.code b.code)) rows all
+
+  pub refunded_rows_are : Shown texts.refunded_text params old new rows
+      → ListsAs voucher_cells (λ v. is_within from to v.refunded) by_refund t.vouchers rows
+  refunded_rows_are shown =
+      let place = (h.places our.Vouchers) in
+      let table = vouchers place.tree in
+      let it = selected texts.refunded_text table (texts.within_terms table 4) _ params
+      old new voucher_columns (λ r. sql_within (column r 4) (number from) (number to))
+      (within_tests table 4 from to (lit< tt)) (by_columns 4 0)
+      (orders_by_two table 4 0 params (lit< tt) (lit< tt)) (texts.refunded_means old.now.schema place.at
+      place.tree (h.tables_exist.tables our.Vouchers (always _)).exists) rows shown in
+      let all = subst (λ xs.
+      IsSelection (λ r. sql_within (column r 4) (number from) (number to)) (by_columns 4 0) xs rows)
+      (vouchers_in old.now.trees place.tree t.vouchers (h.store our.Vouchers (always _))) it in
+      cells_listed voucher_cells (λ (v : VoucherRow). is_within from to v.refunded) by_refund
+      t.vouchers (λ r. sql_within (column r 4) (number from) (number to)) (by_columns 4 0)
+      (λ v. within_is v.refunded from to)
+      (λ a b. ap₂ ordering_then (option_order a.refunded b.refunded) (value_cmp-Text a.code b.code)) rows all
+
+pub sold_simple : (schema : Schema) → HasTables schema → IsSimple (understood schema texts.sold_text)
+sold_simple schema h = let place = (h.0 our.Vouchers) in
+    means_simple schema texts.sold_text _ _
+    (texts.sold_means schema place.at place.tree (h.1.tables our.Vouchers (always _)).exists)
+
+pub ordered_simple : (schema : Schema) → HasTables schema → IsSimple (understood schema texts.ordered_text)
+ordered_simple schema h = let place = (h.0 our.Vouchers) in
+    means_simple schema texts.ordered_text _ _
+    (texts.ordered_means schema place.at place.tree (h.1.tables our.Vouchers (always _)).exists)
+
+pub refunded_simple : (schema : Schema) → HasTables schema → IsSimple (understood schema texts.refunded_text)
+refunded_simple schema h = let place = (h.0 our.Vouchers) in
+    means_simple schema texts.refunded_text _ _
+    (texts.refunded_means schema place.at place.tree (h.1.tables our.Vouchers (always _)).exists)

@@ -1,0 +1,120 @@
+-- From what a text means to the values that are read of its rows, and to what is made of them.
+use Rattle.portal_tables_rows.proofs.Common.{◌≡◌, ℕ, List, map, Bool, Result, Ok, Err, IfOk, IsErrAnd, Vec}
+use Rattle.portal_tables_rows.proofs.Common.{Global, refl, sym, ap, subst, ◌∙◌, IfOk-weaker}
+use Rattle.portal_tables_rows.proofs.Common.{err_from_is_err_and, Ordering, map-map, Schema, Database, Row}
+use Rattle.portal_tables_rows.proofs.Common.{Held, state, HasCleanDisk, Shown, understood, looks_read}
+use Rattle.portal_tables_rows.proofs.Common.{looks_weaker, columns, Anything, Asks, IsSimple, OnlyAsks}
+use Rattle.portal_tables_rows.proofs.Common.{simple_asks, VoucherRow, VoucherValue, voucher_cells}
+use Rattle.portal_tables_rows.proofs.Common.{voucher_read, Contents, Holds, HoldsFirst, HasTables, HasFirst}
+use Rattle.portal_tables_rows.proofs.Common.{IsOfOwn, AreOwn, IsOwnVoucher, NotForeign, BlamesForeign}
+use Rattle.portal_tables_rows.proofs.Common.{RowError, ReadsMany, ReadsRow, Lists, ListsAs}
+use Rattle.portal_tables_rows.proofs.Cells.{exact_voucher}
+use Rattle.sqlite.specs.Store.{Ghosts}
+use Rattle.portal_tables_rows.specs.Selects.{ReadsFirst}
+use Rattle.portal_tables_rows.proofs.Listing.{read_listed}
+use Rattle.portal_tables_rows.proofs.OwnRows.{own_rows, own_listed}
+use Rattle.portal_tables_rows.proofs.SumLemmas.{rows_exact}
+
+-- what the rows of a result tell, if values with their cells are read
+pub record TellsAll {T : Type 0} (cells : T → Row) (width : ℕ) (own : Row → Type 0) (rows : List Row)
+    (Is : Vec T Global → Type 0) (Own : Type 0) : Type 0 where
+  pub is : (values : Vec T Global) → map cells values.items ≡ map (columns width) rows → Is values
+  pub owns : Own → AreOwn (λ row. own (columns width row)) rows
+
+module _ {P : Type 0} (cells : P → Row) (n : ℕ) (all : (p : P) → columns n (cells p) ≡ cells p)
+    (exact : (a b : P) → cells a ≡ cells b → a ≡ b) (IsOwn : P → Type 0) where
+  -- all rows of a table
+  pub tells_whole : {V : Type 0} {made : V → Row} (values : Vec V Global → List P)
+      → ((vs : Vec V Global) → map cells (values vs) ≡ map made vs.items)
+      → (ps : List P) (rows : List Row) → rows ≡ map cells ps
+      → TellsAll made n (IsOfOwn cells IsOwn) rows (λ vs. values vs ≡ ps) (AreOwn IsOwn ps)
+  tells_whole values is_made ps rows are = record {
+    is = λ vs cut. rows_exact cells n all exact (values vs) ps rows (is_made vs ∙ cut) are;
+    owns = own_rows cells n all IsOwn ps rows are;
+  }
+
+  -- those that pass a test, in an order
+  pub tells_listed : {V : Type 0} (read : V → P) (passes : P → Bool) (cmp : P → P → Ordering) (ps : List P)
+      (rows : List Row) → ListsAs cells passes cmp ps rows
+      → TellsAll (λ (v : V). cells (read v)) n (IsOfOwn cells IsOwn) rows
+      (λ vs. Lists passes cmp ps (map read vs.items)) (AreOwn IsOwn ps)
+  tells_listed read passes cmp ps rows listed = record {
+    is = λ vs cut. read_listed cells passes cmp ps n all exact rows listed (map read vs.items)
+        (map-map cells read vs.items ∙ cut);
+    owns = λ own. own_listed cells n all IsOwn passes cmp ps rows listed (λ p has on. own p has);
+  }
+
+module _ {S T : Type 0} (g : Ghosts S) {old new : Held S} {cells : T → Row} {width : ℕ}
+    {own : Row → Type 0} (sql : List ℕ) (params : Row) {result : Result (Vec T Global) RowError}
+    {Is : Contents → Vec T Global → Type 0} {Own : Contents → Type 0} where
+  module _ (Hold : Database → Contents → Type 0)
+      (simple : (t : Contents) → Hold (state g old).now t
+      → IsSimple (understood (state g old).now.schema sql))
+      (tells : (rows : List Row) → Shown sql params (state g old) (state g new) rows → (t : Contents)
+      → Hold (state g old).now t → TellsAll cells width own rows (Is t) (Own t))
+      (many : ReadsMany g cells width own sql params old new result) where
+    many_found : HasCleanDisk (state g new) → (t : Contents) → Hold (state g old).now t → IfOk result (Is t)
+    many_found clean t h = IfOk-weaker result _ _ (λ values it. (tells it.rows it.shown t h).is values it.are)
+        (many.rows clean (simple_asks sql _ (simple t h)))
+
+    many_foreign : BlamesForeign Hold Own (state g old) (state g new) result
+    many_foreign clean t h owns = many.own clean (simple t h) (λ rows shown. (tells rows shown t h).owns owns)
+
+  -- of the tables of this schema version
+  pub reads_many : ((schema : Schema) → HasTables schema → IsSimple (understood schema sql))
+      → ((rows : List Row) → Shown sql params (state g old) (state g new) rows → (t : Contents)
+      → Holds (state g old).now t → TellsAll cells width own rows (Is t) (Own t))
+      → ReadsMany g cells width own sql params old new result → ReadsRow g old new result Is Own
+  reads_many simple tells many = record {
+    found = many_found Holds (λ t h. simple _ (h.places, h.tables_exist)) tells many;
+    looks = looks_weaker (Asks sql) HasTables
+        (λ schema has. simple_asks sql schema (simple schema has)) result _ _ many.looks;
+    foreign = many_foreign Holds (λ t h. simple _ (h.places, h.tables_exist)) tells many;
+  }
+
+  -- of the tables that each schema version has
+  pub reads_first : OnlyAsks sql → ((schema : Schema) → HasFirst schema → IsSimple (understood schema sql))
+      → ((rows : List Row) → Shown sql params (state g old) (state g new) rows → (t : Contents)
+      → HoldsFirst (state g old).now t → TellsAll cells width own rows (Is t) (Own t))
+      → ReadsMany g cells width own sql params old new result → ReadsFirst g old new result Is Own
+  reads_first asks simple tells many = record {
+    found = many_found HoldsFirst (λ t h. simple _ (h.places, h.tables_exist)) tells many;
+    looks = looks_weaker (Asks sql) HasFirst (λ schema has. asks schema) result _ _ many.looks;
+    always = looks_weaker (Asks sql) Anything (λ schema has. asks schema) result _ _ many.looks;
+    foreign = many_foreign HoldsFirst (λ t h. simple _ (h.places, h.tables_exist)) tells many;
+  }
+
+-- the vouchers that pass a test, in an order
+pub lists_vouchers : {S : Type 0} (g : Ghosts S) {old new : Held S} (sql : List ℕ) (params : Row)
+    {result : Result (Vec VoucherValue Global) RowError} (passes : VoucherRow → Bool)
+    (cmp : VoucherRow → VoucherRow → Ordering)
+    → ((schema : Schema) → HasTables schema → IsSimple (understood schema sql))
+    → ((rows : List Row) → Shown sql params (state g old) (state g new) rows → (t : Contents)
+    → Holds (state g old).now t → ListsAs voucher_cells passes cmp t.vouchers rows)
+    → ReadsMany g (λ (v : VoucherValue). voucher_cells (voucher_read v)) 6
+    (IsOfOwn voucher_cells IsOwnVoucher) sql params old new result
+    → ReadsRow g old new result (λ t vs. Lists passes cmp t.vouchers (map voucher_read vs.items))
+    (λ t. AreOwn IsOwnVoucher t.vouchers)
+lists_vouchers g sql params passes cmp simple listed many =
+    reads_many g sql params simple (λ rows shown t h. tells_listed voucher_cells 6 (λ v. refl) exact_voucher
+    IsOwnVoucher voucher_read passes cmp t.vouchers rows (listed rows shown t h)) many
+
+module _ {S A B : Type 0} (g : Ghosts S) {old new : Held S} {P : Contents → A → Type 0}
+    {Q : Contents → B → Type 0} {Own : Contents → Type 0} where
+  -- what is made of what was read
+  pub row_made : {x : A} {Before : Contents → Type 0} (result : Result B RowError)
+      → ReadsRow g old new (Ok x) P Before → ((t : Contents) → P t x → IfOk result (Q t))
+      → ((t : Contents) → P t x → Own t → NotForeign result) → ReadsRow g old new result Q Own
+  row_made result r is own = record {
+    found = λ clean t h. is t (r.found clean t h);
+    looks = looks_read HasTables result _ _ r.looks;
+    foreign = λ clean t h owns. own t (r.found clean t h) owns;
+  }
+
+  -- a `?` on a reading that failed
+  pub row_fails : {e : RowError} (result : Result B RowError) → IsErrAnd result (λ f. f ≡ e)
+      → ReadsRow g old new (Err e) P Own → ReadsRow g old new result Q Own
+  row_fails result fails r =
+      let told = err_from_is_err_and result fails in
+      subst (λ (it : Result B RowError). ReadsRow g old new it Q Own) (sym (told.1 ∙ ap Err told.2))
+      (record { found = λ clean t h. tt; looks = r.looks; foreign = r.foreign })

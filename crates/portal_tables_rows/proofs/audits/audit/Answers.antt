@@ -1,0 +1,56 @@
+use Rattle.portal_tables_rows.proofs.Common.{◌≡◌, rules, refl, ap, ◌∙◌, map, None, Option, option_map, subst}
+use Rattle.portal_tables_rows.proofs.Common.{IfOk-weaker, state, Finds, HeadRow, ends_row, head_read}
+use Rattle.portal_tables_rows.proofs.Common.{count_read}
+use Rattle.portal_tables_rows.specs.declared.rows.HeadValue.{HeadValue}
+use Rattle.portal_tables_rows.proofs.HeldLemmas.{all_stand, open_fails, open_made, open_own, open_then}
+use Rattle.portal_tables_rows.proofs.HeldLemmas.{open_wider, row_opened}
+use Rattle.portal_tables_rows.proofs.AuditLemmas.{audited, no_head}
+use Rattle.portal_tables_rows.proofs.audits.audit.Goals as goal
+
+pub returns-in_default : goal.returns-in_default
+returns-in_default g c =
+    let none : c.in_ok-head.field-0 ≡ None = search rules in
+    open_made g.S.Store _ (row_opened g.S.Store c.in_ok-head.ensures) (λ t held is. no_head t (subst
+    (λ (o : Option HeadValue). Finds (λ (x : HeadRow). x.id) 1 t.heads (option_map head_read o)) none is))
+    (λ t is own. tt)
+
+pub returns : goal.returns
+returns g c =
+    open_made g.S.Store c.counters_agree.result
+    (open_then g.S.Store all_stand (row_opened g.S.Store c.in_ok-head.ensures)
+    (open_then g.S.Store all_stand (open_wider g.S.Store c.in_ok-rows.ensures) (open_then g.S.Store all_stand
+    (row_opened g.S.Store c.in_ok-counts.ensures) (row_opened g.S.Store c.in_ok-totals.ensures))))
+    (λ t held is. IfOk-weaker c.counters_agree.result _ _ (λ agree same.
+    let head = subst (λ (o : Option HeadValue).
+    Finds (λ (x : HeadRow). x.id) 1 t.heads (option_map head_read o)) c.in-Some.is is.0 in
+    let agreement = same t is.1.0 (ap (map count_read) c.deref.ensures.value ∙ is.1.1.0)
+    (ap (map ends_row) c.deref-2.ensures.value ∙ is.1.1.1) in
+    let audit = audited (state g.S.Store c.args.conn.now).now t held (head_read c.in-Some.head) head.0 refl in
+    (λ on. audit.0 (agreement.0 on), λ a. agreement.1 (audit.1 a))) c.counters_agree.ensures.agree)
+    (λ t is own. c.counters_agree.ensures.kept t is.1.0 own.1)
+
+pub returns-in_err-head : goal.returns-in_err-head
+returns-in_err-head g c = open_fails g.S.Store c.from_residual.result c.from_residual.ensures.1
+    (open_own g.S.Store (λ t own. own.0.heads) (row_opened g.S.Store c.in_err-head.ensures))
+
+pub returns-in_err-rows : goal.returns-in_err-rows
+returns-in_err-rows g c =
+    open_fails g.S.Store c.from_residual-in_err-rows.result c.from_residual-in_err-rows.ensures.1
+    (open_own g.S.Store (λ t own. own.0) (open_then g.S.Store all_stand
+    (row_opened g.S.Store c.in_ok-head.ensures) (open_wider g.S.Store c.in_err-rows.ensures)))
+
+pub returns-in_err-counts : goal.returns-in_err-counts
+returns-in_err-counts g c =
+    open_fails g.S.Store c.from_residual-in_err-counts.result
+    c.from_residual-in_err-counts.ensures.1 (open_own g.S.Store (λ t own. own.0.counts)
+    (open_then g.S.Store all_stand (row_opened g.S.Store c.in_ok-head.ensures)
+    (open_then g.S.Store all_stand (open_wider g.S.Store c.in_ok-rows.ensures)
+    (row_opened g.S.Store c.in_err-counts.ensures))))
+
+pub returns-in_err-totals : goal.returns-in_err-totals
+returns-in_err-totals g c =
+    open_fails g.S.Store c.from_residual-in_err-totals.result
+    c.from_residual-in_err-totals.ensures.1 (open_own g.S.Store (λ t own. own.0.totals)
+    (open_then g.S.Store all_stand (row_opened g.S.Store c.in_ok-head.ensures)
+    (open_then g.S.Store all_stand (open_wider g.S.Store c.in_ok-rows.ensures) (open_then g.S.Store all_stand
+    (row_opened g.S.Store c.in_ok-counts.ensures) (row_opened g.S.Store c.in_err-totals.ensures)))))

@@ -1,0 +1,53 @@
+use Rattle.portal_tables_rows.proofs.Common.{◌≡◌, subst, arith, rules, state, HasCleanDisk, Survives}
+use Rattle.portal_tables_rows.proofs.Common.{IsUndone, on_err, on_failed, IsCreated, MayBuild}
+use Rattle.portal_tables_rows.proofs.CreateLemmas.{built_done, built_crash, built_undone}
+use Rattle.portal_tables_rows.proofs.creation.create_schema.Goals as goal
+
+pub returns : goal.returns
+returns g c =
+    let last = c.create_schema_inside.new.tx.conn.now in
+    let end = c.commit.new.self.0 in
+    let same : end ≡ c.conn-2-1.given.0 = search rules in
+    record {
+      done = λ clean.
+          let late : HasCleanDisk (state g.S.Store end) = search rules in
+          subst (λ h. IsCreated (state g.S.Store c.args.conn.now) (state g.S.Store h)) same
+          (built_done g.S.Store c.args.conn.now c.transaction-tx.result.conn.now
+          last end c.transaction-tx.ensures.begun
+          (λ still inside room. c.in_ok-create_schema_inside.ensures.steps still inside room)
+          (omega (arith, c.commit.ensures.survives.clean)) (c.in_ok-commit.ensures.ok late).1);
+      undone = λ clean. tt;
+      crash = subst (λ h. Survives (state g.S.Store c.args.conn.now) (state g.S.Store h)
+          (MayBuild (state g.S.Store c.args.conn.now))) same
+          (built_crash g.S.Store c.args.conn.now c.transaction-tx.result.conn.now
+          last end c.transaction-tx.ensures.begun
+          (λ still inside room. c.in_ok-create_schema_inside.ensures.steps still inside room)
+          c.create_schema_inside.ensures.survives c.commit.ensures.survives);
+    }
+
+pub returns-in_err-commit : goal.returns-in_err-commit
+returns-in_err-commit g c =
+    let last = c.create_schema_inside.new.tx.conn.now in
+    let end = c.commit.new.self.0 in
+    let same : end ≡ c.conn-2-1.given.0 = search rules in
+    record {
+      done =
+          λ clean. on_failed c.from_residual-in_err-commit.result _ _ c.from_residual-in_err-commit.ensures.1;
+      undone = λ clean.
+          let late : HasCleanDisk (state g.S.Store end) = search rules in
+          on_err c.from_residual-in_err-commit.result
+          (λ free. subst (λ h. IsUndone (state g.S.Store c.args.conn.now) (state g.S.Store h)) same
+          (built_undone g.S.Store c.args.conn.now
+          c.transaction-tx.result.conn.now last end c.transaction-tx.ensures.begun
+          (λ still inside room. c.in_ok-create_schema_inside.ensures.steps still inside room) _ (omega (
+            arith,
+            c.commit.ensures.survives.clean,
+          )) free c.create_schema_inside.ensures.kept (c.in_err-commit.ensures.err late)
+          c.commit.ensures.ended));
+      crash = subst (λ h. Survives (state g.S.Store c.args.conn.now) (state g.S.Store h)
+          (MayBuild (state g.S.Store c.args.conn.now))) same
+          (built_crash g.S.Store c.args.conn.now c.transaction-tx.result.conn.now
+          last end c.transaction-tx.ensures.begun
+          (λ still inside room. c.in_ok-create_schema_inside.ensures.steps still inside room)
+          c.create_schema_inside.ensures.survives c.commit.ensures.survives);
+    }

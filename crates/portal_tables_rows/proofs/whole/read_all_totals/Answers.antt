@@ -1,0 +1,12 @@
+use Rattle.portal_tables_rows.proofs.Common.{refl, map, map-map, total_cells, IsOwnTotal, ends_row}
+use Rattle.portal_tables_rows.proofs.Cells.{exact_total}
+use Rattle.portal_tables_rows.proofs.ManyValues.{reads_many, tells_whole}
+use Rattle.portal_tables_rows.proofs.WholeReading.{all_totals_are, all_totals_simple}
+use Rattle.portal_tables_rows.proofs.whole.read_all_totals.Goals as goal
+
+pub returns : goal.returns
+returns g c =
+    reads_many g.S.Store _ _ all_totals_simple
+    (λ rows shown t h. tells_whole total_cells 3 (λ x. refl) exact_total IsOwnTotal (λ v. map ends_row
+    v.items) (λ v. map-map total_cells ends_row v.items) t.totals rows (all_totals_are _ _ rows shown t h))
+    c.read_table.ensures

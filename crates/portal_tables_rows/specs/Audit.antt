@@ -1,0 +1,67 @@
+-- When the counters of a database are what its other rows give.
+use Rattle.std.specs.Prelude.{◌≡◌, ℕ, Bool, true, nat_eq, bytes_eq, List, map, length, IsTrue}
+use Rattle.std.specs.List.{list_all, list_any}
+use Rattle.std.specs.HashSet.{HashSet, contains}
+use Rattle.sqlite.specs.State.{State, HasCleanDisk}
+use Rattle.sqlite_rules.specs.Lists.{Has}
+use Rattle.portal_codes.specs.Code.{IsCode, text_of}
+use Rattle.portal_model.specs.Rows.{VoucherRow, SessionRow, GrantRow, CountRow, TotalRow, total_from}
+use Rattle.portal_tables_rows.specs.declared.counted_rows.CountedRows.{CountedRows}
+use Rattle.portal_tables_rows.specs.Contents.{Contents, HeadRow}
+use Rattle.portal_tables_rows.specs.First.{HoldsFirst}
+use Rattle.portal_tables_rows.specs.Read.{voucher_read, session_read}
+use Rattle.portal_tables_rows.specs.Sums.{grant_read, rows_for_sums, uses_in}
+
+-- the end of a session and what remains, by the sums over its redemptions
+abbrev pub total_in : Contents → SessionRow → TotalRow
+total_in t s = total_from (rows_for_sums t.plans t.grants) s
+
+-- The counters agree with the other rows.
+pub record IsAudited (t : Contents) : Type 0 where
+  -- each count is the number of the redemptions with its code, also where no voucher has the code
+  pub counts : (k : CountRow) → Has t.counts k → k.redeemed ≡ uses_in t.grants k.code
+  -- each total is what the sums give of a session that exists
+  pub totals : (m : TotalRow) → Has t.totals m → (s : SessionRow) × Has t.sessions s × (m ≡ total_in t s)
+  -- each voucher has its count
+  pub vouchers : (v : VoucherRow) → Has t.vouchers v → (k : CountRow) × Has t.counts k × (k.code ≡ v.code)
+  -- each session has its total
+  pub sessions : (s : SessionRow) → Has t.sessions s → (m : TotalRow) × Has t.totals m × (m.number ≡ s.number)
+  -- there is a head, and it has the numbers of rows
+  pub head : (h : HeadRow) × Has t.heads h × (h.id ≡ 1) × (h.grants ≡ length t.grants)
+      × (h.sessions ≡ length t.sessions)
+
+-- The same, tested row by row
+
+-- the count is the number of the redemptions with its code
+abbrev pub is_counted : List GrantRow → CountRow → Bool
+is_counted grants k = nat_eq k.redeemed (uses_in grants k.code)
+
+-- the voucher has a count
+abbrev pub has_count : List CountRow → VoucherRow → Bool
+has_count counts v = list_any (λ k. bytes_eq k.code v.code) counts
+
+-- the set has just the codes that have a count
+abbrev pub AreCounted : {S : Type 0} → HashSet (List ℕ) S → List CountRow → Type 0
+AreCounted codes counts = (code : List ℕ) → IsCode code
+    → contains bytes_eq codes code ≡ list_any (λ k. bytes_eq k.code (text_of code)) counts
+
+-- as numbers rise in both tables, the totals are those of the sessions in their order
+pub record Agrees (h : HeadRow) (t : Contents) : Type 0 where
+  pub grants : h.grants ≡ length t.grants
+  pub sessions : h.sessions ≡ length t.sessions
+  pub counts : list_all (is_counted t.grants) t.counts ≡ true
+  pub vouchers : list_all (has_count t.counts) t.vouchers ≡ true
+  pub totals : t.totals ≡ map (total_in t) t.sessions
+
+-- What was read
+
+-- the rows are those of the tables
+pub record AreReadRows (rows : CountedRows) (t : Contents) : Type 0 where
+  pub plans : rows.plans.items ≡ t.plans
+  pub vouchers : map voucher_read rows.vouchers.items ≡ t.vouchers
+  pub sessions : map session_read rows.sessions.items ≡ t.sessions
+  pub grants : map grant_read rows.grants.items ≡ t.grants
+
+-- what holds of the rows that the open connection had in the six tables of schema version 1
+abbrev pub OfFirst : State → State → (Contents → Type 0) → Type 0
+OfFirst old new Is = HasCleanDisk new → IsTrue old.is_open → (t : Contents) → HoldsFirst old.now t → Is t

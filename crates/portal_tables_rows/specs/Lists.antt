@@ -1,0 +1,93 @@
+-- Lists of the values of a table that pass a test, in an order.
+use Rattle.std.specs.Prelude.{◌≡◌, ℕ, ℤ, pos, Bool, true, false, ◌&&◌, nat_le, int_lt, List, [], ◌∷◌, map}
+use Rattle.std.specs.Prelude.{filter, Option, Some, None, IsSome, IsPermutation}
+use Rattle.std.specs.List.Sorted.{IsSorted}
+use Rattle.std.specs.Option.{option_cmp}
+use Rattle.std.specs.Ordering.{ordering_then, nat_cmp}
+use Rattle.std.specs.Cmp.Lexicographic.{slice_cmp}
+use Rattle.std.specs.declared.cmp.Ordering.{Ordering}
+use Rattle.sqlite.specs.declared.types.Value.TheVariants.{Text}
+use Rattle.sqlite.specs.Order.{Row}
+use Rattle.portal_tables_sql.specs.Stored.{or_null}
+use Rattle.portal_model.specs.History.{is_below}
+use Rattle.portal_model.specs.IdText.{IsIdText}
+use Rattle.portal_model.specs.Rows.{VoucherRow, TotalRow}
+use Rattle.portal_tables_rows.specs.Foreign.{IsMomentIfSome}
+use Rattle.portal_tables_rows.specs.declared.lists.SaleValue.{SaleValue}
+
+-- ---- values that pass a test, in an order
+
+-- the list has the values that pass, in this order
+pub record Lists {P : Type 0} (passes : P → Bool) (cmp : P → P → Ordering)
+    (values listed : List P) : Type 0 where
+  pub same : IsPermutation (filter passes values) listed
+  pub sorted : IsSorted cmp listed
+
+-- the answer has of each of them what `shown` gives
+pub record ListsAs {P X : Type 0} (shown : P → X) (passes : P → Bool) (cmp : P → P → Ordering)
+    (values : List P) (answer : List X) : Type 0 where
+  pub listed : List P
+  pub lists : Lists passes cmp values listed
+  pub shows : answer ≡ map shown listed
+
+-- ---- tests
+
+-- there is a time, and it is between the two, both included
+abbrev pub is_within : ℕ → ℕ → Option ℕ → Bool
+is_within from to None = false
+is_within from to (Some at) = nat_le from at && nat_le at to
+
+-- something remains, or there is no limit
+abbrev pub is_left : Option ℤ → Bool
+is_left None = true
+is_left (Some left) = int_lt (pos 0) left
+
+-- by its end and its remaining allowance the session may be open at the time
+abbrev pub may_be_open : ℕ → TotalRow → Bool
+may_be_open at m = is_below at m.ends && is_left m.remaining
+
+-- the numbers of the sessions that may be open at the time
+abbrev pub numbers_open : ℕ → List TotalRow → List ℕ
+numbers_open at totals = map (λ m. m.number) (filter (may_be_open at) totals)
+
+-- ---- orders
+
+-- the vouchers of a batch by their places
+abbrev pub by_place : VoucherRow → VoucherRow → Ordering
+by_place a b = nat_cmp a.place b.place
+
+-- the earlier sale first, and of two at one time the lesser code
+abbrev pub by_sale : VoucherRow → VoucherRow → Ordering
+by_sale a b = ordering_then (option_cmp nat_cmp a.sold b.sold) (slice_cmp nat_cmp a.code b.code)
+
+-- the earlier refund first, and of two at one time the lesser code
+abbrev pub by_refund : VoucherRow → VoucherRow → Ordering
+by_refund a b = ordering_then (option_cmp nat_cmp a.refunded b.refunded) (slice_cmp nat_cmp a.code b.code)
+
+-- by the numbers of the sessions
+abbrev pub by_number : TotalRow → TotalRow → Ordering
+by_number a b = nat_cmp a.number b.number
+
+-- ---- what is read of a voucher
+
+-- of a sale: the batch and the time
+abbrev pub sale_columns : VoucherRow → List ℕ × Option ℕ
+sale_columns v = (v.batch, v.sold)
+
+abbrev pub sale_read : SaleValue → List ℕ × Option ℕ
+sale_read s = (s.batch, Some s.at)
+
+-- a sale of a voucher that this product writes
+abbrev pub IsOwnSale : List ℕ × Option ℕ → Type 0
+IsOwnSale sale = IsIdText sale.0 × IsMomentIfSome sale.1 × IsSome sale.1
+
+-- a sale as two columns of a result
+abbrev pub sale_cells : List ℕ × Option ℕ → Row
+sale_cells sale = Text sale.0 ∷ or_null sale.1 ∷ []
+
+-- of a refund: the time and the amount
+abbrev pub refund_columns : VoucherRow → Option ℕ × Option ℕ
+refund_columns v = (v.refunded, v.amount)
+
+abbrev pub refund_read : ℕ × ℕ → Option ℕ × Option ℕ
+refund_read r = (Some r.0, Some r.1)

@@ -1,0 +1,89 @@
+-- Which of the product's tables a schema has, by their names, and which schema version the head row gives.
+use Rattle.std.specs.Prelude.{◌≡◌, ◌≤◌, ◌⊎◌, ℕ, Bool, ◌||◌, ◌&&◌, is_some, List, [], ◌∷◌, codes, Option, Some}
+use Rattle.std.specs.Prelude.{None, Ok, Err, false, nat_eq, bytes_eq, slice_get, option_and_then}
+use Rattle.sqlite.specs.Order.{Row, column}
+use Rattle.std.specs.List.{list_all, list_any}
+use Rattle.sqlite.specs.Schema.{Schema}
+use Rattle.sqlite.specs.Table.{Table}
+use Rattle.sqlite_schema.specs.declared.schema.Index.{Index}
+use Rattle.sqlite.specs.Effect.{Database, Reads}
+use Rattle.sqlite.specs.Listing.{understood, reads_listing, IsSourceOf}
+use Rattle.sqlite_schema.specs.Names.{table_named, view_named, same_name}
+use Rattle.sqlite_resolve.specs.declared.compiled.Compiled.{Compiled}
+use Rattle.sqlite_resolve.specs.declared.error.CompileError.{CompileError}
+use Rattle.portal_tables_sql.specs.Harmless.{are_harmless}
+use Rattle.portal_tables_sql.specs.Stored.{number}
+use Rattle.portal_tables_sql.specs.Tables.{name_of, our_tables, sessions_name}
+use Rattle.portal_tables_rows.specs.Holds.{index_name}
+
+-- ---- names
+
+-- a table or a view has the name
+abbrev pub is_name_taken : Schema → List ℕ → Bool
+is_name_taken schema name = is_some (table_named schema name) || is_some (view_named schema name)
+
+-- a table or a view has one of the product's names
+abbrev pub is_any_name_taken : Schema → Bool
+is_any_name_taken schema = list_any (λ x. is_name_taken schema (name_of x)) our_tables
+
+-- no foreign key acts on one of the product's table names, whether that table exists or not
+abbrev pub has_no_action_on_ours : Schema → Bool
+has_no_action_on_ours schema = list_all (λ x. are_harmless (name_of x) schema) our_tables
+
+-- a table has the name
+abbrev pub has_table : Schema → List ℕ → Bool
+has_table schema name = is_some (table_named schema name)
+
+-- each of the product's tables exists
+abbrev pub has_our_tables : Schema → Bool
+has_our_tables schema = list_all (λ x. has_table schema (name_of x)) our_tables
+
+-- each of them exists, and no foreign key acts on one of them
+abbrev pub is_usable_schema : Schema → Bool
+is_usable_schema schema = has_our_tables schema && has_no_action_on_ours schema
+
+-- the index by which the last session of a device is found, on the table with this tree
+abbrev pub is_session_index : ℕ → Index → Bool
+is_session_index tree index =
+    same_name index.name index_name && (nat_eq index.table tree && bytes_eq index.columns (2 ∷ 0 ∷ []))
+
+-- one of the indexes is that of the sessions in the table
+abbrev pub has_index_on : List Index → Option Table → Bool
+has_index_on indexes None = false
+has_index_on indexes (Some table) = list_any (is_session_index table.tree) indexes
+
+-- the product's table of sessions has this index
+abbrev pub is_indexed : Schema → Bool
+is_indexed schema =
+    has_index_on schema.indexes (option_and_then (slice_get schema.tables) (table_named schema sessions_name))
+
+-- ---- the schema version
+
+-- the query of the schema version
+abbrev pub schema_version_text : List ℕ
+schema_version_text = codes "SELECT layout FROM portal_head"
+
+-- the query does not compile under the schema
+abbrev pub IsNoQuery : Schema → Type 0
+IsNoQuery schema = (fault : CompileError) × (understood schema schema_version_text ≡ Err fault)
+
+-- the query gives these rows
+pub record QueryAnswers (db : Database) (rows : List Row) : Type 0 where
+  pub compiled : Compiled
+  pub is : understood db.schema schema_version_text ≡ Ok compiled
+  pub source : Database
+  pub from : IsSourceOf (reads_listing db.schema schema_version_text) db source
+  pub reads : Reads compiled.command source [] rows
+
+-- there is one row, which begins with a schema version from 1 on
+abbrev pub IsOneRow : List Row → ℕ → Type 0
+IsOneRow rows schema_version =
+    (row : Row) × (rows ≡ row ∷ []) × (column row 0 ≡ number schema_version) × (1 ≤ schema_version)
+
+-- The head is one row with this schema version, as the query gives it. None: the query does not compile, or
+-- gives something else.
+abbrev pub GivesSchemaVersion : Database → Option ℕ → Type 0
+GivesSchemaVersion db (Some schema_version) =
+    (rows : List Row) × QueryAnswers db rows × IsOneRow rows schema_version
+GivesSchemaVersion db None = IsNoQuery db.schema
+    ⊎ ((rows : List Row) × QueryAnswers db rows × ((schema_version : ℕ) → ¬ IsOneRow rows schema_version))

@@ -1,6 +1,0 @@
-use Rattle.std.proofs.Common.{sym, ◌∙◌}
-use Rattle.portal_tables_schema.proofs.IndexedLemmas.{indexed_stands}
-use Rattle.portal_tables_schema.proofs.schema_versions.is_indexed.Goals as goal
-
-pub returns-clause-index : goal.returns-clause-index
-returns-clause-index c on = indexed_stands c.args.schema.now (sym c.has_session_index-is_made.ensures ∙ on)

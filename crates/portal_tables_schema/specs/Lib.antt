@@ -1,3 +1,0 @@
-pub mod Migrations
-pub mod Creation
-pub mod SchemaVersions

@@ -1,0 +1,268 @@
+-- The tables of all schema versions, each with its tree, and the statements that create them.
+use Rattle.std.specs.Prelude.{◌++◌, Bool, true, false, [], ◌∷◌, Some, None, codes, List, ℕ}
+use Rattle.sqlite.specs.Collation.TheVariants.{Binary}
+use Rattle.sqlite.specs.declared.types.Value.TheVariants.{Null}
+use Rattle.sqlite.specs.Kind.{Kind}
+use Rattle.sqlite.specs.Kind.TheVariants.{Integer, Text, Blob}
+use Rattle.sqlite.specs.Table.{Table}
+use Rattle.sqlite_schema.specs.declared.schema.Column.{Column}
+use Rattle.sqlite_schema.specs.declared.schema.Reference.{Reference}
+use Rattle.sqlite_schema.specs.declared.schema.Action.TheVariants.{NoAction}
+use Rattle.sqlite_value.specs.declared.keys.Order.{Order}
+use Rattle.portal_tables_sql.specs.declared.our_tables.OurTable.{OurTable}
+use Rattle.portal_tables_sql.specs.declared.our_tables.OurTable.TheVariants as our
+use Rattle.sqlite_value.specs.Keys.{plain}
+
+abbrev pub column : Kind → Bool → List ℕ → Column
+column kind not_null name = record {
+  name = name;
+  kind = kind;
+  is_strict = true;
+  not_null = not_null;
+  default = Null;
+  collation = Binary;
+}
+
+-- NOT NULL, or may be NULL
+abbrev pub int : List ℕ → Column
+int = column Integer true
+
+abbrev pub int_or_null : List ℕ → Column
+int_or_null = column Integer false
+
+abbrev pub text : List ℕ → Column
+text = column Text true
+
+abbrev pub text_or_null : List ℕ → Column
+text_or_null = column Text false
+
+abbrev pub blob : List ℕ → Column
+blob = column Blob true
+
+abbrev pub refers : ℕ → List ℕ → List ℕ → Reference
+refers place parent key = record {
+  columns = place ∷ [];
+  parent = parent;
+  parent_columns = key ∷ [];
+  on_delete = NoAction;
+  on_update = NoAction;
+  is_deferred = false;
+}
+
+-- with an INTEGER PRIMARY KEY in its first column
+abbrev pub table_with_number : List ℕ → List Column → List Reference → ℕ → Table
+table_with_number name columns references tree = record {
+  name = name;
+  tree = tree;
+  columns = columns;
+  key = Some 0;
+  primary = 0 ∷ [];
+  uniques = [];
+  orders = [];
+  checks = [];
+  references = references;
+  computed = [];
+  stamps = record { places = []; terms = []; formats = [] };
+  is_counted = false;
+}
+
+-- with a TEXT PRIMARY KEY in its first column
+abbrev pub table_with_key : List ℕ → List Column → List (List ℕ) → List Order → List Reference → ℕ → Table
+table_with_key name columns uniques orders references tree = record {
+  name = name;
+  tree = tree;
+  columns = columns;
+  key = None;
+  primary = 1 ∷ [];
+  uniques = uniques;
+  orders = orders;
+  checks = [];
+  references = references;
+  computed = [];
+  stamps = record { places = []; terms = []; formats = [] };
+  is_counted = false;
+}
+
+abbrev pub head_name : List ℕ
+head_name = codes "portal_head"
+
+abbrev pub plans_name : List ℕ
+plans_name = codes "portal_plans"
+
+abbrev pub batches_name : List ℕ
+batches_name = codes "portal_batches"
+
+abbrev pub vouchers_name : List ℕ
+vouchers_name = codes "portal_vouchers"
+
+abbrev pub sessions_name : List ℕ
+sessions_name = codes "portal_sessions"
+
+abbrev pub grants_name : List ℕ
+grants_name = codes "portal_grants"
+
+abbrev pub counts_name : List ℕ
+counts_name = codes "portal_counts"
+
+abbrev pub totals_name : List ℕ
+totals_name = codes "portal_totals"
+
+abbrev pub requests_name : List ℕ
+requests_name = codes "portal_requests"
+
+abbrev pub head : ℕ → Table
+head = table_with_number head_name (int_or_null (codes "id") ∷ int (codes "layout")
+    ∷ int (codes "last_moment") ∷ int (codes "grants") ∷ int (codes "sessions") ∷ []) []
+
+abbrev pub plans : ℕ → Table
+plans =
+    table_with_key plans_name
+    (text (codes "id") ∷ int (codes "price") ∷ int (codes "uses") ∷ int (codes "seconds")
+    ∷ int (codes "bytes") ∷ int (codes "shelf_days") ∷ int (codes "extend") ∷ []) ((1 ∷ []) ∷ [])
+    (plain ∷ []) []
+
+abbrev pub batches : ℕ → Table
+batches =
+    table_with_key batches_name (text (codes "id") ∷ text (codes "plan_id") ∷ int (codes "issued")
+    ∷ int (codes "expires") ∷ int (codes "size") ∷ []) ((1 ∷ []) ∷ []) (plain ∷ [])
+    (refers 2 plans_name (codes "id") ∷ [])
+
+abbrev pub vouchers : ℕ → Table
+vouchers =
+    table_with_key vouchers_name
+    (text (codes "code") ∷ text (codes "batch_id") ∷ int (codes "place") ∷ int_or_null (codes "sold")
+    ∷ int_or_null (codes "refunded") ∷ int_or_null (codes "amount") ∷ [])
+    ((1 ∷ []) ∷ (2 ∷ 3 ∷ []) ∷ []) (plain ∷ plain ∷ []) (refers 2 batches_name (codes "id") ∷ [])
+
+abbrev pub sessions : ℕ → Table
+sessions =
+    table_with_number sessions_name
+    (int_or_null (codes "number") ∷ text (codes "device") ∷ text (codes "plan_id") ∷ int (codes "opened")
+    ∷ int (codes "used") ∷ int_or_null (codes "closed") ∷ [])
+    (refers 3 plans_name (codes "id") ∷ [])
+
+abbrev pub grants : ℕ → Table
+grants =
+    table_with_number grants_name
+    (int_or_null (codes "number") ∷ text (codes "code") ∷ int (codes "session") ∷ int (codes "moment")
+    ∷ int (codes "seconds") ∷ int (codes "bytes") ∷ [])
+    (refers 2 vouchers_name (codes "code") ∷ refers 3 sessions_name (codes "number") ∷ [])
+
+abbrev pub counts : ℕ → Table
+counts = table_with_key counts_name (text (codes "code") ∷ int (codes "redeemed") ∷ []) ((1 ∷ []) ∷ [])
+    (plain ∷ []) (refers 1 vouchers_name (codes "code") ∷ [])
+
+abbrev pub totals : ℕ → Table
+totals =
+    table_with_number totals_name
+    (int_or_null (codes "number") ∷ int_or_null (codes "ends") ∷ int_or_null (codes "remaining") ∷ [])
+    (refers 0 sessions_name (codes "number") ∷ [])
+
+-- the caller and the number are the key together
+abbrev pub requests : ℕ → Table
+requests tree = record {
+  name = requests_name;
+  tree = tree;
+  columns = text (codes "caller") ∷ text (codes "number") ∷ text (codes "method") ∷ text (codes "path")
+      ∷ blob (codes "body") ∷ int (codes "kind") ∷ text_or_null (codes "word") ∷ int (codes "n1")
+      ∷ int_or_null (codes "n2") ∷ int_or_null (codes "n3") ∷ [];
+  key = None;
+  primary = 1 ∷ 2 ∷ [];
+  uniques = (1 ∷ 2 ∷ []) ∷ [];
+  orders = plain ∷ [];
+  checks = [];
+  references = [];
+  computed = [];
+  stamps = record { places = []; terms = []; formats = [] };
+  is_counted = false;
+}
+
+abbrev pub create_head : List ℕ
+create_head =
+    codes "CREATE TABLE portal_head (id INTEGER PRIMARY KEY, layout INTEGER NOT NULL, "
+    ++ codes "last_moment INTEGER NOT NULL, grants INTEGER NOT NULL, sessions INTEGER NOT NULL) STRICT"
+
+abbrev pub create_plans : List ℕ
+create_plans =
+    codes "CREATE TABLE portal_plans (id TEXT NOT NULL PRIMARY KEY, price INTEGER NOT NULL, "
+    ++ codes "uses INTEGER NOT NULL, seconds INTEGER NOT NULL, bytes INTEGER NOT NULL, "
+    ++ codes "shelf_days INTEGER NOT NULL, extend INTEGER NOT NULL) STRICT"
+
+abbrev pub create_batches : List ℕ
+create_batches =
+    codes "CREATE TABLE portal_batches (id TEXT NOT NULL PRIMARY KEY, plan_id TEXT NOT NULL"
+    ++ codes " REFERENCES portal_plans (id), issued INTEGER NOT NULL, expires INTEGER NOT NULL, "
+    ++ codes "size INTEGER NOT NULL) STRICT"
+
+abbrev pub create_vouchers : List ℕ
+create_vouchers =
+    codes "CREATE TABLE portal_vouchers (code TEXT NOT NULL PRIMARY KEY, batch_id TEXT NOT NULL"
+    ++ codes " REFERENCES portal_batches (id), place INTEGER NOT NULL, sold INTEGER, refunded INTEGER, "
+    ++ codes "amount INTEGER, UNIQUE (batch_id, place)) STRICT"
+
+abbrev pub create_sessions : List ℕ
+create_sessions =
+    codes "CREATE TABLE portal_sessions (number INTEGER PRIMARY KEY, device TEXT NOT NULL, "
+    ++ codes "plan_id TEXT NOT NULL REFERENCES portal_plans (id), opened INTEGER NOT NULL, "
+    ++ codes "used INTEGER NOT NULL, closed INTEGER) STRICT"
+
+abbrev pub create_grants : List ℕ
+create_grants =
+    codes "CREATE TABLE portal_grants (number INTEGER PRIMARY KEY, code TEXT NOT NULL"
+    ++ codes " REFERENCES portal_vouchers (code), session INTEGER NOT NULL"
+    ++ codes " REFERENCES portal_sessions (number), moment INTEGER NOT NULL, seconds INTEGER NOT NULL, "
+    ++ codes "bytes INTEGER NOT NULL) STRICT"
+
+abbrev pub create_counts : List ℕ
+create_counts =
+    codes "CREATE TABLE portal_counts (code TEXT NOT NULL PRIMARY KEY REFERENCES portal_vouchers (code), "
+    ++ codes "redeemed INTEGER NOT NULL) STRICT"
+
+abbrev pub create_totals : List ℕ
+create_totals =
+    codes "CREATE TABLE portal_totals (number INTEGER PRIMARY KEY REFERENCES portal_sessions (number), "
+    ++ codes "ends INTEGER, remaining INTEGER) STRICT"
+
+abbrev pub create_requests : List ℕ
+create_requests =
+    codes "CREATE TABLE portal_requests (caller TEXT NOT NULL, number TEXT NOT NULL, "
+    ++ codes "method TEXT NOT NULL, path TEXT NOT NULL, body BLOB NOT NULL, kind INTEGER NOT NULL, "
+    ++ codes "word TEXT, n1 INTEGER NOT NULL, n2 INTEGER, n3 INTEGER, PRIMARY KEY (caller, number)) STRICT"
+
+-- ---- the description of each table
+
+-- a table by the number of its tree, the statement that creates it, and the schema version that added it (0:
+-- each
+-- version has it)
+pub record Description : Type 0 where
+  pub table : ℕ → Table
+  pub create : List ℕ
+  pub since : ℕ
+
+abbrev pub described : OurTable → Description
+described our.Head = record { table = head; create = create_head; since = 0 }
+described our.Plans = record { table = plans; create = create_plans; since = 0 }
+described our.Batches = record { table = batches; create = create_batches; since = 0 }
+described our.Vouchers = record { table = vouchers; create = create_vouchers; since = 0 }
+described our.Sessions = record { table = sessions; create = create_sessions; since = 0 }
+described our.Grants = record { table = grants; create = create_grants; since = 0 }
+described our.Counts = record { table = counts; create = create_counts; since = 2 }
+described our.Totals = record { table = totals; create = create_totals; since = 2 }
+described our.Requests = record { table = requests; create = create_requests; since = 3 }
+
+abbrev pub table_of : OurTable → ℕ → Table
+table_of x = (described x).table
+
+abbrev pub name_of : OurTable → List ℕ
+name_of x = (table_of x 0).name
+
+abbrev pub since : OurTable → ℕ
+since x = (described x).since
+
+abbrev pub create_of : OurTable → List ℕ
+create_of x = (described x).create
+
+-- a table comes after those that it refers to
+abbrev pub our_tables : List OurTable
+our_tables = our.Head ∷ our.Plans ∷ our.Batches ∷ our.Vouchers ∷ our.Sessions ∷ our.Grants ∷ our.Counts
+    ∷ our.Totals ∷ our.Requests ∷ []
