@@ -6,13 +6,6 @@ ghost use Rattle.sqlite.specs.State.{HasCleanDisk, IsUnchanged, Survives};
 ghost use Rattle.portal_ledger.specs.Ledger.{Accepted, Ledger, history_of};
 ghost use Rattle.portal_model.specs.History.{issued_of, voucher_of, session_of};
 ghost use Rattle.portal_model.specs.History.{last_session_of};
-ghost use Rattle.portal_tables_rows.specs.Commands.{
-  FitsInColumns as FitsColumns,
-  FitsSession,
-  FitsIssue,
-  FitsRedeem,
-};
-ghost use Rattle.portal_tables_rows.specs.Commands.{FitsReport, FitsAnswer, FitsFingerprint, FitsWithAnswer};
 ghost use Rattle.portal_ledger.specs.States.{State as DeskState, running};
 ghost use Rattle.portal_ledger.specs.Calls.{Fits, Keeps, FailsToKeep};
 ghost use Rattle.portal_tables.specs.HoldsLedger.{IsHeldUnder};
@@ -38,12 +31,10 @@ mod audits;
 
 use crate::errors::{StoreFault, is_memory};
 use crate::questions::Question;
-use crate::records::LIMIT;
 use portal_codes::Code;
 use portal_ledger::caller::Caller;
 use portal_ledger::marked::MarkedChanges;
-use portal_ledger::request::{KeptRequest, RequestMark, RequestNumber};
-use portal_model::change::{Answer, Changes, IssueChange, RedeemChange, ReportChange};
+use portal_ledger::request::{KeptRequest, RequestNumber};
 use portal_model::name::Device;
 use portal_model::record::{Session, Voucher};
 use portal_tables_rows::commands::commit_command;
@@ -128,7 +119,7 @@ impl<S: Alter> Tables<S> {
             return Err(StoreFault::Stopped);
         }
         let answer = marked.answer();
-        if !self.conn.is_autocommit() || !command_fits(marked, &answer) {
+        if !self.conn.is_autocommit() {
             self.is_stopped = true;
             return Err(StoreFault::Stopped);
         }
@@ -150,97 +141,4 @@ impl<S: Alter> Tables<S> {
             Err(fault) => Err(self.stop_on_fault(fault)),
         }
     }
-}
-
-/// Whether the numbers of the session fit in INTEGER columns.
-fn session_fits(session: &Session) -> bool
-    ensures { IsTrue result ↔ FitsSession session.now }
-{
-    session.number < LIMIT
-        && session.used < LIMIT
-        && session.allowance.is_none_or(|allowance| allowance < LIMIT)
-}
-
-/// Whether the numbers of the issue fit in INTEGER columns.
-fn issue_fits(c: &IssueChange) -> bool
-    ensures { IsTrue result ↔ FitsIssue c.now }
-{
-    c.batch.size < LIMIT && (c.codes.as_slice().len() as u64) < LIMIT
-}
-
-/// Whether the numbers of the redemption fit in INTEGER columns.
-fn redeem_fits(c: &RedeemChange) -> bool
-    ensures { IsTrue result ↔ FitsRedeem c.now }
-{
-    session_fits(&c.session)
-        && c.head.grants < LIMIT - 1
-        && c.head.sessions < LIMIT - 1
-        && c.voucher.redeemed < LIMIT - 1
-}
-
-/// Whether the numbers of the report fit in INTEGER columns.
-fn report_fits(c: &ReportChange) -> bool
-    ensures { IsTrue result ↔ FitsReport c.now }
-{
-    session_fits(&c.session) && c.bytes < LIMIT
-}
-
-/// Whether the numbers of the changes fit in INTEGER columns.
-fn changes_fit(changes: &Changes) -> bool
-    ensures { IsTrue result ↔ FitsColumns changes.now }
-{
-    match changes {
-        Changes::LoadChange(_) => true,
-        Changes::IssueChange(c) => issue_fits(c),
-        Changes::SellChange(_) => true,
-        Changes::RedeemChange(c) => redeem_fits(c),
-        Changes::ReportChange(c) => report_fits(c),
-        Changes::RefundChange(c) => c.amount < LIMIT,
-        Changes::CloseChange(c) => c.session.number < LIMIT,
-    }
-}
-
-/// Whether the numbers of the answer fit in INTEGER columns.
-fn answer_fits(answer: &Answer) -> bool
-    ensures { IsTrue result ↔ FitsAnswer answer.now }
-{
-    match answer {
-        Answer::LoadAnswer { plans } => *plans < LIMIT,
-        Answer::IssueAnswer {
-            batch: _,
-            count,
-            expires,
-        } => *count < LIMIT && expires.get() < LIMIT,
-        Answer::SellAnswer { code: _, price } => *price < LIMIT,
-        Answer::RedeemAnswer {
-            extended: _,
-            session,
-            uses_left,
-        } => *session < LIMIT && *uses_left < LIMIT,
-        Answer::ReportAnswer {
-            still_open: _,
-            session,
-            used,
-        } => *session < LIMIT && *used < LIMIT,
-        Answer::RefundAnswer { amount, code: _ } => *amount < LIMIT,
-        Answer::CloseAnswer { session } => *session < LIMIT,
-    }
-}
-
-/// Whether the numbers of the answer fit in INTEGER columns, if the request has an idempotency key.
-/// Without a key no answer is stored.
-fn fingerprint_fits(mark: &Option<RequestMark>, answer: &Answer) -> bool
-    ensures { IsTrue result ↔ FitsFingerprint mark.now answer.now }
-{
-    match mark {
-        Some(_) => answer_fits(answer),
-        None => true,
-    }
-}
-
-/// Whether the numbers of the changes, and of the answer if it is stored, fit in INTEGER columns.
-fn command_fits(marked: &MarkedChanges, answer: &Answer) -> bool
-    ensures { IsTrue result ↔ FitsWithAnswer marked.now answer.now }
-{
-    changes_fit(&marked.changes) && fingerprint_fits(&marked.mark, answer)
 }

@@ -1,9 +1,10 @@
 -- How calls compose that write on one transaction.
-use Rattle.portal_tables_rows.proofs.Common.{ℕ, List, IsTrue, Result, Ok, Row, Ghosts, State, Error, Contents}
-use Rattle.portal_tables_rows.proofs.Common.{MakesRows, Writes}
+use Rattle.portal_tables_rows.proofs.Common.{ℕ, List, IsTrue, Result, Ok, IsErrAnd, refl, Row, Ghosts, State}
+use Rattle.portal_tables_rows.proofs.Common.{Error, state, Contents, MakesRows, Writes}
 use Rattle.sqlite.specs.declared.transaction.Transaction.{Transaction}
 use Rattle.portal_tables_sql.specs.Inside.{Inside, Runs}
-use Rattle.portal_tables_sql.proofs.InsideLemmas.{inside_by, inside_none, inside_then}
+use Rattle.portal_tables_sql.proofs.Frame.{keeps_none, survives_none}
+use Rattle.portal_tables_sql.proofs.InsideLemmas.{inside_by, inside_none, inside_then, on_failed}
 use Rattle.portal_tables_rows.proofs.Compose.{steps_then}
 use Rattle.portal_tables_rows.proofs.TableSteps.{LeadsTo}
 
@@ -36,3 +37,13 @@ writes_run g {f = f} {sql = sql} {params = params} leads one =
       committed = ran.executes.1.committed_is;
       mode = ran.executes.1.mode;
     }) one
+
+-- a call that failed before it wrote
+pub writes_failed : {S : Type 0} (g : Ghosts S) {f : Contents → Contents} (at : Transaction S)
+    (result : Result (Unit {0}) Error) (Q : Error → Type 0) → IsErrAnd result Q → Writes g f at at result
+writes_failed g {f = f} at result Q err = record {
+  same_reference = refl;
+  steps = λ clean inside. on_failed result _ Q err;
+  kept = λ clean. keeps_none (state g at.conn.now);
+  survives = survives_none (state g at.conn.now) (λ _. ⊥);
+}

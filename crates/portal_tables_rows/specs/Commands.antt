@@ -1,5 +1,5 @@
--- The rows after each command, and whether its numbers fit in the columns.
-use Rattle.std.specs.Prelude.{ℕ, ◌+◌, ◌^◌, ◌<◌, max, length, map, Option, Some, None, IfSome}
+-- The rows after each command.
+use Rattle.std.specs.Prelude.{ℕ, ◌+◌, max, map, Option, Some, None}
 use Rattle.portal_codes.specs.Code.{text_of}
 use Rattle.portal_model.specs.declared.plan.Plan.{Plan}
 use Rattle.portal_model.specs.declared.record.Session.{Session}
@@ -94,55 +94,3 @@ after_command_with m answer t = with_kept_request m.mark answer (after_changes m
 -- the rows after a command whose request is stored with the answer that its caller gets
 abbrev pub after_command : MarkedChanges → Contents → Contents
 after_command m = after_command_with m (answer_of m.changes)
-
--- ---- numbers that fit in an INTEGER column
-
--- the number is missing, or below the limit
-abbrev pub IsBelow : ℕ → Option ℕ → Type 0
-IsBelow limit None = Unit {0}
-IsBelow limit (Some n) = n < limit
-
-pub record FitsSession (s : Session) : Type 0 where
-  pub number : s.number < 2 ^ 63
-  pub used : s.used < 2 ^ 63
-  pub allowance : IsBelow (2 ^ 63) s.allowance
-
-pub record FitsIssue (c : IssueChange) : Type 0 where
-  pub size : c.batch.size < 2 ^ 63
-  pub codes : length c.codes < 2 ^ 63
-
-pub record FitsRedeem (c : RedeemChange) : Type 0 where
-  pub session : FitsSession c.session
-  pub grants : c.head.grants + 1 < 2 ^ 63
-  pub sessions : c.head.sessions + 1 < 2 ^ 63
-  pub redeemed : c.voucher.redeemed + 1 < 2 ^ 63
-
-pub record FitsReport (c : ReportChange) : Type 0 where
-  pub session : FitsSession c.session
-  pub bytes : c.bytes < 2 ^ 63
-
--- each number of the changes fits in an INTEGER column
-abbrev pub FitsInColumns : Changes → Type 0
-FitsInColumns (to.LoadChange c) = Unit {0}
-FitsInColumns (to.IssueChange c) = FitsIssue c
-FitsInColumns (to.SellChange c) = Unit {0}
-FitsInColumns (to.RedeemChange c) = FitsRedeem c
-FitsInColumns (to.ReportChange c) = FitsReport c
-FitsInColumns (to.RefundChange c) = c.amount < 2 ^ 63
-FitsInColumns (to.CloseChange c) = c.session.number < 2 ^ 63
-
--- each number of the answer fits in an INTEGER column
-pub record FitsAnswer (answer : Answer) : Type 0 where
-  pub n1 : (cells_of answer).n1 < 2 ^ 63
-  pub n2 : IfSome (cells_of answer).n2 (λ n. n < 2 ^ 63)
-  pub n3 : IfSome (cells_of answer).n3 (λ n. n < 2 ^ 63)
-
--- the same of the answer, if it is stored with a fingerprint
-abbrev pub FitsFingerprint : Option Fingerprint → Answer → Type 0
-FitsFingerprint None answer = Unit {0}
-FitsFingerprint (Some mark) answer = FitsAnswer answer
-
--- each number fits that is stored with the changes, and with their fingerprint
-pub record FitsWithAnswer (m : MarkedChanges) (answer : Answer) : Type 0 where
-  pub changes : FitsInColumns m.changes
-  pub mark : FitsFingerprint m.mark answer

@@ -1,6 +1,6 @@
 //! Converts callers and answers to the columns of `portal_requests`.
 
-ghost use Rattle.std.specs.Prelude.{◌≡◌, ◌<◌, ◌^◌, IfSome};
+ghost use Rattle.std.specs.Prelude.{◌≡◌};
 ghost use Rattle.portal_ledger.specs.Fingerprint.{IsCaller};
 ghost use Rattle.portal_ledger.specs.RequestRow.{cells_of, text_of_caller, boolean};
 ghost use Rattle.portal_tables_rows.specs.Words.{row_cells, characters_of, word_cell};
@@ -88,13 +88,7 @@ fn number_of_boolean(b: bool) -> u64
 
 /// Converts an answer to its columns.
 pub fn answer_row(answer: &Answer) -> AnswerRow
-    requires n1 { (cells_of answer.now).n1 < 2 ^ 63 }
-    requires n2 { IfSome (cells_of answer.now).n2 (λ n. n < 2 ^ 63) }
-    requires n3 { IfSome (cells_of answer.now).n3 (λ n. n < 2 ^ 63) }
-    ensures cells { row_cells result ≡ cells_of answer.now }
-    ensures n1 { result.n1 < 2 ^ 63 }
-    ensures n2 { IfSome result.n2 (λ n. n < 2 ^ 63) }
-    ensures n3 { IfSome result.n3 (λ n. n < 2 ^ 63) }
+    ensures { row_cells result ≡ cells_of answer.now }
 {
     match answer {
         Answer::LoadAnswer { plans } => AnswerRow {

@@ -1,9 +1,10 @@
 //! Values that are bound to columns of text and of integers.
 
-ghost use Rattle.std.specs.Prelude.{◌≡◌, pos, option_map};
+ghost use Rattle.std.specs.Prelude.{◌≡◌, ◌↔◌, ◌<◌, ◌+◌, ◌^◌, pos, option_map, IfOk, IsOk};
 ghost use Rattle.sqlite_value.specs.declared.value.Value.TheVariants.{Text};
 
 use portal_model::moment::Moment;
+use sqlite::Error;
 use sqlite::types::{ToSql, ValueRef};
 
 /// Text for a TEXT column: a printed code, a device or a caller.
@@ -28,6 +29,38 @@ pub struct Total {
     pub number: u64,
     pub ends: Option<Moment>,
     pub remaining: Option<i64>,
+}
+
+/// Converts a number to the integer in a column. Fails with `IntegralValueOutOfRange` from 2^63 on, which
+/// an INTEGER column does not hold.
+pub(crate) fn integer(number: u64) -> Result<i64, Error>
+    ensures value { IfOk result (λ n. n ≡ pos number) }
+    ensures fits { IsOk result ↔ number < 2 ^ 63 }
+{
+    i64::try_from(number).map_err(|_| Error::IntegralValueOutOfRange(0))
+}
+
+/// Converts an optional number to the integer in a column. `None` is NULL. Fails as `integer`.
+pub(crate) fn integer_or_null(number: Option<u64>) -> Result<Option<i64>, Error>
+    ensures { IfOk result (λ n. n ≡ option_map pos number) }
+{
+    match number {
+        Some(number) => Ok(Some(integer(number)?)),
+        None => Ok(None),
+    }
+}
+
+/// Returns the number after this one. Fails with `IntegralValueOutOfRange` if an INTEGER column does not
+/// hold that.
+pub(crate) fn next(number: u64) -> Result<u64, Error>
+    ensures value { IfOk result (λ n. n ≡ number + 1) }
+    ensures fits { IsOk result ↔ number + 1 < 2 ^ 63 }
+{
+    if number < (1 << 63) - 1 {
+        Ok(number + 1)
+    } else {
+        Err(Error::IntegralValueOutOfRange(0))
+    }
 }
 
 /// Converts an optional time to the integer in a column, in seconds. `None` is NULL.

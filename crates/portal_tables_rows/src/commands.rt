@@ -1,8 +1,9 @@
 //! Writes the changes of a command to the tables, in one transaction.
 
-ghost use Rattle.std.specs.Prelude.{◌≡◌, ◌<◌, ◌^◌, length, map, false};
+ghost use Rattle.std.specs.Prelude.{◌≡◌, map, false, IfOk};
 ghost use Rattle.portal_codes.specs.Code.{text_of};
-ghost use Rattle.portal_model.specs.Rows.{new_vouchers, new_counts, total_row};
+ghost use Rattle.portal_model.specs.Change.{sessions_after};
+ghost use Rattle.portal_model.specs.Rows.{new_vouchers, new_counts, remaining_of, total_row};
 ghost use Rattle.portal_tables_sql.specs.Commits.{Commits};
 ghost use Rattle.portal_tables_sql.specs.States.{IsUndone};
 ghost use Rattle.portal_tables_rows.specs.Steps.{
@@ -23,24 +24,10 @@ ghost use Rattle.portal_tables_rows.specs.Commands.{
   after_redeem,
   after_remainder,
 };
-ghost use Rattle.portal_tables_rows.specs.Commands.{
-  after_report,
-  after_refund,
-  after_close,
-  after_changes,
-  FitsSession,
-  FitsIssue,
-};
-ghost use Rattle.portal_tables_rows.specs.Commands.{
-  FitsRedeem,
-  FitsReport,
-  FitsInColumns,
-  FitsFingerprint,
-  FitsWithAnswer,
-};
+ghost use Rattle.portal_tables_rows.specs.Commands.{after_report, after_refund, after_close, after_changes};
 ghost use Rattle.portal_tables_rows.specs.Commands.{after_command_with, with_kept_request};
 
-use crate::column_values::Total;
+use crate::column_values::{Total, integer, next};
 use crate::inserts::{
     insert_batch, insert_count, insert_grant, insert_plan, insert_session, insert_total,
     insert_voucher,
@@ -62,19 +49,27 @@ use portal_model::plan::Plan;
 use portal_model::record::Session;
 use sqlite::{Alter, Connection, Error, Transaction};
 
-/// Returns the row of `portal_totals` for a session: its end and its remaining allowance.
-fn total_of(session: &Session) -> Total
-    requires { FitsSession session.now }
-    ensures { ends_row result ≡ total_row session.now }
+/// Returns what remains of a session's allowance, below 0 if more was used. Fails with
+/// `IntegralValueOutOfRange` if a number does not fit in an INTEGER column.
+fn remaining_of(session: &Session) -> Result<Option<i64>, Error>
+    ensures { IfOk result (λ left. left ≡ remaining_of session.now.used session.now.allowance) }
 {
-    Total {
+    let Some(allowance) = session.allowance else {
+        return Ok(None);
+    };
+    Ok(Some(integer(allowance)? - integer(session.used)?))
+}
+
+/// Returns the row of `portal_totals` for a session: its end and its remaining allowance. Fails with
+/// `IntegralValueOutOfRange` if a number does not fit in an INTEGER column.
+fn total_of(session: &Session) -> Result<Total, Error>
+    ensures { IfOk result (λ total. ends_row total ≡ total_row session.now) }
+{
+    Ok(Total {
         number: session.number,
         ends: session.ends,
-        remaining: match session.allowance {
-            Some(allowance) => Some(allowance as i64 - session.used as i64),
-            None => None,
-        },
-    }
+        remaining: remaining_of(session)?,
+    })
 }
 
 /// Inserts these plans, in this order.
@@ -93,7 +88,6 @@ fn insert_vouchers<S: Alter>(
     batch: &Id,
     codes: &[Code],
 ) -> Result<(), Error>
-    requires { length codes.now < 2 ^ 63 }
     ensures { Writes S.Store (with_vouchers (new_vouchers batch.now 0 (map text_of codes.now)))
         tx.old tx.new result }
 {
@@ -124,7 +118,6 @@ fn apply_load<S: Alter>(tx: &mut Transaction<'_, S>, c: &LoadChange) -> Result<(
 /// Writes an issue: inserts the batch, its vouchers and their counts, and sets the time of the last
 /// command.
 fn apply_issue<S: Alter>(tx: &mut Transaction<'_, S>, c: &IssueChange) -> Result<(), Error>
-    requires { FitsIssue c.now }
     ensures { Writes S.Store (after_issue c.now) tx.old tx.new result }
 {
     insert_batch(tx, &c.batch)?;
@@ -147,11 +140,10 @@ fn extend_or_insert_session<S: Alter>(
     tx: &mut Transaction<'_, S>,
     c: &RedeemChange,
 ) -> Result<(), Error>
-    requires { FitsSession c.now.session }
     ensures { Writes S.Store (after_placing c.now.running c.now.session c.now.voucher.plan)
         tx.old tx.new result }
 {
-    let total = total_of(&c.session);
+    let total = total_of(&c.session)?;
     match c.running {
         Some(_) => set_session_total(tx, &total),
         None => {
@@ -163,13 +155,12 @@ fn extend_or_insert_session<S: Alter>(
 
 /// Writes the session of a redemption, and inserts the redemption.
 fn apply_grant<S: Alter>(tx: &mut Transaction<'_, S>, c: &RedeemChange) -> Result<(), Error>
-    requires { FitsRedeem c.now }
     ensures { Writes S.Store (after_grant c.now) tx.old tx.new result }
 {
     extend_or_insert_session(tx, c)?;
     insert_grant(
         tx,
-        c.head.grants + 1,
+        next(c.head.grants)?,
         &c.voucher.code,
         c.session.number,
         c.at,
@@ -177,35 +168,39 @@ fn apply_grant<S: Alter>(tx: &mut Transaction<'_, S>, c: &RedeemChange) -> Resul
     )
 }
 
+/// Returns the number of sessions after a redemption: one more if it opens a session. Fails with
+/// `IntegralValueOutOfRange` if an INTEGER column does not hold that.
+fn sessions_after(c: &RedeemChange) -> Result<u64, Error>
+    ensures { IfOk result (λ n. n ≡ sessions_after c.now.head.sessions c.now.running) }
+{
+    match c.running {
+        Some(_) => Ok(c.head.sessions),
+        None => next(c.head.sessions),
+    }
+}
+
 /// Writes a redemption: its session, its row, the count of its voucher, and the numbers in the head row.
 fn apply_redeem<S: Alter>(tx: &mut Transaction<'_, S>, c: &RedeemChange) -> Result<(), Error>
-    requires { FitsRedeem c.now }
     ensures { Writes S.Store (after_redeem c.now) tx.old tx.new result }
 {
     apply_grant(tx, c)?;
-    set_redeemed(tx, &c.voucher.code, c.voucher.redeemed + 1)?;
-    let sessions = match c.running {
-        Some(_) => c.head.sessions,
-        None => c.head.sessions + 1,
-    };
-    set_head_numbers(tx, c.at, c.head.grants + 1, sessions)
+    set_redeemed(tx, &c.voucher.code, next(c.voucher.redeemed)?)?;
+    set_head_numbers(tx, c.at, next(c.head.grants)?, sessions_after(c)?)
 }
 
 /// Sets the session's remaining allowance. It runs no statement for a session without an allowance.
 fn set_remaining<S: Alter>(tx: &mut Transaction<'_, S>, session: &Session) -> Result<(), Error>
-    requires { FitsSession session.now }
     ensures { Writes S.Store (after_remainder session.now.allowance (total_row session.now))
         tx.old tx.new result }
 {
     match session.allowance {
-        Some(_) => set_session_total(tx, &total_of(session)),
+        Some(_) => set_session_total(tx, &total_of(session)?),
         None => Ok(()),
     }
 }
 
 /// Writes a usage report: the bytes used, the remaining allowance, and the time of the last command.
 fn apply_report<S: Alter>(tx: &mut Transaction<'_, S>, c: &ReportChange) -> Result<(), Error>
-    requires { FitsReport c.now }
     ensures { Writes S.Store (after_report c.now) tx.old tx.new result }
 {
     let after = c.after();
@@ -216,7 +211,6 @@ fn apply_report<S: Alter>(tx: &mut Transaction<'_, S>, c: &ReportChange) -> Resu
 
 /// Writes a refund: sets when the voucher was refunded and the amount, and the time of the last command.
 fn apply_refund<S: Alter>(tx: &mut Transaction<'_, S>, c: &RefundChange) -> Result<(), Error>
-    requires { c.now.amount < 2 ^ 63 }
     ensures { Writes S.Store (after_refund c.now) tx.old tx.new result }
 {
     set_refunded(tx, &c.voucher.code, c.at, c.amount)?;
@@ -225,7 +219,6 @@ fn apply_refund<S: Alter>(tx: &mut Transaction<'_, S>, c: &RefundChange) -> Resu
 
 /// Writes a close: sets when the session was closed, and the time of the last command.
 fn apply_close<S: Alter>(tx: &mut Transaction<'_, S>, c: &CloseChange) -> Result<(), Error>
-    requires { c.now.session.number < 2 ^ 63 }
     ensures { Writes S.Store (after_close c.now) tx.old tx.new result }
 {
     set_closed(tx, c.session.number, c.at)?;
@@ -234,7 +227,6 @@ fn apply_close<S: Alter>(tx: &mut Transaction<'_, S>, c: &CloseChange) -> Result
 
 /// Writes the changes of a command, inside a transaction. It does not commit.
 fn apply_changes<S: Alter>(tx: &mut Transaction<'_, S>, changes: &Changes) -> Result<(), Error>
-    requires { FitsInColumns changes.now }
     ensures { Writes S.Store (after_changes changes.now) tx.old tx.new result }
 {
     match changes {
@@ -254,7 +246,6 @@ fn insert_request_if_keyed<S: Alter>(
     mark: &Option<RequestMark>,
     answer: &Answer,
 ) -> Result<(), Error>
-    requires { FitsFingerprint mark.now answer.now }
     ensures { Writes S.Store (with_kept_request mark.now answer.now) tx.old tx.new result }
 {
     match mark {
@@ -270,7 +261,6 @@ fn apply_with_fingerprint<S: Alter>(
     marked: &MarkedChanges,
     answer: &Answer,
 ) -> Result<(), Error>
-    requires { FitsWithAnswer marked.now answer.now }
     ensures { Writes S.Store (after_command_with marked.now answer.now) tx.old tx.new result }
 {
     apply_changes(tx, &marked.changes)?;
@@ -278,15 +268,15 @@ fn apply_with_fingerprint<S: Alter>(
 }
 
 /// Commits a command in one transaction: its changes, and its request with the answer if it has an
-/// idempotency key. On an error the database is as it was while the connection is open; a crash state
-/// may have the whole change.
+/// idempotency key. Fails with `IntegralValueOutOfRange` if a number does not fit in an INTEGER column.
+/// On an error the database is as it was while the connection is open; a crash state may have the whole
+/// change.
 pub fn commit_command<S: Alter>(
     conn: &mut Connection<S>,
     marked: &MarkedChanges,
     answer: &Answer,
 ) -> Result<(), Error>
-    requires outside { conn.old.in_transaction ≡ false }
-    requires fits { FitsWithAnswer marked.now answer.now }
+    requires { conn.old.in_transaction ≡ false }
     ensures { Commits S.Store (CommitsRows (after_command_with marked.now answer.now)) IsUndone
         (MayCommitRows (after_command_with marked.now answer.now)) conn.old conn.new result }
 {

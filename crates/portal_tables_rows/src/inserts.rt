@@ -1,6 +1,6 @@
-//! The INSERT statements, one for each table but `portal_requests`.
+//! The INSERT statements, one for each table but `portal_requests`. Each fails with
+//! `IntegralValueOutOfRange`, and writes nothing, if a number does not fit in an INTEGER column.
 
-ghost use Rattle.std.specs.Prelude.{◌<◌, ◌^◌};
 ghost use Rattle.portal_codes.specs.Code.{text_of};
 ghost use Rattle.portal_tables_rows.specs.Steps.{
   Writes,
@@ -13,7 +13,7 @@ ghost use Rattle.portal_tables_rows.specs.Steps.{
 ghost use Rattle.portal_tables_rows.specs.Steps.{opened_row, with_batch, with_count, with_grant, with_head};
 ghost use Rattle.portal_tables_rows.specs.Steps.{with_plan, with_session, with_total, with_voucher};
 
-use crate::column_values::{PrintedText, Total, seconds_or_null};
+use crate::column_values::{PrintedText, Total, integer, seconds_or_null};
 use portal_codes::Code;
 use portal_model::moment::Moment;
 use portal_model::name::Id;
@@ -50,7 +50,6 @@ pub(crate) fn insert_batch<S: Alter>(
     tx: &mut Transaction<'_, S>,
     batch: &Batch,
 ) -> Result<(), Error>
-    requires { batch.now.size < 2 ^ 63 }
     ensures { Writes S.Store (with_batch batch.now) tx.old tx.new result }
 {
     write(
@@ -61,7 +60,7 @@ pub(crate) fn insert_batch<S: Alter>(
             batch.plan.text(),
             batch.issued.get() as i64,
             batch.expires.get() as i64,
-            batch.size as i64
+            integer(batch.size)?
         ],
     )
 }
@@ -73,7 +72,6 @@ pub(crate) fn insert_voucher<S: Alter>(
     batch: &Id,
     place: usize,
 ) -> Result<(), Error>
-    requires { place < 2 ^ 63 }
     ensures { Writes S.Store (with_voucher (new_voucher batch.now place (text_of code.now)))
         tx.old tx.new result }
 {
@@ -86,7 +84,7 @@ pub(crate) fn insert_voucher<S: Alter>(
                 bytes: text.as_bytes()
             },
             batch.text(),
-            place as i64
+            integer(place as u64)?
         ],
     )
 }
@@ -97,7 +95,6 @@ pub(crate) fn insert_session<S: Alter>(
     session: &Session,
     plan: &Id,
 ) -> Result<(), Error>
-    requires { session.now.number < 2 ^ 63 }
     ensures { Writes S.Store (with_session (opened_row session.now plan.now)) tx.old tx.new result }
 {
     let text = session.device.text();
@@ -105,7 +102,7 @@ pub(crate) fn insert_session<S: Alter>(
         tx,
         INSERT_SESSION,
         params![
-            session.number as i64,
+            integer(session.number)?,
             PrintedText { bytes: &text },
             plan.text(),
             session.opened.get() as i64
@@ -122,8 +119,6 @@ pub(crate) fn insert_grant<S: Alter>(
     at: Moment,
     plan: &Plan,
 ) -> Result<(), Error>
-    requires number_fits { number < 2 ^ 63 }
-    requires session_fits { session < 2 ^ 63 }
     ensures { Writes S.Store (with_grant (granted_row number (text_of code.now) session at plan.now))
         tx.old tx.new result }
 {
@@ -132,11 +127,11 @@ pub(crate) fn insert_grant<S: Alter>(
         tx,
         INSERT_GRANT,
         params![
-            number as i64,
+            integer(number)?,
             PrintedText {
                 bytes: text.as_bytes()
             },
-            session as i64,
+            integer(session)?,
             at.get() as i64,
             plan.seconds,
             plan.bytes as i64
@@ -150,7 +145,6 @@ pub fn insert_count<S: Alter>(
     code: &Code,
     redeemed: u64,
 ) -> Result<(), Error>
-    requires { redeemed < 2 ^ 63 }
     ensures { Writes S.Store (with_count (count_row (text_of code.now) redeemed)) tx.old tx.new result }
 {
     let text = code.text();
@@ -161,28 +155,26 @@ pub fn insert_count<S: Alter>(
             PrintedText {
                 bytes: text.as_bytes()
             },
-            redeemed as i64
+            integer(redeemed)?
         ],
     )
 }
 
 /// Inserts the end of a session and its remaining allowance.
 pub fn insert_total<S: Alter>(tx: &mut Transaction<'_, S>, total: &Total) -> Result<(), Error>
-    requires { total.now.number < 2 ^ 63 }
     ensures { Writes S.Store (with_total (ends_row total.now)) tx.old tx.new result }
 {
     let ends = seconds_or_null(total.ends);
     write(
         tx,
         INSERT_TOTAL,
-        params![total.number as i64, ends, total.remaining],
+        params![integer(total.number)?, ends, total.remaining],
     )
 }
 
 /// Inserts the head row of an empty database, with this schema version.
 pub fn insert_head<S: Alter>(tx: &mut Transaction<'_, S>, schema_version: u64) -> Result<(), Error>
-    requires { schema_version < 2 ^ 63 }
     ensures { Writes S.Store (with_head (first_head schema_version)) tx.old tx.new result }
 {
-    write(tx, INSERT_HEAD, params![schema_version as i64])
+    write(tx, INSERT_HEAD, params![integer(schema_version)?])
 }

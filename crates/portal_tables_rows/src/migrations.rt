@@ -1,6 +1,6 @@
 //! The transaction that takes the tables of an older schema version to those of this version.
 
-ghost use Rattle.std.specs.Prelude.{◌≡◌, ◌<◌, ◌^◌, Bool, true, false, IsTrue, All};
+ghost use Rattle.std.specs.Prelude.{◌≡◌, Bool, true, false, IsTrue};
 ghost use Rattle.portal_tables_sql.specs.Commits.{Commits};
 ghost use Rattle.portal_tables_sql.specs.Inside.{Inside};
 ghost use Rattle.portal_tables_sql.specs.States.{IsUndone};
@@ -90,7 +90,6 @@ fn insert_all_counts<S: Alter>(
     tx: &mut Transaction<'_, S>,
     kept: &[CountValue],
 ) -> Result<(), Error>
-    requires { All (λ k. k.redeemed < 2 ^ 63) kept.now }
     ensures { Writes S.Store (with_counts (counts_read kept.now)) tx.old tx.new result }
 {
     for count in kept {
@@ -101,7 +100,6 @@ fn insert_all_counts<S: Alter>(
 
 /// Inserts the ends of sessions and their remaining allowances, in this order.
 fn insert_totals<S: Alter>(tx: &mut Transaction<'_, S>, totals: &[Total]) -> Result<(), Error>
-    requires { All (λ m. m.number < 2 ^ 63) totals.now }
     ensures { Writes S.Store (with_totals (totals_read totals.now)) tx.old tx.new result }
 {
     for total in totals {
@@ -116,8 +114,6 @@ fn insert_counters<S: Alter>(
     kept: &[CountValue],
     totals: &[Total],
 ) -> Result<(), Error>
-    requires counts_fit { All (λ k. k.redeemed < 2 ^ 63) kept.now }
-    requires totals_fit { All (λ m. m.number < 2 ^ 63) totals.now }
     ensures { Writes S.Store (with_counters kept.now totals.now) tx.old tx.new result }
 {
     insert_all_counts(tx, kept)?;
@@ -134,8 +130,6 @@ fn migrate_inside<S: Alter>(
     totals: &[Total],
     has_index: bool,
 ) -> Result<(), Error>
-    requires counts_fit { All (λ k. k.redeemed < 2 ^ 63) kept.now }
-    requires totals_fit { All (λ m. m.number < 2 ^ 63) totals.now }
     ensures { Inside S.Store (λ old new. HasFreeNames old.now.schema →
         MakesRowsFrom (version_number from) has_index this_schema_version true
         (after_migration from kept.now totals.now) old new)
@@ -158,9 +152,7 @@ pub fn commit_migration<S: Alter>(
     totals: &[Total],
     has_index: bool,
 ) -> Result<(), Error>
-    requires outside { conn.old.in_transaction ≡ false }
-    requires counts_fit { All (λ k. k.redeemed < 2 ^ 63) kept.now }
-    requires totals_fit { All (λ m. m.number < 2 ^ 63) totals.now }
+    requires { conn.old.in_transaction ≡ false }
     ensures { Commits S.Store
         (CommitsFrom (version_number from) has_index HasFreeNames (after_migration from kept.now totals.now))
         (λ old new. HasFreeNames old.now.schema → IsUndone old new)

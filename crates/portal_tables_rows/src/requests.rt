@@ -1,18 +1,17 @@
 //! Inserts and reads the idempotent requests in `portal_requests`, by caller and idempotency key.
 
-ghost use Rattle.std.specs.Prelude.{◌≡◌, ◌<◌, ◌^◌, pos, IfOk, IfSome, option_map};
+ghost use Rattle.std.specs.Prelude.{IfOk, IfSome, option_map};
 ghost use Rattle.portal_ledger.specs.Ledger.{kept_with};
 ghost use Rattle.portal_ledger.specs.Fingerprint.{IsCaller};
 ghost use Rattle.portal_ledger.specs.RequestRow.{IsKeptTyped, row_of_request, text_of_caller};
 ghost use Rattle.portal_tables_sql.specs.Finds.{Finds};
-ghost use Rattle.portal_tables_rows.specs.Commands.{FitsAnswer};
 ghost use Rattle.portal_tables_rows.specs.Foreign.{AreOwn, IsOwnRequest};
 ghost use Rattle.portal_tables_rows.specs.Requests.{key_of};
 ghost use Rattle.portal_tables_rows.specs.Steps.{Writes, with_request};
 ghost use Rattle.portal_tables_rows.specs.Selects.{ReadsRow};
 
 use crate::answers::{CallerText, answer_row};
-use crate::column_values::PrintedText;
+use crate::column_values::{PrintedText, integer, integer_or_null};
 use crate::queries::read_one;
 use crate::rows::RowError;
 use crate::stored_requests::{StoredRequest, parse_kept_request};
@@ -24,31 +23,21 @@ use portal_tables_sql::statements::{INSERT_REQUEST, SELECT_REQUEST};
 use sqlite::{Alter, Connection, Error, Transaction, params};
 use std::alloc::Global;
 
-/// Converts an optional number below 2^63 to the integer in a column. `None` is NULL.
-fn integer_or_null(number: Option<u64>) -> Option<i64>
-    requires { IfSome number (λ n. n < 2 ^ 63) }
-    ensures { result ≡ option_map pos number }
-{
-    match number {
-        Some(number) => Some(number as i64),
-        None => None,
-    }
-}
-
-/// Inserts a request, by its fingerprint, with the answer to it.
+/// Inserts a request, by its fingerprint, with the answer to it. Fails with `IntegralValueOutOfRange`, and
+/// writes nothing, if a number of the answer does not fit in an INTEGER column.
 pub fn insert_request<S: Alter>(
     tx: &mut Transaction<'_, S>,
     mark: &RequestMark,
     answer: &Answer,
 ) -> Result<(), Error>
-    requires { FitsAnswer answer.now }
     ensures { Writes S.Store (with_request (row_of_request (kept_with mark.now answer.now)))
         tx.old tx.new result }
 {
     let text = CallerText::of(&mark.caller);
     let row = answer_row(answer);
-    let n2 = integer_or_null(row.n2);
-    let n3 = integer_or_null(row.n3);
+    let n1 = integer(row.n1)?;
+    let n2 = integer_or_null(row.n2)?;
+    let n3 = integer_or_null(row.n3)?;
     write(
         tx,
         INSERT_REQUEST,
@@ -62,7 +51,7 @@ pub fn insert_request<S: Alter>(
             mark.body.as_slice(),
             row.kind,
             &row.word,
-            row.n1 as i64,
+            n1,
             n2,
             n3
         ],

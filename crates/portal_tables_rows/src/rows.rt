@@ -1,6 +1,8 @@
 //! The values that are read from rows, the readers of single columns, and the errors of reading.
 
 ghost use Rattle.std.specs.Prelude.{◌≡◌, IfOk};
+ghost use Rattle.portal_codes.specs.Code.{IsCode};
+ghost use Rattle.portal_ledger.specs.RequestRow.{boolean};
 ghost use Rattle.sqlite.specs.Order.{column};
 ghost use Rattle.sqlite.specs.declared.types.Value.TheVariants.{Text};
 ghost use Rattle.portal_codes.specs.Code.{text_of};
@@ -16,6 +18,7 @@ ghost use Rattle.portal_tables_rows.specs.Foreign.{
   IsMomentIfSome,
   IsPrintedCode,
   IsPrintedDevice,
+  NotForeign,
   SparesOwn,
 };
 
@@ -99,6 +102,52 @@ pub struct CountValue {
     pub redeemed: u64,
 }
 
+/// Parses a code in its printed form. Fails with `ForeignRow` for any other text.
+pub(crate) fn parse_printed_code(text: &str) -> Result<Code, RowError>
+    ensures text { IfOk result (λ code. text_of code ≡ text.now) }
+    ensures code { IfOk result IsCode }
+    ensures own { IsPrintedCode text.now → NotForeign result }
+{
+    let Ok(code) = Code::read(text) else {
+        return Err(RowError::ForeignRow);
+    };
+    let printed = code.text();
+    if printed.as_bytes() == text.as_bytes() {
+        Ok(code)
+    } else {
+        Err(RowError::ForeignRow)
+    }
+}
+
+/// Parses a device in its printed form. Fails with `ForeignRow` for any other text.
+pub(crate) fn parse_printed_device(text: &str) -> Result<Device, RowError>
+    ensures text { IfOk result (λ device. text_of_device device ≡ text.now) }
+    ensures device { IfOk result IsDevice }
+    ensures own { IsPrintedDevice text.now → NotForeign result }
+{
+    let Ok(device) = Device::read(text) else {
+        return Err(RowError::ForeignRow);
+    };
+    let printed = device.text();
+    if printed.as_slice() == text.as_bytes() {
+        Ok(device)
+    } else {
+        Err(RowError::ForeignRow)
+    }
+}
+
+/// Parses a boolean: 0 or 1. Fails with `ForeignRow` for any other number.
+pub(crate) fn parse_boolean(number: u64) -> Result<bool, RowError>
+    ensures boolean { IfOk result (λ b. boolean b ≡ number) }
+    ensures own { SparesOwn boolean (λ _. Unit {0}) number result }
+{
+    match number {
+        0 => Ok(false),
+        1 => Ok(true),
+        _ => Err(RowError::ForeignRow),
+    }
+}
+
 /// Reads the id in column `at`. Fails with `ForeignRow` if the text is not an id.
 pub fn id_in(row: &Row, at: usize) -> Result<Id, RowError>
     ensures column { IfOk result (λ id. column row.now at ≡ Text id) }
@@ -114,15 +163,7 @@ pub fn code_in(row: &Row, at: usize) -> Result<Code, RowError>
     ensures own { SparesOwn Text IsPrintedCode (column row.now at) result }
 {
     let text: String = row.get(at)?;
-    let Ok(code) = Code::read(&text) else {
-        return Err(RowError::ForeignRow);
-    };
-    let printed = code.text();
-    if printed.as_bytes() == text.as_bytes() {
-        Ok(code)
-    } else {
-        Err(RowError::ForeignRow)
-    }
+    parse_printed_code(&text)
 }
 
 /// Reads the device in column `at`. Fails with `ForeignRow` if the text is not a device in its printed
@@ -133,15 +174,7 @@ pub(crate) fn device_in(row: &Row, at: usize) -> Result<Device, RowError>
     ensures own { SparesOwn Text IsPrintedDevice (column row.now at) result }
 {
     let text: String = row.get(at)?;
-    let Ok(device) = Device::read(&text) else {
-        return Err(RowError::ForeignRow);
-    };
-    let printed = device.text();
-    if printed.as_slice() == text.as_bytes() {
-        Ok(device)
-    } else {
-        Err(RowError::ForeignRow)
-    }
+    parse_printed_device(&text)
 }
 
 /// Reads the time in column `at`. Fails with `ForeignRow` if the number is past the greatest time.
@@ -171,10 +204,5 @@ pub(crate) fn flag_in(row: &Row, at: usize) -> Result<bool, RowError>
     ensures column { IfOk result (λ b. column row.now at ≡ flag b) }
     ensures own { SparesOwn flag (λ _. Unit {0}) (column row.now at) result }
 {
-    let number: u64 = row.get(at)?;
-    match number {
-        0 => Ok(false),
-        1 => Ok(true),
-        _ => Err(RowError::ForeignRow),
-    }
+    parse_boolean(row.get(at)?)
 }

@@ -1,30 +1,27 @@
 //! Reads the rows of `portal_requests`, and parses each as a request with its answer.
 
 ghost use Rattle.std.specs.Prelude.{◌≡◌, Some, None, IfOk};
-ghost use Rattle.portal_codes.specs.Code.{IsCode, text_of};
 ghost use Rattle.portal_ledger.specs.Fingerprint.{IsCaller};
 ghost use Rattle.portal_ledger.specs.RequestRow.{IsAnswerTyped, IsKeptTyped, cells, cells_of, row_of_request};
-ghost use Rattle.portal_ledger.specs.RequestRow.{text_of_caller, boolean};
+ghost use Rattle.portal_ledger.specs.RequestRow.{text_of_caller};
 ghost use Rattle.portal_tables_rows.specs.Contents.{request_cells};
 ghost use Rattle.portal_model.specs.IdText.{IsIdText};
 ghost use Rattle.portal_tables_rows.specs.Foreign.{
   IsMomentCell,
   IsOwnAnswer,
   IsOwnRequest,
-  IsPrintedCode,
   NotForeign,
 };
 ghost use Rattle.portal_tables_rows.specs.Foreign.{SparesOwn};
 ghost use Rattle.portal_tables_rows.specs.Requests.{request_read};
 
 use crate::from_row::FromRow;
-use crate::rows::RowError;
-use portal_codes::Code;
+use crate::rows::{RowError, parse_boolean, parse_printed_code, parse_printed_device};
 use portal_ledger::caller::Caller;
 use portal_ledger::request::{KeptRequest, RequestMark, RequestNumber};
 use portal_model::change::Answer;
 use portal_model::moment::Moment;
-use portal_model::name::{Device, Id};
+use portal_model::name::Id;
 use sqlite::Row;
 use std::alloc::Global;
 
@@ -70,23 +67,6 @@ impl FromRow for StoredRequest {
     }
 }
 
-/// Parses a code in its printed form. Fails with `ForeignRow` for any other text.
-fn parse_printed_code(text: &str) -> Result<Code, RowError>
-    ensures text { IfOk result (λ code. text_of code ≡ text.now) }
-    ensures code { IfOk result IsCode }
-    ensures own { IsPrintedCode text.now → NotForeign result }
-{
-    let Ok(code) = Code::read(text) else {
-        return Err(RowError::ForeignRow);
-    };
-    let printed = code.text();
-    if printed.as_bytes() == text.as_bytes() {
-        Ok(code)
-    } else {
-        Err(RowError::ForeignRow)
-    }
-}
-
 /// Parses a caller: `desk`, `gateway`, or a device in its printed form. Fails with `ForeignRow` for any
 /// other text.
 fn parse_caller(text: &str) -> Result<Caller, RowError>
@@ -100,27 +80,7 @@ fn parse_caller(text: &str) -> Result<Caller, RowError>
     if text.as_bytes() == b"gateway".as_slice() {
         return Ok(Caller::Gateway);
     }
-    let Ok(device) = Device::read(text) else {
-        return Err(RowError::ForeignRow);
-    };
-    let printed = device.text();
-    if printed.as_slice() == text.as_bytes() {
-        Ok(Caller::Guest(device))
-    } else {
-        Err(RowError::ForeignRow)
-    }
-}
-
-/// Parses a boolean: 0 or 1. Fails with `ForeignRow` for any other number.
-fn parse_boolean(number: u64) -> Result<bool, RowError>
-    ensures boolean { IfOk result (λ b. boolean b ≡ number) }
-    ensures own { SparesOwn boolean (λ _. Unit {0}) number result }
-{
-    match number {
-        0 => Ok(false),
-        1 => Ok(true),
-        _ => Err(RowError::ForeignRow),
-    }
+    Ok(Caller::Guest(parse_printed_device(text)?))
 }
 
 /// Parses the columns of the answer to an issue: the batch, the number of codes and the expiry. Fails

@@ -1,6 +1,6 @@
-//! The UPDATE statements, one for each function.
+//! The UPDATE statements, one for each function. Each fails with `IntegralValueOutOfRange`, and writes
+//! nothing, if a number does not fit in an INTEGER column.
 
-ghost use Rattle.std.specs.Prelude.{◌<◌, ◌^◌};
 ghost use Rattle.portal_codes.specs.Code.{text_of};
 ghost use Rattle.portal_tables_rows.specs.Steps.{
   Writes,
@@ -18,7 +18,7 @@ ghost use Rattle.portal_tables_rows.specs.Steps.{
   with_use,
 };
 
-use crate::column_values::{PrintedText, Total, seconds_or_null};
+use crate::column_values::{PrintedText, Total, integer, seconds_or_null};
 use portal_codes::Code;
 use portal_model::moment::Moment;
 use portal_tables_sql::query::write;
@@ -56,7 +56,6 @@ pub(crate) fn set_refunded<S: Alter>(
     at: Moment,
     amount: u64,
 ) -> Result<(), Error>
-    requires { amount < 2 ^ 63 }
     ensures { Writes S.Store (with_refund (text_of code.now) at amount) tx.old tx.new result }
 {
     let text = code.text();
@@ -68,7 +67,7 @@ pub(crate) fn set_refunded<S: Alter>(
                 bytes: text.as_bytes()
             },
             at.get() as i64,
-            amount as i64
+            integer(amount)?
         ],
     )
 }
@@ -90,14 +89,12 @@ pub(crate) fn set_head_numbers<S: Alter>(
     grants: u64,
     sessions: u64,
 ) -> Result<(), Error>
-    requires grants_fit { grants < 2 ^ 63 }
-    requires sessions_fit { sessions < 2 ^ 63 }
     ensures { Writes S.Store (with_numbers at grants sessions) tx.old tx.new result }
 {
     write(
         tx,
         SET_HEAD_NUMBERS,
-        params![at.get() as i64, grants as i64, sessions as i64],
+        params![at.get() as i64, integer(grants)?, integer(sessions)?],
     )
 }
 
@@ -106,10 +103,9 @@ pub fn set_schema_version<S: Alter>(
     tx: &mut Transaction<'_, S>,
     schema_version: u64,
 ) -> Result<(), Error>
-    requires { schema_version < 2 ^ 63 }
     ensures { Writes S.Store (with_schema_version schema_version) tx.old tx.new result }
 {
-    write(tx, SET_SCHEMA_VERSION, params![schema_version as i64])
+    write(tx, SET_SCHEMA_VERSION, params![integer(schema_version)?])
 }
 
 /// Sets how many bytes the session has used.
@@ -118,11 +114,9 @@ pub(crate) fn set_used<S: Alter>(
     number: u64,
     used: u64,
 ) -> Result<(), Error>
-    requires number_fits { number < 2 ^ 63 }
-    requires used_fits { used < 2 ^ 63 }
     ensures { Writes S.Store (with_use number used) tx.old tx.new result }
 {
-    write(tx, SET_USED, params![number as i64, used as i64])
+    write(tx, SET_USED, params![integer(number)?, integer(used)?])
 }
 
 /// Sets when the session was closed.
@@ -131,10 +125,9 @@ pub(crate) fn set_closed<S: Alter>(
     number: u64,
     at: Moment,
 ) -> Result<(), Error>
-    requires { number < 2 ^ 63 }
     ensures { Writes S.Store (with_close number at) tx.old tx.new result }
 {
-    write(tx, SET_CLOSED, params![number as i64, at.get() as i64])
+    write(tx, SET_CLOSED, params![integer(number)?, at.get() as i64])
 }
 
 /// Sets how often the voucher was redeemed.
@@ -143,7 +136,6 @@ pub(crate) fn set_redeemed<S: Alter>(
     code: &Code,
     redeemed: u64,
 ) -> Result<(), Error>
-    requires { redeemed < 2 ^ 63 }
     ensures { Writes S.Store (with_redeemed (text_of code.now) redeemed) tx.old tx.new result }
 {
     let text = code.text();
@@ -154,7 +146,7 @@ pub(crate) fn set_redeemed<S: Alter>(
             PrintedText {
                 bytes: text.as_bytes()
             },
-            redeemed as i64
+            integer(redeemed)?
         ],
     )
 }
@@ -164,13 +156,12 @@ pub(crate) fn set_session_total<S: Alter>(
     tx: &mut Transaction<'_, S>,
     total: &Total,
 ) -> Result<(), Error>
-    requires { total.now.number < 2 ^ 63 }
     ensures { Writes S.Store (with_ends (ends_row total.now)) tx.old tx.new result }
 {
     let ends = seconds_or_null(total.ends);
     write(
         tx,
         SET_SESSION_TOTAL,
-        params![total.number as i64, ends, total.remaining],
+        params![integer(total.number)?, ends, total.remaining],
     )
 }

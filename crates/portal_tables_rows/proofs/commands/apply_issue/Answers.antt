@@ -1,11 +1,7 @@
-use Rattle.portal_tables_rows.proofs.Common.{◌<◌, ◌^◌, Ok, sym, subst, length, map, text_of, new_vouchers}
-use Rattle.portal_tables_rows.proofs.Common.{new_counts, Writes, with_vouchers, with_counts}
+use Rattle.portal_tables_rows.proofs.Common.{Ok, subst, map, text_of, new_vouchers, new_counts, Writes}
+use Rattle.portal_tables_rows.proofs.Common.{with_vouchers, with_counts}
 use Rattle.portal_tables_rows.proofs.WritesLemmas.{writes_then}
 use Rattle.portal_tables_rows.proofs.commands.apply_issue.Goals as goal
-
-pub insert_vouchers-requires : goal.insert_vouchers-requires
-insert_vouchers-requires g c =
-    subst (λ codes. length codes < 2 ^ 63) (sym c.as_slice.ensures.value) c.requires.codes
 
 pub returns : goal.returns
 returns g c =

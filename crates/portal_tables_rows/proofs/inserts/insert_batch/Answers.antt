@@ -1,4 +1,4 @@
-use Rattle.portal_tables_rows.proofs.Common.{◌<◌, ◌^◌, w64, arith, to_z_pos}
+use Rattle.portal_tables_rows.proofs.Common.{◌<◌, ◌^◌, w64, arith, to_z_pos, refl}
 use Rattle.portal_tables_rows.proofs.InsertSteps.{add_batch}
 use Rattle.portal_tables_rows.proofs.WritesLemmas.{writes_run}
 use Rattle.portal_tables_rows.proofs.inserts.insert_batch.Goals as goal
@@ -20,5 +20,6 @@ returns g c =
       c.get.ensures.value,
       to_z_pos w64 c.get-2.result expires,
       c.get-2.ensures.value,
-      to_z_pos w64 c.args.batch.now.size c.requires,
+      c.in_ok-integer.ensures.value,
+      to_z_pos w64 c.args.batch.now.size (c.in_ok-integer.ensures.fits.0 refl),
     ) at c.write.ensures)

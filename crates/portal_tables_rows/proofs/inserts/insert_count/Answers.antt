@@ -1,4 +1,4 @@
-use Rattle.portal_tables_rows.proofs.Common.{w64, to_z_pos, text_of, count_row}
+use Rattle.portal_tables_rows.proofs.Common.{w64, to_z_pos, text_of, count_row, refl}
 use Rattle.portal_tables_rows.proofs.InsertSteps.{add_count}
 use Rattle.portal_tables_rows.proofs.WritesLemmas.{writes_run}
 use Rattle.portal_tables_rows.proofs.inserts.insert_count.Goals as goal
@@ -11,5 +11,6 @@ returns g c =
       c.params-to_sql-2.ensures,
       c.as_bytes.ensures,
       c.text-text.ensures.value,
-      to_z_pos w64 c.args.redeemed c.requires,
+      c.in_ok-integer.ensures.value,
+      to_z_pos w64 c.args.redeemed (c.in_ok-integer.ensures.fits.0 refl),
     ) at c.write.ensures)

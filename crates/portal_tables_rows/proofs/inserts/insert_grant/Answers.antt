@@ -1,4 +1,4 @@
-use Rattle.portal_tables_rows.proofs.Common.{◌<◌, ◌^◌, w64, arith, to_z_pos, text_of, granted_row}
+use Rattle.portal_tables_rows.proofs.Common.{◌<◌, ◌^◌, w64, arith, to_z_pos, text_of, granted_row, refl}
 use Rattle.portal_tables_rows.proofs.InsertSteps.{add_grant}
 use Rattle.portal_tables_rows.proofs.WritesLemmas.{writes_run}
 use Rattle.portal_tables_rows.proofs.inserts.insert_grant.Goals as goal
@@ -16,10 +16,12 @@ returns g c =
       c.params-to_sql-4.ensures,
       c.params-to_sql-5.ensures,
       c.params-to_sql-6.ensures,
-      to_z_pos w64 c.args.number c.requires.number_fits,
+      c.in_ok-integer.ensures.value,
+      to_z_pos w64 c.args.number (c.in_ok-integer.ensures.fits.0 refl),
       c.as_bytes.ensures,
       c.text-text.ensures.value,
-      to_z_pos w64 c.args.session c.requires.session_fits,
+      c.in_ok-integer-2.ensures.value,
+      to_z_pos w64 c.args.session (c.in_ok-integer-2.ensures.fits.0 refl),
       to_z_pos w64 c.get.result moment,
       c.get.ensures.value,
       to_z_pos w64 c.args.plan.now.bytes bytes,

@@ -1,4 +1,4 @@
-use Rattle.portal_tables_rows.proofs.Common.{w64, to_z_pos, bound_number, bound_signed, ends_row}
+use Rattle.portal_tables_rows.proofs.Common.{w64, to_z_pos, bound_number, bound_signed, ends_row, refl}
 use Rattle.portal_tables_rows.proofs.InsertSteps.{add_total}
 use Rattle.portal_tables_rows.proofs.WritesLemmas.{writes_run}
 use Rattle.portal_tables_rows.proofs.inserts.insert_total.Goals as goal
@@ -10,7 +10,8 @@ returns g c =
       c.params-to_sql.ensures,
       c.params-to_sql-2.ensures,
       c.params-to_sql-3.ensures,
-      to_z_pos w64 c.args.total.now.number c.requires,
+      c.in_ok-integer.ensures.value,
+      to_z_pos w64 c.args.total.now.number (c.in_ok-integer.ensures.fits.0 refl),
       c.seconds_or_null-ends.ensures,
       bound_number c.args.total.now.ends,
       bound_signed c.args.total.now.remaining,

@@ -14,5 +14,6 @@ returns g c =
       c.as_bytes.ensures,
       c.text-text.ensures.value,
       c.text.ensures.value,
-      to_z_pos w64 c.args.place c.requires,
+      c.in_ok-integer.ensures.value,
+      to_z_pos w64 c.args.place (c.in_ok-integer.ensures.fits.0 refl),
     ) at c.write.ensures)

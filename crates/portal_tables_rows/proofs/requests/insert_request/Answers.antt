@@ -1,5 +1,5 @@
-use Rattle.portal_tables_rows.proofs.Common.{w64, subst, to_z_pos, bound_number, AnswerCells, RequestRow}
-use Rattle.portal_tables_rows.proofs.Common.{row_of_request, text_of_caller, Writes, with_request}
+use Rattle.portal_tables_rows.proofs.Common.{w64, refl, subst, to_z_pos, bound_number, AnswerCells}
+use Rattle.portal_tables_rows.proofs.Common.{RequestRow, row_of_request, text_of_caller, Writes, with_request}
 use Rattle.std.specs.String.{string_bytes}
 use Rattle.portal_ledger.specs.Ledger.{kept_with}
 use Rattle.portal_ledger.specs.Fingerprint.{Fingerprint}
@@ -31,7 +31,7 @@ returns g c =
     subst (λ (m : Fingerprint). Writes g.S.Store (with_request (row_of_request
     (kept_with m c.args.answer.now))) c.args.tx.now c.write.new.tx c.write.result) c.mark.view_is
     (subst (λ a. Writes g.S.Store (with_request (with a)) c.args.tx.now c.write.new.tx c.write.result)
-    c.answer_row-row.ensures.cells
+    c.answer_row-row.ensures
     (writes_run g.S.Store (add_request (with (row_cells row)))
     (rw (
       c.params-to_sql.ensures,
@@ -50,9 +50,10 @@ returns g c =
       c.as_str.ensures.value,
       c.as_str-2.ensures.value,
       c.as_slice.ensures.value,
-      to_z_pos w64 row.n1 c.answer_row-row.ensures.n1,
-      c.integer_or_null-n2.ensures,
-      c.integer_or_null-n3.ensures,
+      c.in_ok-n1.ensures.value,
+      to_z_pos w64 row.n1 (c.in_ok-n1.ensures.fits.0 refl),
+      c.in_ok-n2.ensures,
+      c.in_ok-n3.ensures,
       bound_word row.word,
       bound_number row.n2,
       bound_number row.n3,

@@ -1,4 +1,4 @@
-use Rattle.portal_tables_rows.proofs.Common.{◌<◌, ◌^◌, w64, arith, to_z_pos}
+use Rattle.portal_tables_rows.proofs.Common.{◌<◌, ◌^◌, w64, arith, to_z_pos, refl}
 use Rattle.portal_tables_rows.proofs.UpdateSteps.{set_closed}
 use Rattle.portal_tables_rows.proofs.WritesLemmas.{writes_run}
 use Rattle.portal_tables_rows.proofs.updates.set_closed.Goals as goal
@@ -10,7 +10,8 @@ returns g c =
     (rw (
       c.params-to_sql.ensures,
       c.params-to_sql-2.ensures,
-      to_z_pos w64 c.args.number c.requires,
+      c.in_ok-integer.ensures.value,
+      to_z_pos w64 c.args.number (c.in_ok-integer.ensures.fits.0 refl),
       to_z_pos w64 c.get.result moment,
       c.get.ensures.value,
     ) at c.write.ensures)

@@ -1,4 +1,4 @@
-use Rattle.portal_tables_rows.proofs.Common.{◌<◌, ◌^◌, w64, arith, to_z_pos}
+use Rattle.portal_tables_rows.proofs.Common.{◌<◌, ◌^◌, w64, arith, to_z_pos, refl}
 use Rattle.portal_tables_rows.proofs.UpdateSteps.{set_numbers}
 use Rattle.portal_tables_rows.proofs.WritesLemmas.{writes_run}
 use Rattle.portal_tables_rows.proofs.updates.set_head_numbers.Goals as goal
@@ -13,6 +13,8 @@ returns g c =
       c.params-to_sql-3.ensures,
       to_z_pos w64 c.get.result fits,
       c.get.ensures.value,
-      to_z_pos w64 c.args.grants c.requires.grants_fit,
-      to_z_pos w64 c.args.sessions c.requires.sessions_fit,
+      c.in_ok-integer.ensures.value,
+      to_z_pos w64 c.args.grants (c.in_ok-integer.ensures.fits.0 refl),
+      c.in_ok-integer-2.ensures.value,
+      to_z_pos w64 c.args.sessions (c.in_ok-integer-2.ensures.fits.0 refl),
     ) at c.write.ensures)

@@ -1,4 +1,4 @@
-use Rattle.portal_tables_rows.proofs.Common.{◌<◌, ◌^◌, w64, arith, to_z_pos, text_of}
+use Rattle.portal_tables_rows.proofs.Common.{◌<◌, ◌^◌, w64, arith, to_z_pos, text_of, refl}
 use Rattle.portal_tables_rows.proofs.UpdateSteps.{refund}
 use Rattle.portal_tables_rows.proofs.WritesLemmas.{writes_run}
 use Rattle.portal_tables_rows.proofs.updates.set_refunded.Goals as goal
@@ -15,5 +15,6 @@ returns g c =
       c.text-text.ensures.value,
       to_z_pos w64 c.get.result moment,
       c.get.ensures.value,
-      to_z_pos w64 c.args.amount c.requires,
+      c.in_ok-integer.ensures.value,
+      to_z_pos w64 c.args.amount (c.in_ok-integer.ensures.fits.0 refl),
     ) at c.write.ensures)

@@ -1,6 +1,6 @@
 use Rattle.portal_tables_rows.proofs.Common.{◌≡◌, sym, ◌∙◌, true≢false, bytes_eq-Decides}
 use Rattle.portal_tables_rows.proofs.Printed.{code_reads, code_printed}
-use Rattle.portal_tables_rows.proofs.stored_requests.parse_printed_code.Goals as goal
+use Rattle.portal_tables_rows.proofs.rows.parse_printed_code.Goals as goal
 
 pub returns-in_default-clause-own : goal.returns-in_default-clause-own
 returns-in_default-clause-own c own =
