@@ -4,7 +4,7 @@ pub use Rattle.std.proofs.Common.{rules, subst, subst₂, suc, sym, true, true�
 pub use Rattle.std.proofs.Common.{◌≡◌}
 pub use Rattle.std.specs.Prelude.{Bool, Err, IfErr, IfOk, IsErrAnd, IsTrue, Ok, Result}
 pub use Rattle.portal_os.specs.Opening.{AreCommitted, AreCopied, AreWhole, ComesFrom, HoldsCommits}
-pub use Rattle.portal_os.specs.Opening.{OpensFiles}
+pub use Rattle.portal_os.specs.Opening.{IsAlone, OpensFiles}
 pub use Rattle.portal_ledger.specs.Ledger.{Ledger}
 pub use Rattle.portal_tables.proofs.PathLemmas.{image}
 pub use Rattle.portal_tables.specs.Images.{ImageHoldsLedger}

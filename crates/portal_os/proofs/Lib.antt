@@ -1,3 +1,4 @@
+pub mod AloneLemmas
 pub mod Common
 pub mod OpeningLemmas
 pub mod ClosingLemmas

@@ -1,16 +1,17 @@
 -- What is inspected before a database file is opened, what opening it leads to, and what a close leaves.
-use Rattle.std.specs.Prelude.{◌≡◌, ◌≢◌, ◌⊎◌, ◌↔◌, ℕ, ◌<◌, List, [], length, Bool, true, false, IsTrue, Result}
-use Rattle.std.specs.Prelude.{IfOk}
+use Rattle.std.specs.Prelude.{◌≡◌, ◌≢◌, ◌⊎◌, ◌↔◌, ℕ, ◌/◌, ◌<◌, max, min, List, [], length, slice_index}
+use Rattle.std.specs.Prelude.{Bool, true, false, IsTrue, Result, IfOk}
 use Rattle.sqlite_disk.specs.declared.Disk.{Ghosts}
 use Rattle.sqlite_disk.specs.declared.Files.{Files as Pair}
+use Rattle.sqlite_disk.specs.Disk.{Only}
 use Rattle.sqlite_wal.specs.Recovery.{Image, IsCommitted}
-use Rattle.sqlite_wal.specs.PageSize.{IsPageSize}
+use Rattle.sqlite_wal.specs.PageSize.{IsPageSize, size_in_file}
 use Rattle.sqlite_wal.specs.Files.{outcomes}
 use Rattle.sqlite_wal.specs.Reads.{AreClean}
 use Rattle.sqlite_store.specs.declared.store.FileStore.{FileStore}
 use Rattle.sqlite_trees.specs.declared.store.Store as stores
 use Rattle.sqlite.specs.Closing.{HoldsAlone}
-use Rattle.sqlite.specs.Files.{file_state, over_files}
+use Rattle.sqlite.specs.Files.{file_state, image_of, over_files}
 use Rattle.sqlite.specs.Held.{Held}
 use Rattle.sqlite.specs.Start.{FindsIn}
 use Rattle.sqlite.specs.State.{HasCleanDisk}
@@ -60,7 +61,24 @@ copies_for Serve = true
 copies_for Answer = false
 copies_for Ask = false
 
+-- how many pages of a database file of this length are kept in memory: as many as it has, but at least 256
+-- and at most 4,096
+abbrev pub kept_pages : ℕ → ℕ
+kept_pages len = min (max (len / 4096) 256) 4096
+
+-- The database file holds all by itself: the log is too short for a frame, and the file begins as a database.
+pub record IsAlone (image : Image) : Type 0 where
+  pub bare : length image.log < 56
+  pub sized : IsPageSize (size_in_file image.db)
+  pub begins : slice_index image.db 0 ≡ 83
+
 module _ {D : Type 0} (g : Ghosts D) where
+  -- the same of two files, of which a crash leaves what is read
+  abbrev pub IsSettledAlone : Pair D → Type 0
+  IsSettledAlone files =
+      IsAlone (image_of g files) × Only (g.seen files.log) (g.may_leave files.log)
+      × Only (g.seen files.db) (g.may_leave files.db)
+
   -- In every crash state at this moment the two files hold the ledger, and so does the database file with an
   -- empty log.
   abbrev pub AreWhole : Pair D → Ledger → Type 0
@@ -83,8 +101,7 @@ module _ {D : Type 0} {g : Ghosts D} where
   -- Two files that held this image were not opened, and nothing is left; or their database was not attached,
   -- which is tried only if it may be opened for this purpose, and the connection to it is left. The error is
   -- the one that belongs to that. A database that holds a ledger is never called foreign or newer. One that
-  -- is
-  -- not to be attached gets no crash state, and after all errors but `file` the database is as it was.
+  -- is not to be attached gets no crash state, and after all errors but `file` the database is as it was.
   abbrev pub RefusesFiles : Image → Purpose → Remains D g → ProgramError → Type 0
   RefusesFiles image purpose Nothing error = (cause : OpeningError) × (error ≡ program_error_of cause)
   RefusesFiles image purpose (Refused left) error =
@@ -99,7 +116,9 @@ module _ {D : Type 0} {g : Ghosts D} where
 
 module _ {D : Type 0} {g : Ghosts D} where
   -- A connection to two files that held this image: it finds all tables that they held, ours and those of
-  -- others. If the log was to be copied, they were opened, closed and opened again.
+  -- others. If the log was to be copied, it was opened over files whose log was copied: they were opened,
+  -- closed and opened again, or their log had nothing to copy. Then the two connections are the same, and the
+  -- files, as they were opened, held its tables with their log and without it, now and after a crash.
   abbrev pub ComesFrom : Image → Bool → Held (FileStore D g) → Type 0
   ComesFrom image copies conn =
       FindsIn image (file_state conn)
@@ -120,8 +139,7 @@ module _ {D : Type 0} {g : Ghosts D} where
 
   -- The files of a connection were closed and opened again, if that was asked for. As long as the disk of the
   -- new connection is clean: so was that of the old one; it represents the same ledger, finds the same
-  -- tables,
-  -- and is open if the old one was.
+  -- tables, and is open if the old one was.
   pub record OpensAgain {E : Type 0} (conn : Held (FileStore D g)) (copies : Bool)
       (result : Result (Held (FileStore D g)) E) : Type 0 where
     pub fault_free : IfOk result (λ again. HasCleanDisk (file_state again) → HasCleanDisk (file_state conn))

@@ -2,6 +2,8 @@
 //! network. A desk is opened over a database file or over an empty database in memory.
 #![tactic(auto)]
 
+mod alone;
+mod cache;
 mod closing;
 mod errors;
 mod files;

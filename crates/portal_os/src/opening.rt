@@ -14,6 +14,8 @@ ghost use Rattle.portal_tables.specs.Images.{ImageHoldsLedger};
 ghost use Rattle.portal_tables.specs.TablesRepresent.{ConnRepresents, ConnIsFaultFree};
 ghost use Rattle.portal_os.specs.Opening.{ComesFrom, OpensAgain, OpensFiles, RefusesStore, copies_for};
 
+use crate::alone::needs_copy;
+use crate::cache::with_kept_pages;
 use crate::errors::error_of_open;
 use crate::looking::check_database;
 use crate::opening_error::OpeningError;
@@ -119,6 +121,8 @@ fn copies_for(purpose: Purpose) -> bool
 /// Opens a connection to a database file and its log; to serve, the log is then copied into the file. Errors
 /// among others: `Lost`, if the file is empty but its log holds commits: it is never taken for a new
 /// database; `NoDatabase`, to ask of a database that has yet to be made: then nothing is written.
+///
+/// The connection keeps as many pages in memory as the database file has, within limits (`kept_pages`).
 pub fn open_database_files<D: Disk + Drop>(
     alloc: Global,
     mut files: Files<D>,
@@ -130,13 +134,15 @@ pub fn open_database_files<D: Disk + Drop>(
     ensures { OpensFiles (image_of D.Disk files) purpose result }
 {
     check_database(alloc, &mut files, purpose)?;
+    let options = with_kept_pages(&mut files, options)?;
     open_connection(alloc, files, options, copies_for(purpose))
 }
 
-/// Opens a connection to a database file and its log, and copies the log into the file if `copies` is true.
+/// Opens a connection to a database file and its log, and copies the log into the file if `copies` is true. A
+/// file that holds its database alone is opened once: its log has nothing to copy.
 fn open_connection<D: Disk + Drop>(
     alloc: Global,
-    files: Files<D>,
+    mut files: Files<D>,
     options: Options,
     copies: bool,
 ) -> Result<Connection<FileStore<D>>, OpeningError>
@@ -150,8 +156,9 @@ fn open_connection<D: Disk + Drop>(
         HasCleanDisk (file_state conn) → ComesFrom (image_of D.Disk files) copies conn) }
     ensures live { IfOk result (λ conn. HasCleanDisk (file_state conn) → IsTrue (file_state conn).is_open) }
 {
+    let copies_now = needs_copy(&mut files, copies)?;
     match open_files(alloc, files, options) {
-        Ok(conn) => copy_log(alloc, conn, options, copies),
+        Ok(conn) => copy_log(alloc, conn, options, copies_now),
         Err((error, _)) => Err(OpeningError::Store(error)),
     }
 }
@@ -179,8 +186,8 @@ fn open_with_clock<D: Disk + Drop>(
 }
 
 /// Opens a connection to the database file at a path. To serve or to answer, the file is made if it is
-/// missing. To serve, the files are opened, closed, so that the log is copied into the file, and opened
-/// again. The connection finds all tables that the file and its log held, ours and those of others, and holds
+/// missing. To serve, the log has been copied into the file before: where it may hold commits, the files are
+/// opened, closed and opened again. The connection finds all tables that the file and its log held, ours and those of others, and holds
 /// the file's lock until it is released.
 ///
 /// No contract ties a path to what its file holds: `pair` stands for that. If it holds a ledger, the

@@ -2,7 +2,7 @@
 
 ghost use Rattle.std.specs.Prelude.{[], IfErr, IfOk, IfSome, IsTrue};
 ghost use Rattle.sqlite_wal.specs.Files.{image_at};
-ghost use Rattle.sqlite.specs.Files.{Finds, IsCleanLeft, image_of, file_state, over_files};
+ghost use Rattle.sqlite.specs.Files.{Finds, IsCleanLeft, IsOpened, image_of, file_state, over_files};
 ghost use Rattle.sqlite.specs.State.{HasCleanDisk};
 ghost use Rattle.sqlite.specs.Steps.{over_memory};
 ghost use Rattle.portal_ledger.specs.Ledger.{Ledger};
@@ -23,8 +23,8 @@ pub fn open_in_memory(alloc: Global) -> Result<Connection<MemStore>, AllocError>
 /// Opens a database in two files: the database file and its log.
 ///
 /// If the files hold a ledger, as after a crash, the connection represents that ledger. Files with no
-/// database yet hold the empty ledger. The connection is open, and has all tables that the files hold, the
-/// product's and others. If the files are not opened, their crash states still hold the ledger.
+/// database yet hold the empty ledger. The connection is open and sound, and has all tables that the files
+/// hold, the product's and others. If the files are not opened, their crash states still hold the ledger.
 pub fn open_files<D: Disk + Drop>(
     alloc: Global,
     files: Files<D>,
@@ -36,6 +36,7 @@ pub fn open_files<D: Disk + Drop>(
         → IfOk result (λ conn. HasCleanDisk (file_state conn) → ConnRepresents over_files conn L) }
     ensures found { IfOk result (λ conn. HasCleanDisk (file_state conn) → Finds files conn) }
     ensures live { IfOk result (λ conn. HasCleanDisk (file_state conn) → IsTrue (file_state conn).is_open) }
+    ensures sound { IfOk result (λ conn. HasCleanDisk (file_state conn) → IsOpened conn) }
     ensures fails_to_open { (L : Ledger) → FilesRepresent D.Disk files L
         → IfErr result (λ e. IsCleanLeft e.1 → LeftoverHolds (image_of D.Disk files) e.1 L) }
 {
