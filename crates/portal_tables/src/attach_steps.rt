@@ -24,8 +24,8 @@ ghost use Rattle.portal_tables.specs.declared.errors.OpenFault.TheVariants.{NotO
 
 use crate::errors::{OpenFault, open_fault_of};
 use crate::migration::migrate_database;
-use portal_tables_rows::rows::RowError;
 use portal_tables_rows::creation::{can_add_tables, create_schema};
+use portal_tables_rows::rows::RowError;
 use portal_tables_rows::schema_versions::{
     OldSchema, has_no_action_on_ours, is_any_name_taken, is_indexed, is_usable_schema,
     schema_version_in, select_schema_version,

@@ -14,8 +14,8 @@ use portal_model::moment::Moment;
 use portal_model::plan::Plan;
 use portal_model::record::{Batch, Session, is_open};
 use portal_tables_rows::lists::{list_open_numbers, list_sales_as_issued, list_sales_by_moment};
-use portal_tables_rows::whole::{read_all_batches, read_all_plans};
 use portal_tables_rows::rows::RowError;
+use portal_tables_rows::whole::{read_all_batches, read_all_plans};
 use sqlite::{Alter, Connection};
 use std::alloc::Global;
 

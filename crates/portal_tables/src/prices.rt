@@ -11,8 +11,8 @@ use portal_model::moment::Moment;
 use portal_model::plan::Plan;
 use portal_model::record::Batch;
 use portal_tables_rows::lists::SaleValue;
-use portal_tables_rows::sums::first_plan_with;
 use portal_tables_rows::rows::RowError;
+use portal_tables_rows::sums::first_plan_with;
 use std::alloc::Global;
 use std::collections::HashMap;
 
