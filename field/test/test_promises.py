@@ -22,7 +22,7 @@ class Promises(unittest.TestCase):
     def test_the_page_has_the_parts_of_the_list(self) -> None:
         page, mark, others = (FIELD / "docs/PROMISES.md").read_text().partition("\n## What is not promised\n")
         self.assertTrue(mark and "\n|---|---|\n" in others)
-        parts = re.findall(r"^\| \*\*(.+?)\*\* \| \S.* \|$", page, re.M)
+        parts = re.findall(r"^- \*\*(.+?)\*\*: \S", page, re.M)
         self.assertEqual(parts, list(dict.fromkeys(it.part for it in promises.read_promises())))
 
     def test_the_command_prints_a_promise_with_its_test(self) -> None:
