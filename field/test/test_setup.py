@@ -570,9 +570,12 @@ class Made(unittest.TestCase):
         """They have neither secret nor network; the guests' page wants those which nginx asks."""
         unit, door = self.unit("portal-lookup@.service"), self.unit("portal-lookup@.socket")["Socket"]
         service = unit["Service"]
-        self.assertEqual((door["SocketUser"], door["SocketGroup"], door["SocketMode"]), ("root", "www-data", "0660"))
-        self.assertEqual((service["DynamicUser"], service.get("LoadCredential"), service["CapabilityBoundingSet"], service["IPAddressDeny"],
-                          service["RestrictAddressFamilies"]), ("yes", None, "", "any", "AF_UNIX AF_NETLINK"))
+        self.assertEqual(self.may_open("portal-lookup@"), {"www-data"})
+        self.assertEqual((door["SocketUser"], door["SocketGroup"], door["SocketMode"]), (service["User"], service["Group"], "0660"),
+                         "its watchdog asks it there, too")
+        self.assertEqual((service["User"], service.get("LoadCredential"), service["CapabilityBoundingSet"], service["IPAddressDeny"],
+                          service["RestrictAddressFamilies"]), ("portal-lookup", None, "", "any", "AF_UNIX AF_NETLINK"))
+        self.assertIn("u portal-lookup -", (self.root / "etc/sysusers.d/portal.conf").read_text())
         self.assertEqual((unit["Unit"]["Requires"], unit["Unit"]["OnFailure"], service["Restart"], service["WatchdogSec"]),
                          ("portal-lookup@%i.socket", "portal-failed@%n.service", "always", "20"))
         self.assertEqual(self.module_of(service), FIELD / "portal_field/guests/lookup.py")

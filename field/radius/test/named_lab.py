@@ -216,7 +216,8 @@ class Lab(Programs):
         return one
 
     def close(self) -> None:
-        """Kills all programs, and removes the folder."""
+        """Ends nginx, with its workers; kills all others, and removes the folder."""
+        self.stop("nginx")
         self.stop_all(kill=True)
         for nas in self.nas.values():
             nas.close()
