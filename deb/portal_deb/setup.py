@@ -46,6 +46,8 @@ OPTIONAL = {"portal-radius.service": "radius.toml", "portal-radius-agent.service
 # what the counter's page wants, and the guests' page
 WRITER, WRITER_SOCKET = "portal-settings.service", "portal-settings.socket"
 GIVER, GIVER_SOCKET = "portal-give.service", "portal-give.socket"
+LOOKUPS = ("portal-lookup@1.service", "portal-lookup@2.service")
+GUESTS_CONF = pathlib.Path("/etc/nginx/conf.d/portal-guests.conf")
 COUNTER_NGINX, COUNTER_CONF = "portal-counter-nginx.service", "/etc/portal/counter-nginx/nginx.conf"
 RULES, DNSMASQ = pathlib.Path("/etc/portal/rules.nft"), pathlib.Path("/etc/dnsmasq.d/portal.conf")
 # as Debian's unit has it, beside /etc/dnsmasq.conf
@@ -260,8 +262,10 @@ def renew(rules: str, keeper: Keeper) -> None:
         ctl("try-reload-or-restart", rules, check=False)
     if is_active("portal-front.service"):      # which needs it, and an earlier version did not have it
         ctl("enable", "--now", "portal-leases.service", check=False)
-        ctl("start", GIVER_SOCKET, check=False)
-    for unit in (*PARTS[1:], WRITER, GIVER):
+        ctl("start", GIVER_SOCKET, *LOOKUPS, check=False)
+        if keeper.has_changed(GUESTS_CONF):     # of earlier versions it asks the page for devices
+            ctl("reload", "nginx.service", check=False)
+    for unit in (*PARTS[1:], WRITER, GIVER, *LOOKUPS):      # one after another: one look-up answers
         ctl("try-restart", unit, check=False)
     if is_active("portal-counter.service"):     # which wants it, and an earlier version did not have it
         ctl("start", WRITER_SOCKET, check=False)

@@ -12,8 +12,8 @@ from collections.abc import Callable, Iterator
 
 import pytest
 from lab import API, PORTAL, Answer, Lab
-from network import FIELD, MACS, NAME, PYTHON
-from steady import wait_until
+from network import FIELD, LOOKUPS, MACS, NAME, PYTHON
+from steady import assert_measured, wait_until
 
 ATTACKER = FIELD / "test/attacker.py"
 REDEEM = f"https://{NAME}/portal/redeem"
@@ -260,11 +260,12 @@ def test_taken_over(lab: DeviceLab) -> None:
 
 
 def test_helper_away(lab: DeviceLab) -> None:
-    """The pages' helper is held still, ended, or has no connection left."""
+    """The guests' page is held still, ended, or has no connection left; and so the look-up of devices."""
     helper = lab.jobs["front"].pid
     os.kill(helper, signal.SIGSTOP)
     try:
         seen = {"held still": lab.curl("guest1", PORTAL)}
+        assert "captive" in lab.captive("guest1"), "a program has its answer beside a page that is held still"
     finally:
         os.kill(helper, signal.SIGCONT)
     done = lab.within("guest1", PYTHON, ATTACKER, "crowd", GATEWAY, 443, 90, check=False)
@@ -273,6 +274,9 @@ def test_helper_away(lab: DeviceLab) -> None:
         f"[{done.stdout.strip() or done.stderr.strip()[-80:]}]")
     lab.stop("front")
     seen["ended"] = lab.curl("guest1", PORTAL)
+    for name in LOOKUPS:
+        assert "captive" in lab.captive("guest1"), "one look-up of devices is enough"
+        lab.stop(name)
     seen["ended, a program"] = lab.curl("guest1", API)
     statuses = {what: answer[0] for what, answer in seen.items()}
     assert list(statuses.values()) == [504, 502, 500], (
@@ -287,7 +291,25 @@ def test_helper_away(lab: DeviceLab) -> None:
         f"no guest's address stands in nginx's logs  "
         f"[{[line for line in logs.splitlines() if 'client' in line][:2]}]")
     (lab.root / "run/portal-front/socket").unlink(missing_ok=True)
-    lab.service("front")
+    for name in ("front", *LOOKUPS):
+        lab.service(name)
+
+
+def test_a_lookup_that_hangs(lab: DeviceLab) -> None:
+    """One of the processes that look devices up is held still: each question comes to the other."""
+    def is_answered(name: str) -> tuple[bool, str]:
+        os.kill(lab.jobs[name].pid, signal.SIGSTOP)
+        try:
+            start = time.monotonic()
+            answers = ["captive" in lab.captive(guest) for _ in range(10) for guest in ("guest1", "guest2")]
+            took = time.monotonic() - start
+        finally:
+            os.kill(lab.jobs[name].pid, signal.SIGCONT)
+        return all(answers) and took < 10, f"{sum(answers)} of 20 answered, in {took:.1f} s"
+
+    lab.until(lambda: "captive" in lab.captive("guest1"), 5, "nginx asks again")
+    for name in LOOKUPS:
+        assert_measured("a look-up that hangs leaves no program without an answer", lambda: is_answered(name))
 
 
 def test_no_fault_in_a_log(lab: DeviceLab) -> None:

@@ -17,8 +17,8 @@ FIELD = pathlib.Path(__file__).resolve().parent.parent
 SAMPLE = (FIELD / "settings/field.toml").read_text()
 UNITS = ("portal.service", "portal-gateway.service", "portal-leases.service", "portal-front.service",
          "portal-counter.service", "portal-counter-nginx.service", "portal-rules@lan0.service", "portal-backup.timer",
-         "portal-restarts.timer", "nginx.service", "dnsmasq.service")
-STATIC = ("portal-counter-nginx.service",)       # portal-counter.service starts it
+         "portal-restarts.timer", "portal-lookup@1.service", "portal-lookup@2.service", "nginx.service", "dnsmasq.service")
+STATIC = ("portal-counter-nginx.service", "portal-lookup@1.service", "portal-lookup@2.service")    # other units start them
 Devices = dict[str, tuple[list[str], list[str]]]        # flags and addresses
 NETWORKS: Devices = {"lo": (["LOOPBACK", "UP", "LOWER_UP"], ["127.0.0.1/8"]),
                      "lan0": (["BROADCAST", "UP", "LOWER_UP"], ["10.77.0.1/22"]),

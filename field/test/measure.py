@@ -14,6 +14,8 @@ offload     bytes counted against the guest's device, with merged packets (offlo
 sessions    GET /gateway/sessions with 200 open among N (100,000), at 10 questions a round
 lookup      GET /captive through nginx, which asks the pages' helper for the device: 500 times, alone and beside 4,500 connections
             that say nothing
+lookups     the same question of many connections at once, for 10 s each
+memory      private memory of each part of the kit at rest
 sheet       the counter's page with 500 vouchers and their pictures, through nginx
 copies      copies of the book while the desk sells: how long it is held still, and what a sale waits
 """
@@ -23,6 +25,7 @@ from __future__ import annotations
 import argparse
 import json
 import os
+import pathlib
 import signal
 import statistics
 import subprocess
@@ -33,7 +36,8 @@ from collections.abc import Callable
 from crowd import NO_LEASES, OPEN, bind, crowd, processor_seconds, written
 from desk_process import DeskProcess, Routes
 from lab import PEER, Lab
-from network import COUNTER, FIELD, NAME, OUTSIDE, PYTHON, STAND_IN
+from lookups import SECONDS
+from network import COUNTER, FIELD, LOOKUPS, NAME, OUTSIDE, PYTHON, SERVICES, STAND_IN
 
 MANY = "[[plan]]\nid = '{}'\nprice = 0\nuses = 100000\nseconds = {}\nbytes = 0\nshelf_days = 9\nextend = true\n"
 
@@ -257,11 +261,11 @@ def lookup(args: argparse.Namespace) -> None:
 
         def times(what: str) -> None:
             lines: list[float] = []
-            before = processor_seconds(lab.jobs["front"].pid)
+            before = sum(map(processor_seconds, helpers(lab)))
             for _ in range(args.rounds):
                 lines += map(float, lab.within("guest1", *words, "ask", authority, 500).stdout.split())
             lines.sort()
-            took = (processor_seconds(lab.jobs["front"].pid) - before) / len(lines) * 1e3
+            took = (sum(map(processor_seconds, helpers(lab))) - before) / len(lines) * 1e3
             print_figures(what, lines)
             print(f"95 of 100 within {lines[len(lines) * 95 // 100]:.2f} ms; median {statistics.median(lines):.3f} ms; "
                   f"the helper's processor {took:.2f} ms each", flush=True)
@@ -273,6 +277,44 @@ def lookup(args: argparse.Namespace) -> None:
         times(f"GET /captive beside {many} connections that say nothing")
         job.stdin.close()
         job.wait()
+
+
+def helpers(lab: Lab) -> list[int]:
+    """The processes that name to nginx the device of an address."""
+    return [lab.jobs[name].pid for name in LOOKUPS]
+
+
+def lookups(args: argparse.Namespace) -> None:
+    with Lab(args.portal) as lab:
+        lab.limitless(2048)
+        lab.start_services()
+        lab.lease("guest1")
+        for count in (4, 32, 128):
+            before = sum(map(processor_seconds, helpers(lab)))
+            lines = [float(line) for line in lab.within("guest1", PYTHON, FIELD / "test/lookups.py", "many", lab.root / "ca.pem",
+                                                        count).stdout.split()]
+            took = (sum(map(processor_seconds, helpers(lab))) - before) / len(lines) * 1e3
+            print(f"GET /captive over {count} connections at once: {len(lines) / SECONDS:.0f} a second, median "
+                  f"{statistics.median(lines):.1f} ms, 99 of 100 within {lines[len(lines) * 99 // 100]:.1f} ms; the helpers' "
+                  f"processor {took:.2f} ms each, load {os.getloadavg()[0]:.0f}", flush=True)
+
+
+def private(pid: int) -> float:
+    """The megabytes of memory that a process shares with no other."""
+    lines = pathlib.Path(f"/proc/{pid}/smaps_rollup").read_text().splitlines()
+    return sum(int(line.split()[1]) for line in lines if line.startswith("Private_")) / 1e3
+
+
+def memory(args: argparse.Namespace) -> None:
+    with Lab(args.portal) as lab:
+        lab.start_services()
+        lab.lease("guest1")
+        for _ in range(args.rounds):
+            lab.captive("guest1")
+        time.sleep(10)
+        parts = {name: private(job.pid) for name, job in lab.jobs.items() if name in SERVICES}
+        print("private memory at rest: " + ", ".join(f"{name} {size:.1f}" for name, size in parts.items())
+              + f"; in all {sum(parts.values()):.1f} MB", flush=True)
 
 
 def sheet(args: argparse.Namespace) -> None:
@@ -290,8 +332,8 @@ def sheet(args: argparse.Namespace) -> None:
         print(f"the page's processor {took:.2f} s each", flush=True)
 
 
-MEASURES = {work.__name__: work for work in (first, agent, crowd, written, shut, late, offload, sessions, lookup, sheet,
-                                             copies)}
+MEASURES = {work.__name__: work for work in (first, agent, crowd, written, shut, late, offload, sessions, lookup, lookups,
+                                             memory, sheet, copies)}
 
 
 def main() -> None:

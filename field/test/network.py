@@ -27,13 +27,15 @@ MACS = {"guest1": "02:aa:00:00:00:01", "guest2": "02:aa:00:00:00:02",
         "outside": "02:aa:00:00:00:10", "clerk": "02:aa:00:00:00:20"}
 PORTS = {"guest1": "lan1", "guest2": "lan2", "outside": "wan0", "clerk": "ctr0"}
 SPACES = ("gw", *PORTS)
+LOOKUPS = ("lookup1", "lookup2")
 USERS = {"desk": (7000, 7000, ""), "gateway": (7001, 7001, ""), "front": (7002, 33, "7001"),
-         "counter": (7003, 33, "7001"), "leases": (7004, 7004, ""), "give": (7006, 7001, "")}
+         "counter": (7003, 33, "7001"), "leases": (7004, 7004, ""), "give": (7006, 7001, ""),
+         **dict.fromkeys(LOOKUPS, (7007, 33, ""))}
 SERVICES = {"gateway": "portal_field.gateway.agent", "leases": "portal_field.gateway.leases",
             "give": "portal_field.give.giver", "front": "portal_field.guests.page",
-            "counter": "portal_field.counter.page"}
+            "counter": "portal_field.counter.page", **dict.fromkeys(LOOKUPS, "portal_field.guests.lookup")}
 WEB = {"nginx": ("nginx.conf", "10.77.0.1"), "counter-nginx": ("etc/portal/counter-nginx/nginx.conf", "10.88.0.1")}
-CAPABLE, WITH_A_SOCKET = ("gateway", "leases"), ("front", "counter", "give")
+CAPABLE, WITH_A_SOCKET = ("gateway", "leases"), ("front", "counter", "give", *LOOKUPS)
 SMALL_PLAN = """
 [[plan]]
 id = "small"
@@ -165,6 +167,8 @@ class Network(Programs):
                 folder.mkdir(parents=True)
                 os.chown(folder, user, group)
                 folder.chmod(0o750)
+        (root / "run/portal-lookup").mkdir()
+        os.chown(root / "run/portal-lookup", USERS["lookup1"][0], 0)
         (root / "var/lib/portal-give").mkdir(parents=True)
         os.chown(root / "var/lib/portal-give", USERS["give"][0], USERS["give"][1])
         give = etc / "give.toml"
@@ -234,9 +238,11 @@ class Network(Programs):
         """Starts a service of the kit in the gateway."""
         env = {"FIELD_SETTINGS": f"{self.root}/etc/portal/{name}.toml", "STATE_DIRECTORY": f"{self.root}/run/portal-{name}",
                "CREDENTIALS_DIRECTORY": f"{self.root}/creds-{name}"}
-        self.start(name, PYTHON, "-P", "-m", SERVICES[name], user=name, caps=name in CAPABLE, env=env)
+        path = self.root / (f"run/portal-lookup/{name[-1]}" if name in LOOKUPS else f"run/portal-{name}/socket")
+        words = ("lan0", path) if name in LOOKUPS else ()
+        self.start(name, PYTHON, "-P", "-m", SERVICES[name], *words, user=name, caps=name in CAPABLE, env=env)
         if name in WITH_A_SOCKET:
-            self.until(lambda: accepts(self.root / f"run/portal-{name}/socket"), what=name)
+            self.until(lambda: accepts(path), what=name)
 
     def web(self, *names: str) -> None:
         """Starts nginx of the guests' page and the counter's own, or one of them."""

@@ -19,7 +19,7 @@ from unittest import mock
 from desk_process import FIELD, Desk, DeskProcess, Relay, Routes
 
 from portal_field.guests.page import Front, pages
-from portal_field.lib import web
+from portal_field.lib import serving, web
 from portal_field.lib.counts import Counts
 from portal_field.lib.local_time import use_zone
 from portal_field.lib.machine_time import Notes
@@ -70,7 +70,7 @@ class Served(unittest.TestCase):
     def start_helper(self, key: str) -> None:
         """Starts the page anew: nothing is left of what an earlier one knew."""
         self.front = Front(Desk(self.relay.port, timeout=5), self.conf, lambda _: self.device, key)
-        self.app = pages(self.front)
+        self.app: web.Application = pages(self.front)
 
     def ask(self, method: str, path: str, **form: str) -> tuple[int, str, str]:
         """A page, or its form sent with the hidden fields of the last page."""
@@ -102,16 +102,14 @@ class Served(unittest.TestCase):
 
 
 class Pages(Served):
-    def test_the_device_is_named_to_nginx(self) -> None:
-        self.assertEqual(self.ask("GET", "/device")[0], 200)
+    def test_a_device_without_an_address_of_this_network_reads_so(self) -> None:
         self.device = None
-        self.assertEqual(self.ask("GET", "/device")[0], 403)
         self.assertIn("no address from this network", self.ask("GET", "/portal")[1])
 
     def test_a_device_that_comes_a_moment_later_is_found(self) -> None:
         found = [None, MAC]
         self.front.device_at = lambda _: found.pop(0)
-        self.assertEqual(self.ask("GET", "/device")[0], 200)
+        self.assertNotIn("no address from this network", self.ask("GET", "/portal")[1])
 
     def test_without_a_device_nothing_is_done(self) -> None:
         code, = self.desk.sell_codes("hour", "b1")
@@ -456,15 +454,15 @@ class Started(unittest.TestCase):
         notices = self.enterContext(socket.socket(socket.AF_UNIX, socket.SOCK_DGRAM))
         notices.bind(str(folder / "notify"))
         self.enterContext(mock.patch.dict(os.environ, NOTIFY_SOCKET=str(folder / "notify")))
-        self.enterContext(mock.patch.object(web, "ALIVE", 0.1))
+        self.enterContext(mock.patch.object(serving, "ALIVE", 0.1))
         door = web.listening(str(folder / "socket"))
-        threading.Thread(target=web.watch, args=(door.getsockname(),), daemon=True).start()
+        threading.Thread(target=serving.watch, args=(door.getsockname(),), daemon=True).start()
         notices.settimeout(0.5)
         self.assertRaises(TimeoutError, notices.recv, 99)
         serve_during_test(self, web.pages("none", folder), door)
         notices.settimeout(20)
         self.assertEqual(notices.recv(99), b"READY=1\nWATCHDOG=1")
-        for name in ("front", "counter"):
+        for name in ("front", "counter", "lookup@"):
             unit = (FIELD / f"units/portal-{name}.service").read_text()
             self.assertIn("\nType=notify\nWatchdogSec=20\n", unit)
             self.assertIn("\nTimeoutStartSec=10min\n", unit)

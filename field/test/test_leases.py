@@ -413,14 +413,6 @@ class Neighbours(unittest.TestCase):
             self.assertIsNone(neighbours.Entry.of({**message, "attrs": attrs}).device, mac)
         self.assertIsNone(neighbours.Entry.of({**message, "attrs": [("NDA_DST", HERE)]}).device)
 
-    def test_an_address_that_is_none_asks_nobody(self) -> None:
-        table = neighbours.Neighbours("lo")
-        with unittest.mock.patch.object(neighbours, "IPRoute") as route:
-            for address in ("", "x", "10.77.0.50; id", "::1", "-all"):
-                self.assertIsNone(table.device(address), address)
-            route.assert_not_called()
-        self.assertIsNone(neighbours.Neighbours("no-such-dev").device(HERE))
-
 
 if __name__ == "__main__":
     unittest.main()

@@ -24,11 +24,12 @@ from browser import policy
 from desk_process import FIELD, Desk, DeskProcess, Relay, free_port
 from fake_machine import SAMPLE
 from needs import needs
+from test_front import serve_during_test
 
 from portal_field.counter.clerk import Counter
 from portal_field.counter.journal import Journal
 from portal_field.counter.page import pages
-from portal_field.guests import page as guest_page
+from portal_field.guests import lookup, page as guest_page
 from portal_field.lib import web
 
 CONTEXT = ssl._create_unverified_context()
@@ -232,6 +233,10 @@ class GuestsPage(BehindNginx):
         self.device: str | None = "02:00:00:00:00:01"
         self.front = guest_page.Front(Desk(self.relay.port), {"house": "House", "help": "", "knock": str(self.folder / "knock")},
                                       lambda _: self.device, "a key")
+        (self.folder / "run/portal-lookup").mkdir()
+        for number in "12":
+            door = web.listening(str(self.folder / "run/portal-lookup" / number))
+            serve_during_test(self, lookup.lookup(lambda _: self.device), door)
         self.serves(guest_page.pages(self.front), web.listening(str(socket_path)))
         self.nginx = counter_nginx.Nginx(self.folder, self.conf(), self.port)
         self.nginx.start()

@@ -22,6 +22,7 @@ from desk_process import FIELD, PORTAL
 from fake_machine import LISTENERS, NETWORKS, Certificates, FakeMachine, as_ip_prints
 from needs import NAMESPACES, ROOT, needs
 
+from portal_field.doctor import running
 from portal_field.settings import maker as setup
 from portal_field.settings.samples import is_sample
 from portal_field.settings.venue import BadSettings, Field
@@ -565,6 +566,27 @@ class Made(unittest.TestCase):
             conf = tomllib.loads((self.root / f"etc/portal/{name.removeprefix('portal-')}.toml").read_text())
             self.assertTrue(conf["socket"].endswith(door["ListenStream"]), "it listens where nginx looks")
 
+    def test_several_processes_look_devices_up_which_nginx_alone_asks(self) -> None:
+        """They have neither secret nor network; the guests' page wants those which nginx asks."""
+        unit, door = self.unit("portal-lookup@.service"), self.unit("portal-lookup@.socket")["Socket"]
+        service = unit["Service"]
+        self.assertEqual(self.may_open("portal-lookup@"), {"www-data"})
+        self.assertEqual((door["SocketUser"], door["SocketGroup"], door["SocketMode"]), (service["User"], service["Group"], "0660"),
+                         "its watchdog asks it there, too")
+        self.assertEqual((service["User"], service.get("LoadCredential"), service["CapabilityBoundingSet"], service["IPAddressDeny"],
+                          service["RestrictAddressFamilies"]), ("portal-lookup", None, "", "any", "AF_UNIX AF_NETLINK"))
+        self.assertIn("u portal-lookup -", (self.root / "etc/sysusers.d/portal.conf").read_text())
+        self.assertEqual((unit["Unit"]["Requires"], unit["Unit"]["OnFailure"], service["Restart"], service["WatchdogSec"]),
+                         ("portal-lookup@%i.socket", "portal-failed@%n.service", "always", "20"))
+        self.assertEqual(self.module_of(service), FIELD / "portal_field/guests/lookup.py")
+        self.assertEqual((service["EnvironmentFile"], (self.root / "etc/portal/lookup.env").read_text()), ("/etc/portal/lookup.env", "PORTAL_LAN=lan0\n"))
+        self.assertEqual(service["ExecStart"].split()[4:], ["${PORTAL_LAN}", door["ListenStream"]])
+        asked = re.findall(r"server unix:(\S+)/run/portal-lookup/(\S+) ", (self.root / "etc/nginx/conf.d/portal-guests.conf").read_text())
+        wanted = [f"portal-lookup@{number}.service" for _, number in asked]
+        self.assertGreater(len(wanted), 1)
+        self.assertLessEqual(set(wanted), set(self.unit("portal-front.service")["Unit"]["Wants"].split()))
+        self.assertLessEqual(set(wanted), set(running.PARTS), "the doctor looks at each")
+
     def test_sheets_are_made_by_a_unit_that_has_nothing(self) -> None:
         """It reads what guests and clerks typed, and has neither network nor secret; the counter's page alone asks it."""
         service, door = self.unit("portal-paper@.service")["Service"], self.unit("portal-paper.socket")
@@ -589,7 +611,7 @@ class Made(unittest.TestCase):
         self.assertEqual((service["StateDirectory"], service["UMask"], service["SupplementaryGroups"]), ("portal-give", "0077", "portal-gateway"))
         self.assertEqual((unit["Unit"]["Requires"], unit["Unit"]["OnFailure"]), ("portal-give.socket", "portal-failed@%n.service"))
         self.assertEqual(self.module_of(service), FIELD / "portal_field/give/giver.py")
-        self.assertEqual(self.unit("portal-front.service")["Unit"]["Wants"], "portal-give.service")
+        self.assertIn("portal-give.service", self.unit("portal-front.service")["Unit"]["Wants"].split())
         self.assertIn("u portal-give -", (self.root / "etc/sysusers.d/portal.conf").read_text())
         self.assertIn('"portal-give",', (self.root / "etc/portal/rules.nft").read_text())
         conf, front, counter = (tomllib.loads((self.root / f"etc/portal/{name}.toml").read_text()) for name in ("give", "front", "counter"))

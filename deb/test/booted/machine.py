@@ -40,7 +40,7 @@ PASSWORD = "ten-letters"
 LOGIN = {"cookie": "", "token": ""}     # of the clerk, once logged in
 PARTS = ("portal", "portal-rules@lan0", "portal-gateway", "portal-leases", "portal-front", "portal-counter",
          "portal-counter-nginx")
-UNITS = (*PARTS, "portal-settings.socket", "portal-give.socket", "nginx", "dnsmasq", "portal-backup.timer", "portal-restarts.timer")
+UNITS = (*PARTS, "portal-settings.socket", "portal-give.socket", "portal-lookup@1", "portal-lookup@2", "nginx", "dnsmasq", "portal-backup.timer", "portal-restarts.timer")
 WITNESS = ("add table inet w; delete table inet w; add table inet w; "
            "add chain inet w i { type filter hook input priority 0; }; "
            "add rule inet w i udp dport 9 counter; add rule inet w i udp dport 9 drop")

@@ -18,8 +18,8 @@ from portal_field.settings import accounts
 RESTARTED = "MESSAGE_ID=5eb03494b6584870a536b337290809b3"      # systemd: a restart was scheduled
 PARTS = ("portal.service", "portal-gateway.service", "portal-leases.service", "portal-front.service",
          "portal-counter.service", "portal-counter-nginx.service", "portal-settings.socket",
-         "portal-give.socket", "nginx.service", "dnsmasq.service", "portal-backup.timer",
-         "portal-restarts.timer")
+         "portal-give.socket", "portal-lookup@1.service", "portal-lookup@2.service", "nginx.service",
+         "dnsmasq.service", "portal-backup.timer", "portal-restarts.timer")
 NOTES = "/run/portal-clock"
 NOBODY = "02:00:00:00:00:00"    # a device that no guest has
 ENOUGH = 4096                   # connections at one time

@@ -29,6 +29,7 @@ from typing import Any
 
 from portal_field.give.record import Gift, Record
 from portal_field.lib.desk_client import Desk, NoAnswer, Refused, Routes, credential, settings
+from portal_field.lib.devices import Devices, Holders
 from portal_field.lib.doors import Answer, Door, listening
 from portal_field.lib.local_time import use_zone
 from portal_field.lib.one_use import numbers
@@ -70,7 +71,7 @@ class Giver:
     """Ends sessions, and gives the venue's free voucher. `device_at`: which device holds the lease of an
     address."""
 
-    def __init__(self, desk: Desk, record: Record, device_at: Callable[[str], str | None],
+    def __init__(self, desk: Desk, record: Record, device_at: Holders,
                  conf: dict[str, Any], now: Callable[[], float] = time.time,
                  tick: Callable[[], float] = time.monotonic) -> None:
         self.desk, self.record, self.device_at, self.conf = desk, record, device_at, conf
@@ -264,12 +265,9 @@ def main() -> None:
     """Serves on the socket that systemd holds."""
     conf = settings("/etc/portal/give.toml")
     door = listening(conf["socket"])    # requests wait here from now on
-    # needs python3-pyroute2, which the tests of this part do not
-    from portal_field.lib.neighbours import Neighbours
-
     use_zone(conf["zone"])
     giver = Giver(Desk(conf["desk_port"], credential("desk_token")), Record(pathlib.Path(conf["record"])),
-                  Neighbours(conf["lan"]).device, conf)
+                  Devices(conf["lan"]).holder, conf)
     Door(door, conf["front_user"], MOST_BYTES, giver.answer).serve_in_threads(THREADS)
 
 

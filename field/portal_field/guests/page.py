@@ -1,4 +1,4 @@
-"""The guests' helper behind nginx: which device has an address, and the page on which a code is typed."""
+"""The guests' page behind nginx, on which a code is typed."""
 
 from __future__ import annotations
 
@@ -8,7 +8,6 @@ import pathlib
 import socket
 import time
 import urllib.parse
-from collections.abc import Callable
 from dataclasses import dataclass, field
 from typing import Any
 
@@ -24,6 +23,7 @@ from portal_field.lib import refusals, web
 from portal_field.lib.counts import Counts
 from portal_field.lib.desk_client import (
     REQUEST_NUMBER, Desk, NoAnswer, Refused, Routes, credential, new_number, settings)
+from portal_field.lib.devices import Devices, Holders, look_twice
 from portal_field.lib.forms import BadForm, Form
 from portal_field.lib.guest_refusals import refusal_text
 from portal_field.lib.languages import GUESTS, Language, preferred_language
@@ -34,7 +34,6 @@ from portal_field.lib.one_use import Forms, numbers
 from portal_field.lib.typed_codes import LONGEST_TYPED, plain_code
 
 HERE = pathlib.Path(__file__).resolve().parent
-ONCE_MORE = 0.05        # seconds until a device is looked for again: DHCP may just be renewing its entry
 COOKIE, CHOICE_COOKIE, COOKIE_DAYS = "portal_session", "portal_lang", 30
 NO_DESK = guest_words("We cannot ask our server just now. Please try again in a minute.")
 CLOCK_WAITS = guest_words("Our server waits until somebody at the counter confirms the time. Please ask at "
@@ -74,7 +73,7 @@ class Front:
     sent of late, how often each refusal was shown, and what data each device had."""
     desk: Desk
     conf: dict[str, Any]
-    device_at: Callable[[str], str | None]
+    device_at: Holders
     key: str
     forms: Forms = field(default_factory=Forms)
     counts: Counts = field(default_factory=Counts)
@@ -119,12 +118,8 @@ class Front:
         return CLOCK_WAITS if self.notes.read("state").get("is") == "waits" else NO_DESK
 
     def device(self, address: str) -> str | None:
-        """The device that has an address; it is looked for twice, as DHCP may just renew its entry."""
-        device = self.device_at(address)
-        if device is None:
-            time.sleep(ONCE_MORE)
-            device = self.device_at(address)
-        return device
+        """The device that has an address."""
+        return look_twice(self.device_at, address)
 
     def signature(self, device: str) -> str:
         """What only this page can write beside the name of a device, before a restart and after it."""
@@ -419,8 +414,8 @@ class Visit:
         return self.with_session(response)
 
 
-def pages(front: Front) -> web.Application:
-    """The page, and before it the look-up that nginx makes for each request of a program."""
+def pages(front: Front) -> flask.Flask:
+    """The page, and the venue's pages."""
     app = web.pages("front", HERE)
 
     @app.route("/portal", methods=["GET", "POST"])
@@ -436,31 +431,16 @@ def pages(front: Front) -> web.Application:
         """A page of the venue."""
         return Visit(front, flask.request).venue_page(end)
 
-    def answer(environ: dict[str, Any], start: Callable[..., Any]) -> web.Answer:
-        """The application of WSGI: nginx's look-up of a device, or the pages."""
-        if environ["PATH_INFO"] != "/device":
-            page: web.Answer = app(environ, start)
-            return page
-        device = front.device(environ.get("HTTP_X_REAL_IP", ""))
-        # nginx takes the head alone; without a length waitress would hang up
-        head = [("Content-Length", "0")]
-        start("403 Forbidden", head) if device is None else start("200 OK",
-                                                                  [*head, ("Portal-Device", device)])
-        return []
-
-    return answer
+    return app
 
 
 def main() -> None:
-    """Serves the guests' page and the look-up of devices."""
+    """Serves the guests' page."""
     conf = settings("/etc/portal/front.toml")
     door = web.listening(conf["socket"])    # requests wait here from now on
-    # takes its time; needs python3-pyroute2, which the page's tests do not
-    from portal_field.lib.neighbours import Neighbours
-
     for tag in GUESTS:
         Language(tag)       # the catalogues are read once
-    front = Front(Desk(conf["desk_port"]), conf, Neighbours(conf["lan"]).device, credential("form_key"),
+    front = Front(Desk(conf["desk_port"]), conf, Devices(conf["lan"]).holder, credential("form_key"),
                   counts=Counts(conf.get("refusals")))
     web.serve(pages(front), door, threads=32)
 

@@ -3,7 +3,6 @@
 from __future__ import annotations
 
 import contextlib
-import ipaddress
 import re
 import socket
 import struct
@@ -120,14 +119,6 @@ class Neighbours:
                 del self.of_thread.route     # the next question gets a new one
                 raise
         return Entry.of(messages[0])
-
-    def device(self, address: str) -> str | None:
-        """The device that holds the lease of an address, or None."""
-        try:
-            entry = self.entry(str(ipaddress.IPv4Address(address)))
-        except (ValueError, OSError):
-            return None
-        return entry.device if entry else None
 
     def entries(self) -> dict[str, Entry]:
         """All IPv4 entries of the guests' network device, by address."""

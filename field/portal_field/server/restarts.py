@@ -19,7 +19,7 @@ from portal_field.server import failed
 
 UNITS = ("portal.service", "portal-gateway.service", "portal-leases.service", "portal-front.service",
          "portal-counter.service", "portal-radius.service", "portal-radius-agent.service",
-         "portal-metrics.service", "portal-give.service",
+         "portal-metrics.service", "portal-give.service", "portal-lookup@*.service",
          "portal-counter-nginx.service", "nginx.service", "dnsmasq.service",
          "portal@*.service", "portal-radius@*.service", "portal-radius-agent@*.service",
          "portal-venues-clock.service", "portal-venues-counter.service")

@@ -68,7 +68,7 @@ INSTALLED = {       # from the kit, with the words between @ signs filled in
         "portal-failed@.service", "portal-restarts.service", "portal-restarts.timer", "portal-front.socket",
         "portal-counter.socket", "portal-paper.socket", "portal-paper@.service", "portal-report.service",
         "portal-report.timer", "portal-settings.socket", "portal-settings.service", "portal-give.socket",
-        "portal-give.service",
+        "portal-give.service", "portal-lookup@.socket", "portal-lookup@.service",
         # of venues by name
         "portal@.service", "portal-settings@.socket", "portal-settings@.service", "portal-radius@.service",
         "portal-radius-agent@.service", "portal-venues.target", "portal-venues.slice",
@@ -185,8 +185,9 @@ class Maker:
         radius_files.make(field, self.etc, self.kit, run + "/portal-radius", str(state), self.write)
 
     def front_settings(self, knock: str) -> None:
-        """Makes the settings of the guests' page."""
+        """Makes the settings of the guests' page, and of the look-up of devices."""
         field, run = self.field, self.run
+        self.write(self.etc / "lookup.env", f"PORTAL_LAN={field.lan}\n")
         self.write_toml("front.toml", {"house": field.house, "help": field.help, "lan": field.lan,
                                        "desk_port": field.desk_port, "zone": field.zone, "knock": knock,
                                        "notes": run + "/portal-clock", "socket": run + "/portal-front/socket",
