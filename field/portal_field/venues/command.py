@@ -8,6 +8,7 @@
     portal-venues renew
     portal-venues collect [NAME ..]
     portal-venues report [--weeks N] [--csv FILE [--from DAY] [--to DAY]]
+    portal-venues plans [FILE] [--offers FILE] [--venue NAME ..] [--look]
     portal-venues reader ROLE (--office | --venue NAME .. | --none)
 
 `add` makes a venue's settings, with the next free port, and applies them. `apply` carries out what the
@@ -16,6 +17,7 @@ password. `retire` ends a venue, after a last copy; its files and its database s
 venue is. `renew`, for the package's upgrades, starts one venue after another with the new program. Where the
 table of venues is in PostgreSQL, `collect` copies takings, vouchers and sessions into the view of all venues
 beside it, `report` says what the office should know of it, and `reader` lets a role of PostgreSQL read it.
+`plans` brings the plans of a chain to its venues.
 """
 
 from __future__ import annotations
@@ -29,7 +31,7 @@ from typing import Any
 
 from portal_field.settings import accounts, clerk_account
 from portal_field.settings.venue import toml_lines
-from portal_field.venues import collect, ending, report, status, table, view
+from portal_field.venues import chain_plans, collect, ending, report, status, table, view
 from portal_field.venues.apply import Apply
 from portal_field.venues.ending import RETIRED
 from portal_field.venues.places import (
@@ -132,6 +134,14 @@ def add_words_of_view(kinds: Any) -> None:
                       help="the first day of the file, such as 2026-01-31; else a year before the last one")
     told.add_argument("--to", dest="last", type=datetime.date.fromisoformat, metavar="DAY",
                       help="its last day; else today")
+    chain = kinds.add_parser("plans", help="bring the plans of a chain to all its venues or some")
+    chain.add_argument("file", nargs="?", type=pathlib.Path, metavar="FILE",
+                       help="the plans.toml of the chain; else those in the table")
+    chain.add_argument("--offers", type=pathlib.Path, metavar="FILE", help="its offers.toml")
+    chain.add_argument("--venue", action="append", dest="seen", metavar="NAME", default=[],
+                       help="this venue; can be repeated")
+    chain.add_argument("--look", action="store_true",
+                       help="change nothing: say what would be, and what differs")
     reader = kinds.add_parser("reader", help="let a role of PostgreSQL read the view")
     reader.add_argument("role", metavar="ROLE")
     rows = reader.add_mutually_exclusive_group(required=True)
@@ -150,6 +160,14 @@ def show_report(args: argparse.Namespace, machine: Machine) -> int:
     text = report.as_csv(machine, args.first or last - datetime.timedelta(365), last)
     pathlib.Path(args.csv).write_text(text, encoding="utf-8")
     return 0
+
+
+def push_plans(args: argparse.Namespace, machine: Machine) -> int:
+    """Brings the plans of the chain to the venues."""
+    if args.offers and not args.file:
+        raise BadVenue("--offers goes with a file of plans")
+    chain = chain_plans.read_files(args.file, args.offers) if args.file else None
+    return chain_plans.push(machine, ROOT, Units(), chain, args.seen, args.look)
 
 
 def set_reader(args: argparse.Namespace, machine: Machine) -> int:
@@ -205,6 +223,8 @@ def run(args: argparse.Namespace) -> int:
         return collect.collect(machine, ROOT, args.venues)
     if args.kind == "report":
         return show_report(args, machine)
+    if args.kind == "plans":
+        return push_plans(args, machine)
     if args.kind == "reader":
         return set_reader(args, machine)
     status_of_end = ending.retire(Places(check_name(args.venue), ROOT), machine, Units())

@@ -1,6 +1,6 @@
 """portal-venues report: the view of all venues for their office. Takings by venue, this week beside the weeks
 before; who is silent; which certificate ends; which days changed after they were over; which database was
-older. With --csv the takings of each venue and day, as a file."""
+older; who has not got the plans of the chain. With --csv the takings of each venue and day, as a file."""
 
 from __future__ import annotations
 
@@ -11,7 +11,7 @@ from collections.abc import Iterator
 from typing import Any
 
 from portal_field.counter.spreadsheet import amount, written
-from portal_field.venues import view
+from portal_field.venues import chain_plans, view
 from portal_field.venues.places import Machine
 
 SOON = 21       # days before the end of a certificate
@@ -83,6 +83,7 @@ def show(machine: Machine, weeks: int, today: datetime.date) -> str:
     with view.opened(machine) as link:
         lines = list(weeks_table(link, today, weeks))
         found = list(troubles(link))
+    found += chain_plans.behind(machine)
     return "\n".join([*lines, "", *(found or ["All venues answered."])]) + "\n"
 
 
