@@ -9,6 +9,7 @@
     portal-venues collect [NAME ..]
     portal-venues report [--weeks N] [--csv FILE [--from DAY] [--to DAY]]
     portal-venues plans [FILE] [--offers FILE] [--venue NAME ..] [--look]
+    portal-venues targets FILE [--port PORT] [--domain DOMAIN]
     portal-venues reader ROLE (--office | --venue NAME .. | --none)
 
 `add` makes a venue's settings, with the next free port, and applies them. `apply` carries out what the
@@ -17,7 +18,7 @@ password. `retire` ends a venue, after a last copy; its files and its database s
 venue is. `renew`, for the package's upgrades, starts one venue after another with the new program. Where the
 table of venues is in PostgreSQL, `collect` copies takings, vouchers and sessions into the view of all venues
 beside it, `report` says what the office should know of it, and `reader` lets a role of PostgreSQL read it.
-`plans` brings the plans of a chain to its venues.
+`plans` brings the plans of a chain to its venues. `targets` names the machines of the table to Prometheus.
 """
 
 from __future__ import annotations
@@ -142,6 +143,11 @@ def add_words_of_view(kinds: Any) -> None:
                        help="this venue; can be repeated")
     chain.add_argument("--look", action="store_true",
                        help="change nothing: say what would be, and what differs")
+    scraped = kinds.add_parser("targets", help="name the machines of the table to Prometheus (file_sd)")
+    scraped.add_argument("file", type=pathlib.Path, metavar="FILE")
+    scraped.add_argument("--port", type=int, default=table.EXPORTER,
+                         help=f"where it asks them; else {table.EXPORTER}")
+    scraped.add_argument("--domain", default="", help="what follows a machine's name")
     reader = kinds.add_parser("reader", help="let a role of PostgreSQL read the view")
     reader.add_argument("role", metavar="ROLE")
     rows = reader.add_mutually_exclusive_group(required=True)
@@ -225,6 +231,10 @@ def run(args: argparse.Namespace) -> int:
         return show_report(args, machine)
     if args.kind == "plans":
         return push_plans(args, machine)
+    if args.kind == "targets":
+        Files(None, ROOT, "").write(                    # type: ignore[arg-type]
+            args.file.resolve(), table.targets(machine, args.port, args.domain))
+        return 0
     if args.kind == "reader":
         return set_reader(args, machine)
     status_of_end = ending.retire(Places(check_name(args.venue), ROOT), machine, Units())
