@@ -24,7 +24,7 @@ from own_postgres import OwnPostgres
 
 from portal_field.backup.backup import held_still
 from portal_field.backup.copies import copy_both, fold
-from portal_field.venues import collect, command, report, table, view
+from portal_field.venues import collect, command, ending, report, table, view
 from portal_field.venues.collect import Collector, Result, key_of
 from portal_field.venues.places import BadVenue, Machine, Places
 from portal_field.venues.records import hidden
@@ -389,6 +389,25 @@ class View(OwnPostgres):
         table.retire(self.machine, "north")
         self.assertEqual(self.collect()["north"].lines, ["north: it is not in the table: portal-venues add north"])
         self.assertRaises(BadVenue, self.collect, "east")
+
+    def test_a_venue_that_is_retired_has_all_its_sales_in_the_view(self) -> None:
+        self.put("north")
+        self.day_at("north")
+        self.collect()
+        self.desks["north"].sell_codes("day", "b5", 2)
+        total = next(line.split() for line in self.takings("north").splitlines() if line.startswith("total"))
+        self.end("north")
+        units, words = mock.Mock(), io.StringIO()
+        collector = Collector(self.machine, self.root, self.hold, shlex.split(self.program))
+        with mock.patch.object(ending, "backup", return_value=""), mock.patch.object(ending, "Collector", return_value=collector), \
+                contextlib.redirect_stdout(words), contextlib.redirect_stderr(words):
+            self.assertEqual(ending.retire(Places("north", self.root), self.machine, units), 0)
+        self.assertEqual(list(self.sums("north")), [int(word.replace(".", "")) for word in total[1:]])
+        self.assertEqual(self.ask("SELECT count(sold) FROM portal_view.voucher"), [(5,)])
+        self.assertNotIn("not in the view", words.getvalue())
+        self.collect()
+        self.assertEqual(self.ask("SELECT venue FROM portal_view.silent"), [])
+        self.assertEqual(self.ask("SELECT retired IS NULL FROM portal_view.venue"), [(False,)])
 
     def test_while_postgresql_is_away_nothing_is_asked(self) -> None:
         self.put("north")
