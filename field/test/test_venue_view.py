@@ -217,7 +217,8 @@ class View(OwnPostgres):
         self.assertEqual(self.ask("SELECT venue, bool_or(from_copy) FROM portal_view.takings GROUP BY 1 ORDER BY 1"), [("north", True), ("south", False)])
         self.assertEqual(self.ask("SELECT count(*) FROM portal_view.voucher WHERE code = %s AND sold IS NOT NULL",
                                   hidden(key_of(self.root), "code", unsold)), [(1,)])
-        found = self.ask("SELECT venue, fault LIKE '%%Connection refused' FROM portal_view.silent WHERE %s", True)
+        found = self.ask("SELECT venue, venue.fault LIKE '%%Connection refused' AND venue.seen < tried FROM portal_view.silent "
+                         "JOIN portal_view.venue USING (venue) WHERE %s", True)
         self.assertEqual(found, [("north", True)])
         self.again("north")
         self.assertEqual(self.collect()["north"].fault, "")
@@ -390,6 +391,24 @@ class View(OwnPostgres):
         self.assertEqual(self.collect()["north"].lines, ["north: it is not in the table: portal-venues add north"])
         self.assertRaises(BadVenue, self.collect, "east")
 
+    def test_a_database_that_cannot_be_read_is_said_and_the_takings_are_taken(self) -> None:
+        self.put("north")
+        self.day_at("north")
+
+        def no_hold(places: Places) -> contextlib.AbstractContextManager[None]:
+            """No server can be held still."""
+            raise OSError(f"{places.name} is not held")
+
+        setattr(self, "hold", no_hold)
+        line = "its database is not read: north is not held"
+        self.assertEqual(self.collect()["north"].faults, [line])
+        self.assertEqual(self.ask("SELECT venue, fault FROM portal_view.silent"), [("north", line)])
+        total = next(line.split() for line in self.takings("north").splitlines() if line.startswith("total"))
+        self.assertEqual(list(self.sums("north")), [int(word.replace(".", "")) for word in total[1:]])
+        delattr(self, "hold")
+        self.assertEqual(self.collect()["north"].fault, "")
+        self.assertEqual(self.ask("SELECT count(*) FROM portal_view.voucher"), [(4,)])
+
     def test_a_venue_that_is_retired_has_all_its_sales_in_the_view(self) -> None:
         self.put("north")
         self.day_at("north")
@@ -470,7 +489,7 @@ class View(OwnPostgres):
         net = f"{(sales - refunds) / 100:.2f}"
         self.assertEqual(lines[2], ["south", "EUR", net, "10.50", "House", "south"])
         self.assertEqual(lines[3], ["all", "EUR", f"{2 * (sales - refunds) / 100:.2f}", "10.50"])
-        self.assertRegex(text, "\nnorth is silent, on one: it is silent: .*Connection refused; it answered last: 20")
+        self.assertRegex(text, "\nnorth on one: it is silent: .*Connection refused; its server answered last: 20")
         self.assertRegex(text, "\nthe certificate of one ends: 20")
         self.assertIn(f"south: {today - datetime.timedelta(7)} was over and changed: net 0.00, and 10.50 since", text)
         rows = list(csv.reader(io.StringIO(report.as_csv(self.machine, today, today))))

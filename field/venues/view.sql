@@ -139,4 +139,4 @@ CREATE VIEW portal_view.silent WITH (security_invoker) AS
             WHEN tried < now() - interval '1 hour' THEN 'its machine has not collected it for an hour'
             ELSE fault END AS fault
     FROM portal_view.venue
-    WHERE retired IS NULL AND (tried IS NULL OR seen IS NULL OR seen < tried OR tried < now() - interval '1 hour');
+    WHERE retired IS NULL AND (tried IS NULL OR seen IS NULL OR fault <> '' OR tried < now() - interval '1 hour');

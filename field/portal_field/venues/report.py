@@ -67,7 +67,7 @@ def weeks_table(link: Any, today: datetime.date, weeks: int) -> Iterator[str]:
 def troubles(link: Any) -> Iterator[str]:
     """What the office should know beside the takings, line by line."""
     for venue, machine, seen, fault in link.execute(SILENT):
-        yield f"{venue} is silent, on {machine}: {fault}; it answered last: {moment(seen)}"
+        yield f"{venue} on {machine}: {fault}; its server answered last: {moment(seen)}"
     for machine, ends in link.execute(CERTIFICATES, (SOON,)):
         yield f"the certificate of {machine} ends: {moment(ends)}"
     for venue, day, seen, was, net in link.execute(CHANGED, (LATELY,)):
