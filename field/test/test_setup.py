@@ -671,7 +671,7 @@ class Made(unittest.TestCase):
         units = [path.name for path in sorted(folder.iterdir()) if path.is_file() and "@." not in path.name]
         done = subprocess.run(["systemd-analyze", "verify", "--man=no", f"--root={self.root}", *units],
                               capture_output=True, text=True)
-        self.assertEqual((len(units), done.returncode, done.stdout + done.stderr), (38, 0, ""))
+        self.assertEqual((len(units), done.returncode, done.stdout + done.stderr), (40, 0, ""))
 
 
 if __name__ == "__main__":

@@ -5,71 +5,30 @@ from __future__ import annotations
 
 import contextlib
 import io
-import os
 import pathlib
-import shutil
-import subprocess
 import tempfile
 import tomllib
 import unittest
-from typing import Any, ClassVar
 
 from needs import needs
+from own_postgres import OwnPostgres
 
 from portal_field.venues import table
-from portal_field.venues.places import BadVenue, Machine, Places
+from portal_field.venues.places import BadVenue, Places
 from portal_field.venues.venue_settings import read_venue
 
-PROGRAMS = pathlib.Path("/usr/lib/postgresql/15/bin")
 TEXT = ('house = "House \\"{0}\\""\nname = "wifi.example"\ncounter_name = "{0}.example"\nzone = "UTC0"\ndesk_port = {1}\n'
         'payments = ["cash", "card"]\n[radius]\nlisten = "127.0.0.1"\n[radius.nas.lobby]\naddress = "10.9.0.1"\n')
 
 
-def as_owner(*words: object, **more: Any) -> None:
-    """Runs a program of PostgreSQL, which refuses root, by its own user."""
-    before = ["setpriv", "--reuid=postgres", "--regid=postgres", "--clear-groups"] if os.geteuid() == 0 else []
-    subprocess.run([*before, *map(str, words)], check=True, stdout=subprocess.DEVNULL, **more)
-
-
 @needs("postgresql", "python3-psycopg", "util-linux")
-class Table(unittest.TestCase):
-    """Over a PostgreSQL of its own, on a socket in a folder."""
-    folder: ClassVar[pathlib.Path]
-
-    @classmethod
-    def setUpClass(cls) -> None:
-        cls.folder = pathlib.Path(tempfile.mkdtemp(dir="/tmp"))
-        if os.geteuid() == 0:
-            shutil.chown(cls.folder, "postgres", "postgres")
-        as_owner(PROGRAMS / "initdb", "-D", cls.folder / "data", "-A", "trust", "-U", "chain", "--no-sync", "--locale=C.UTF-8")
-        cls.start()
-
-    @classmethod
-    def tearDownClass(cls) -> None:
-        cls.stop()
-        shutil.rmtree(cls.folder)
-
-    @classmethod
-    def start(cls) -> None:
-        """Starts PostgreSQL, and waits until it answers."""
-        as_owner(PROGRAMS / "pg_ctl", "-w", "-D", cls.folder / "data", "-l", cls.folder / "log", "-o",
-                 f"-k {cls.folder} -c listen_addresses= -c fsync=off", "start")
-
-    @classmethod
-    def stop(cls) -> None:
-        """Stops it."""
-        as_owner(PROGRAMS / "pg_ctl", "-w", "-D", cls.folder / "data", "-m", "fast", "stop")
-
+class Table(OwnPostgres):
     def setUp(self) -> None:
         self.root = pathlib.Path(self.enterContext(tempfile.TemporaryDirectory()))
         self.machine = self.of("one")
         self.words = self.enterContext(contextlib.redirect_stdout(io.StringIO()))
         with table.opened(self.machine) as link:
             link.execute("DELETE FROM portal.venue")
-
-    def of(self, name: str) -> Machine:
-        """A machine of the chain."""
-        return Machine("127.0.0.1", database=f"host={self.folder} user=chain dbname=postgres", machine=name)
 
     def field(self, name: str) -> pathlib.Path:
         """The settings of a venue."""

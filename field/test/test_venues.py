@@ -259,6 +259,15 @@ class Applied(OnAMachine):
             restarted = {words[1] for words in units.asked if words[0] == "restart"}
             self.assertEqual(restarted, {"portal-venues-clock.service", "portal-venues-counter.service"} if _ == 0 else set())
 
+    def test_the_view_is_collected_where_a_database_is_named(self) -> None:
+        self.put("north")
+        for database, words in (("", ("disable", "--now", "portal-venues-collect.timer")),
+                                ("dbname=portal", ("enable", "--now", "portal-venues-collect.timer"))):
+            units = FakeUnits()
+            with contextlib.redirect_stdout(io.StringIO()):
+                Apply(Machine("127.0.0.1", database=database), self.root, units, prices_as_shipped=True).run(all_venues(self.root)[0], ["north"], {})
+            self.assertIn(words, units.asked)
+
     def test_without_venues_nothing_of_them_runs(self) -> None:
         units = FakeUnits()
         self.run_apply(units)

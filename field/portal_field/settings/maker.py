@@ -73,7 +73,8 @@ INSTALLED = {       # from the kit, with the words between @ signs filled in
         "portal@.service", "portal-settings@.socket", "portal-settings@.service", "portal-radius@.service",
         "portal-radius-agent@.service", "portal-venues.target", "portal-venues.slice",
         "portal-venues-clock.service", "portal-venues-rules.service", "portal-venues-counter.socket",
-        "portal-venues-counter.service", "portal-venues-backup.service", "portal-venues-backup.timer")},
+        "portal-venues-counter.service", "portal-venues-backup.service", "portal-venues-backup.timer",
+        "portal-venues-collect.service", "portal-venues-collect.timer")},
 }
 # Where the counter's page is served: by an nginx of its own; or, as earlier versions have it, by that of the
 # guests' page

@@ -14,7 +14,7 @@ from portal_field.settings.venue import Field
 from portal_field.venues.files import VenueFiles, make_shared
 from portal_field.venues.places import BadVenue, Machine, Places
 from portal_field.venues.units import (
-    CLOCK, COUNTER, DOOR, NGINX, RULES, TIMER, UnitFault, Units, units_of)
+    CLOCK, COLLECT, COUNTER, DOOR, NGINX, RULES, TIMER, UnitFault, Units, units_of)
 
 STEPS = ("files", "prices", "units")
 # Files that a desk reads at its start
@@ -102,7 +102,7 @@ class Apply:
         later ones were not done."""
         written = {path.name for path in make_shared(venues, self.machine, self.root, self.kit)}
         if not venues:
-            self.units.ctl("disable", "--now", CLOCK, COUNTER, DOOR, RULES, TIMER)
+            self.units.ctl("disable", "--now", CLOCK, COUNTER, DOOR, RULES, TIMER, COLLECT)
             self.units.ctl("stop", "portal-venues.target")
         else:
             # which desks and pages there are is known to these two since their start
@@ -111,6 +111,7 @@ class Apply:
             self.units.ctl("reload-or-restart" if "desks.nft" in written else "start", RULES)
             self.units.ctl("restart" if is_new else "start", CLOCK)
             self.units.ctl("start", DOOR, TIMER)
+            self.units.ctl("enable" if self.machine.database else "disable", "--now", COLLECT)
             self.units.ctl("restart" if is_new else "start", COUNTER)
         if {"venues.conf", "nginx.conf"} & written or not self.units.is_active(NGINX):
             self.units.ctl("reload-or-restart", NGINX)

@@ -20,6 +20,7 @@ from portal_field.lib.machine_time import Notes
 from portal_field.lib.notify import notify_systemd
 from portal_field.server.accepted_steps import FILE, Steps
 from portal_field.server.right_time import NO_ENTRY, Clock, LastEntry
+from portal_field.venues import health
 from portal_field.venues.places import BadVenue, Places, machine_of, venues_in
 from portal_field.venues.venue_settings import all_venues
 
@@ -100,16 +101,24 @@ class Watch:
     def __init__(self, ports: dict[str, int], restart: Callable[[str], object]) -> None:
         self.ports, self.restart = ports, restart
         self.silent: dict[str, int] = {}
+        self.gone: dict[int, float] = {}    # ports without an answer, and since when
 
     def answers(self, port: int) -> bool:
         """Whether a desk answers, or does not run at all: that systemd mends."""
         try:
             Desk(port, timeout=PATIENCE).request_json(Routes.CAPTIVE, device=NOBODY)
         except NoAnswer as fault:
+            self.gone.setdefault(port, time.monotonic())
             return not isinstance(fault.__cause__, TimeoutError)
         except Refused:
             pass
+        self.gone.pop(port, None)
         return True
+
+    def seconds_silent(self) -> dict[str, float]:
+        """For how many seconds each desk has given no answer; 0: it answers."""
+        now = time.monotonic()
+        return {name: now - self.gone.get(port, now) for name, port in self.ports.items()}
 
     def look(self) -> None:
         """Asks all desks, some at a time."""
@@ -137,14 +146,15 @@ def wait_for_time(clock: VenuesClock, notes: Sequence[Notes], shared: Notes) -> 
     say(f"the desks start: {verdict.why}")
 
 
-def run_desks(clock: VenuesClock, watch: Watch) -> None:
-    """Runs the desks until the clock is set."""
+def run_desks(clock: VenuesClock, watch: Watch, root: pathlib.Path) -> None:
+    """Runs the desks until the clock is set. What Prometheus reads of them is written at each look."""
     ctl("start", TARGET)
     looked = time.monotonic()
     while not clock.was_set():
         if time.monotonic() - looked >= EACH:
             looked = time.monotonic()
             watch.look()
+            health.write_metrics(root, watch.seconds_silent())
         time.sleep(TICK)
     say("the machine's clock was set while the desks ran: they are ended")
     subprocess.run(["systemctl", "stop", TARGET], check=True)
@@ -164,7 +174,7 @@ def main() -> int:
     ports = {name: field.desk_port for name, field in all_venues(root)[0].items()}
     while True:
         wait_for_time(clock, notes, shared)
-        run_desks(clock, Watch(ports, lambda unit: ctl("restart", unit)))
+        run_desks(clock, Watch(ports, lambda unit: ctl("restart", unit)), root)
 
 
 if __name__ == "__main__":

@@ -6,23 +6,33 @@
     portal-venues retire NAME
     portal-venues status
     portal-venues renew
+    portal-venues collect [NAME ..]
+    portal-venues report [--weeks N] [--csv FILE [--from DAY] [--to DAY]]
+    portal-venues plans [FILE] [--offers FILE] [--venue NAME ..] [--look]
+    portal-venues targets FILE [--port PORT] [--domain DOMAIN]
+    portal-venues reader ROLE (--office | --venue NAME .. | --none)
 
 `add` makes a venue's settings, with the next free port, and applies them. `apply` carries out what the
 settings say, of all venues or of some. `clerk` makes an account of a venue's counter, or gives it a new
 password. `retire` ends a venue, after a last copy; its files and its database stay. `status` says how each
-venue is. `renew`, for the package's upgrades, starts one venue after another with the new program.
+venue is. `renew`, for the package's upgrades, starts one venue after another with the new program. Where the
+table of venues is in PostgreSQL, `collect` copies takings, vouchers and sessions into the view of all venues
+beside it, `report` says what the office should know of it, and `reader` lets a role of PostgreSQL read it.
+`plans` brings the plans of a chain to its venues. `targets` names the machines of the table to Prometheus.
 """
 
 from __future__ import annotations
 
 import argparse
+import datetime
 import os
 import pathlib
 import sys
+from typing import Any
 
 from portal_field.settings import accounts, clerk_account
 from portal_field.settings.venue import toml_lines
-from portal_field.venues import ending, status, table
+from portal_field.venues import chain_plans, collect, ending, report, status, table, view
 from portal_field.venues.apply import Apply
 from portal_field.venues.ending import RETIRED
 from portal_field.venues.places import (
@@ -113,6 +123,69 @@ def clerk(args: argparse.Namespace) -> int:
     return 0
 
 
+def add_words_of_view(kinds: Any) -> None:
+    """Adds the words of what concerns the view of all venues."""
+    taken = kinds.add_parser("collect", help="copy takings, vouchers and sessions into the view of all")
+    taken.add_argument("venues", nargs="*", metavar="NAME")
+    told = kinds.add_parser("report", help="takings by venue and week, and what is wrong, out of the view")
+    told.add_argument("--weeks", type=int, choices=range(1, 54), default=2, metavar="N",
+                      help="how many weeks stand beside one another, at most 53; else 2")
+    told.add_argument("--csv", metavar="FILE", help="write the takings of each venue and day")
+    told.add_argument("--from", dest="first", type=datetime.date.fromisoformat, metavar="DAY",
+                      help="the first day of the file, such as 2026-01-31; else a year before the last one")
+    told.add_argument("--to", dest="last", type=datetime.date.fromisoformat, metavar="DAY",
+                      help="its last day; else today")
+    chain = kinds.add_parser("plans", help="bring the plans of a chain to all its venues or some")
+    chain.add_argument("file", nargs="?", type=pathlib.Path, metavar="FILE",
+                       help="the plans.toml of the chain; else those in the table")
+    chain.add_argument("--offers", type=pathlib.Path, metavar="FILE", help="its offers.toml")
+    chain.add_argument("--venue", action="append", dest="seen", metavar="NAME", default=[],
+                       help="this venue; can be repeated")
+    chain.add_argument("--look", action="store_true",
+                       help="change nothing: say what would be, and what differs")
+    scraped = kinds.add_parser("targets", help="name the machines of the table to Prometheus (file_sd)")
+    scraped.add_argument("file", type=pathlib.Path, metavar="FILE")
+    scraped.add_argument("--port", type=int, default=table.EXPORTER,
+                         help=f"where it asks them; else {table.EXPORTER}")
+    scraped.add_argument("--domain", default="", help="what follows a machine's name")
+    reader = kinds.add_parser("reader", help="let a role of PostgreSQL read the view")
+    reader.add_argument("role", metavar="ROLE")
+    rows = reader.add_mutually_exclusive_group(required=True)
+    rows.add_argument("--office", action="store_const", dest="seen", const=[view.ALL], help="all venues")
+    rows.add_argument("--venue", action="append", dest="seen", metavar="NAME",
+                      help="this venue; can be repeated")
+    rows.add_argument("--none", action="store_const", dest="seen", const=[], help="nothing any more")
+
+
+def show_report(args: argparse.Namespace, machine: Machine) -> int:
+    """Prints the report of the office, or writes its file."""
+    last = args.last or datetime.date.today()
+    if not args.csv:
+        print(report.show(machine, args.weeks, last), end="")
+        return 0
+    text = report.as_csv(machine, args.first or last - datetime.timedelta(365), last)
+    pathlib.Path(args.csv).write_text(text, encoding="utf-8")
+    return 0
+
+
+def push_plans(args: argparse.Namespace, machine: Machine) -> int:
+    """Brings the plans of the chain to the venues."""
+    if args.offers and not args.file:
+        raise BadVenue("--offers goes with a file of plans")
+    chain = chain_plans.read_files(args.file, args.offers) if args.file else None
+    return chain_plans.push(machine, ROOT, Units(), chain, args.seen, args.look)
+
+
+def set_reader(args: argparse.Namespace, machine: Machine) -> int:
+    """Lets a role of PostgreSQL read the view."""
+    with view.opened(machine) as link:
+        view.venues_of(link, machine)
+        view.set_reader(link, args.role, args.seen)
+    what = "all venues" if args.seen == [view.ALL] else ", ".join(args.seen) or "nothing"
+    print(f"the role {args.role} reads: {what}")
+    return 0
+
+
 def read_words() -> argparse.Namespace:
     """The words of the command line."""
     words = argparse.ArgumentParser(description="The venues by name of this machine.")
@@ -135,6 +208,7 @@ def read_words() -> argparse.Namespace:
     old.add_argument("venues", nargs="*", metavar="NAME")
     kinds.add_parser("status", help="say how each venue is")
     kinds.add_parser("renew", help="for upgrades: start one venue after another with the new program")
+    add_words_of_view(kinds)
     return words.parse_args()
 
 
@@ -151,6 +225,18 @@ def run(args: argparse.Namespace) -> int:
         return status.show(machine, ROOT, Units())
     if args.kind == "renew":
         return ending.renew(machine, ROOT, Units())
+    if args.kind == "collect":
+        return collect.collect(machine, ROOT, args.venues)
+    if args.kind == "report":
+        return show_report(args, machine)
+    if args.kind == "plans":
+        return push_plans(args, machine)
+    if args.kind == "targets":
+        Files(None, ROOT, "").write(                    # type: ignore[arg-type]
+            args.file.resolve(), table.targets(machine, args.port, args.domain))
+        return 0
+    if args.kind == "reader":
+        return set_reader(args, machine)
     status_of_end = ending.retire(Places(check_name(args.venue), ROOT), machine, Units())
     args.prices_as_shipped = False
     return status_of_end or apply(args, machine, [])

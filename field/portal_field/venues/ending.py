@@ -10,6 +10,7 @@ import time
 from portal_field import KIT
 from portal_field.lib.desk_client import Desk, NoAnswer, Refused, Routes
 from portal_field.venues import table
+from portal_field.venues.collect import Collector
 from portal_field.venues.files import VenueFiles, make_shared
 from portal_field.venues.places import BadVenue, Machine, Places
 from portal_field.venues.units import CLOCK, COUNTER, NGINX, RULES, Units, units_of
@@ -31,8 +32,20 @@ def backup(places: Places, name: str = "") -> str:
     return "" if done.returncode == 0 else done.stderr.strip()
 
 
+def collect_last(collector: Collector, name: str) -> None:
+    """Takes what a venue that was ended sold at last into the view of all venues, where that knows it.
+    table.Away: PostgreSQL cannot be reached."""
+    try:
+        faults = [fault for result in collector.run([name]) for fault in result.faults]
+    except BadVenue as fault:
+        faults = [str(fault)]
+    for line in faults:
+        print(f"{name}: its last sales are not in the view of all venues: {line}", file=sys.stderr)
+
+
 def retire(places: Places, machine: Machine, units: Units) -> int:
-    """Ends a venue: its units, a last copy, its line in the table. BadVenue: there is none of that name."""
+    """Ends a venue: its units, a last copy, its last sales in the view, its line in the table. BadVenue:
+    there is none of that name."""
     if not places.field.exists():
         raise BadVenue(f"there is no venue {places.name}")
     units.ctl("disable", "--now", *reversed(units_of(places.name, True)))
@@ -43,6 +56,7 @@ def retire(places: Places, machine: Machine, units: Units) -> int:
         return 1
     print(f"{places.name}: the last copy is in {places.copies}", flush=True)
     if machine.database:
+        collect_last(Collector(machine, places.root), places.name)
         table.retire(machine, places.name)
     places.field.rename(places.field.with_name(RETIRED))
     print(f"{places.name}: retired; its database stays at {places.database}", flush=True)

@@ -16,10 +16,12 @@ from portal_field.venues.places import BadVenue, Machine, Places, venues_in
 from portal_field.venues.venue_settings import read_venue
 
 PATIENCE = 5        # seconds for a connection
+EXPORTER = 9100     # the port of prometheus-node-exporter
 HEAD = "# Written by portal-venues from the table of venues: a change belongs there.\n"
 ROWS = "SELECT name, settings, retired IS NOT NULL FROM portal.venue WHERE machine = %s ORDER BY name"
 ADD = "INSERT INTO portal.venue (name, machine, settings) VALUES (%s, %s, %s)"
 AGAIN = "UPDATE portal.venue SET retired = NULL, settings = %s WHERE name = %s AND machine = %s"
+MACHINES = "SELECT DISTINCT machine FROM portal.venue WHERE retired IS NULL ORDER BY machine"
 RETIRE = "UPDATE portal.venue SET retired = now() WHERE name = %s AND machine = %s AND retired IS NULL"
 
 
@@ -130,3 +132,14 @@ def differences(machine: Machine, root: pathlib.Path) -> list[str]:
         elif not is_retired and lines_of(Places(name, root).field) != settings:
             lines.append(f"the settings of {name} differ: portal-venues apply {name}")
     return lines
+
+
+def targets(machine: Machine, port: int, domain: str) -> str:
+    """The machines that have venues in the table, as Prometheus' file_sd has them. `domain` is put after
+    their names. Away, BadVenue: as `opened` has it."""
+    with opened(machine) as link:
+        rows: list[tuple[str]] = list(link.execute(MACHINES))
+    found: list[dict[str, Any]] = [
+        {"targets": [f"{name}{f'.{domain}' if domain else ''}:{port}"], "labels": {"machine": name}}
+        for name, in rows]
+    return json.dumps(found, indent=1) + "\n"

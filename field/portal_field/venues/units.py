@@ -7,6 +7,7 @@ import subprocess
 CLOCK, COUNTER = "portal-venues-clock.service", "portal-venues-counter.service"
 DOOR = "portal-venues-counter.socket"
 RULES, TIMER = "portal-venues-rules.service", "portal-venues-backup.timer"
+COLLECT = "portal-venues-collect.timer"     # where the table of venues is in PostgreSQL
 NGINX = "portal-counter-nginx.service"
 PATIENCE = 120      # seconds for a command of systemctl
 
