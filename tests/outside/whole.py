@@ -115,6 +115,24 @@ def starting_makes_it_whole(program: str) -> None:
             is_whole_alone(desk, day, "serve, after a kill")
 
 
+def times_read_at_start(desk: Desk) -> float:
+    """How often a server that starts reads as many bytes as the database file has. It is then killed."""
+    desk.start()
+    with open(f"/proc/{desk.process.pid}/io", encoding="ascii") as counts:
+        [read] = [int(line.split()[1]) for line in counts if line.startswith("rchar:")]
+    desk.kill()
+    return read / len(content(desk, "portal.db"))
+
+
+def clean_end_is_read_once(program: str) -> None:
+    """A start opens a database once whose log has nothing to copy. An opening reads some 2.7 times what the file has; two read 5.3 times that."""
+    with tempfile.TemporaryDirectory() as folder:
+        desk = database_with_log(program, folder)
+        desk.start()
+        desk.kill()
+        expect("a start with nothing in the log opens the file once", times_read_at_start(desk) < 4, True)
+
+
 def database_with_log(program: str, folder: str) -> Desk:
     """A database whose sales are in its log."""
     desk = Desk(program, folder)
@@ -299,8 +317,8 @@ def accepts_without_descriptors(program: str) -> None:
 
 
 def main() -> None:
-    parts = (answers_leave_it_whole, serving_leaves_it_whole, starting_makes_it_whole, log_is_kept, asking_makes_nothing,
-             database_in_use_is_named, file_is_explained, failed_close_keeps_the_files, accepts_without_descriptors)
+    parts = (answers_leave_it_whole, serving_leaves_it_whole, starting_makes_it_whole, clean_end_is_read_once, log_is_kept,
+             asking_makes_nothing, database_in_use_is_named, file_is_explained, failed_close_keeps_the_files, accepts_without_descriptors)
     chosen = [part for part in parts if not sys.argv[2:] or part.__name__ in sys.argv[2:]]
     for part in chosen:
         part(sys.argv[1])

@@ -54,7 +54,7 @@ adopts_alone : (size : ℕ) (image : Image) (pages : PageMap) → length image.l
     → Adopts size (record image { log = [] }) pages
 adopts_alone size image pages bare it =
     let none : it.numbers ≡ [] = empty_list it.numbers (none_replayed (stored_size size) image.log
-        (length it.numbers) bare it.frames.0) in record {
+    (length it.numbers) bare it.frames.0) in record {
       stored = it.stored;
       found = without_log (stored_size size) image it.stored bare it.found;
       whole = it.whole;
@@ -79,45 +79,51 @@ module _ (size : ℕ) (image : Image) (pages : PageMap) (bare : length image.log
       let none = none_replayed whole image.log raw.frames bare raw.replays in
       let (page, is) = some_value (found.stored 1) found.whole.first in
       let alone : pages_after whole image.log image.db 0 1 ≡ Some page = ap (λ (p : PageMap). p 1)
-          (ap (pages_after whole image.log image.db) (sym none) ∙ raw.gives) ∙ is in
+      (ap (pages_after whole image.log image.db) (sym none) ∙ raw.gives) ∙ is in
       let start : (1 - 1) * whole ≡ 0 = omega arith in
       let front : part image.db 0 whole ≡ page = ap (λ (at : ℕ). part image.db at whole) (sym start)
-          ∙ (page_from_pages whole image.log image.db 0 1 page alone).0 in
+      ∙ (page_from_pages whole image.log image.db 0 1 page alone).0 in
       let used : pages 1 ≡ Some (take size page) = ap (λ (p : PageMap). p 1) (sym found.shows)
-          ∙ trimmed_some size _ 1 page is in
+      ∙ trimmed_some size _ 1 page is in
       let head : header_in pages ≡ take 100 (take size (part image.db 0 whole)) =
-          ap (λ (o : Option (List ℕ)). take 100 (unwrap_or o [])) used
-          ∙ ap (λ (b : List ℕ). take 100 (take size b)) (sym front) in
+      ap (λ (o : Option (List ℕ)). take 100 (unwrap_or o [])) used
+      ∙ ap (λ (b : List ℕ). take 100 (take size b)) (sym front) in
       ap (λ (b : List ℕ). slice_index b k) head ∙ get_or-take 100 (take size (part image.db 0 whole)) k 0 low
-          ∙ get_or-take size (part image.db 0 whole) k 0 small
+      ∙ get_or-take size (part image.db 0 whole) k 0 small
       ∙ slice_index-part image.db 0 whole k (omega (arith, small)) ∙ ap (slice_index image.db) (zero-add k)
 
   short_header : size ≤ 20 → (k : ℕ) → 20 ≤ k → slice_index (header_in pages) k ≡ 0
   short_header few k past =
       let (page, is) = some_value (found.stored 1) found.whole.first in
       let used : pages 1 ≡ Some (take size page) = ap (λ (p : PageMap). p 1) (sym found.shows)
-          ∙ trimmed_some size _ 1 page is in
+      ∙ trimmed_some size _ 1 page is in
       let head : header_in pages ≡ take 100 (take size page) =
-          ap (λ (o : Option (List ℕ)). take 100 (unwrap_or o [])) used in
+      ap (λ (o : Option (List ℕ)). take 100 (unwrap_or o [])) used in
       ap (λ (b : List ℕ). slice_index b k) head
       ∙ get_or_past (take 100 (take size page)) k 0
-          (omega (arith, few, past, length-take 100 (take size page), length-take size page))
+      (omega (arith, few, past, length-take 100 (take size page), length-take size page))
 
   -- the header has bytes at 20, so the page reaches that far
   reaches : 20 < size
   reaches = elim (cases_lt 20 size) [
     | inl more ↦ more
-    | inr few ↦ absurd (omega (arith, sound.header.1.fractions, short_header few 20 (omega arith),
-        short_header few 21 (omega arith), short_header few 22 (omega arith), short_header few 23
-        (omega arith)))
+    | inr few ↦ absurd (omega (
+      arith,
+      sound.header.1.fractions,
+      short_header few 20 (omega arith),
+      short_header few 21 (omega arith),
+      short_header few 22 (omega arith),
+      short_header few 23
+          (omega arith),
+    ))
   ]
 
   size_named : 18 ≤ length image.db → size_in_file image.db ≡ stored_size size
   size_named long =
       let named = ap₂ (λ (a b : ℕ). a * 256 + b) (byte_of_file 16 (omega (arith, reaches)) (omega arith))
-          (byte_of_file 17 (omega (arith, reaches)) (omega arith)) in
+      (byte_of_file 17 (omega (arith, reaches)) (omega arith)) in
       rw (le-ltb (length image.db) 18 long) (ap (λ (n : ℕ). cond (eqb n 1) 65536 n) (sym named)
-          ∙ sound.header.0.size)
+      ∙ sound.header.0.size)
 
 -- the file names no size if it ends before that
 named_within : (db : List ℕ) → IsPageSize (size_in_file db) → 18 ≤ length db
@@ -131,8 +137,11 @@ no_blank image alone size some (inl none) = omega (arith, none, named_within ima
 no_blank image alone size some (inr blank) =
     elim blank.1.0 [
       | inl short ↦ omega (arith, short, named_within image.db alone.sized)
-      | inr more ↦ elim more [ inl zeroed ↦ omega (arith, zeroed.1, alone.begins) | inr rest ↦ rest.1
-          (alone.begins ∙ sym (first_byte size some)) ]
+      | inr more ↦ elim more [
+        | inl zeroed ↦ omega (arith, zeroed.1, alone.begins)
+        | inr rest ↦ rest.1
+            (alone.begins ∙ sym (first_byte size some))
+      ]
     ]
 
 something : (image : Image) → IsAlone image → ¬ IsNothing image
@@ -145,15 +154,38 @@ held_alone : (image : Image) (db : Trees) (schema : Schema) → IsAlone image �
 held_alone image db schema alone sound (inr (nothing, empty)) = absurd (something image alone nothing)
 held_alone image db schema alone sound (inl (size, pages, wanted, adopts, ours, reads)) =
     let sized = λ (o : IsOurs size true wanted pages). subst IsPageSize (size_named size image pages
-        alone.bare adopts o.file.sound (named_within image.db alone.sized)) alone.sized in record {
+    alone.bare adopts o.file.sound (named_within image.db alone.sized)) alone.sized in record {
       both = ∥∥₁_map ours (λ o.
-          let r : HoldsDatabase image db = (size, sized o, record { pages = pages; wanted = wanted; schema =
-              schema; found = adopts; ours = o; reads = reads; sound = sound }) in r);
+          let r : HoldsDatabase image db = (
+            size,
+            sized o,
+            record {
+              pages = pages;
+              wanted = wanted;
+              schema =
+                  schema;
+              found = adopts;
+              ours = o;
+              reads = reads;
+              sound = sound;
+            },
+          ) in r);
       alone = ∥∥₁_map ours (λ o.
-          let r : HoldsDatabase (record image { log = [] }) db =
-              (size, sized o, record { pages = pages; wanted = wanted; schema = schema; found =
-              adopts_alone size image pages alone.bare adopts; ours = o; reads = reads; sound = sound }) in
-              r);
+          let r : HoldsDatabase (record image { log = [] }) db = (
+            size,
+            sized o,
+            record {
+              pages = pages;
+              wanted = wanted;
+              schema = schema;
+              found =
+                  adopts_alone size image pages alone.bare adopts;
+              ours = o;
+              reads = reads;
+              sound = sound;
+            },
+          ) in
+          r);
     }
 
 module _ {D : Type 0} {g : Ghosts D} (files : Files D) (conn : Held (FileStore D g)) where
@@ -164,7 +196,7 @@ module _ {D : Type 0} {g : Ghosts D} (files : Files D) (conn : Held (FileStore D
       let live = opened.1 opened.0.is_open in
       let db = (file_state conn).committed in
       let held : HoldsAlone (image_of g files) db.trees = held_alone (image_of g files) db.trees db.schema
-          alone.0 live.1 found.reads in record {
+      alone.0 live.1 found.reads in record {
         was_clean = clean;
         was_open = opened.0.is_open;
         seen = held;

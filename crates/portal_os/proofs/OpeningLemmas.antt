@@ -56,12 +56,18 @@ module _ {D : Type 0} {g : Ghosts D} where
       let here : FindsIn image (file_state c) = record {
         holds = λ db held. same clean ∙ was.holds db held;
         reads = subst (λ (db : Trees). AreFoundIn image db) (sym (same clean)) was.reads;
-      } in
-      (here, λ is. (first, was, by_need needs (reopened clean) (λ none. (
-        files,
-        alone (honest clean) is none,
-        moved clean,
-      ))))
+      } in (
+        here,
+        λ is. (
+          first,
+          was,
+          by_need needs (reopened clean) (λ none. (
+            files,
+            alone (honest clean) is none,
+            moved clean,
+          )),
+        ),
+      )
     where
       by_need : (b : Bool) → (IsTrue b → IsReopened first c) → (b ≡ false → IsReopened first c)
           → IsReopened first c

@@ -30,7 +30,10 @@ fn count_kept_pages<D: Disk>(db: &mut D) -> io::Result<usize>
 }
 
 /// Sets the number of pages that a connection to a database file keeps in memory, by the file's length.
-pub fn with_kept_pages<D: Disk>(files: &mut Files<D>, options: Options) -> Result<Options, OpeningError>
+pub fn with_kept_pages<D: Disk>(
+    files: &mut Files<D>,
+    options: Options,
+) -> Result<Options, OpeningError>
     requires log { IsTrue (D.Disk.is_usable files.old.log) }
     requires db { IsTrue (D.Disk.is_usable files.old.db) }
     ensures value { IfOk result (λ sized. AreClean D.Disk files.new.log files.new.db

@@ -21,7 +21,7 @@ returns g c =
     let log = c.with_kept_pages.ensures.log in
     let db = c.with_kept_pages.ensures.db in
     let same = ap₂ image (log.seen ∙ c.check_database.ensures.log.seen)
-        (db.seen ∙ c.check_database.ensures.db.seen) in
+    (db.seen ∙ c.check_database.ensures.db.seen) in
     let clean_before = λ (clean : AreClean disk last.log last.db).
     let half = halves disk last.log last.db clean in
     and_from (disk.is_clean looked.log) (disk.is_clean looked.db) (log.clean half.0) (db.clean half.1) in
