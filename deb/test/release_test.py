@@ -157,13 +157,14 @@ def test_verification(room: pathlib.Path, made: pathlib.Path, key: pathlib.Path)
     assert done.returncode == 1 and "not signed by this key" in done.stderr, f"and by no other key  [{output(done)}]"
 
 
+@pytest.mark.parametrize("place", [0.5, 0.1])
 @pytest.mark.parametrize("name", NAMES)
-def test_a_changed_byte_is_refused(room: pathlib.Path, made: pathlib.Path, key: pathlib.Path, name: str) -> None:
+def test_a_changed_byte_is_refused(made: pathlib.Path, key: pathlib.Path, name: str, place: float) -> None:
     with tempfile.TemporaryDirectory() as folder:
         copy = pathlib.Path(folder) / "release"
         shutil.copytree(made, copy)
         data = bytearray((copy / name).read_bytes())
-        data[len(data) // 2] ^= 1
+        data[int(len(data) * place)] ^= 1
         (copy / name).write_bytes(data)
         done = verify(copy, key.with_suffix(".pub"))
     assert done.returncode == 1, f"one changed byte of {name} is refused  [{output(done)}]"
@@ -193,7 +194,7 @@ def test_another_program_is_refused_though_it_is_signed(made: pathlib.Path, key:
         (copy / "SHA256SUMS.minisig").unlink()
         sums = run("sha256sum", *sorted(path.name for path in copy.iterdir()), cwd=copy, ok=True).stdout
         (copy / "SHA256SUMS").write_text(sums)
-        run("minisign", "-S", "-s", key, "-m", copy / "SHA256SUMS", ok=True)
+        run("minisign", "-S", "-s", key, "-c", "signature of a release of portal", "-m", copy / "SHA256SUMS", ok=True)
         done = verify(copy, key.with_suffix(".pub"))
     assert done.returncode == 1 and "is not that of BUILT" in done.stderr, (
         f"a package with another program than BUILT says is refused  [{output(done)}]")
