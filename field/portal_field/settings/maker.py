@@ -150,16 +150,20 @@ class Maker:
             self.write(path, secrets.token_urlsafe(32) + "\n", 0o600)
         return path.read_text().strip()
 
-    def settings(self) -> None:
-        """Makes the settings of every part, and the secrets."""
-        field, run = self.field, self.run
-        folder = self.etc / "credentials"
+    def server_settings(self, mode: int) -> None:
+        """Makes the server's settings, and its tokens in a folder for root alone."""
+        field, folder = self.field, self.etc / "credentials"
         folder.mkdir(parents=True, exist_ok=True)
         folder.chmod(0o700)
         venue_url = {"venue_url": field.venue_url} if field.venue_url else {}
         self.write_toml("portal.toml", {"zone": field.zone, "portal_url": field.url, **venue_url,
                                         "desk_token": self.token("desk_token"),
-                                        "gateway_token": self.token("gateway_token")}, 0o600)
+                                        "gateway_token": self.token("gateway_token")}, mode)
+
+    def settings(self) -> None:
+        """Makes the settings of every part, and the secrets."""
+        field, run = self.field, self.run
+        self.server_settings(0o600)
         self.plans()
         port = field.desk_port
         knock, snapshot = run + "/portal-gateway/knock", run + "/portal-gateway/sessions.json"

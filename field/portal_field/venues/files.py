@@ -65,13 +65,7 @@ class VenueFiles(Files):
     def make(self) -> list[pathlib.Path]:
         """Makes all files of the venue; those that are new. OSError: one cannot be written."""
         field, places = self.field, self.places
-        credentials = self.etc / "credentials"
-        credentials.mkdir(parents=True, exist_ok=True)
-        credentials.chmod(0o700)
-        venue_url = {"venue_url": field.venue_url} if field.venue_url else {}
-        self.write_toml("portal.toml", {"zone": field.zone, "portal_url": field.url, **venue_url,
-                                        "desk_token": self.token("desk_token"),
-                                        "gateway_token": self.token("gateway_token")}, TOKENS)
+        self.server_settings(TOKENS)
         self.write(self.etc / "server.env", f"PORTAL_PORT={field.desk_port}\n")
         if not (self.etc / "plans.toml").exists() and not places.database.exists():
             self.write(self.etc / "plans.toml", (KIT / "settings/plans.toml").read_text())

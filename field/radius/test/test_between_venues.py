@@ -381,28 +381,28 @@ def _(scene: Scene) -> None:
     scene.lab.nas["north"].account("Interim-Update", "north-2", scene.code, scene.guest, klass, (20_000_000, 0))
 
 
+def nobody_answers(scene: Scene, packet: bytes, address: str, port: int, seconds: float) -> None:
+    """Sends a packet from an address to a port of the host. No answer may come for so many seconds."""
+    with socket.socket(socket.AF_INET, socket.SOCK_DGRAM) as link:
+        link.bind((address, 0))
+        link.settimeout(seconds)
+        link.sendto(packet, (scene.lab.host, port))
+        with pytest.raises(TimeoutError):
+            link.recv(4096)
+
+
 @tries("access server", "sends again to the north a packet that the south's access server sent")
 def _(scene: Scene) -> None:
     theirs = scene.lab.nas["south"]
     packet = theirs.access_request(9, {"User-Name": scene.sold, "Calling-Station-Id": "02-00-00-00-09-09"}, scene.sold.encode(), True)
     for address in (scene.north.nas_address, scene.south.nas_address):
-        with socket.socket(socket.AF_INET, socket.SOCK_DGRAM) as link:
-            link.bind((address, 0))
-            link.settimeout(1.0)
-            link.sendto(packet, (scene.lab.host, scene.north.ports[0]))
-            with pytest.raises(TimeoutError):
-                link.recv(4096)
+        nobody_answers(scene, packet, address, scene.north.ports[0], 1.0)
 
 
 @tries("access server", "sends to the south half packets and packets that are no RADIUS")
 def _(scene: Scene) -> None:
     for packet in (b"", b"\x01", struct.pack("!BBH", ACCOUNTING, 1, 4000) + bytes(16), bytes(4000)):
-        with socket.socket(socket.AF_INET, socket.SOCK_DGRAM) as link:
-            link.bind((scene.south.nas_address, 0))
-            link.settimeout(0.5)
-            link.sendto(packet, (scene.lab.host, scene.south.ports[0]))
-            with pytest.raises(TimeoutError):
-                link.recv(4096)
+        nobody_answers(scene, packet, scene.south.nas_address, scene.south.ports[0], 0.5)
 
 
 @tries("access server", "waits for the requests to end sessions of the south")
