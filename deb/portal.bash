@@ -51,7 +51,7 @@ _portal_venues() {
     local cur prev words cword
     _init_completion || return
     case $cword in
-        1) mapfile -t COMPREPLY < <(compgen -W 'add apply clerk retire status renew collect report reader plans targets' -- "$cur") ;;
+        1) mapfile -t COMPREPLY < <(compgen -W 'add apply clerk retire status upgrade collect report reader plans targets' -- "$cur") ;;
         *) mapfile -t COMPREPLY < <(compgen -W "$(ls /etc/portal/venues 2>/dev/null)" -- "$cur") ;;
     esac
 } && complete -F _portal_venues portal-venues

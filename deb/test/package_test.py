@@ -316,7 +316,7 @@ def test_links_of_documents(root: pathlib.Path) -> None:
     lost = [f"{page.relative_to(root)}: {link}" for page, link in links if not (page.parent / link).exists()]
     assert len(links) > 20 and not lost, f"what a packed page links is packed  [{lost}]"
     names = {page.name for page in pages}
-    assert {"OPERATING.md", "API.md", "CLI.md", "TUTORIAL.md", "NEW_MACHINE.md", "INSTALL.md"} <= names, (
+    assert {"OPERATING.md", "API.md", "CLI.md", "TUTORIAL.md", "NEW_MACHINE.md", "INSTALL.md", "SCALE.md"} <= names, (
         f"and who reads at night has the pages for it  [{names}]")
 
 

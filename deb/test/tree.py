@@ -11,16 +11,17 @@ from typing import Any
 
 import pytest
 
+Done = subprocess.CompletedProcess[str]
 DEB = pathlib.Path(__file__).resolve().parent.parent
 TOP = DEB.parent
 
 
-def run(*words: object, ok: bool = False, **more: Any) -> subprocess.CompletedProcess[str]:
+def run(*words: object, ok: bool = False, **more: Any) -> Done:
     """Runs a command, and keeps what it prints; with `ok` it must not fail."""
     return subprocess.run([str(word) for word in words], check=ok, capture_output=True, text=True, **more)
 
 
-def output(done: subprocess.CompletedProcess[str]) -> str:
+def output(done: Done) -> str:
     """The last 300 signs of what a command said, in one line."""
     return (done.stdout + done.stderr).strip().replace("\n", "; ")[-300:]
 

@@ -38,9 +38,14 @@ add set netdev portal listed { type ether_addr; counter; }
 """
 AGENT = """
 import pathlib, sys, time
-from portal_field.gateway.agent import Agent
-from portal_field.gateway.kernel_gate import KernelGate
-from portal_field.lib.desk_client import Desk
+try:
+    from portal_field.gateway.agent import Agent
+    from portal_field.gateway.kernel_gate import KernelGate
+    from portal_field.lib.desk_client import Desk
+except ModuleNotFoundError:     # a kit of before the package portal_field
+    from portal_gateway import Agent
+    from kernel_gate import KernelGate
+    from desk_client import Desk
 port, many, polls, folder = int(sys.argv[1]), int(sys.argv[2]), int(sys.argv[3]), pathlib.Path(sys.argv[4])
 gate = KernelGate("lan0", 60, "/nowhere")
 status, _, fault = gate.nft.cmd(pathlib.Path(sys.argv[5]).read_text())
@@ -110,6 +115,7 @@ class Handler(http.server.BaseHTTPRequestHandler):
 def measure(field: pathlib.Path, sessions: Sessions, polls: int) -> float:
     """Microseconds of a kit's agent for each session and poll."""
     handler = type("OneHandler", (Handler,), {"sessions": sessions})
+    folders = [field.resolve() / name for name in ("", "gateway", "lib")]
     server = http.server.ThreadingHTTPServer(("127.0.0.1", 0), handler)
     threading.Thread(target=server.serve_forever, daemon=True).start()
     with tempfile.TemporaryDirectory() as folder:
@@ -117,7 +123,7 @@ def measure(field: pathlib.Path, sessions: Sessions, polls: int) -> float:
         rules.write_text(RULES)
         words = [sys.executable, "-c", AGENT, str(server.server_port), str(sessions.many), str(polls), folder, str(rules)]
         try:
-            done = subprocess.run(words, env={**os.environ, "PYTHONPATH": str(field.resolve())}, check=True,
+            done = subprocess.run(words, env={**os.environ, "PYTHONPATH": ":".join(map(str, folders))}, check=True,
                                   stdout=subprocess.PIPE, text=True)
         finally:
             server.shutdown()

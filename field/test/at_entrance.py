@@ -7,6 +7,9 @@ import html
 import http.client
 import pathlib
 import re
+import socket
+import threading
+import unittest
 import urllib.parse
 from collections.abc import Callable, Mapping
 from dataclasses import dataclass, field
@@ -19,6 +22,23 @@ Link = Callable[[], http.client.HTTPConnection]
 WORDS = {"anna": "annas-long-word", "ben": "bens-long-word"}
 FORM = re.compile(r'<form method="post" action="/([a-z-]+)">(.*?)</form>', re.S)
 HIDDEN = re.compile(r'<input type="hidden" name="([a-z.]+)" value="([^"]*)">')
+
+
+def answer_each_in_test(case: unittest.TestCase, path: str, answer: Callable[[bytes], bytes]) -> None:
+    """Does during a test what systemd does with a unit for each connection: it is asked once, and answers."""
+    listener = socket.socket(socket.AF_UNIX)
+    listener.bind(path)
+    listener.listen()
+    case.addCleanup(listener.close)
+
+    def answer_each() -> None:
+        with contextlib.suppress(OSError):
+            while True:
+                link, _ = listener.accept()
+                with link, link.makefile("rb") as file:
+                    link.sendall(answer(file.read()))
+
+    threading.Thread(target=answer_each, daemon=True).start()
 
 
 def quick_hash(word: str) -> str:

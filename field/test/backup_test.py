@@ -26,7 +26,7 @@ from unittest import mock
 
 from desk_process import FIELD, PORTAL, Desk, DeskProcess, Refused, Routes
 from needs import LOOP_DEVICES, ROOT, needs
-from schema_versions import ADDED, LATER, VERSIONS, make_database
+from schema_versions import FIFTH, LATER, VERSIONS, make_database
 from steady import wait_until
 
 from portal_field.counter.journal import Act, Journal
@@ -448,7 +448,7 @@ class Restores(Case):
         copies.mkdir(exist_ok=True)
         base = sqlite3.connect(copies / "20261125T033000.000000Z.db")
         base.executescript("CREATE TABLE IF NOT EXISTS portal_head (layout INTEGER, last_moment INTEGER); DELETE FROM portal_head; "
-                           f"INSERT INTO portal_head VALUES (4, {moment});")
+                           f"INSERT INTO portal_head VALUES (5, {moment});")
         base.close()
         stub(folder, "portal", '[ "$1" = check ] && echo ok && exit\necho "$1 $2 $3"')
         (folder / "settings.toml").write_text(f'zone = "{zone}"\n')
@@ -470,10 +470,10 @@ class Restores(Case):
             folder = pathlib.Path(place)
             self.drill(folder, "UTC0", 0)
             stub(folder, "systemctl", "echo inactive")
-            (folder / "schema").write_text("5\n")
+            (folder / "schema").write_text("6\n")
             done = self.run_it("portal-restore", "--portal", folder / "portal", "--settings", folder / "settings.toml",
                                folder / "copies/20261125T033000.000000Z.db", folder / "book.db", folder=folder)
-            self.assertEqual((done.returncode, (folder / "schema").read_text()), (0, "4\n"), done.stderr)
+            self.assertEqual((done.returncode, (folder / "schema").read_text()), (0, "5\n"), done.stderr)
 
     def test_a_drill_of_a_damaged_copy_says_so(self) -> None:
         with tempfile.TemporaryDirectory() as place:
@@ -533,19 +533,34 @@ class Undone(Case):
                     "redeemed,1970-01-02 10:00:00,4444-4444-444A,b3,hour,1,3.00,not issued"])
 
     def test_the_tables_of_this_test_are_those_of_the_specification(self) -> None:
-        specification = FIELD.parent / "crates/portal_tables_rows/specs/Schema.antt"
-        if specification.is_file():     # a kit that is installed alone has none
-            specified = re.findall(r'"(CREATE TABLE [^"]*)"', specification.read_text())
-            self.assertEqual([line.strip() for line in "".join(ADDED.values()).split(";")[:-1]], specified)
+        """A table's text is in pieces there, an index's in one. A kit that is installed alone has no crates."""
+        specs = FIELD.parent / "crates/portal_tables_sql/specs"
+        if specs.parent.is_dir():
+            tables = re.findall(r'codes ("CREATE TABLE [^"]*"(?:\s*\+\+ codes "[^"]*")*)', (specs / "Tables.antt").read_text())
+            texts = ["".join(re.findall(r'"([^"]*)"', pieces)) for pieces in tables]
+            texts += re.findall(r'"(CREATE INDEX [^"]*)"', (specs / "Indexes.antt").read_text())
+            self.assertEqual([line.strip() for line in FIFTH.split(";")[:-1]], texts)
+
+    def test_version_5_has_the_columns_of_version_4(self) -> None:
+        """Without the keys of text and what refers to them: `pk`, the last of what is said of a column, differs."""
+        columns = []
+        for version in (4, 5):
+            path = self.folder / f"{version}.db"
+            make_database(path, version)
+            with contextlib.closing(sqlite3.connect(path)) as base:
+                tables = [name for name, in base.execute("SELECT name FROM sqlite_master WHERE type = 'table' ORDER BY name")]
+                columns.append({name: [row[:-1] for row in base.execute(f"PRAGMA table_info({name})")] for name in tables})
+        self.assertEqual(len(columns[0]), 9)
+        self.assertEqual(columns[1], columns[0])
 
     def test_what_cannot_be_read_is_said_and_hinders_no_restore(self) -> None:
         foreign = 'CREATE TABLE acts (number INTEGER);'
-        make_database(self.copy, 4)
+        make_database(self.copy, 5)
         whole = self.copy.read_bytes()
         for data, words in ((b"", "it is no database of portal, or an empty one"),
                             (b"no database" * 99, "file is not a database"),
                             (whole[:8192] + bytes(len(whole) - 8192), "malformed"), (foreign, "it is no database of portal"),
-                            ("UPDATE portal_head SET layout = 5", "its schema version is 5, and 1 to 4 can be read"),
+                            ("UPDATE portal_head SET layout = 6", "its schema version is 6, and 1 to 5 can be read"),
                             ("DROP TABLE portal_grants", "no such table")):
             with self.subTest(words=words, data=data[:30]):
                 self.book.write_bytes(data if isinstance(data, bytes) else b"" if data == foreign else whole)
@@ -560,20 +575,20 @@ class Undone(Case):
     def test_a_disk_without_room_for_reading_hinders_no_restore(self) -> None:
         """With a `cp` that has room for the copy alone."""
         make_database(self.book, 4, LATER)
-        make_database(self.copy, 4)
+        make_database(self.copy, 5)
         stub(self.folder, "cp", 'case "$*" in *replaced.db) exit 1 ;; esac\nexec /bin/cp "$@"')
         text, lists = self.run_restore()
         self.assertIn("what this undid is not known", text)
         self.assertEqual((lists, list(self.folder.glob(".restore-*"))), ([], []))
 
     def test_a_log_without_its_database_is_said(self) -> None:
-        make_database(self.copy, 4)
+        make_database(self.copy, 5)
         pathlib.Path(f"{self.book}-wal").write_bytes(b"a log")
         self.assertIn("what this undid is not known", self.run_restore()[0])
 
     def test_a_damaged_database_is_listed_as_far_as_it_can_be_read(self) -> None:
         """With a row that SQLite's check finds to be wrong."""
-        make_database(self.copy, 4)
+        make_database(self.copy, 5)
         make_database(self.book, 4, LATER, "CREATE TABLE spare (x INTEGER); INSERT INTO spare VALUES (NULL);"
                       "PRAGMA writable_schema = ON; UPDATE sqlite_master SET sql = 'CREATE TABLE spare (x INTEGER NOT NULL)'"
                       " WHERE name = 'spare'")

@@ -147,7 +147,7 @@ PICTURES = ("image", "img", "SvgRoot", "graphics-document")
 USED = ("textbox", "combobox", "button", "link", "spinbutton", "Date")
 REFUSED = ("guest, refused", "guest, refused in Japanese", "refused", "wrong number of codes", "amount, wrong", "wrong number", "list and Wi-Fi", "scanner, wrong")
 BY_KEYBOARD = ("guest, not online", "guest, has to accept", "guest, refused", "guest, online", "guest, another code", "guest, free minutes", "guest, end asked", "counter", "voucher to sell", "repetition", "refund", "takings", "cash up",
-               "list to sell", "unused codes", "scanner", "vouchers", "sessions", "money", "venue")
+               "list to sell", "unused codes", "scanner", "vouchers", "sessions", "session", "money", "venue")
 WIDE = """
 return Math.max(...[document.scrollingElement, ...document.querySelectorAll('main, section, nav, td, p')]
   .filter(n => !n.closest('.vouchers')).map(n => n.scrollWidth - n.clientWidth))
@@ -262,6 +262,10 @@ class Shown(unittest.TestCase):
         shifts.write("open", "", 10000, "", ("anna", "10.88.0.2", new_number()))
         shifts.write("out", "", 725, "milk", ("anna", "10.88.0.2", new_number()), 1)
 
+        done, = desk.sell_codes("hour", "ended-1")
+        ended = desk.desk.request_json(Routes.REDEEM, body={"code": done}, device="02:00:00:00:00:06")["session"]
+        desk.desk.request_json(Routes.CLOSE, body={"session": ended})
+
         def venues(end: str) -> Any:
             def opened() -> None:
                 self.venue.conf.update(texts=str(FIELD / "settings/texts"), prices=True, terms_version="1")
@@ -283,12 +287,13 @@ class Shown(unittest.TestCase):
         return [("guest, not online", device(other, of(self.guest()))), ("guest, refused", lambda: self.types("2222-2222-2222")),
                 ("guest, online", device(MAC, of(self.guest()))), ("guest, near the end", device("02:00:00:00:00:03", soon)),
                 ("guest, another code", of(self.guest() + "&add=1")), ("guest, online again", device(MAC, of(self.guest()))), ("guest, Arabic", of(self.guest("ar"))),
+                ("guest, ended", device("02:00:00:00:00:06", of(self.guest()))), ("guest, ended, Arabic", of(self.guest("ar"))), ("guest, online once more", device(MAC, of(self.guest()))),
                 ("guest, refused in Japanese", lambda: self.types("2222-2222-2222", "ja")),
                 ("guest without a lease", device(None, of(self.guest()))),
                 ("counter", of(clerks)), ("voucher to sell", of(f"{clerks}voucher?{self.venue.look(fresh[0])}")),
                 ("sold", sell), ("repetition", browser.driver.refresh),
                 ("voucher to refund", of(f"{clerks}voucher?{self.venue.look(sold)}")), ("refused", of(f"{clerks}voucher?{self.venue.look('2222')}")),
-                ("refund", of(f"{clerks}refund?{self.venue.look(sold)}")), ("close", of(f"{clerks}close?session=1")),
+                ("refund", of(f"{clerks}refund?{self.venue.look(sold)}")), ("close", of(f"{clerks}close?session=1")), ("session", of(f"{clerks}session?number=1")),
                 ("whole batch", of(f"{clerks}sell-batch?batch=fresh-1")), ("wrong number of codes", sell_batch), ("sheet", of(f"{clerks}sheet?batch=fresh-1")),
                 ("takings", of(f"{clerks}takings?from={day}&to={day}")), ("cash up", of(f"{clerks}cash-up")), ("lines of the journal", of(f"{clerks}cash-up?details=1")),
                 ("batches", of(f"{clerks}batches")), ("list to sell", of(f"{clerks}several?{self.venue.look(f'{fresh[0]} {fresh[1]} {sold}')}")),
@@ -573,7 +578,7 @@ class Shown(unittest.TestCase):
             browser.enter()
             self.assertIn("Take €3.00.", browser.text)
         self.assertEqual(browser.title, f"Sold: {third}. Take €3.00. – Counter")
-        browser.type("2222")
+        browser.type("22A2")
         browser.enter()
         self.assertIn("No such code can exist", browser.text)
         browser.type(first)     # beside the code that was kept
@@ -612,7 +617,7 @@ class Shown(unittest.TestCase):
         self.assertIn("The server's takings and the journal's sums are the same.", browser.text)
         self.assertIn("anna 4 €12.00 1 €3.00 €9.00", browser.text)
         browser.open(self.guest())
-        self.assertIn("Your session has ended", browser.text)
+        self.assertIn("Your session was closed.", browser.text)
 
 
 if __name__ == "__main__":

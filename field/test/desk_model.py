@@ -86,20 +86,41 @@ class Session:
     number: int
     device: str
     plan: Plan      # the first one: it says which quantities are limited
+    opened: int
     ends: int
     allowance: int
     used: int = 0
-    closed: bool = False
+    closed: int | None = None       # when
 
     def is_open(self, at: int) -> bool:
         """Whether the session is open at this moment."""
         in_time = not self.plan.seconds or at < self.ends
-        return not self.closed and in_time and (not self.plan.bytes or self.used < self.allowance)
+        return self.closed is None and in_time and (not self.plan.bytes or self.used < self.allowance)
 
     def remaining(self, at: int) -> Json:
-        """What is left at a moment, as the answers of the API have it."""
-        remaining = {"bytes-remaining": self.allowance - self.used} if self.plan.bytes else {}
-        return remaining | ({"seconds-remaining": self.ends - at} if self.plan.seconds else {})
+        """What is left at a moment, as the answers of the API have it; nothing is left after an end."""
+        remaining = {"bytes-remaining": max(self.allowance - self.used, 0)} if self.plan.bytes else {}
+        return remaining | ({"seconds-remaining": max(self.ends - at, 0)} if self.plan.seconds else {})
+
+    def end(self, at: int) -> Json:
+        """The first reason for which the session has ended at a moment, and its time where that is known."""
+        if self.closed is not None:
+            return {"ended": "closed", "at": self.closed}
+        if self.plan.seconds and self.ends <= at:
+            return {"ended": "time", "at": self.ends}
+        return {"ended": "bytes" if self.plan.bytes and self.allowance <= self.used else None}
+
+    def entry(self, at: int) -> Json:
+        """What the list of open sessions has of this one."""
+        return {"device": self.device, "session": self.number, **self.remaining(at)}
+
+    def entry_with_terms(self, at: int) -> Json:
+        """The same in the list with details: when the session was opened, and by which plan."""
+        return {**self.entry(at), "opened": self.opened, "plan": self.plan.id}
+
+    def details(self, at: int) -> Json:
+        """The details of the session at a moment, be it open or ended."""
+        return {**self.entry_with_terms(at), **self.end(at), "used": self.used}
 
 
 @dataclass
@@ -172,7 +193,7 @@ class Model:
             s = open_one
             s.ends, s.allowance = s.ends + v.plan.seconds, s.allowance + v.plan.bytes
         else:
-            s = Session(len(self.sessions) + 1, device, v.plan, at + v.plan.seconds, v.plan.bytes)
+            s = Session(len(self.sessions) + 1, device, v.plan, at, at + v.plan.seconds, v.plan.bytes)
             self.sessions.append(s)
             self.of_device[device] = s
         v.redeemed, self.grants = v.redeemed + 1, self.grants + 1
@@ -182,6 +203,19 @@ class Model:
         """The session with this number. No: there is none."""
         need(1 <= number <= len(self.sessions), "unknown_session")
         return self.sessions[number - 1]
+
+    def last_session(self, device: str) -> Session:
+        """The session with the greatest number of a device. No: it never had one."""
+        need(device in self.of_device, "unknown_session")
+        return self.of_device[device]
+
+    def open_sessions(self, at: int) -> list[Session]:
+        """The sessions that are open at a moment, by their numbers."""
+        return [s for s in self.sessions if s.is_open(at)]
+
+    def own_details(self, device: str, at: int) -> Json:
+        """The details of a device's last session, as the device itself gets them."""
+        return {key: value for key, value in self.last_session(device).details(at).items() if key != "device"}
 
     def do_report(self, at: int, session: int, bytes: int) -> Json:
         """Takes the greatest count of bytes of a session."""
@@ -202,8 +236,8 @@ class Model:
     def do_close(self, at: int, session: int) -> Json:
         """Closes a session."""
         s = self.session(session)
-        need(not s.closed, "closed_already")
-        s.closed = True
+        need(s.closed is None, "closed_already")
+        s.closed = at
         return {"session": session}
 
 

@@ -2,6 +2,7 @@
 """A stand-in for the desk, for the field kit's tests alone: it answers as the program is to answer.
 
     desk_stand_in.py serve --db FILE --settings FILE [--port N]
+    desk_stand_in.py answer --now N --seed HEX --db FILE --settings FILE < REQUEST
     desk_stand_in.py check --db FILE --settings FILE
 
 It keeps the list of accepted commands in one SQLite table, and everything else in memory, drawn again at each start.
@@ -40,6 +41,8 @@ ROUTES = {  # path: method, caller, kind
     "/desk/refunds": ("POST", "desk", "refund"), "/desk/closes": ("POST", "desk", "close"),
     "/desk/vouchers/{}": ("GET", "desk", ""), "/desk/takings": ("GET", "desk", ""),
     "/gateway/reports": ("POST", "gateway", "report"), "/gateway/sessions": ("GET", "gateway", ""),
+    "/desk/sessions": ("GET", "desk", ""), "/desk/sessions/{}": ("GET", "desk", ""),
+    "/portal/session": ("GET", "guest", ""), "/gateway/sessions/details": ("GET", "gateway", ""),
 }
 PATHS = {re.compile(path.replace("{}", "([^/]+)")): path for path in ROUTES}
 REQUEST_LINE = re.compile(rb"([!#-'*+.^-`|~0-9A-Za-z-]+) ([!-~\x80-\xff]+) HTTP/1\.([01])")
@@ -78,6 +81,11 @@ class Request:
     def values(self, name: str) -> list[str]:
         """The values of all header fields of this name."""
         return [value for key, value in self.fields if key == name]
+
+    def parameters(self, name: str) -> list[str]:
+        """The values of a key of the query, in which nothing is decoded."""
+        pairs = [pair.partition("=")[::2] for pair in self.target.decode("latin-1").partition("?")[2].split("&")]
+        return [value for key, value in pairs if key == name]
 
 
 def whole(given: Json, key: str, low: int, high: int) -> int:
@@ -176,9 +184,7 @@ class StandIn:
     def caller(self, request: Request, caller: str, kind: str) -> tuple[str, str | None]:
         """Who asks, and with which idempotency key."""
         if caller == "guest":
-            devices = request.values("portal-device")
-            need(len(devices) == 1 and DEVICE.fullmatch(devices[0]) is not None, "bad_device")
-            who = devices[0].lower().replace("-", ":")
+            who = read_device(request.values("portal-device"))
         else:
             need(request.values("portal-token") == [self.settings[caller + "_token"]], "forbidden")
             who = caller
@@ -211,10 +217,8 @@ class StandIn:
             if s and s.is_open(at):
                 result |= {"captive": False, "can-extend-session": s.plan.extend, **s.remaining(at)}
             return "application/captive+json", compact(result)
-        if route == "/gateway/sessions":
-            rows = sorted((s for s in model.of_device.values() if s.is_open(at)), key=lambda s: s.number)
-            result = {"sessions": [{"device": s.device, "session": s.number, **s.remaining(at)} for s in rows]}
-            return "application/json", compact(result)
+        if "/session" in route:
+            return "application/json", compact(self.answer_of_sessions(route, part, request, who, at))
         if route == "/desk/vouchers/{}":
             code = read_code(part[0])
             v = model.voucher(code)
@@ -223,12 +227,37 @@ class StandIn:
             return "application/json", compact(result)
         if route == "/desk/batches/{}/print":
             return "text/csv; charset=utf-8", print_file(model, part[0]).encode()
-        pairs = [pair.partition("=")[::2] for pair in request.target.decode("latin-1").partition("?")[2].split("&")]
-        days = [[read_day(value) for key, value in pairs if key == name] for name in ("from", "to")]
+        days = [[read_day(value) for value in request.parameters(name)] for name in ("from", "to")]
         need(all(len(found) == 1 for found in days), "bad_request")
         (first,), (last,) = days
         need(0 <= (last - first).days <= 365, "bad_request")
         return "text/plain; charset=utf-8", takings(model, first, last).encode()
+
+    def answer_of_sessions(self, route: str, part: tuple[str, ...], request: Request, who: str, at: int) -> Json:
+        """The answer to a question about sessions, open or ended."""
+        model = self.model
+        if route == "/gateway/sessions":
+            return {"sessions": [s.entry(at) for s in model.open_sessions(at)]}
+        if route == "/gateway/sessions/details":
+            return {"sessions": [s.entry_with_terms(at) for s in model.open_sessions(at)]}
+        if route == "/portal/session":
+            return model.own_details(who, at)
+        if route == "/desk/sessions":
+            return model.last_session(read_device(request.parameters("device"))).details(at)
+        return model.session(read_number(part[0])).details(at)
+
+
+def read_device(texts: list[str]) -> str:
+    """The device that one text spells, as it is printed. No: it spells none, or there is not exactly one."""
+    need(len(texts) == 1 and DEVICE.fullmatch(texts[0]) is not None, "bad_device")
+    return texts[0].lower().replace("-", ":")
+
+
+def read_number(text: str) -> int:
+    """The number of a session in a path. No: it is none."""
+    digits = text.lstrip("0") or "0"
+    need(re.fullmatch("[0-9]+", text) is not None and len(digits) <= 19 and int(digits) <= 2**63 - 1, "bad_request")
+    return int(digits)
 
 
 def read_day(text: str) -> datetime.date:
@@ -270,19 +299,25 @@ def serve(desk: StandIn, port: int) -> None:
 
 
 def main() -> int:
-    """Serves, checks the database or prints takings, with the words of the program's command line."""
+    """Serves, answers one request, checks the database or prints takings, with the words of the program's command line."""
     words = argparse.ArgumentParser()
-    words.add_argument("what", choices=("serve", "check", "takings"))
+    words.add_argument("what", choices=("serve", "answer", "check", "takings"))
     words.add_argument("days", nargs="*", type=datetime.date.fromisoformat, help="of `takings`: the first and the last")
     words.add_argument("--db", required=True)
     words.add_argument("--settings", required=True, type=pathlib.Path)
     words.add_argument("--port", type=int, default=8080)
+    words.add_argument("--now", type=int, help="of `answer`: the time of the request")
+    words.add_argument("--seed", help="of `answer`; the stand-in draws its codes without it")
     args = words.parse_args()
     try:
         desk = StandIn(args.db, tomllib.loads(args.settings.read_text()))
     except (No, sqlite3.Error):
         print("portal: file", file=sys.stderr)
         return 3
+    if args.what == "answer":
+        said = desk.respond(args.now, sys.stdin.buffer.read())
+        sys.stdout.buffer.write(said)
+        return int(not said.startswith(b"HTTP/1.1 200 "))
     if args.what != "serve":
         sys.stdout.write("ok\n" if args.what == "check" else takings(desk.model, *args.days))
         return 0

@@ -14,7 +14,7 @@ from collections.abc import Callable
 import pytest
 from lab import API, PEER, PORTAL, Lab
 from network import COUNTER, MACS, NAME, OUTSIDE, PYTHON
-from steady import assert_measured
+from steady import Span, assert_measured
 
 REDEEM = f"https://{NAME}/portal/redeem"
 INSIDE = "192.168.9.9"      # an address that is no guest's business
@@ -132,16 +132,17 @@ def test_first_voucher(lab: Lab) -> None:
 
 
 def test_numbered(lab: Lab) -> None:
-    """A form sent twice takes effect once; the page then knows its session."""
+    """A form sent twice takes effect once; the page then shows the session, without a cookie."""
     code, other = lab.codes("gigabyte", 2)
     number = lab.number("guest2")
     heads = [lab.send_form("guest2", code, number)[2] for _ in range(2)]
-    cookie = next((line.partition(": ")[2].partition(";")[0] for line in heads[0].splitlines()
-                   if line.lower().startswith("set-cookie: portal_session=")), "")
-    page = lab.curl("guest2", PORTAL, "-H", f"Cookie: other=x; {cookie}", "-H", "Accept-Language: ar, en;q=0.5")[1]
+    page = lab.curl("guest2", PORTAL, "-H", "Accept-Language: ar, en;q=0.5")[1]
     assert ('<html lang="ar" dir="rtl">' in page
             and f"<dt>رقم الجلسة</dt><dd>{lab.session_of('guest2')}</dd>" in page), (
-        f"the page is in the browser's language, and shows the number of the session  [{cookie}]")
+        "the page is in the browser's language, and shows the number of the session")
+    chosen = lab.curl("guest2", PORTAL, "-H", "Cookie: other=x; portal_lang=ar")[1]
+    assert '<html lang="ar"' in chosen and "set-cookie" not in "".join(heads).lower(), (
+        "a language that was chosen before comes to the page, and no other cookie is set")
     places = [line for head in heads for line in head.splitlines() if line.lower().startswith("location")]
     assert len(places) == 2 and places[0] == places[1], "a form sent twice has one answer"
     voucher = lab.ask_desk("desk_token", "GET", "/desk/vouchers/" + code)
@@ -239,7 +240,7 @@ def test_forged(lab: Lab) -> None:
                       input=raw, check=False, timeout=20)
     assert "HTTP/1.1 400" in done.stdout and "sessions" not in done.stdout, (
         f"a request of two lengths is refused by nginx  [{done.stdout.splitlines()[:1]}]")
-    for path in ("/desk/vouchers/" + code, "/gateway/sessions", "/device", "/portal/../gateway/sessions",
+    for path in ("/desk/vouchers/" + code, "/desk/sessions/1", "/gateway/sessions", "/gateway/sessions/details", "/device", "/portal/../gateway/sessions",
                  "/captive/%2e%2e/gateway/sessions"):
         status = lab.curl("guest2", f"https://{NAME}{path}", "--path-as-is")[0]
         assert status in (302, 400, 403, 404), f"a guest does not reach {path.replace(code, 'CODE')}"
@@ -384,23 +385,30 @@ def test_counts_are_lost(lab: Lab) -> None:
         "yet reported]")
 
 
+def twelve_a_minute(span: Span) -> int:
+    """How many guesses nginx lets through in a time, beyond the seven at once."""
+    return int(span.seconds() / 5) + 1
+
+
 def test_guessed(lab: Lab) -> None:
     lab.number("guest2")
     fields = {"code": "2222-2222-2222-2222", **lab.shown["guest2"]}
     form = [word for name, value in fields.items() for word in ("--data-urlencode", f"{name}={value}")]
     forms = [(*form, "--data-urlencode", f"request=g{i}") for i in range(20)]
+    span = Span()
     answers = [lab.curl("guest2", PORTAL, *form, "-H", "Accept-Language: de-AT,de;q=0.9") for form in forms]
     statuses = [answer[0] for answer in answers]
-    assert 1 <= statuses.count(404) <= 9 and statuses.count(429) >= 11, (
-        f"of 20 guesses at once most have to wait  [{sorted(statuses)}]")
+    assert set(statuses) == {404, 429} and statuses.count(404) <= 7 + twelve_a_minute(span), (
+        f"of 20 guesses at once most have to wait  [{sorted(statuses)}, {span.seconds():.0f} s]")
     bodies = {body for status, body, _ in answers if status == 429}
     assert len(bodies) == 1 and "Bitte warten Sie eine Minute" in bodies.pop(), (
         "in the guest's language, on a page of ours")
+    span = Span()
     page = lab.curl("guest2", PORTAL)
     assert page[0] == 200, "and the page is shown all the same"
     body = ("-d", json.dumps({"code": "2222-2222-2222-2222"}))
     statuses = [lab.curl("guest2", REDEEM, *body)[0] for _ in range(8)]
-    assert statuses.count(429) >= 6, "a program's guesses are counted with them"
+    assert len(statuses) - statuses.count(429) <= twelve_a_minute(span), "a program's guesses are counted with them"
     names = (lab.root / "nginx-error.log", lab.root / "log/guests.log")
     logs = "".join(log.read_text() for log in names if log.exists())
     assert lab.address("guest2") not in logs, f"no guest's address stands in nginx's logs  [{logs[:200]}]"

@@ -96,8 +96,7 @@ def test_once(demo: list[str]) -> None:
     assert done.returncode == 0 and took is not None, (
         "--once redeems a voucher, and the outside's page comes  "
         f"[{done.stdout.strip()[-260:]}{done.stderr.strip()[-260:]}]")
-    assert took <= SECONDS or span.held_up() > 0.3, (
-        f"within {SECONDS} s of the start  [{took} s]")
+    assert span.allows(took, SECONDS), f"within {SECONDS} s of the start  [{took} s]"
     assert len(re.findall(r"[0-9A-Z]{4}(?:-[0-9A-Z]{4}){3}", done.stdout)) == 3, "three codes are printed"
     assert not left_behind(), "nothing is left behind"
 

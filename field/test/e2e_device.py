@@ -298,6 +298,7 @@ def test_helper_away(lab: DeviceLab) -> None:
 def test_a_lookup_that_hangs(lab: DeviceLab) -> None:
     """One of the processes that look devices up is held still: each question comes to the other."""
     def is_answered(name: str) -> tuple[bool, str]:
+        time.sleep(2.5)     # nginx asks one again that it left out for two seconds
         os.kill(lab.jobs[name].pid, signal.SIGSTOP)
         try:
             start = time.monotonic()

@@ -24,18 +24,20 @@ import threading
 import urllib.parse
 from collections.abc import Callable
 
+from portal_field.counter import roles
+
 HOSTS = {"guests": "wifi.example", "counter": "counter.example"}
-PATHS = {"guests": ("/", "/portal", "/portal/redeem", "/captive", "/style.css", "/favicon.ico", "/portal/terms", "/portal/prices", "/logo", "/device", "/errors/en/429.html", "/alive"),
-         "counter": ("/", "/voucher", "/next", "/login", "/account", "/sheet", "/takings", "/takings.csv", "/cash-up", "/batches", "/shown", "/logo",
-                     "/refund", "/close", "/sell-batch", "/sell-several", "/refund-batch", "/several", "/scanner", "/sell",
-                     "/issue", "/now", "/time", "/shift", "/shift-open", "/shift-move", "/shift-close", "/drawer", "/slip", "/receipt", "/receipts",
-                     "/receipt.css", "/cash-up.csv", "/unlock", "/password", "/pin", "/style.css", "/counter.css", "/sheet.css",
-                     "/plans", "/plan", "/settings", "/texts", "/text", "/picture", "/picture.png", "/clerks",
-                     "/sheet.pdf", "/fonts/DejaVuSansCondensed.ttf", "/fonts/..%2f..%2fcron", "/alive")}
+# Each address of the counter but those that would end the log-in of these requests, and two that ask the unit of root,
+# without which they answer 503.
+COUNTER = sorted((roles.FOR_ALL | roles.FOR_CLERKS | roles.FOR_MANAGERS | roles.FOR_OFFICE)
+                 - {"lock", "logout", "clerk", "clerk-gone"})
+PATHS = {"guests": ("/", "/portal", "/portal/redeem", "/portal/session", "/captive", "/style.css", "/favicon.ico", "/portal/terms", "/portal/prices", "/logo", "/device", "/errors/en/429.html", "/alive"),
+         "counter": ("/login", *(f"/{name}" for name in COUNTER), "/style.css", "/counter.css", "/sheet.css",
+                     "/fonts/DejaVuSansCondensed.ttf", "/fonts/..%2f..%2fcron", "/alive")}
 ACTS = ("/sell", "/refund", "/close", "/issue", "/now", "/sell-batch", "/sell-several", "/refund-batch", "/time", "/shift-open", "/shift-move",
         "/shift-close", "/drawer")
 FIELDS = ("code", "request", "device", "sign", "sent", "lang", "done", "left", "add", "terms", "look", "kept", "next", "batch", "plan", "count", "amount",
-          "session", "day", "from", "to", "by", "size", "token", "name", "password", "pin", "to", "then", "fields", "shown", "booted", "again", "codes", "out", "refunds", "text",
+          "session", "find", "day", "from", "to", "by", "size", "token", "name", "password", "pin", "to", "then", "fields", "shown", "booted", "again", "codes", "out", "refunds", "text",
           "payment", "drawer", "float", "move", "reason", "shift", "counted", "due", "note", "number", "lines", "said", "details", "act", "do", "whole", "seen", "price", "name_de", "place", "tax", "uses", "offered",
           "owner_contact", "payments", "receipt_head", "file", "x", "", "code[]", "__proto__")
 METHODS = ("GET", "POST", "HEAD", "PUT", "DELETE", "OPTIONS", "PATCH", "TRACE", "CONNECT", "PROPFIND", "get", "G\u00cbT", "")
@@ -98,7 +100,7 @@ class Maker:
             name = self.chance.choice(HEADS)
             value = self.chance.choice(LANGUAGES) if name == "Accept-Language" else self.word()
             if name == "Cookie":
-                value = f"portal_session={self.word()}; x={self.word()}"
+                value = f"portal_lang={self.word()}; x={self.word()}"
             found.append((name, value if self.often(0.1) else "".join(sign for sign in value if sign.isprintable())))
         if self.often(0.02):
             found.append((self.chance.choice(("A B", "", "X\x00", "\u00e9")), "x"))

@@ -31,7 +31,6 @@ from dataclasses import dataclass, field
 
 from at_entrance import WORDS, ClerksBrowser, put_accounts, quick_hash
 from desk_process import FIELD, DeskProcess, Refused, Relay, Routes
-from steady import wait_until
 from test_front import UnixLink
 
 from portal_field.counter import takings
@@ -239,10 +238,8 @@ class HostelDay:
     # What a clerk does
 
     def sell_now(self, browser: Browser) -> None:
-        """A voucher of a plan, issued and sold at once. A page that has just been started has no menu of plans before it
-        has asked the server: the clerk loads it again."""
-        form: dict[str, str] = {}
-        wait_until(lambda: form.update(hidden(self.see(browser, "/"), "now")) or "request" in form, 20)
+        """A voucher of a plan, issued and sold at once."""
+        form = hidden(self.see(browser, "/"), "now")
         text = self.press(browser, "now", {**form, "plan": self.draw.choice(("hour", "day", "gigabyte"))})
         self.sold += re.findall(r"Sold: ([0-9A-Z-]{19})\.", text)
 

@@ -17,13 +17,13 @@ from typing import Any
 ROOT, LOOP_DEVICES, NAMESPACES = "it needs root", "it needs loop devices", "it needs network namespaces"
 NFTABLES = "it needs network namespaces with nftables"
 COMMANDS = {"age": "age", "btrfs-progs": "mkfs.btrfs", "busybox": "busybox", "chromium": "chromium", "chromium-driver": "chromedriver",
-            "binutils": "readelf", "git": "git", "lintian": "lintian", "man-db": "man",
+            "binutils": "readelf", "gcc": "gcc", "git": "git", "lintian": "lintian", "man-db": "man",
             "curl": "curl", "dnsmasq-base": "dnsmasq", "dpkg": "dpkg-deb", "ethtool": "ethtool", "freeradius": "freeradius",
             "freeradius-utils": "radclient", "iproute2": "ip", "iputils-ping": "ping", "minisign": "minisign", "mmdebstrap": "mmdebstrap",
             "nftables": "nft", "nginx": "nginx", "openssl": "openssl", "poppler-utils": "pdftoppm", "procps": "sysctl", "prometheus": "promtool",
             "rsync": "rsync", "systemd": "systemd-analyze", "systemd-container": "systemd-nspawn", "util-linux": "setpriv",
             "zbar-tools": "zbarimg", "zint": "zint"}
-MODULES = {"python3-prometheus-client": "prometheus_client", "python3-psycopg": "psycopg", "python3-markdown-it": "markdown_it", "python3-pil": "PIL", "weasyprint": "weasyprint", **{f"python3-{name}": name for name in (
+MODULES = {"python3-authlib": "authlib", "python3-requests": "requests", "python3-prometheus-client": "prometheus_client", "python3-psycopg": "psycopg", "python3-markdown-it": "markdown_it", "python3-pil": "PIL", "weasyprint": "weasyprint", **{f"python3-{name}": name for name in (
     "babel", "flask", "jsonschema", "nftables", "pyroute2", "pytest", "qrencode", "selenium", "waitress", "yaml")}}
 FILES = {"faketime": "/usr/lib/x86_64-linux-gnu/faketime/libfaketime.so.1",
          "fonts-dejavu-extra": "/usr/share/fonts/truetype/dejavu/DejaVuSansCondensed.ttf",

@@ -6,6 +6,7 @@ Run by itself it takes FIELD_PORTAL for the desk; else the stand-in answers.
 from __future__ import annotations
 
 import json
+import re
 import time
 import unittest
 from collections.abc import Iterator
@@ -20,6 +21,7 @@ DESCRIPTION = FIELD.parent / "docs/openapi.yaml"        # of the repository; a k
 ANYWHERE = {"no_route", "bad_method"}       # answers to what is no route of the table
 ONE, TWO, THREE = ("02:00:00:00:00:01", "02:00:00:00:00:02", "02:00:00:00:00:03")
 UNKNOWN = "2222-2222-2222-2222"
+PARAMETER = re.compile(r"\{[a-z]+\}")
 
 
 def walk(node: Any, path: tuple[Any, ...] = ()) -> Iterator[tuple[tuple[Any, ...], Any]]:
@@ -50,7 +52,7 @@ class Described(unittest.TestCase):
         return node
 
     def operation(self, route: Routes) -> dict[str, Any]:
-        paths = {path.replace("{id}", "{}").replace("{code}", "{}"): item for path, item in self.api["paths"].items()}
+        paths = {PARAMETER.sub("{}", path): item for path, item in self.api["paths"].items()}
         operation: dict[str, Any] = paths[route.path][route.method.lower()]
         return operation
 
@@ -75,9 +77,9 @@ class Described(unittest.TestCase):
 
     def test_the_table_of_routes(self) -> None:
         described = {(method.upper(), path) for path, item in self.api["paths"].items() for method in item}
-        self.assertEqual(len(described), 12)
-        self.assertEqual(len(Routes), 12)
-        paths = {(method, path.replace("{id}", "{}").replace("{code}", "{}")) for method, path in described}
+        self.assertEqual(len(described), 16)
+        self.assertEqual(len(Routes), 16)
+        paths = {(method, PARAMETER.sub("{}", path)) for method, path in described}
         self.assertEqual(paths, {(route.method, route.path) for route in Routes})
         names = set()
         for route in Routes:
@@ -164,11 +166,24 @@ class Described(unittest.TestCase):
             self.ask(desk, token, Routes.SESSIONS)
         for body in ({"session": 1, "bytes": 7}, {"session": 99, "bytes": 7}, {"session": 1}):
             self.ask(desk, "gateway", Routes.REPORT, body=body)
+        self.ask_of_sessions(desk)
         for session in (1, 1, 99):
             self.ask(desk, "desk", Routes.CLOSE, body={"session": session})
+        self.ask_of_sessions(desk)
         day = time.strftime("%Y-%m-%d", time.gmtime())
         for query in ({"from": day, "to": day}, {"from": day}):
             self.ask(desk, "desk", Routes.TAKINGS, query=query)
+
+    def ask_of_sessions(self, desk: DeskProcess) -> None:
+        for token in ("gateway", "desk"):
+            self.ask(desk, token, Routes.SESSION_DETAILS)
+        for number in ("1", "2", "99", "x"):
+            self.ask(desk, "desk", Routes.SESSION, number)
+        self.ask(desk, "gateway", Routes.SESSION, "1")
+        for device in (ONE, TWO, THREE, None):
+            self.ask(desk, None, Routes.OWN_SESSION, device=device)
+            self.ask(desk, "desk", Routes.LAST_SESSION, query={"device": device or "x"})
+        self.ask(desk, "gateway", Routes.LAST_SESSION)
 
 
 if __name__ == "__main__":

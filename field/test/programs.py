@@ -68,7 +68,12 @@ class Programs:
             raise TimeoutError("waited in vain for " + what)
 
     def faults_in_logs(self, *words: str) -> dict[str, str]:
-        """The end of each log that has one of these words; of those in the folder `log` too."""
+        """The end of each log that has a line with one of these words; of those in the folder `log` too."""
         logs = sorted((*self.root.glob("*.log"), *self.root.glob("log/*.log")))
         texts = {str(log.relative_to(self.root)): log.read_text(errors="replace") for log in logs}
-        return {name: text[-1500:] for name, text in texts.items() if any(word in text for word in words)}
+        return {name: text[-1500:] for name, text in texts.items()
+                if any(word in line and not self.is_no_fault(line) for line in text.splitlines() for word in words)}
+
+    def is_no_fault(self, line: str) -> bool:
+        """Whether a line of a log says nothing of a fault, whatever words it has."""
+        return False

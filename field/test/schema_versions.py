@@ -1,4 +1,4 @@
-"""Databases of each schema version, as `crates/portal_tables_rows/specs/Schema.antt` has the tables."""
+"""Databases of each schema version, as `crates/portal_tables_sql/specs/Tables.antt` and `Indexes.antt` have them."""
 
 from __future__ import annotations
 
@@ -6,7 +6,8 @@ import contextlib
 import pathlib
 import sqlite3
 
-VERSIONS = (1, 2, 3, 4)
+VERSIONS = (1, 2, 3, 4, 5)
+# The tables of version 1, and what versions 2 and 3 add; version 4 has those of version 3.
 FIRST = """
 CREATE TABLE portal_head (id INTEGER PRIMARY KEY, layout INTEGER NOT NULL, last_moment INTEGER NOT NULL, grants INTEGER NOT NULL, sessions INTEGER NOT NULL) STRICT;
 CREATE TABLE portal_plans (id TEXT NOT NULL PRIMARY KEY, price INTEGER NOT NULL, uses INTEGER NOT NULL, seconds INTEGER NOT NULL, bytes INTEGER NOT NULL, shelf_days INTEGER NOT NULL, extend INTEGER NOT NULL) STRICT;
@@ -23,6 +24,27 @@ THIRD = """
 CREATE TABLE portal_requests (caller TEXT NOT NULL, number TEXT NOT NULL, method TEXT NOT NULL, path TEXT NOT NULL, body BLOB NOT NULL, kind INTEGER NOT NULL, word TEXT, n1 INTEGER NOT NULL, n2 INTEGER, n3 INTEGER, PRIMARY KEY (caller, number)) STRICT;
 """
 ADDED = {1: FIRST, 2: SECOND, 3: THIRD, 4: ""}
+# The tables and indexes of version 5: the same columns without clauses.
+FIFTH = """
+CREATE TABLE portal_head (id INTEGER PRIMARY KEY, layout INTEGER NOT NULL, last_moment INTEGER NOT NULL, grants INTEGER NOT NULL, sessions INTEGER NOT NULL) STRICT;
+CREATE TABLE portal_plans (id TEXT NOT NULL, price INTEGER NOT NULL, uses INTEGER NOT NULL, seconds INTEGER NOT NULL, bytes INTEGER NOT NULL, shelf_days INTEGER NOT NULL, extend INTEGER NOT NULL) STRICT;
+CREATE TABLE portal_batches (id TEXT NOT NULL, plan_id TEXT NOT NULL, issued INTEGER NOT NULL, expires INTEGER NOT NULL, size INTEGER NOT NULL) STRICT;
+CREATE TABLE portal_vouchers (code TEXT NOT NULL, batch_id TEXT NOT NULL, place INTEGER NOT NULL, sold INTEGER, refunded INTEGER, amount INTEGER) STRICT;
+CREATE TABLE portal_sessions (number INTEGER PRIMARY KEY, device TEXT NOT NULL, plan_id TEXT NOT NULL, opened INTEGER NOT NULL, used INTEGER NOT NULL, closed INTEGER) STRICT;
+CREATE TABLE portal_grants (number INTEGER PRIMARY KEY, code TEXT NOT NULL, session INTEGER NOT NULL, moment INTEGER NOT NULL, seconds INTEGER NOT NULL, bytes INTEGER NOT NULL) STRICT;
+CREATE TABLE portal_counts (code TEXT NOT NULL, redeemed INTEGER NOT NULL) STRICT;
+CREATE TABLE portal_totals (number INTEGER PRIMARY KEY, ends INTEGER, remaining INTEGER) STRICT;
+CREATE TABLE portal_requests (caller TEXT NOT NULL, number TEXT NOT NULL, method TEXT NOT NULL, path TEXT NOT NULL, body BLOB NOT NULL, kind INTEGER NOT NULL, word TEXT, n1 INTEGER NOT NULL, n2 INTEGER, n3 INTEGER) STRICT;
+CREATE INDEX portal_plans_by_id ON portal_plans (id);
+CREATE INDEX portal_batches_by_id ON portal_batches (id);
+CREATE INDEX portal_batches_by_issue ON portal_batches (issued, id);
+CREATE INDEX portal_vouchers_by_code ON portal_vouchers (code);
+CREATE INDEX portal_vouchers_by_batch ON portal_vouchers (batch_id, place);
+CREATE INDEX portal_sessions_by_device ON portal_sessions (device, number);
+CREATE INDEX portal_grants_by_code ON portal_grants (code);
+CREATE INDEX portal_counts_by_code ON portal_counts (code);
+CREATE INDEX portal_requests_by_key ON portal_requests (caller, number);
+"""
 # A gigabyte of three uses that was redeemed once, one that was sold, one that was not, and an hour that was sold.
 ROWS = """
 INSERT INTO portal_plans VALUES ('hour', 300, 1, 3600, 0, 30, 1), ('gig', 500, 3, 0, 1000000000, 30, 0);
@@ -45,8 +67,28 @@ INSERT INTO portal_grants VALUES (4, '4444-4444-444A', 2, 90000, 3600, 0);
 """
 
 
+def tables_of(version: int) -> str:
+    """The statements that make the tables, and the indexes, of a version."""
+    return FIFTH if version == 5 else "".join(ADDED[number] for number in range(1, version + 1))
+
+
 def make_database(path: pathlib.Path, version: int, *more: str) -> None:
-    """Makes a database of an earlier version with the rows above, and then does what these statements do."""
-    tables = "".join(ADDED[number] for number in VERSIONS[:version])
+    """Makes a database of a version with the rows above, and then does what these statements do. Counters, which
+    versions from 2 on have, are not among the rows."""
     with contextlib.closing(sqlite3.connect(path)) as base:
-        base.executescript(f"{tables} INSERT INTO portal_head VALUES (1, {version}, 1000, 0, 0); {ROWS} {''.join(more)}")
+        base.executescript(f"{tables_of(version)} INSERT INTO portal_head VALUES (1, {version}, 1000, 0, 0); {ROWS} {''.join(more)}")
+
+
+def take_back(path: pathlib.Path) -> None:
+    """Gives a database of version 5, which nobody has open, the tables of version 4, with its rows in their order."""
+    with contextlib.closing(sqlite3.connect(path, isolation_level=None)) as base:
+        tables = [name for name, in base.execute("SELECT name FROM sqlite_master WHERE type = 'table' AND name LIKE 'portal_%'")]
+        for name, in base.execute("SELECT name FROM sqlite_master WHERE type = 'index' AND tbl_name LIKE 'portal_%'").fetchall():
+            base.execute(f"DROP INDEX {name}")
+        for name in tables:
+            base.execute(f"ALTER TABLE {name} RENAME TO of_{name}")
+        base.executescript(tables_of(4) + "CREATE INDEX portal_sessions_by_device ON portal_sessions (device, number);")
+        for name in tables:
+            base.execute(f"INSERT INTO {name} SELECT * FROM of_{name} ORDER BY rowid")
+            base.execute(f"DROP TABLE of_{name}")
+        base.executescript("UPDATE portal_head SET layout = 4; VACUUM; PRAGMA wal_checkpoint(TRUNCATE)")

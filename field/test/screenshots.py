@@ -2,9 +2,9 @@
 """Pictures of the pages as a guest's phone and the counter's screen show them, in light and dark. Needs chromium,
 chromium-driver, python3-selenium, fonts-noto-core and fonts-noto-cjk.
 
-    screenshots.py [--demo | --owner] FOLDER
+    screenshots.py [--demo | --owner | --office] FOLDER
 
---owner: the pages of a manager alone. --demo: one picture alone, of the counter's page of the demo while a guest is online. Needs root, as the demo does.
+--owner: the pages of a manager alone. --office: the page of all venues alone, in each language of the counter. --demo: one picture alone, of the counter's page of the demo while a guest is online. Needs root, as the demo does.
 """
 
 from __future__ import annotations
@@ -18,29 +18,36 @@ import re
 from collections.abc import Callable
 from unittest import mock
 
+from at_entrance import WORDS, put_accounts, quick_hash
 from browser import DARK, LIGHT, MAC, Browser, By, Keys, Venue
 from desk_process import FIELD, Routes
 
+from portal_field.counter import office_client
 from portal_field.counter.clerk import Acts, Notice
 from portal_field.counter.journal import Sums
+from portal_field.counter.office_client import Takings, Week
 from portal_field.counter.receipt_numbers import Till
 from portal_field.lib.desk_client import new_number
 from portal_field.lib.forms import Form
+from portal_field.settings.accounts import OFFICE, Account
 
 from e2e_demo import opened_by
 from owner_venue import OwnersVenue
 
 PHONE, SCREEN = (390, 844), (1280, 860)
+NARROW = 320, 640       # the narrowest screen that the pages are for
+VENUES = {"north": ("North Hostel", "EUR"), "south": ("South Inn at the Old Mill", "EUR"), "harbour": ("Harbour Café", "EUR"),
+          "east": ("East Library", "CZK")}
 
 
 class Camera:
-    def __init__(self, browser: Browser, folder: pathlib.Path) -> None:
-        self.browser, self.folder = browser, folder
+    def __init__(self, browser: Browser, folder: pathlib.Path, phone: tuple[int, int] = PHONE) -> None:
+        self.browser, self.folder, self.phone = browser, folder, phone
         folder.mkdir(parents=True, exist_ok=True)
 
     def take(self, name: str) -> None:
         """The page that is open, on both screens, in both modes."""
-        for kind, size in (("phone", PHONE), ("screen", SCREEN)):
+        for kind, size in (("phone", self.phone), ("screen", SCREEN)):
             for scheme in (LIGHT, DARK):
                 self.browser.shape(*size, scheme=scheme)
                 height = max(size[1], self.browser.ask("return document.documentElement.scrollHeight"))
@@ -63,6 +70,10 @@ def guests(venue: Venue, camera: Camera, codes: list[str]) -> None:
     camera.take("guest-online")
     browser.open(f"{venue.guests}?lang=ar")
     camera.take("guest-ar-online")
+    venue.desk.desk.request_json(Routes.CLOSE, body={"session": 1})
+    for tag in ("en", "ar"):
+        browser.open(f"{venue.guests}?lang={tag}")
+        camera.take(f"guest-{tag}-ended")
 
 
 def sell(venue: Venue, code: str) -> Acts:
@@ -100,7 +111,7 @@ def counter(venue: Venue, camera: Camera, codes: list[str]) -> None:
     browser, clerks = camera.browser, venue.clerks
     venue.desk.desk.request_json(Routes.REDEEM, body={"code": codes[1]}, device=MAC)
     fresh = clerks_work(venue)
-    for name, page in (("counter", ""), ("vouchers", "vouchers"), ("sessions", "sessions"), ("money", "money"), ("venue", "venue"),
+    for name, page in (("counter", ""), ("vouchers", "vouchers"), ("sessions", "sessions"), ("session", "session?number=2"), ("money", "money"), ("venue", "venue"),
                        ("voucher", f"voucher?{venue.look(fresh[0])}"), ("counter-refused", f"voucher?{venue.look('2222')}"),
                        ("sheet", "sheet?batch=gigabyte-1"), ("refund", f"refund?{venue.look(codes[2])}"), ("cash-up", "cash-up"),
                        ("batches", "batches"), ("sell-batch", "sell-batch?batch=gigabyte-1"),
@@ -172,18 +183,48 @@ def owner(folder: pathlib.Path) -> None:
         camera.take("text")
 
 
+def two_weeks(_: str, monday: datetime.date) -> Week:
+    """A view of four venues that nobody filled, with one of each thing that may be wrong."""
+    now = int(datetime.datetime.combine(monday, datetime.time(), datetime.UTC).timestamp())
+    days = [monday + datetime.timedelta(at) for at in range(-7, 5)]
+    takings = [Takings(name, house, currency, day, 3, sum, 0, 0, sum, name == "harbour" and day > monday)
+               for place, (name, (house, currency)) in enumerate(VENUES.items(), 1) for at, day in enumerate(days)
+               if (sum := (place * 4100 + at * 7919) % 61_000 * (8 if currency == "CZK" else 1))]
+    return Week([office_client.Venue(name, house, currency, "one", True, name == "harbour") for name, (house, currency) in VENUES.items()],
+                takings, [("harbour", "one", now + 37_000, "it is silent: [Errno 111] Connection refused")],
+                [("one", now + 40 * 86400), ("two", now + 3 * 86400)], [("south", monday, now + 90_000, 20_500, 19_750)],
+                [("north", now + 180_000, now + 170_000, now + 120_000)])
+
+
+def office(folder: pathlib.Path) -> None:
+    """The page of all venues, in each language of the counter."""
+    for tag in ("en", "de"):
+        with contextlib.ExitStack() as stack:
+            venue, browser = OwnersVenue(language=tag, office="nowhere"), Browser()
+            stack.callback(venue.close)
+            stack.callback(browser.close)
+            stack.enter_context(mock.patch.dict(WORDS, olga="olgas-long-word"))
+            stack.enter_context(mock.patch.object(office_client, "week", two_weeks))
+            stack.enter_context(contextlib.redirect_stderr(io.StringIO()))
+            put_accounts(venue.folder, Account("olga", OFFICE, quick_hash(WORDS["olga"])))
+            venue.log_in(browser, "olga")
+            browser.open(f"{venue.owner}/office")
+            Camera(browser, folder, NARROW).take(f"office-{tag}")
+
+
 def main() -> None:
     words = argparse.ArgumentParser(description="Pictures of the pages.")
     words.add_argument("--demo", action="store_true", help="the counter's page of the demo alone")
     words.add_argument("--owner", action="store_true", help="the pages of a manager alone")
+    words.add_argument("--office", action="store_true", help="the page of all venues alone")
     words.add_argument("folder", type=pathlib.Path)
     args = words.parse_args()
     if args.demo:
         with contextlib.closing(Browser()) as browser:
             take_the_demo(browser, args.folder)
         return
-    if args.owner:
-        owner(args.folder)
+    if args.owner or args.office:
+        (owner if args.owner else office)(args.folder)
         return
     venue, browser = Venue(), Browser()
     try:

@@ -7,8 +7,9 @@ import io
 import pathlib
 import tempfile
 import tomllib
+from unittest import mock
 
-from desk_process import PLANS, DeskProcess, Refused, Routes
+from desk_process import FIELD, PLANS, DeskProcess, Refused, Routes
 from needs import NEEDS, needs
 from own_postgres import OwnPostgres
 
@@ -17,7 +18,7 @@ from portal_field.lib.plans import plans_in
 from portal_field.venues import chain_plans, report, table, view
 from portal_field.venues.chain_plans import ChainPlans
 from portal_field.venues.places import BadVenue, Machine, Places
-from portal_field.venues.units import Units
+from portal_field.venues.units import UnitFault, Units
 
 LINES = 'house = "House {0}"\nname = "wifi.example"\ncounter_name = "{0}.example"\nzone = "UTC0"\ndesk_port = {1}\n'
 NIGHT = '[[plan]]\nid = "night"\nprice = 700\nuses = 1\nseconds = 36000\nbytes = 0\nshelf_days = 30\nextend = true\n'
@@ -51,14 +52,17 @@ class Pushed(OwnPostgres):
             link.execute("TRUNCATE portal_view.venue CASCADE")
         self.desks: dict[str, DeskProcess] = {}
         for name in ("north", "south"):
-            places = self.places(name)
-            for folder in (places.settings, places.desk_token.parent, places.counter_state):
-                folder.mkdir(parents=True, exist_ok=True)
-            desk = self.desks[name] = self.enterContext(DeskProcess())
-            places.desk_token.write_text("desk-token\n")
-            places.field.write_text(LINES.format(name, desk.port))
-            (places.settings / "plans.toml").write_text(OWN)
-            table.add(self.machine, name, places.field.read_text())
+            self.add(Places(name, self.root), self.machine)
+
+    def add(self, places: Places, machine: Machine) -> None:
+        """Adds a venue of a machine."""
+        for folder in (places.settings, places.desk_token.parent, places.counter_state):
+            folder.mkdir(parents=True, exist_ok=True)
+        desk = self.desks[places.name] = self.enterContext(DeskProcess())
+        places.desk_token.write_text("desk-token\n")
+        places.field.write_text(LINES.format(places.name, desk.port))
+        (places.settings / "plans.toml").write_text(OWN)
+        table.add(machine, places.name, places.field.read_text())
 
     def places(self, name: str) -> Places:
         """The files of a venue."""
@@ -155,12 +159,79 @@ class Pushed(OwnPostgres):
     def test_a_machine_that_has_not_brought_them_yet_is_named(self) -> None:
         table.add(self.of("two"), "east", LINES.format("east", 20001))
         self.push()
-        line = "east has not got the plans of the chain yet: portal-venues plans, on two"
+        line = ("east has not got the plans of the chain yet: two fetches them each quarter of an hour, or at once by "
+                "portal-venues plans")
         self.assertEqual(chain_plans.behind(self.machine), [line])
         with view.opened(self.machine) as link:
             view.venues_of(link, self.machine)
             today, = link.execute("SELECT current_date").fetchone()
         self.assertIn(line + "\n", report.show(self.machine, 2, today))
+
+    def test_another_machine_fetches_them_once(self) -> None:
+        two, east = self.of("two"), Places("east", self.root / "two")
+        self.add(east, two)
+        self.push()
+        self.units.asked.clear()
+        self.assertEqual(chain_plans.fetch(two, east.root, self.units), 0)
+        self.assertEqual(list(plans_in((east.settings / "plans.toml").read_bytes())), ["hour", "night", "pool"])
+        self.assertEqual(len(self.desks["east"].issue_codes("night", "b1")), 1)
+        self.assertEqual((self.units.asked, chain_plans.behind(two)), ([("try-restart", "portal-venues-counter.service")], []))
+        for desk in self.desks.values():
+            desk.job.kill()
+            desk.job.wait()
+        for machine, root in ((self.machine, self.root), (two, east.root)):
+            self.assertEqual(chain_plans.fetch(machine, root, self.units), 0, "who has them is not asked again")
+        self.assertEqual(len(self.units.asked), 1)
+
+    def test_a_silent_venue_gets_them_at_a_later_time(self) -> None:
+        self.desks["north"].job.kill()
+        self.desks["north"].job.wait()
+        self.push()
+        self.assertEqual(chain_plans.fetch(self.machine, self.root, self.units), 1)
+        self.assertIn("it has not got them: it is silent", self.errors.getvalue())
+        self.desks["north"].__enter__()
+        self.assertEqual(chain_plans.fetch(self.machine, self.root, self.units), 0)
+        self.assertIn("night", self.file("north").read_text())
+
+    def test_a_file_that_comes_while_another_is_brought_is_fetched_too(self) -> None:
+        self.push()
+        before = chain_plans.kept(self.machine)
+        later = ChainPlans(CHAIN.plans, CHAIN.offers.replace("One night", "A night"))
+        chain_plans.keep(self.machine, later, ())
+        with mock.patch.object(chain_plans, "kept", return_value=before):
+            chain_plans.fetch(self.machine, self.root, self.units)
+        self.assertEqual(len(chain_plans.behind(self.machine)), 2)
+        self.assertEqual(chain_plans.fetch(self.machine, self.root, self.units), 0)
+        self.assertIn("A night", self.file("south", "offers.toml").read_text())
+        self.assertEqual(chain_plans.behind(self.machine), [])
+
+    def test_venues_count_as_behind_until_their_counters_have_them(self) -> None:
+        with mock.patch.object(self.units, "ctl", side_effect=UnitFault("no")):
+            self.assertRaises(UnitFault, self.push)
+        self.assertEqual(len(chain_plans.behind(self.machine)), 2)
+        self.assertEqual(chain_plans.fetch(self.machine, self.root, self.units), 0)
+        self.assertEqual(self.units.asked, [("try-restart", "portal-venues-counter.service")])
+
+    def test_the_timer_fails_for_nothing_that_another_unit_says(self) -> None:
+        """3: a venue has not got them; 4: PostgreSQL is away, or the settings are not what they must be."""
+        for database, outcome, status in (("", [], 0), ("dbname=x", [0], 0), ("dbname=x", [1], 3),
+                                          ("dbname=x", [table.Away("gone")], 4), ("dbname=x", [UnitFault("no")], 4)):
+            machine = Machine("127.0.0.1", database=database)
+            with mock.patch.object(chain_plans, "machine_of", return_value=machine), \
+                    mock.patch.object(chain_plans, "fetch", side_effect=outcome):
+                self.assertEqual(chain_plans.main(), status, outcome)
+        with mock.patch.object(chain_plans, "machine_of", side_effect=BadVenue("no file")):
+            self.assertEqual(chain_plans.main(), 4)
+        unit = (FIELD / "units/portal-venues-plans.service").read_text()
+        self.assertIn("\nSuccessExitStatus=3 4\n", unit)
+        self.assertIn(f"ExecStart=/usr/bin/python3 -P -m {chain_plans.__name__}\n", unit)
+
+    def test_a_chain_without_plans_has_no_table_of_them(self) -> None:
+        with view.opened(self.machine) as link:
+            link.execute("DROP TABLE portal.plan_file, portal.plan_push")
+        self.assertEqual(chain_plans.fetch(self.machine, self.root, self.units), 0)
+        with view.opened(self.machine) as link:
+            self.assertEqual(link.execute("SELECT to_regclass('portal.plan_file')").fetchone(), (None,))
 
     def test_a_file_with_a_mistake_reaches_no_venue(self) -> None:
         path = self.root / "chain.toml"

@@ -8,6 +8,7 @@ import threading
 import time
 import unittest
 from typing import Any
+from unittest import mock
 
 import flask
 from desk_process import Desk, DeskProcess, NoAnswer, Refused, Routes
@@ -64,6 +65,26 @@ class Answers(unittest.TestCase):
                 with self.assertRaises(Refused) as caught:
                     desk.desk.request_json(Routes.VOUCHER, part)
                 self.assertEqual(caught.exception.word, "bad_code", part)
+
+    def test_a_device_is_asked_about_as_it_is_printed(self) -> None:
+        with mock.patch.object(Desk, "exchange", return_value=(200, b"{}")) as exchange:
+            Desk(1).request_json(Routes.LAST_SESSION, query={"device": "02:00:00:00:00:01"})
+        self.assertEqual(exchange.call_args.args[:2], ("GET", "/desk/sessions?device=02:00:00:00:00:01"))
+
+    def test_the_four_questions_about_sessions(self) -> None:
+        device = "02:00:00:00:00:01"
+        with DeskProcess() as desk:
+            desk.load()
+            code, = desk.sell_codes("gigabyte", "b1")
+            desk.desk.request_json(Routes.REDEEM, body={"code": code}, device=device)
+            last = desk.desk.request_json(Routes.LAST_SESSION, query={"device": device})
+            self.assertEqual(last, {"bytes-remaining": 10**9, "device": device, "ended": None, "opened": last["opened"], "plan": "gigabyte",
+                                    "session": 1, "used": 0})
+            self.assertEqual(desk.desk.request_json(Routes.SESSION, "1"), last)
+            own = desk.desk.request_json(Routes.OWN_SESSION, device=device)
+            self.assertEqual({**own, "device": device}, last)
+            row, = desk.gateway.request_json(Routes.SESSION_DETAILS)["sessions"]
+            self.assertEqual(row, {key: value for key, value in last.items() if key not in ("ended", "used")})
 
     def test_line_ends_never_make_a_field(self) -> None:
         with self.assertRaises(ValueError):

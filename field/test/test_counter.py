@@ -105,7 +105,7 @@ class Pages(AtCounter):
             for word in words:
                 self.assertIn(word, text)
         for page, words in ((f"/voucher?code={code.replace('-', '+')}", ("gigabyte", "0 of 3", "5.00")),
-                            ("/voucher?code=2222", ("No such code can exist",)), ("/voucher", ("Scan or type the code again",)),
+                            ("/voucher?code=22A2", ("No such code can exist",)), ("/voucher", ("Scan or type the code again",)),
                             (f"/takings?from={day}&to={day}", ('<td data-label="In the drawer"><b>0.00</b></td>', '<td data-label="Money in">5.00</td>')),
                             (f"/takings?from={day}&to=x", ("not understood",))):
             text = self.see(page)[1]
@@ -399,9 +399,9 @@ class Pages(AtCounter):
     def test_a_refusal_keeps_and_names_the_code(self) -> None:
         code, = self.desk.sell_codes("hour", "b1")
         cases: tuple[tuple[str, dict[str, Any]], ...] = (
-            ("/sell", {"code": code, "request": "s1"}), ("/voucher?code=2222", {}))
+            ("/sell", {"code": code, "request": "s1"}), ("/voucher?code=22A2", {}))
         for path, form in cases:
-            typed = code if form else "2222"
+            typed = code if form else "22A2"
             text = (self.ask(path, **form) if form else self.see(path))[1]
             self.assertIn(f'role="alert">{typed}:<br>', text)
             self.assertRegex(text, rf'id="code" [^>]*autofocus\n value="{typed}" aria-invalid="true" aria-describedby="told"')
@@ -410,13 +410,13 @@ class Pages(AtCounter):
         code, = self.desk.issue_codes("hour", "b1")
         address = f"https://wifi.example/portal?code={code}"
         half, sign = code[:9], "3" if code[0] != "3" else "4"
-        for kept, typed in (("2222", code + "2222"), ("2222", "2222" + code), ("2222", address + "2222"), ("2222", "2222" + address),
+        for kept, typed in (("22A2", code + "22A2"), ("22A2", "22A2" + code), ("22A2", address + "22A2"), ("22A2", "22A2" + address),
                             (half, code), (half, code + half), (sign + code[1:], code), (code, code), (code, code + code),
                             (code[1:], code)):
             text = self.see("/voucher?" + urllib.parse.urlencode({"code": typed, "kept": kept}))[1]
             self.assertIn(f"<title>{code} ", text, (kept, typed))
-        text = self.see("/voucher?code=2222")[1]
-        self.assertIn('<input type="hidden" name="kept" value="2222">', text)
+        text = self.see("/voucher?code=22A2")[1]
+        self.assertIn('<input type="hidden" name="kept" value="22A2">', text)
         self.assertNotIn('name="kept"', self.ask("/")[1])
 
     def test_refunds_closes_and_sales_of_batches_are_asked_once_more(self) -> None:
@@ -501,7 +501,7 @@ class Pages(AtCounter):
     def test_each_page_has_a_title_of_its_own(self) -> None:
         self.desk.sell_codes("hour", "b1")
         code = self.desk.issue_codes("hour", "b2")[0]
-        pages = ("/", "/vouchers", "/sessions", "/money", "/venue", "/scanner", f"/voucher?code={code}", "/voucher?code=2222", "/sheet?batch=b1", "/sheet?batch=b2", "/takings?from=2026-01-01&to=2026-01-01",
+        pages = ("/", "/vouchers", "/sessions", "/money", "/venue", "/scanner", f"/voucher?code={code}", "/voucher?code=22A2", "/sheet?batch=b1", "/sheet?batch=b2", "/takings?from=2026-01-01&to=2026-01-01",
                  f"/refund?code={code}", "/close?session=1", "/sell-batch?batch=b1", "/nothing")
         answers = [self.see(page) for page in pages]
         self.assertNotIn(500, [status for status, _ in answers])
@@ -514,7 +514,7 @@ class Pages(AtCounter):
         sold = {"code": code, "request": "s1"}
         cases: tuple[tuple[dict[str, Any], str, dict[str, Any], str], ...] = (
             ({}, "/", {}, "Counter"), ({}, "/nothing", {}, "Error – Counter"), ({}, "/voucher", {}, "Error – Counter"),
-            ({}, "/voucher?code=2222", {}, "Error: 2222 – Counter"), ({}, "/sell", sold, f"Sold: {code}. Take 3.00. – Counter"),
+            ({}, "/voucher?code=22A2", {}, "Error: 22A2 – Counter"), ({}, "/sell", sold, f"Sold: {code}. Take 3.00. – Counter"),
             ({}, "/sell", {**sold, "request": "s2"}, f"Error: {code} – Counter"),
             ({"is": "failed", "why": "its settings are not valid"}, "/", {}, "Error – Counter"),
             ({"is": "waits", "why": "x", "last": None}, "/", {}, "Is the time right? – Counter"))

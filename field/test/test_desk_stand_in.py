@@ -1,6 +1,7 @@
 """The stand-in's answers to the desk's test vectors, moment by moment."""
 
 import json
+import re
 import unittest
 
 from desk_model import with_check_character
@@ -12,6 +13,10 @@ PLAN = '[[plan]]\nid = "{}"\nprice = {}\nuses = {}\nseconds = {}\nbytes = {}\nsh
 PLANS = PLAN.format("hour", 300, 1, 3600, 0, "true") + PLAN.format("gig", 500, 3, 0, 2**30, "false")
 GUEST, OTHER = "02:00:00:00:00:01", "02:00:00:00:00:02"
 TOKENS = {"/desk": "desk-token", "/gateway": "gate-token"}
+UNKNOWN = (404, '{"error":"unknown_session"}')
+# Of one use for a minute, for 100 bytes, and for both; and a second plan of both.
+SHORT = "".join(PLAN.format(name, 100, 1, seconds, count, "true")
+                for name, seconds, count in (("minute", 60, 0), ("cup", 0, 100), ("both", 60, 100), ("more", 30, 7)))
 
 
 class Worked(unittest.TestCase):
@@ -133,6 +138,117 @@ net -3.33
             self.assertEqual(self.ask(2000, "POST", "/desk/closes", {"session": session})[1], result)
         self.assertEqual(self.ask(2000, "POST", "/gateway/reports", {"session": 1, "bytes": 7})[1],
                          '{"open":false,"session":1,"used":7}')
+
+    # Details of sessions
+
+    def open_short(self, now: int, plan: str, device: str = GUEST) -> None:
+        """Opens a session of one of the short plans, or extends it."""
+        self.ask(0, "POST", "/desk/plans", SHORT)
+        self.short = getattr(self, "short", 0) + 1
+        self.assertEqual(self.redeem(now, self.bought(now, plan, f"short-{self.short}")[0], device)[0], 200)
+
+    def report(self, now: int, number: int, count: int) -> None:
+        self.assertEqual(self.ask(now, "POST", "/gateway/reports", {"session": number, "bytes": count})[0], 200)
+
+    def close(self, now: int, number: int) -> None:
+        self.assertEqual(self.ask(now, "POST", "/desk/closes", {"session": number})[0], 200)
+
+    def details(self, now: int, number: int) -> str:
+        """The details of a session, with single quotes in place of double ones."""
+        status, text = self.ask(now, "GET", f"/desk/sessions/{number}")
+        self.assertEqual(status, 200, text)
+        return text.replace('"', "'")
+
+    def test_details_of_an_open_session_have_what_its_plan_limits(self) -> None:
+        for device, plan in ((GUEST, "minute"), (OTHER, "cup"), ("02:00:00:00:00:03", "both")):
+            self.open_short(1000, plan, device)
+        for number in (1, 2, 3):
+            self.report(1010, number, 40)
+        self.assertEqual(self.details(1015, 1), "{'device':'02:00:00:00:00:01','ended':null,'opened':1000,'plan':'minute',"
+                         "'seconds-remaining':45,'session':1,'used':40}")
+        self.assertEqual(self.details(1015, 2), "{'bytes-remaining':60,'device':'02:00:00:00:00:02','ended':null,'opened':1000,'plan':'cup',"
+                         "'session':2,'used':40}")
+        self.assertEqual(self.details(1015, 3), "{'bytes-remaining':60,'device':'02:00:00:00:00:03','ended':null,'opened':1000,'plan':'both',"
+                         "'seconds-remaining':45,'session':3,'used':40}")
+        self.assertIn("'seconds-remaining':50,", self.details(900, 1))       # the clock was set back behind the last command
+
+    def test_a_session_ends_by_its_close_before_all_else(self) -> None:
+        self.open_short(1000, "both")
+        self.report(1010, 1, 150)
+        self.close(1070, 1)
+        self.assertEqual(self.details(1080, 1), "{'at':1070,'bytes-remaining':0,'device':'02:00:00:00:00:01','ended':'closed','opened':1000,"
+                         "'plan':'both','seconds-remaining':0,'session':1,'used':150}")
+
+    def test_a_closed_session_keeps_what_was_left(self) -> None:
+        self.open_short(1000, "both")
+        self.close(1020, 1)
+        self.assertEqual(self.details(1025, 1), "{'at':1020,'bytes-remaining':100,'device':'02:00:00:00:00:01','ended':'closed','opened':1000,"
+                         "'plan':'both','seconds-remaining':35,'session':1,'used':0}")
+
+    def test_a_session_ends_by_time_before_bytes(self) -> None:
+        self.open_short(1000, "both")
+        self.report(1010, 1, 100)
+        self.assertEqual(self.details(1059, 1), "{'bytes-remaining':0,'device':'02:00:00:00:00:01','ended':'bytes','opened':1000,'plan':'both',"
+                         "'seconds-remaining':1,'session':1,'used':100}")
+        self.assertEqual(self.details(1060, 1), "{'at':1060,'bytes-remaining':0,'device':'02:00:00:00:00:01','ended':'time','opened':1000,"
+                         "'plan':'both','seconds-remaining':0,'session':1,'used':100}")
+
+    def test_a_session_ends_at_its_end_and_with_its_last_byte(self) -> None:
+        self.open_short(1000, "minute")
+        self.open_short(1000, "cup", OTHER)
+        self.report(1000, 2, 99)
+        for now, number, words in ((1059, 1, "'ended':null"), (1060, 1, "'at':1060,"), (9000, 1, "'at':1060,"), (9000, 2, "'ended':null")):
+            self.assertIn(words, self.details(now, number))
+        self.report(1000, 2, 100)
+        self.assertIn("'ended':'bytes'", self.details(1000, 2))
+
+    def test_an_extended_session_keeps_its_first_plan(self) -> None:
+        self.open_short(1000, "both")
+        self.open_short(1050, "more")
+        self.assertEqual(self.details(1050, 1), "{'bytes-remaining':107,'device':'02:00:00:00:00:01','ended':null,'opened':1000,'plan':'both',"
+                         "'seconds-remaining':40,'session':1,'used':0}")
+
+    def test_the_last_session_of_a_device(self) -> None:
+        for now, device in ((1000, GUEST), (1000, OTHER), (1060, GUEST)):
+            self.open_short(now, "minute", device)
+        own = '"ended":null,"opened":1060,"plan":"minute","seconds-remaining":60,"session":3,"used":0}'
+        last = (200, f'{{"device":"{GUEST}",{own}')
+        for spelled in (GUEST, GUEST.replace(":", "-")):
+            self.assertEqual(self.ask(1060, "GET", f"/desk/sessions?x&device={spelled}&Device=2"), last)
+        self.assertEqual(self.ask(1060, "GET", "/desk/sessions/3"), last)
+        self.assertEqual(self.ask(1060, "GET", "/portal/session"), (200, "{" + own))
+        self.assertIn('"ended":"time"', self.ask(1060, "GET", "/portal/session", device=OTHER)[1])
+        self.assertEqual(self.ask(1060, "GET", "/desk/sessions?device=02:00:00:00:00:09"), UNKNOWN)
+        self.assertEqual(self.ask(1060, "GET", "/portal/session", device="02:00:00:00:00:09"), UNKNOWN)
+
+    def test_the_details_of_open_sessions(self) -> None:
+        self.assertEqual(self.ask(1000, "GET", "/gateway/sessions/details"), (200, '{"sessions":[]}'))
+        for number, plan in enumerate(("minute", "cup", "both", "minute"), 1):
+            self.open_short(1000 + number, plan, f"02:00:00:00:00:{5 - number:02}")
+        self.close(1010, 1)
+        self.assertEqual(self.ask(1062, "GET", "/gateway/sessions/details")[1].replace('"', "'"),
+                         "{'sessions':[{'bytes-remaining':100,'device':'02:00:00:00:00:03','opened':1002,'plan':'cup','session':2},"
+                         "{'bytes-remaining':100,'device':'02:00:00:00:00:02','opened':1003,'plan':'both','seconds-remaining':1,'session':3},"
+                         "{'device':'02:00:00:00:00:01','opened':1004,'plan':'minute','seconds-remaining':2,'session':4}]}")
+        self.assertEqual(re.findall(r'"session":([0-9]+)', self.ask(1063, "GET", "/gateway/sessions/details")[1]), ["2", "4"])
+
+    def test_a_number_is_digits_alone(self) -> None:
+        self.open_short(1000, "minute")
+        for word in ("1", "01", "0" * 5000 + "1"):
+            self.assertIn('"session":1,', self.ask(1000, "GET", "/desk/sessions/" + word)[1], word)
+        for word in ("0", "2", "99", "9223372036854775807"):
+            self.assertEqual(self.ask(1000, "GET", "/desk/sessions/" + word), UNKNOWN, word)
+        for word in ("+1", "-1", "1x", "1.0", "%31", "1_0", "9223372036854775808", "9" * 5000, "\u0661"):
+            self.assertEqual(self.ask(1000, "GET", "/desk/sessions/" + word), (400, '{"error":"bad_request"}'), word)
+        for target in ("/desk/sessions/", "/desk/sessions/1/", "/gateway/sessions/1", "/portal/session/"):
+            self.assertEqual(self.ask(1000, "GET", target), (404, '{"error":"no_route"}'), target)
+
+    def test_a_device_is_in_a_query_once(self) -> None:
+        bad_device = (400, '{"error":"bad_device"}')
+        for query in ("", "?", "?device", "?device=", "?Device=" + GUEST, f"?device={GUEST}&device={GUEST}", f"?device={GUEST}&device",
+                      "?device=" + GUEST.replace(":", "%3A"), "?device=02:00-00:00:00:01", "?device=020000000001", f"?device={GUEST}?"):
+            self.assertEqual(self.ask(1000, "GET", "/desk/sessions" + query), bad_device, query)
+        self.assertEqual(self.ask(1000, "GET", "/portal/session", device="x"), bad_device)
 
     def test_a_numbered_request_acts_once(self) -> None:
         one, two, three = self.bought(1000, "hour", "b1", 3)

@@ -8,6 +8,7 @@ import http.server
 import json
 import os
 import pathlib
+import re
 import shutil
 import sqlite3
 import subprocess
@@ -29,6 +30,7 @@ from needs import needs
 from portal_field.doctor import base, certificates, network, prices, running
 from portal_field.doctor import command as doctor
 from portal_field.doctor.findings import Finding, Look, Machine, State, findings_of, good
+from portal_field.settings.maker import BEFORE
 from portal_field.settings.venue import Field
 
 GOOD, WARNING, WRONG, OVER = State.GOOD, State.WARNING, State.WRONG, State.PASSED_OVER
@@ -336,7 +338,7 @@ class Base(Case):
         link = sqlite3.connect(path, isolation_level=None)
         link.executescript("PRAGMA locking_mode = EXCLUSIVE; PRAGMA journal_mode = WAL; CREATE TABLE IF NOT EXISTS "
                            "portal_head (layout INTEGER, last_moment INTEGER); DELETE FROM portal_head;")
-        link.execute("INSERT INTO portal_head VALUES (4, ?)", (int(moment),))
+        link.execute("INSERT INTO portal_head VALUES (5, ?)", (int(moment),))
         return link
 
     def test_a_database_of_a_later_time(self) -> None:
@@ -413,10 +415,10 @@ class Base(Case):
             self.machine.says[line] = shown
             self.only_fault(base.versions, WRONG, word)
             self.machine.says[line] = before
-        self.machine.put("/var/lib/portal/schema", "4\n")
-        self.all_good(base.versions)
         self.machine.put("/var/lib/portal/schema", "5\n")
-        self.only_fault(base.versions, WRONG, "schema version 5", "none after 4")
+        self.all_good(base.versions)
+        self.machine.put("/var/lib/portal/schema", "6\n")
+        self.only_fault(base.versions, WRONG, "schema version 6", "none after 5")
 
 
 class Running(Case):
@@ -690,6 +692,12 @@ class Command(Case):
         self.assertEqual(names, ["settings", "devices", "addresses", "limits", "certificate", "zone", "clock", "ports",
                                  "others", "rules", "services", "connections", "server", "clerks", "plans", "logo", "backup",
                                  "disk", "versions"])
+
+    def test_the_page_has_a_row_for_each_check(self) -> None:
+        rows = re.findall(r"^\| ([a-z ]+?)( \*)? \|", (FIELD / "docs/DOCTOR.md").read_text(), re.M)
+        before, after = ({look.__name__.replace("_", " ") for look in looks} for looks in (BEFORE, doctor.CHECKS))
+        self.assertEqual({name for name, _ in rows}, {"settings", *after})
+        self.assertEqual({name for name, star in rows if star}, before)
 
     def test_what_is_wrong_is_in_words_and_the_exit_code_is_1(self) -> None:
         self.machine.says["timedatectl "] = "no\n"

@@ -92,12 +92,10 @@ class Served(unittest.TestCase):
         return found[1]
 
     def redeem(self, plan: str, batch: str) -> str:
-        """Sells a code of the plan, and types it on the page, which knows the session from then on. The
-        code."""
+        """Sells a code of the plan, and types it on the page. The code."""
         code, = self.desk.sell_codes(plan, batch)
         number = self.number(self.ask("GET", "/portal?add=1")[1])
         self.assertEqual(self.ask("POST", "/portal", code=code, request=number)[0], 303)
-        self.head["Cookie"] = self.cookie
         return code
 
 
@@ -310,14 +308,11 @@ class Pages(Served):
         text = self.ask("GET", "/portal")[1]
         self.assertEqual((text.count('class="good"'), text.count('class="soon"')), (1, 0))
         self.desk.gateway.request_json(Routes.REPORT, body={"session": 1, "bytes": 960_000_000})
-        del self.head["Cookie"]     # the page knows it by the device
+        self.start_helper("a key")      # the page knows it by the device
         text = self.ask("GET", "/portal")[1]
         self.assertEqual((text.count('class="good"'), text.count('class="soon"')), (0, 1))
         self.assertIn("Little of your data is left.", text)
         self.assertNotIn("You may close this page now.", text)
-        self.desk.desk.request_json(Routes.CLOSE, body={"session": 1})
-        self.ask("GET", "/portal")
-        self.assertEqual(self.front.most_data.entries, {}, "a session that is over")
 
     def test_the_end_is_told_in_the_venues_zone(self) -> None:
         self.addCleanup(use_zone, "UTC0")
@@ -327,13 +322,6 @@ class Pages(Served):
         ends = {time.strftime("%H:%M", time.gmtime(time.time() + 6 * 3600 - late)) for late in range(30)}
         found = re.search("<small>until (?:.* )?([0-9:]{5})</small>", self.ask("GET", "/portal")[1])
         self.assertIn(found and found[1], ends)
-
-    def test_a_code_for_another_session_counts_its_data_anew(self) -> None:
-        code, = self.desk.sell_codes("gigabyte", "b1")
-        number = self.number(self.ask("GET", "/portal")[1])
-        self.front.most_data.seen(MAC, 10**12)
-        self.ask("POST", "/portal", code=code, request=number)
-        self.assertIn('class="good"', self.ask("GET", "/portal")[1])
 
     def test_one_message_at_a_time(self) -> None:
         code, = self.desk.sell_codes("hour", "b1")
@@ -411,30 +399,48 @@ class Pages(Served):
         for tag, words in (("en", "1.0 GB"), ("fr", "1,0\u202fGo|1,0.Go"), ("uk", "1,0.ГБ")):
             self.assertRegex(self.ask("GET", f"/portal?lang={tag}")[1], words)
 
-    # What the page knows of the session
+    # What the page says of the last session of the device
 
-    def test_the_page_shows_the_number_of_the_session_that_its_answer_named(self) -> None:
+    def test_the_page_shows_the_number_of_the_devices_session_in_any_browser(self) -> None:
+        """No cookie has it, and no other device reads it."""
         self.assertNotIn("Session number", self.ask("GET", "/portal")[1])
         self.redeem("hour", "b1")
-        shown = "<dt>Session number</dt><dd>1</dd>"
-        self.assertIn(shown, self.ask("GET", "/portal")[1])
-        self.assertTrue(self.cookie.startswith("portal_session="), "which now knows when the time ends")
-        mine = self.head["Cookie"]
-        self.head["Cookie"] = mine.replace("=", "=x", 1)
-        self.assertNotIn(shown, self.ask("GET", "/portal")[1], "a cookie that others wrote")
-        self.head["Cookie"], self.device = mine, OTHER
+        self.assertEqual(self.cookie, "")
+        self.assertIn("<dt>Session number</dt><dd>1</dd>", self.ask("GET", "/portal")[1])
+        self.device = OTHER
+        self.assertNotIn("Session number", self.ask("GET", "/portal")[1])
         self.redeem("hour", "b2")
-        self.head["Cookie"] = mine
-        self.assertNotIn("Session number", self.ask("GET", "/portal")[1], "a cookie of another device")
+        self.assertIn("<dt>Session number</dt><dd>2</dd>", self.ask("GET", "/portal")[1])
 
-    def test_what_has_ended_is_said_and_why(self) -> None:
-        self.redeem("hour", "b1")
-        self.desk.desk.request_json(Routes.CLOSE, body={"session": 1})
-        self.assertIn("its data is used up, or it was closed", self.ask("GET", "/portal")[1])
-        self.head["Cookie"] = "portal_session=" + str(self.front.cookies.dumps([MAC, 1, 1_000_000]))
-        self.assertIn("Your time has ended.", self.ask("GET", "/portal")[1])
-        del self.head["Cookie"]
-        self.assertIn("You are not online yet.", self.ask("GET", "/portal")[1])
+    def test_what_has_ended_is_said_with_why_and_when(self) -> None:
+        number = "<dt>Session number</dt><dd>1</dd>"
+        ends: list[tuple[dict[str, Any], str, str]] = [
+            ({"ended": "time", "at": 46_800}, "Your time has ended.", "<dt>Ended</dt><dd>January 1, 1970 13:00</dd>"),
+            ({"ended": "closed", "at": 46_860}, "Your session was closed.", "<dt>Ended</dt><dd>January 1, 1970 13:01</dd>"),
+            ({"ended": "bytes"}, "Your data is used up.", "")]
+        for end, why, at in ends:
+            session = {"opened": 1000, "plan": "hour", "session": 1, "used": 7, **end}
+            self.front.desk = mock.Mock(request_json=lambda route, **_: {Routes.CAPTIVE: {"captive": True}, Routes.OWN_SESSION: session}[route])
+            text = self.ask("GET", "/portal")[1]
+            for words in (f"<p>{why} To go online again, type another code.</p>", at, number):
+                self.assertIn(words, text)
+            self.assertEqual(text.count("<dt>Ended</dt>"), bool(at))
+            self.assertNotIn("You are not online yet.", text)
+
+    def test_what_the_server_says_of_an_end_is_on_the_page(self) -> None:
+        self.redeem("gigabyte", "b1")
+        self.desk.gateway.request_json(Routes.REPORT, body={"session": 1, "bytes": 1_000_000_000})
+        self.assertIn("Your data is used up.", self.ask("GET", "/portal")[1])
+        self.assertNotIn("You have ended your session.", self.ask("GET", "/portal?ended=1")[1])
+        self.redeem("hour", "b2")
+        self.desk.desk.request_json(Routes.CLOSE, body={"session": 2})
+        text = self.ask("GET", "/portal")[1]
+        self.assertIn("Your session was closed.", text)
+        self.assertRegex(text, "<dt>Ended</dt><dd>[0-9]{2}:[0-9]{2}</dd>")
+        self.assertIn("You have ended your session.", self.ask("GET", "/portal?ended=1")[1])
+        self.device = OTHER
+        self.assertIn("You are not online yet.", self.ask("GET", "/portal?ended=1")[1])
+        self.assertNotIn("Session number", self.ask("GET", "/portal")[1])
 
     def test_a_refused_extra_code_is_not_red_and_green_at_once(self) -> None:
         self.redeem("hour", "b1")

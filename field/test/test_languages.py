@@ -4,6 +4,7 @@ from __future__ import annotations
 
 import importlib.machinery
 import pathlib
+import re
 import shutil
 import sys
 import tempfile
@@ -14,8 +15,12 @@ from typing import Any
 from desk_process import FIELD
 
 from portal_field.lib.error_pages import PAGES, error_pages
-from portal_field.lib.languages import CATALOGUES, COUNTER, GUESTS, Language, preferred_language
+from portal_field.lib.language_names import COUNTER, GUESTS
+from portal_field.lib.languages import CATALOGUES, Language, preferred_language
 from portal_field.settings.venue import COUNTER_LANGUAGES, LANGUAGES
+
+# where a message begins
+MARKED = re.compile(r"""\b(_|say|say_plural|clerk_words|guest_words)\(\s*["']""")
 
 
 def tool(folder: pathlib.Path = FIELD) -> Any:
@@ -42,6 +47,19 @@ class Catalogues(unittest.TestCase):
             have = {path.stem for path in (CATALOGUES / domain).iterdir()}
             self.assertEqual(have, set(tags) - {"en"})
         self.assertEqual((LANGUAGES, COUNTER_LANGUAGES), (tuple(GUESTS), tuple(COUNTER)), "as field.toml takes them")
+
+    def test_the_comment_of_field_toml_names_each_language(self) -> None:
+        text = (FIELD / "settings/field.toml").read_text()
+        named = re.findall(r"(?m)^voucher_languages = .*# one or two of (.*), which", text)
+        self.assertEqual([set(words.split()) for words in named], [set(GUESTS)])
+
+    def test_each_page_with_messages_is_one_of_the_sources(self) -> None:
+        """Or else what it says stays English in every language."""
+        sources = {path for rows in tool().SOURCES.values() for pattern, _ in rows for path in FIELD.glob(pattern)}
+        for part in ("counter", "guests"):
+            for path in sorted((FIELD / "portal_field" / part).rglob("*.*")):
+                if path.suffix in (".py", ".html") and MARKED.search(path.read_text()):
+                    self.assertIn(path, sources)
 
     def test_what_is_missing_unused_fuzzy_or_of_other_values_is_named(self) -> None:
         folder = pathlib.Path(self.enterContext(tempfile.TemporaryDirectory()))
@@ -93,6 +111,12 @@ class Choice(unittest.TestCase):
 
     def test_which_way_each_language_is_written(self) -> None:
         self.assertEqual({tag for tag in GUESTS if Language(tag).direction == "rtl"}, {"ar"})
+
+    def test_a_currency_without_a_sign_stands_apart_from_its_digits(self) -> None:
+        """As CLDR's currency spacing has it."""
+        for tag, currency, text in (("en", "CHF", "CHF\u00a010,668.40"), ("en", "EUR", "€10,668.40"), ("ja", "CZK", "CZK\u00a010,668.40"),
+                                    ("de", "CHF", "10.668,40\u00a0CHF")):
+            self.assertEqual(Language(tag).money(1_066_840, currency), text)
 
     def test_plural_forms_are_those_of_the_language(self) -> None:
         def times(tag: str, number: int) -> str:

@@ -7,7 +7,7 @@ import unittest
 from typing import Any
 from unittest import mock
 
-from portal_field.guests.left import LEAST_WAIT, MostData, left_of
+from portal_field.guests.left import LEAST_WAIT, left_of
 from portal_field.lib.languages import Language
 from portal_field.lib.local_time import use_zone
 
@@ -21,10 +21,10 @@ class Left(unittest.TestCase):
         use_zone("UTC0")
         self.enterContext(mock.patch.object(time, "time", lambda: float(NOW)))
 
-    def left(self, answer: dict[str, Any], most: int = 0, tag: str = "en") -> Any:
+    def left(self, answer: dict[str, Any], used: int = 0, tag: str = "en") -> Any:
         """What is said of an answer of the server; `seconds` and `count` are what is left."""
         names = {"seconds": "seconds-remaining", "count": "bytes-remaining", "extends": "can-extend-session"}
-        return left_of({names[key]: value for key, value in {"extends": True, **answer}.items()}, most, Language(tag))
+        return left_of({names[key]: value for key, value in {"extends": True, **answer}.items()}, used, Language(tag))
 
     def test_the_end_is_said_in_the_venues_zone_and_in_words(self) -> None:
         for zone, tag, seconds, words in (
@@ -36,11 +36,11 @@ class Left(unittest.TestCase):
 
     def test_the_end_is_near_below_five_minutes_or_a_twentieth_of_the_data(self) -> None:
         answers: list[tuple[dict[str, int], int, bool]] = [
-            ({"seconds": 300}, 0, False), ({"seconds": 299}, 0, True), ({"seconds": 0}, 0, True), ({"count": 50}, 1000, False),
-            ({"count": 49}, 1000, True), ({"count": 0}, 0, False), ({"seconds": 300, "count": 49}, 1000, True),
-            ({"seconds": 299, "count": 50}, 1000, True)]
-        for answer, most, soon in answers:
-            self.assertEqual(bool(self.left(answer, most).soon), soon, answer)
+            ({"seconds": 300}, 0, False), ({"seconds": 299}, 0, True), ({"seconds": 0}, 0, True), ({"count": 50}, 950, False),
+            ({"count": 49}, 951, True), ({"count": 1000}, 0, False), ({"count": 49}, 931, False), ({"count": 49}, 932, True),
+            ({"seconds": 300, "count": 49}, 951, True), ({"seconds": 299, "count": 50}, 950, True)]
+        for answer, used, soon in answers:
+            self.assertEqual(bool(self.left(answer, used).soon), soon, (answer, used))
         self.assertEqual(self.left({"seconds": 100}).soon, "Your time ends at 12:28.")
 
     def test_the_page_looks_again_when_its_words_change_but_not_sooner_than_30_seconds(self) -> None:
@@ -62,17 +62,6 @@ class Left(unittest.TestCase):
         self.assertEqual([self.left(answer).next_code for answer in answers], [
             "Another code adds to what is left.", "Another code can be used from 12:28 on.",
             "Another code can be used when this one has ended."])
-
-    def test_the_most_data_of_a_device_is_that_of_its_session(self) -> None:
-        data = MostData()
-        self.assertEqual([data.seen("a", count) for count in (1_000, 40, 1_040, 3)], [1_000, 1_000, 1_040, 1_040])
-        self.assertEqual(data.seen("b", 7), 7)
-        data.forget("a")
-        self.assertEqual(data.seen("a", 5), 5)
-        with mock.patch("portal_field.guests.left.MOST_DEVICES", 2):
-            for device in ("b", "c", "d"):
-                data.seen(device, 1)
-        self.assertEqual(list(data.entries), ["c", "d"])
 
 
 if __name__ == "__main__":

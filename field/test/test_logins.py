@@ -8,6 +8,8 @@ import io
 import re
 import sqlite3
 import subprocess
+import threading
+import time
 import unittest
 from collections.abc import Iterator
 from typing import Any
@@ -207,6 +209,24 @@ class LogOut(AtEntrance):
         put_accounts(self.folder)
         self.assertRegex(browser.ask("/").place, "/login", "nor does it come back")
 
+    def test_two_requests_at_the_start_of_the_page_end_no_log_in(self) -> None:
+        number, read, begun = self.browser("anna").cookie.partition("=")[2], Accounts.read, threading.Event()
+
+        def slowly(text: str) -> Accounts:
+            begun.set()
+            time.sleep(0.2)
+            return read(text)
+
+        started_anew = logins_in(self.folder)
+        started_anew.now = self.logins.now
+        with mock.patch.object(Accounts, "read", slowly):
+            first = threading.Thread(target=started_anew.of_cookie, args=(number,))
+            first.start()
+            self.assertTrue(begun.wait(10))
+            second = started_anew.of_cookie(number)
+            first.join()
+        self.assertEqual((second and second.name, started_anew.of_cookie(number) is None), ("anna", False))
+
     def test_a_clock_that_goes_back_a_little_ends_nothing(self) -> None:
         browser = self.browser("anna")
         self.clock[0] -= 50
@@ -386,8 +406,9 @@ class Tokens(AtEntrance):
 class Roles(AtEntrance):
     def test_each_page_is_for_clerks_or_for_managers(self) -> None:
         names = {rule.rule.strip("/") for rule in self.app.url_map.iter_rules()} - {"login"}
-        self.assertEqual(names, roles.FOR_ALL | roles.FOR_CLERKS | roles.FOR_MANAGERS)
-        self.assertFalse((roles.FOR_ALL | roles.FOR_CLERKS) & roles.FOR_MANAGERS)
+        self.assertEqual(names, roles.FOR_ALL | roles.FOR_CLERKS | roles.FOR_MANAGERS | roles.FOR_OFFICE)
+        self.assertFalse((roles.FOR_ALL | roles.FOR_CLERKS) & (roles.FOR_MANAGERS | roles.FOR_OFFICE))
+        self.assertFalse(roles.FOR_MANAGERS & roles.FOR_OFFICE)
         self.assertFalse(roles.is_for("clerk", "a-new-page"), "one that is in no table is a manager's")
 
     def test_what_a_clerk_may_not_do_is_said_and_not_done(self) -> None:

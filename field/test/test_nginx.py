@@ -5,6 +5,7 @@ from __future__ import annotations
 import contextlib
 import http.client
 import io
+import json
 import pathlib
 import re
 import socket
@@ -16,12 +17,13 @@ import threading
 import time
 import unittest
 import urllib.parse
+from concurrent import futures
 from typing import Any
 
 import counter_nginx
 from at_entrance import WORDS, ClerksBrowser, logins_in, put_accounts
 from browser import policy
-from desk_process import FIELD, Desk, DeskProcess, Relay, free_port
+from desk_process import FIELD, Desk, DeskProcess, Relay, Routes, free_port
 from fake_machine import SAMPLE
 from needs import needs
 from test_front import serve_during_test
@@ -254,11 +256,12 @@ class GuestsPage(BehindNginx):
     def test_each_answer_has_its_headers(self) -> None:
         form = "code=2222-2222-2222&request=a1"
         answers = [(200, self.ask("/portal")), (302, self.ask("/")), (200, self.ask("/captive")), (200, self.ask("/style.css")),
+                   (404, self.ask("/portal/session")),
                    (400, self.ask("/portal", body=form)), (413, self.ask("/portal", body="x" * 5000)),
                    (404, self.ask("/portal/redeem", body='{"code": "2222-2222-2222-2222"}')),
                    (400, self.ask("/portal/redeem", {"Portal-Request": "a_1"}, '{"code": "x"}')), (404, self.ask("/device"))]
         self.device = None
-        answers += [(403, self.ask("/captive")), (200, self.ask("/portal"))]
+        answers += [(403, self.ask("/captive")), (403, self.ask("/portal/session")), (200, self.ask("/portal"))]
         many = [self.ask("/portal/redeem", body="{}") for _ in range(12)]
         answers += [(429, next(answer for answer in many if answer[0] == 429))]
         self.stops()
@@ -272,6 +275,29 @@ class GuestsPage(BehindNginx):
         status, head = self.raw(b"GET / HTTP/1.1\r\nHost: x\r\nX: " + b"x" * 40_000 + b"\r\n\r\n")
         self.assertEqual(status, 400)
         self.assert_headers(head, self.HEAD, "a head of 40 kB")
+
+    def test_a_device_gets_the_details_of_its_own_session(self) -> None:
+        self.desk.load()
+        for number, device in enumerate(("02:00:00:00:00:01", "02:00:00:00:00:02"), 1):
+            code, = self.desk.sell_codes("gigabyte", f"b{number}")
+            self.desk.desk.request_json(Routes.REDEEM, body={"code": code}, device=device)
+        self.device = "02:00:00:00:00:02"
+        for answer in (self.ask("/portal/session"), self.ask("/portal/session", {"Portal-Device": "02:00:00:00:00:01"}),
+                       self.ask("/portal/session?device=02:00:00:00:00:01"), self.ask("/portal/session", body="device=02:00:00:00:00:01")):
+            status, _, text = answer
+            self.assertEqual(status, 200, text)
+            found = json.loads(text)
+            self.assertEqual(found, {"bytes-remaining": 10**9, "ended": None, "opened": found["opened"], "plan": "gigabyte", "session": 2, "used": 0})
+        link = http.client.HTTPSConnection("127.0.0.1", self.port, context=CONTEXT, timeout=30)
+        with contextlib.closing(link):
+            link.request("HEAD", "/portal/session", None, {"Host": self.host})
+            self.assertEqual(link.getresponse().status, 200)
+        self.assertEqual([self.ask(path)[0] for path in ("/desk/sessions/1", "/gateway/sessions/details", "/portal/session/1")], [302] * 3)
+
+    def test_questions_about_the_own_session_have_a_limit(self) -> None:
+        with futures.ThreadPoolExecutor(8) as pool:
+            answers = list(pool.map(self.ask, ["/portal/session"] * 60))
+        self.assertIn(429, [status for status, _, _ in answers])
 
     def fetch(self, path: str, **head: str) -> tuple[http.client.HTTPMessage, bytes]:
         """An answer's head, and its body as it came."""

@@ -11,6 +11,7 @@ from typing import Any
 from fake_machine import FakeMachine
 
 from portal_field.doctor.findings import CannotTell, Finding, State
+from portal_field.doctor.optional import venue_lines
 from portal_field.doctor.others import others
 
 Row = dict[str, Any]
@@ -24,6 +25,18 @@ def chain(hook: str, policy: str = "drop", table: str = "filter") -> Row:
 def rule(device: str) -> Row:
     match = {"match": {"op": "==", "left": {"meta": {"key": "iifname"}}, "right": device}}
     return {"rule": {"family": "inet", "table": "filter", "chain": "forward", "expr": [match, {"accept": None}]}}
+
+
+class OfAManager(unittest.TestCase):
+    def test_lines_with_a_mistake_are_named(self) -> None:
+        with tempfile.TemporaryDirectory() as folder:
+            machine = FakeMachine(pathlib.Path(folder))
+            self.assertEqual(list(venue_lines(machine)), [], "a venue need not have the file")
+            for text, state, word in (('owner_contact = "Maria"\n', State.GOOD, "whole"), ("owner_contact = 1\n", State.WRONG, "owner_contact"),
+                                      ("x = 1\n", State.WRONG, "unknown: x"), ("x =", State.WRONG, "no TOML"[3:])):
+                machine.put("/etc/portal/venue.toml", text)
+                found, = venue_lines(machine)
+                self.assertEqual((found.state, word in found.what), (state, True), found.what)
 
 
 class Others(unittest.TestCase):

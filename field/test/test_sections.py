@@ -75,7 +75,7 @@ class Found(AtCounter):
         (self.folder / "sessions.json").write_text(json.dumps({"at": int(time.time()), "sessions": rows}))
 
     def shown(self, find: str = "") -> list[str]:
-        return re.findall('<td data-label="No.">([0-9]+)</td>', self.ask(f"/sessions?find={find}")[1])
+        return re.findall('<td data-label="No."><a href="[^"]*" aria-label="[^"]*">([0-9]+)</a></td>', self.ask(f"/sessions?find={find}")[1])
 
     def test_the_first_page_has_the_number_of_sessions_alone(self) -> None:
         for count, words in ((0, "0 sessions are open."), (1, "1 session is open."), (400, "400 sessions are open.")):

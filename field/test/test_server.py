@@ -63,7 +63,7 @@ class Folder(unittest.TestCase):
         self.addCleanup(base.close)
         base.execute("PRAGMA journal_mode=WAL")
         base.execute("CREATE TABLE portal_head (id INTEGER PRIMARY KEY, layout, last_moment INTEGER)")
-        base.execute("INSERT INTO portal_head VALUES (1, 4, ?)", (last,))
+        base.execute("INSERT INTO portal_head VALUES (1, 5, ?)", (last,))
         return base
 
 
@@ -385,6 +385,11 @@ class Failed(Folder):
                          r"^portal-backup.service failed on .*\n\nsystemctl says CODE-1\n\njournalctl says")
         self.outcome("portal-counter.service", ["tee", str(goal)])
         self.assertNotIn("journalctl", goal.read_text(), "its journal has codes")
+
+    def test_a_unit_that_tells_itself_that_it_is_well_again(self) -> None:
+        goal = self.folder / "mail"
+        self.outcome("portal-venues-collect.service:back", ["tee", str(goal)])
+        self.assertRegex(goal.read_text(), r"^portal-venues-collect.service is well again on ")
 
     def test_the_command_does_not_find_the_kits_modules(self) -> None:
         goal = self.folder / "environment"

@@ -657,7 +657,7 @@ class Made(unittest.TestCase):
         shutil.copy(folder / "portal-failed@.service", folder / "portal-failed@portal.service.service")
         shutil.copy(folder / "portal-paper@.service", folder / "portal-paper@1.service")
         for name in ("portal@.service", "portal-settings@.service", "portal-settings@.socket", "portal-radius@.service",
-                     "portal-radius-agent@.service"):
+                     "portal-radius-agent@.service", "portal-office@.service", "portal-sign-in@.service"):
             shutil.copy(folder / name, folder / name.replace("@", "@north"))
         shutil.copytree("/lib/systemd/system", self.root / "lib/systemd/system", symlinks=True)
         shutil.copytree(FIELD, self.root / "usr/share/portal/field", ignore=shutil.ignore_patterns("__pycache__"))
@@ -671,7 +671,11 @@ class Made(unittest.TestCase):
         units = [path.name for path in sorted(folder.iterdir()) if path.is_file() and "@." not in path.name]
         done = subprocess.run(["systemd-analyze", "verify", "--man=no", f"--root={self.root}", *units],
                               capture_output=True, text=True)
-        self.assertEqual((len(units), done.returncode, done.stdout + done.stderr), (40, 0, ""))
+        self.assertEqual((len(units), done.returncode, done.stdout + done.stderr), (46, 0, ""))
+
+    def test_an_installation_by_hand_has_every_unit(self) -> None:
+        made = {path.name for path in (self.root / "etc/systemd/system").glob("portal*") if path.is_file()}
+        self.assertEqual(made, {path.name for path in (FIELD / "units").glob("portal*")})
 
 
 if __name__ == "__main__":

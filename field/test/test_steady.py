@@ -4,6 +4,9 @@ from __future__ import annotations
 
 import contextlib
 import io
+import os
+import pathlib
+import tempfile
 import unittest
 from typing import Any
 from unittest import mock
@@ -40,8 +43,12 @@ class Times(unittest.TestCase):
         return fault, len(answers) - len(left), printed.getvalue()
 
     def test_what_fails_on_a_calm_machine_has_failed(self) -> None:
-        self.busy(steady.BUSY / 2)
+        self.busy(steady.BUSY / 5)
         self.assertEqual(self.outcome_of((False, 9), (True, 1)), ("a time  [9]", 1, ""))
+
+    def test_on_a_machine_that_is_held_up_in_part_it_is_measured_anew(self) -> None:
+        self.busy(steady.BUSY / 3)
+        self.assertEqual(self.outcome_of((False, 9), (True, 1))[:2], ("", 2))
 
     def test_on_a_busy_machine_it_is_measured_anew_and_that_is_printed(self) -> None:
         self.busy(0.95)
@@ -62,15 +69,16 @@ class Times(unittest.TestCase):
             self.outcome_of(TimeoutError("in vain"))
 
     def test_a_time_that_was_taken_may_be_longer_on_a_busy_machine(self) -> None:
-        for part, most in ((steady.BUSY / 2, 10), (0.95, 10 * steady.MOST_TIMES)):
+        half = 10 * (1 + steady.MOST_TIMES) / 2
+        for part, most in ((0.0, 10), (steady.BUSY / 2, half), (0.95, 10 * steady.MOST_TIMES)):
             self.busy(part)
             span = steady.Span()
             self.now += 50
             self.assertEqual([span.allows(most, 10), span.allows(most + 1, 10)], [True, False])
 
     def test_a_wait_is_longer_on_a_busy_machine_and_has_an_end(self) -> None:
-        for part, seconds, is_over in ((0.0, 9, False), (0.0, 11, True), (0.95, 11, False), (0.95, 39, False),
-                                       (0.95, 41, True)):
+        for part, seconds, is_over in ((0.0, 9, False), (0.0, 11, True), (steady.BUSY / 2, 24, False),
+                                       (steady.BUSY / 2, 26, True), (0.95, 11, False), (0.95, 39, False), (0.95, 41, True)):
             self.now = 100.0
             self.busy(part)
             span = steady.Span()
@@ -87,6 +95,15 @@ class Times(unittest.TestCase):
         for goal, good in ((0.5, True), (99.0, False)):
             self.now = 0.0
             self.assertEqual(steady.wait_until(true, 1.0), good)
+
+    def test_a_processor_that_others_have_is_waited_for(self) -> None:
+        with tempfile.TemporaryDirectory() as folder:
+            one, other = pathlib.Path(folder, "pressure"), pathlib.Path(folder, "stat")
+            one.write_text("some avg10=0.00 avg60=0.00 avg300=0.00 total=2000000\n")
+            ticks = os.sysconf("SC_CLK_TCK")
+            other.write_text(f"cpu  1 2 3 4 5 6 7 {3 * ticks} 8 9\ncpu0 1 2 3 4 5 6 7 8 9 10\n")
+            with mock.patch.multiple(steady, PRESSURE=one, PROCESSORS=other):
+                self.assertEqual(steady.seconds_waited(), 2 + 3)
 
     def test_the_kernel_keeps_an_account(self) -> None:
         before = steady.seconds_waited()

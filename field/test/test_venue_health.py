@@ -65,6 +65,26 @@ class Metrics(unittest.TestCase):
         used = set(re.findall(r"\b(?:portal_venue_\w+|node_\w+|up)\b(?=[{ ])", "".join(re.findall("expr: (.*)", (FIELD / "metrics/alerts_venues.yml").read_text()))))
         self.assertLessEqual(used, known)
 
+    def queries(self) -> list[str]:
+        """The queries of the dashboard of all venues, with a machine chosen."""
+        board = json.loads((FIELD / "metrics/dashboard_venues.json").read_text())
+        asked = [target["expr"] for panel in board["panels"] for target in panel["targets"]]
+        return [query.replace("$machine", ".*") for query in asked]
+
+    def test_the_dashboard_has_each_metric_that_there_is_and_no_other(self) -> None:
+        used = {name for query in self.queries() for name in re.findall(r"\b(?:portal_venue_\w+|node_\w+|up)\b(?=[{ )])", query)}
+        self.assertEqual(used, set(health.HEADS) | {"node_textfile_mtime_seconds", "up"})
+        self.assertTrue(all('machine=~".*"' in query for query in self.queries()), "each is of the machines that are chosen")
+
+    @needs("prometheus")
+    def test_prometheus_takes_the_queries_of_the_dashboard(self) -> None:
+        rules = [{"record": f"of_panel_{number}", "expr": query} for number, query in enumerate(self.queries())]
+        path = self.root / "rules.yml"
+        path.write_text(json.dumps({"groups": [{"name": "dashboard", "rules": rules}]}))
+        done = subprocess.run(["promtool", "check", "rules", path], text=True, capture_output=True)
+        self.assertEqual(done.returncode, 0, done.stdout + done.stderr)
+        self.assertIn(f"SUCCESS: {len(rules)} rules found", done.stdout)
+
 
 @needs("postgresql", "python3-psycopg", "util-linux", "prometheus")
 class Targets(OwnPostgres):

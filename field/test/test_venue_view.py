@@ -440,6 +440,22 @@ class View(OwnPostgres):
             collect.collect(Machine("127.0.0.1"), self.root)
         self.assertIn("names no database", str(caught.exception))
 
+    def test_the_command_hears_once_that_postgresql_is_away_and_once_that_it_is_back(self) -> None:
+        self.put("north")
+        told = self.root / "told"
+        told.mkdir()
+        with mock.patch.dict(os.environ, STATE_DIRECTORY=str(told)), mock.patch.object(collect, "machine_of", return_value=self.machine), \
+                mock.patch.object(collect, "collect", side_effect=[table.Away("gone"), table.Away("gone"), BadVenue("x"), 0, 3]), \
+                mock.patch("portal_field.venues.collect.subprocess.run") as run, contextlib.redirect_stderr(io.StringIO()), \
+                contextlib.redirect_stdout(io.StringIO()):
+            self.assertEqual([collect.main() for _ in range(3)], [1, 4, 4])
+            self.assertEqual(run.call_args_list, [])
+            self.assertEqual([collect.main() for _ in range(2)], [0, 3])
+            self.assertEqual([one.args[0] for one in run.call_args_list],
+                             [["systemctl", "start", "--no-block", "portal-failed@portal-venues-collect.service:back.service"]])
+        unit = (FIELD / "units/portal-venues-collect.service").read_text()
+        self.assertIn("\nSuccessExitStatus=3 4\n", unit)
+
     def test_the_commands_of_the_office(self) -> None:
         self.put("north")
         self.day_at("north")

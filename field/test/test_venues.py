@@ -9,6 +9,7 @@ import io
 import os
 import pathlib
 import random
+import re
 import socket
 import tempfile
 import threading
@@ -38,6 +39,7 @@ LINES = ('house = "House {0}"\nname = "wifi.example"\ncounter_name = "{0}.exampl
          'desk_port = {2}\n')
 RADIUS = '[radius]\nlisten = "127.0.0.1"\n[radius.nas.lobby]\naddress = "10.9.0.{0}"\n'
 MACHINE = Machine("127.0.0.1", clerks=["10.88.0.0/24"])
+MIGRATION = 789     # MB, of a million vouchers (docs/BENCHMARKS.md)
 
 
 class FakeUnits(Units):
@@ -102,6 +104,10 @@ class Settings(OnAMachine):
             read_venue(text.replace("desk_port = 20001", ""))
         self.assertIn("missing: desk_port", str(caught.exception))
         self.assertEqual(read_venue(text + 'currency = "EUR"\n').currency, "EUR")
+
+    def test_the_key_of_the_copies_is_one_of_the_machine(self) -> None:
+        with self.assertRaisesRegex(BadVenue, "backup_key: it is a line of"):
+            read_venue(LINES.format("north", "UTC0", 20001) + 'backup_key = ""\n')
 
     def test_of_two_venues_with_one_port_or_page_or_radius_port_the_first_has_it(self) -> None:
         for more, port, word in (("", 20001, "port 20001 of 127.0.0.1 is the venue north's"), (RADIUS.format(2), 20002, "port 1812"),
@@ -199,6 +205,12 @@ class MadeFiles(OnAMachine):
                     if line.startswith(("LoadCredential", "StateDirectory=", "ReadWritePaths", "EnvironmentFile", "RuntimeDirectory=")):
                         self.assertIn("%i", line, f"{path.name}: {line}")
 
+    def test_a_desk_may_take_the_memory_of_a_migration(self) -> None:
+        """That of a million vouchers, three times, since each may have been redeemed."""
+        limit = re.search(r"(?m)^MemoryMax=(\d+)G$", (FIELD / "units/portal@.service").read_text())
+        assert limit
+        self.assertGreater(int(limit[1]) * 1024, 3 * MIGRATION)
+
 
 class Applied(OnAMachine):
     def run_apply(self, units: FakeUnits, *names: str, as_shipped: bool = True) -> tuple[int, str]:
@@ -261,8 +273,8 @@ class Applied(OnAMachine):
 
     def test_the_view_is_collected_where_a_database_is_named(self) -> None:
         self.put("north")
-        for database, words in (("", ("disable", "--now", "portal-venues-collect.timer")),
-                                ("dbname=portal", ("enable", "--now", "portal-venues-collect.timer"))):
+        of_the_table = "portal-venues-collect.timer", "portal-venues-plans.timer", "portal-office.socket"
+        for database, words in (("", ("disable", "--now", *of_the_table)), ("dbname=portal", ("enable", "--now", *of_the_table))):
             units = FakeUnits()
             with contextlib.redirect_stdout(io.StringIO()):
                 Apply(Machine("127.0.0.1", database=database), self.root, units, prices_as_shipped=True).run(all_venues(self.root)[0], ["north"], {})

@@ -6,5 +6,5 @@ CREATE TABLE portal.plan_file (
     written timestamptz NOT NULL DEFAULT now());
 CREATE TABLE portal.plan_push (
     venue text PRIMARY KEY,
-    pushed timestamptz NOT NULL,
+    pushed timestamptz NOT NULL,        -- `written` of the file that was brought last
     fault text NOT NULL);               -- in what the venue differs, or why it has not got them; nothing: it has them

@@ -29,7 +29,8 @@ PHRASES = {
     501: "Not Implemented",
     503: "Service Unavailable",
 }
-GET_PATHS = ("/captive", "/desk/batches/{}/print", "/desk/vouchers/{}", "/desk/takings", "/gateway/sessions")
+GET_PATHS = ("/captive", "/portal/session", "/desk/batches/{}/print", "/desk/vouchers/{}", "/desk/takings", "/desk/sessions", "/desk/sessions/{}",
+             "/gateway/sessions", "/gateway/sessions/details")
 DAYS = ("Mon", "Tue", "Wed", "Thu", "Fri", "Sat", "Sun")
 MONTHS = ("Jan", "Feb", "Mar", "Apr", "May", "Jun", "Jul", "Aug", "Sep", "Oct", "Nov", "Dec")
 MASKED = b"Date: (the clock's)"

@@ -41,7 +41,8 @@ SALE = answer(1000, "POST", "/desk/sales", DESK, SOLD)
 REDEMPTION = answer(1000, "POST", "/portal/redeem", guest(1), SOLD)
 NUMBERED = answer(1000, "POST", "/portal/redeem", guest(1), SOLD, number="a1")
 NOTHING = answer(2000, "GET", "/", DESK)[0], b"GET"
-STORES = {"new": [], "plans": [LOAD], "issued": [LOAD, ISSUE], "sold": [LOAD, ISSUE, SALE], "open": [LOAD, ISSUE, SALE, NUMBERED], "old": []}
+STORES = {"new": [], "plans": [LOAD], "issued": [LOAD, ISSUE], "sold": [LOAD, ISSUE, SALE], "open": [LOAD, ISSUE, SALE, NUMBERED],
+          "version 1": [], "version 4": []}
 
 CALLS = [
     ("GET /captive", "open", answer(2000, "GET", "/captive", guest(1))),
@@ -58,22 +59,28 @@ CALLS = [
     ("GET /desk/takings", "sold", answer(2000, "GET", "/desk/takings?from=1970-01-01&to=1970-01-31", DESK)),
     ("POST /gateway/reports", "open", answer(2000, "POST", "/gateway/reports", GATEWAY, '{"session":1,"bytes":7}')),
     ("GET /gateway/sessions", "open", answer(2000, "GET", "/gateway/sessions", GATEWAY)),
+    ("GET /gateway/sessions/details", "open", answer(2000, "GET", "/gateway/sessions/details", GATEWAY)),
+    ("GET /desk/sessions/..", "open", answer(2000, "GET", "/desk/sessions/1", DESK)),
+    ("GET /desk/sessions", "open", answer(2000, "GET", "/desk/sessions?device=02:00:00:00:00:01", DESK)),
+    ("GET /portal/session", "open", answer(2000, "GET", "/portal/session", guest(1))),
     ("POST /portal/redeem, a second session", "open", answer(2000, "POST", "/portal/redeem", guest(2), SOLD)),
     ("POST /desk/sales, refused", "open", answer(2000, "POST", "/desk/sales", DESK, SOLD)),
     ("no request", "open", NOTHING),
     ("print", "issued", result("print", "b1")),
     ("takings", "sold", result("takings", "1970-01-01", "1970-01-31")),
     ("check", "open", result("check")),
-    ("check, migrating", "old", result("check")),
+    ("check, migrating", "version 1", result("check")),
+    ("check, migrating version 4", "version 4", result("check")),
 ]
 
 # The calls of which each request for memory is refused, or every so many of them; of the others those after the store is open.
-WHOLE = ("POST /desk/plans", "check", "check, migrating")
+WHOLE = ("POST /desk/plans", "check", "check, migrating", "check, migrating version 4")
 FEWER = 23
 
-# The call that is refused memory a second time before it is made with memory. Its database is of an older schema version.
-TWICE = "check, migrating"
-OLD = Path(__file__).resolve().parent.parent / "cases/first_version_migrated.txt"
+# The calls that are refused memory a second time before they are made with memory. Their databases are of older schema versions.
+TWICE = ("check, migrating", "check, migrating version 4")
+CASES = Path(__file__).resolve().parent.parent / "cases"
+OLD = {"version 1": "first_version_migrated.txt", "version 4": "fourth_version_migrated.txt"}
 
 
 def is_no_memory(said):
@@ -139,7 +146,7 @@ class Trial:
             said, where = tuple(said), (self.name, at)
             is_done = self.is_done(said)
             assert is_done or (is_refused and is_no_memory(said)), (where, said)
-            if self.name == TWICE and not is_done:
+            if self.name in TWICE and not is_done:
                 again = run(self.words, room, self.data, 1 + 7 * at % 5000)
                 is_done = self.is_done(again[:3])
                 assert is_done or (again[3] and is_no_memory(again[:3])), (where, again)
@@ -173,9 +180,10 @@ def stores(program, room):
         for words, data in calls:
             said = run([program, *words], place, data)
             assert said[0] == 0, (name, words, said)
-    make = next(step for step in read_case(OLD).steps if isinstance(step, Sql))
-    with contextlib.closing(sqlite3.connect(os.path.join(room, "old/portal.db"))) as old:
-        old.executescript(make.text)
+    for name, case in OLD.items():
+        make = next(step for step in read_case(CASES / case).steps if isinstance(step, Sql))
+        with contextlib.closing(sqlite3.connect(os.path.join(room, name, "portal.db"))) as old:
+            old.executescript(make.text)
 
 
 def opening(program, place):

@@ -46,13 +46,14 @@ class Desk:
     def words(self, *words):
         return [self.program, *words, "--db", "portal.db", "--settings", "settings.toml"]
 
-    def start(self, *words):
+    def start(self, *words, patience=30):
+        """Starts the server. It has to listen within so many seconds."""
         how = {"cwd": self.folder, "stdout": subprocess.PIPE, "stderr": subprocess.DEVNULL, "text": True}
         self.process = subprocess.Popen(self.words("serve", "--port", str(self.port), *words), **how)
-        patience = threading.Timer(30, self.process.kill)
-        patience.start()
+        killer = threading.Timer(patience, self.process.kill)
+        killer.start()
         line = self.process.stdout.readline()
-        patience.cancel()
+        killer.cancel()
         assert line == f"listening 127.0.0.1:{self.port}\n", line
 
     def kill(self):
@@ -60,9 +61,9 @@ class Desk:
         self.process.wait()
         self.process.stdout.close()
 
-    def run(self, *words, data=b""):
-        """A subcommand, with the bytes of its standard input. It has to end within two minutes."""
-        how = {"cwd": self.folder, "capture_output": True, "input": data, "check": False, "timeout": 120}
+    def run(self, *words, data=b"", patience=120):
+        """A subcommand, with the bytes of its standard input. It has to end within so many seconds."""
+        how = {"cwd": self.folder, "capture_output": True, "input": data, "check": False, "timeout": patience}
         done = subprocess.run(self.words(*words), **how)
         done.stdout, done.stderr = done.stdout.decode(), done.stderr.decode()
         return done

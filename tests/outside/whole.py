@@ -115,13 +115,13 @@ def starting_makes_it_whole(program: str) -> None:
             is_whole_alone(desk, day, "serve, after a kill")
 
 
-def times_read_at_start(desk: Desk) -> float:
-    """How often a server that starts reads as many bytes as the database file has. It is then killed."""
+def read_at_start(desk: Desk) -> int:
+    """How many bytes a server that starts reads. It is then killed."""
     desk.start()
     with open(f"/proc/{desk.process.pid}/io", encoding="ascii") as counts:
         [read] = [int(line.split()[1]) for line in counts if line.startswith("rchar:")]
     desk.kill()
-    return read / len(content(desk, "portal.db"))
+    return read
 
 
 def clean_end_is_read_once(program: str) -> None:
@@ -130,7 +130,28 @@ def clean_end_is_read_once(program: str) -> None:
         desk = database_with_log(program, folder)
         desk.start()
         desk.kill()
-        expect("a start with nothing in the log opens the file once", times_read_at_start(desk) < 4, True)
+        times = read_at_start(desk) / len(content(desk, "portal.db"))
+        expect("a start with nothing in the log opens the file once", times < 4, True)
+
+
+def kill_is_read_once(program: str) -> None:
+    """A start after a kill opens the database once too. Beside one opening it reads some 1.8 times what the log of 2 MB has; with a second
+    opening of the file, which has 2.5 MB, that is 6 times."""
+    with tempfile.TemporaryDirectory() as folder:
+        desk = Desk(program, folder)
+        desk.start("--count", "1000000")
+        desk.answer_to("POST", "/desk/plans", DESK, PLANS)
+        for number in range(30):
+            desk.answer_to("POST", "/desk/batches", DESK, json.dumps({"batch": f"b{number}", "plan": "hour", "count": 500}))
+        codes = codes_of(desk, "b1")
+        desk.kill()
+        desk.start("--count", "1000000")
+        while len(content(desk, "portal.db-wal")) < 2 << 20:
+            desk.answer_to("POST", "/desk/sales", DESK, json.dumps({"code": codes.pop()}))
+        desk.kill()
+        log = len(content(desk, "portal.db-wal"))
+        after_the_kill, after_that = read_at_start(desk), read_at_start(desk)
+        expect("a start after a kill opens the file once", after_the_kill - after_that < 4 * log, True)
 
 
 def database_with_log(program: str, folder: str) -> Desk:
@@ -317,8 +338,9 @@ def accepts_without_descriptors(program: str) -> None:
 
 
 def main() -> None:
-    parts = (answers_leave_it_whole, serving_leaves_it_whole, starting_makes_it_whole, clean_end_is_read_once, log_is_kept,
-             asking_makes_nothing, database_in_use_is_named, file_is_explained, failed_close_keeps_the_files, accepts_without_descriptors)
+    parts = (answers_leave_it_whole, serving_leaves_it_whole, starting_makes_it_whole, clean_end_is_read_once, kill_is_read_once,
+             log_is_kept, asking_makes_nothing, database_in_use_is_named, file_is_explained, failed_close_keeps_the_files,
+             accepts_without_descriptors)
     chosen = [part for part in parts if not sys.argv[2:] or part.__name__ in sys.argv[2:]]
     for part in chosen:
         part(sys.argv[1])

@@ -106,7 +106,8 @@ pub fn answer_at<D: Desk, R: Read, W: Write>(
         (D.settings desk.old) L arrivals responses)
         is_stopped result }
 {
-    match exchange(alloc, desk, routes, moment, seed, input, output) {
+    let mut kept = None;
+    match exchange(alloc, desk, routes, &mut kept, moment, seed, input, output) {
         Ok(done) => Ok(exit_code_for(done.status, desk.is_stopped())),
         Err(_) => Err(ProgramError::Cut),
     }

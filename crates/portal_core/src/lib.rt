@@ -1,5 +1,5 @@
 //! The decisions of the desk over records that were read for them, the captive portal state of a device,
-//! and the takings of days.
+//! the details of a session, and the takings of days.
 #![tactic(auto)]
 
 pub mod decide;
@@ -18,6 +18,7 @@ pub use portal_model::change::{
     ReportChange, SellChange,
 };
 pub use portal_model::command::Command;
+pub use portal_model::details::{End, SessionDetails};
 pub use portal_model::lists::{Codes, Plans};
 pub use portal_model::moment::Moment;
 pub use portal_model::name::{Device, Id};
@@ -25,5 +26,5 @@ pub use portal_model::plan::Plan;
 pub use portal_model::record::{Batch, Head, Session, Voucher, is_open};
 pub use portal_model::refusal::Refusal;
 pub use portal_model::takings::DayTakings;
-pub use state::{captive_of, effective, open_session};
+pub use state::{captive_of, effective, open_session, session_details};
 pub use takings::add_takings;

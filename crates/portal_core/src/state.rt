@@ -1,9 +1,12 @@
-//! The captive portal state of a device, and the open sessions, at a time.
+//! The captive portal state of a device, the open sessions, and the details of a session, at a time.
 ghost use Rattle.std.specs.Prelude.{◌≡◌, max};
 ghost use Rattle.std.specs.Option.{option_copied};
 ghost use Rattle.portal_model.specs.Captive.{captive_state, left_below, open_session};
+ghost use Rattle.portal_model.specs.Details.{details_at, end_at, end_moment};
+ghost use Rattle.portal_model.specs.History.{is_below};
 
 use portal_model::captive::{Captive, OpenSession};
+use portal_model::details::{End, SessionDetails};
 use portal_model::moment::Moment;
 use portal_model::record::{Session, is_open};
 
@@ -60,4 +63,61 @@ fn bytes_left(session: &Session) -> Option<u64>
     ensures { result ≡ left_below session.now.used session.now.allowance }
 {
     Some(session.allowance?.saturating_sub(session.used))
+}
+
+/// Returns the details of a session at `t`, be it open or ended.
+pub fn session_details(session: &Session, t: Moment) -> SessionDetails
+    ensures { result ≡ details_at t session.now }
+{
+    let Session {
+        number,
+        device,
+        plan,
+        opened,
+        used,
+        ..
+    } = *session;
+    let ended = end_of(session, t);
+    SessionDetails {
+        at: moment_of_end(ended, session),
+        bytes: bytes_left(session),
+        device,
+        ended,
+        opened,
+        plan,
+        seconds: seconds_left(session, t),
+        number,
+        used,
+    }
+}
+
+/// Returns the first reason for which a session has ended at `t`: it was closed, its time is over, or its
+/// bytes are used.
+fn end_of(session: &Session, t: Moment) -> Option<End>
+    ensures { result ≡ end_at t session.now }
+{
+    if session.closed.is_some() {
+        return Some(End::Closed);
+    }
+    if session.ends.is_some_and(|ends| t >= ends) {
+        return Some(End::Time);
+    }
+    if session
+        .allowance
+        .is_some_and(|allowance| session.used >= allowance)
+    {
+        return Some(End::Bytes);
+    }
+    None
+}
+
+/// Returns the time of an end of the session; no row keeps the time at which the bytes were used.
+fn moment_of_end(ended: Option<End>, session: &Session) -> Option<Moment>
+    ensures { result ≡ end_moment ended session.now }
+{
+    match ended? {
+        End::Closed => session.closed,
+        End::Time => session.ends,
+        End::Bytes => None,
+    }
 }

@@ -4,6 +4,7 @@
 ghost use Rattle.std.specs.Prelude.{◌≡◌, Bool, true, None, Some, IfOk, MatchResult};
 ghost use Rattle.portal_model.specs.Verdict.{IsWellFormed};
 ghost use Rattle.portal_model.specs.Captive.{captive_of, open_sessions_of};
+ghost use Rattle.portal_model.specs.Details.{session_details_of, last_details_of, open_details_of};
 ghost use Rattle.portal_model.specs.History.{voucher_of};
 ghost use Rattle.portal_model.specs.Takings.{TotalsFit};
 ghost use Rattle.portal_files.specs.SettingsFile.{SettingsValue};
@@ -31,6 +32,7 @@ use portal_ledger::request::RequestMark;
 use portal_model::calendar::DayRange;
 use portal_model::captive::{Captive, OpenSession};
 use portal_model::command::Command;
+use portal_model::details::SessionDetails;
 use portal_model::moment::Moment;
 use portal_model::name::{Device, Id};
 use portal_model::record::Voucher;
@@ -109,6 +111,31 @@ pub trait Desk {
     fn open_now(&mut self, alloc: Global, moment: Moment) -> Result<Vec<OpenSession>, Refusal>
         ensures { Moves settings is_fault_free has_stopped represents self.old self.new result
             (Returns result (λ sessions H. sessions.items ≡ open_sessions_of H moment)) };
+
+    /// Lists the details of the sessions that are open at a time, in the order of their numbers.
+    ///
+    /// Errors: `NoMemory`, `Stopped`.
+    fn open_details(
+        &mut self,
+        alloc: Global,
+        moment: Moment,
+    ) -> Result<Vec<SessionDetails>, Refusal>
+        ensures { Moves settings is_fault_free has_stopped represents self.old self.new result
+            (Returns result (λ sessions H. sessions.items ≡ open_details_of H moment)) };
+
+    /// Returns the details of the session of a number at a time, be it open or ended.
+    ///
+    /// Errors: `NoMemory`, `Stopped`; `UnknownSession` if there never was one.
+    fn session(&mut self, moment: Moment, number: u64) -> Result<SessionDetails, Refusal>
+        ensures { Moves settings is_fault_free has_stopped represents self.old self.new result
+            (Finds Refusal.UnknownSession (λ H. session_details_of H number moment) result) };
+
+    /// Returns the details of the last session of a device at a time, be it open or ended.
+    ///
+    /// Errors: `NoMemory`, `Stopped`; `UnknownSession` if the device never had one.
+    fn last_session(&mut self, moment: Moment, device: Device) -> Result<SessionDetails, Refusal>
+        ensures { Moves settings is_fault_free has_stopped represents self.old self.new result
+            (Finds Refusal.UnknownSession (λ H. last_details_of H device moment) result) };
 
     /// Computes the takings of each day of a range, in order, by the civil days of the settings' time zone.
     /// The totals over the days fit the types of the fields.

@@ -47,8 +47,9 @@ pub use Rattle.portal_model.specs.declared.plan.Plan.{Plan}
 pub use Rattle.portal_model.specs.declared.record.Session.{Session}
 pub use Rattle.portal_model.specs.declared.record.Voucher.{Voucher}
 pub use Rattle.portal_model.specs.declared.refusal.Refusal.{Refusal}
-pub use Rattle.portal_desk_store.specs.OpenSessions.{OpenAt, after_redemption, moment_of, open_at_last}
-pub use Rattle.portal_desk_store.specs.OpenSessions.{replaced_if_same, sessions_after_changes}
+pub use Rattle.portal_desk_store.specs.OpenSessions.{HasOpenSessions, IsAscending, OpenAt, after_redemption}
+pub use Rattle.portal_desk_store.specs.OpenSessions.{moment_of, open_at_last, replaced_if_same}
+pub use Rattle.portal_desk_store.specs.OpenSessions.{sessions_after_changes}
 pub use Rattle.portal_desk_store.specs.DeskRepresents.{DeskIsFaultFree, DeskRepresents, MovesDesk}
 pub use Rattle.portal_desk_store.specs.DeskRepresents.{settings_of, stop_flag}
 pub use Rattle.portal_desk_store.specs.Judging.{Decides, Judges}

@@ -56,7 +56,7 @@ module _ {S : Type 0} {g : Ghosts S} where
       → Judges result command t L after)
   decides_at {desk = desk} {result = result} {judgement = judgement} {made = made} decision command t =
       record {
-        rest = (refl, refl);
+        rest = (refl, refl, refl);
         fault_free = λ honest. honest;
         stops = decided_stop (stop_flag desk) result decision.own;
         step = λ honest L at.
@@ -74,7 +74,7 @@ module _ {S : Type 0} {g : Ghosts S} where
       → head ≡ head_of (history_of L) → Judges result (Redeem device code) t L after)
   redeems_at {desk = desk} {result = result} head voucher last device code t accepted refused own made =
       record {
-        rest = (refl, refl);
+        rest = (refl, refl, refl);
         fault_free = λ honest. honest;
         stops = decided_stop (stop_flag desk) result own;
         step = λ honest L at. (running L, at, λ found former is. redeemed L found former is);

@@ -1,4 +1,5 @@
 pub mod Common
+pub mod HeadLemmas
 pub mod KeptLemmas
 pub mod ActLemmas
 pub mod AttachLemmas
@@ -8,4 +9,6 @@ pub mod StepLemmas
 pub mod StopLemmas
 pub mod TakingLemmas
 pub mod SessionLemmas
+pub mod AscendingLemmas
 pub mod OpenSessionLemmas
+pub mod ListLemmas

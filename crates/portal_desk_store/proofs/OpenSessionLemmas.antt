@@ -5,13 +5,13 @@ use Rattle.portal_desk_store.proofs.Common.{map, Option, Some, None, refl, arith
 use Rattle.portal_desk_store.proofs.Common.{is_none, ◌&&◌, filter, All, All-head, All-tail, All-map}
 use Rattle.portal_desk_store.proofs.Common.{All-weaker, filter-append, nat_tests, Command, Load, Issue, Sell}
 use Rattle.portal_desk_store.proofs.Common.{Redeem, Report, Refund, Close, Changes, ReportChange, CloseChange}
-use Rattle.portal_desk_store.proofs.Common.{Session, Voucher, all_sessions, open_session, open_sessions_of}
+use Rattle.portal_desk_store.proofs.Common.{Session, Voucher, all_sessions}
 use Rattle.portal_desk_store.proofs.Common.{changes_of, load_change, redemption, with_report, session_after}
-use Rattle.portal_desk_store.proofs.Common.{entry, History, effective_moment, grants_of, head_of, is_below}
+use Rattle.portal_desk_store.proofs.Common.{History, effective_moment, grants_of, head_of, is_below}
 use Rattle.portal_desk_store.proofs.Common.{is_open_at, kept_if, last_moment, last_number, last_session_of}
-use Rattle.portal_desk_store.proofs.Common.{plan_of, session_of, openings, session_opened, Follows, IsLegal}
+use Rattle.portal_desk_store.proofs.Common.{plan_of, session_of, openings, session_opened}
 use Rattle.portal_desk_store.proofs.Common.{and-true, true-and, false_if, not_both, nat_eq-same, some-same}
-use Rattle.portal_desk_store.proofs.Common.{IsFirst, openings_first, session_at, kept-some, number-of, OpenAt}
+use Rattle.portal_desk_store.proofs.Common.{IsFirst, openings_first, session_at, kept-some, number-of}
 use Rattle.portal_desk_store.proofs.Common.{replaced_if_same, sessions_after_changes, moment_of, open_at_last}
 use Rattle.portal_desk_store.specs.SessionLaws.{OpenFollows, OpenWasOpen}
 use Rattle.portal_desk_store.proofs.SessionLemmas.{made_of, changes_give_sessions}
@@ -36,7 +36,7 @@ filter-both {X} f was now (x ∷ xs) all =
         let out : now (f x) ≡ false = false_if (now (f x)) (λ y. not_both false (passed y) refl) in
         ap (λ (b : Bool). cond b (f x ∷ filter now (map f xs)) (filter now (map f xs))) out ∙ rest
 
-filter-twice : {X : Type 0} (was now : X → Bool) → ((x : X) → now x ≡ true → was x ≡ true) → (xs : List X)
+pub filter-twice : {X : Type 0} (was now : X → Bool) → ((x : X) → now x ≡ true → was x ≡ true) → (xs : List X)
     → filter now xs ≡ filter now (filter was xs)
 filter-twice was now passed [] = refl
 filter-twice was now passed (x ∷ xs) = go (was x) (passed x) (filter-twice was now passed xs)
@@ -72,19 +72,21 @@ pub open_was_open : OpenWasOpen
 open_was_open H t later = filter-twice (is_open_at (last_moment H)) (is_open_at t)
     (was_open (last_moment H) t later) (all_sessions H)
 
--- the list for the gateway comes from the sessions open at the time of the last command
-pub sessions_at-open : (H : History) (moment : ℕ)
-    → map (open_session (effective_moment H moment))
-    (filter (is_open_at (effective_moment H moment)) (open_at_last H).sessions) ≡ open_sessions_of H moment
-sessions_at-open H moment = ap (map (open_session (effective_moment H moment)))
+-- what is listed for the gateway comes from the sessions open at the time of the last command
+pub sessions_at-open : {X : Type 0} (shown : ℕ → Session → X) (H : History) (moment : ℕ)
+    → map (shown (effective_moment H moment))
+    (filter (is_open_at (effective_moment H moment)) (open_at_last H).sessions)
+    ≡ map (shown (effective_moment H moment))
+    (filter (is_open_at (effective_moment H moment)) (all_sessions H))
+sessions_at-open shown H moment = ap (map (shown (effective_moment H moment)))
     (sym (open_was_open H (effective_moment H moment) (omega arith)))
 
 -- The sessions of a history have their numbers
 
-abbrev IsOf : History → Session → Type 0
+abbrev pub IsOf : History → Session → Type 0
 IsOf H s = session_of H s.number ≡ Some s
 
-all-numbered : (H : History) → All (IsOf H) (all_sessions H)
+pub all-numbered : (H : History) → All (IsOf H) (all_sessions H)
 all-numbered H =
     All-map (IsOf H) (session_opened H) (openings (grants_of H))
     (All-weaker (IsFirst (grants_of H)) (λ g. IsOf H (session_opened H g)) (λ g first. session_at H g first)
@@ -93,15 +95,16 @@ all-numbered H =
 -- One session is changed
 
 -- where the changed one is open later only if it was open before, so are all
-opens-after : (H : History) (t : ℕ) → last_moment H ≤ t → (r now : Session) → IsOf H r → now.number ≡ r.number
+opens-after : (H : History) (t : ℕ) → last_moment H ≤ t → (xs : List Session) → All (IsOf H) xs
+    → (r now : Session) → IsOf H r → now.number ≡ r.number
     → (is_open_at t now ≡ true → is_open_at (last_moment H) r ≡ true)
-    → filter (is_open_at t) (map (replaced_if_same now) (all_sessions H))
-    ≡ filter (is_open_at t) (map (replaced_if_same now) (open_at_last H).sessions)
-opens-after H t later r now known named was =
-    filter-both (replaced_if_same now) (is_open_at (last_moment H)) (is_open_at t) (all_sessions H)
+    → filter (is_open_at t) (map (replaced_if_same now) xs)
+    ≡ filter (is_open_at t) (map (replaced_if_same now) (filter (is_open_at (last_moment H)) xs))
+opens-after H t later xs all r now known named was =
+    filter-both (replaced_if_same now) (is_open_at (last_moment H)) (is_open_at t) xs
     (All-weaker (IsOf H)
     (λ x. is_open_at t (replaced_if_same now x) ≡ true → is_open_at (last_moment H) x ≡ true)
-    (λ x is. go x is (nat_eq now.number x.number) refl) (all_sessions H) (all-numbered H))
+    (λ x is. go x is (nat_eq now.number x.number) refl) xs all)
   where
     go : (x : Session) → IsOf H x → (b : Bool) → nat_eq now.number x.number ≡ b
         → is_open_at t (cond b now x) ≡ true → is_open_at (last_moment H) x ≡ true
@@ -124,58 +127,66 @@ kept-passes t (Some x) s e = go (is_open_at t x) refl e
 own-number : (H : History) (n : ℕ) (s : Session) → session_of H n ≡ Some s → IsOf H s
 own-number H n s e = ap (session_of H) (number-of H (grants_of H) n s e) ∙ e
 
--- what passes now of what a command leaves, and of what it leaves of those that were open
-abbrev OpenAlike : History → ℕ → Changes → Type 0
-OpenAlike H t ch = filter (is_open_at t) (sessions_after_changes ch (all_sessions H))
-    ≡ filter (is_open_at t) (sessions_after_changes ch (open_at_last H).sessions)
-
-redeem-alike : (H : History) (t : ℕ) (d : List ℕ) (v : Voucher) (running : Option Session) → last_moment H ≤ t
-    → kept_if (is_open_at t) (last_session_of H d) ≡ running
-    → OpenAlike H t (redemption (head_of H) running d t v)
-redeem-alike H t d v None later is =
-    let s : Session = session_after (head_of H) v.plan None d t in
-    filter-append (is_open_at t) (all_sessions H) (s ∷ [])
-    ∙ ap (λ (xs : List Session). xs ++ filter (is_open_at t) (s ∷ [])) (open_was_open H t later)
-    ∙ sym (filter-append (is_open_at t) (open_at_last H).sessions (s ∷ []))
-redeem-alike H t d v (Some r) later is =
-    let known =
-    own-number H (last_number (grants_of H) d) r (kept-some (is_open_at t) (last_session_of H d) r is) in
-    opens-after H t later r (session_after (head_of H) v.plan (Some r) d t) known refl
-    (λ _. was_open (last_moment H) t later r (kept-passes t (last_session_of H d) r is))
-
-report-alike : (H : History) (t bytes n : ℕ) (s : Session) → last_moment H ≤ t → session_of H n ≡ Some s
-    → OpenAlike H t (ReportChange (record { at = t; session = s; bytes = bytes }))
-report-alike H t bytes n s later e =
-    opens-after H t later s (with_report bytes s) (own-number H n s e) refl
-    (λ h. open-sooner s (max bytes s.used) (last_moment H) t later (omega arith) h)
-
 never-closed : (t : ℕ) (s : Session) → is_open_at t (record s { closed = Some t }) ≡ true → ⊥
 never-closed t s h = cc
 
-close-alike : (H : History) (t n : ℕ) (s : Session) → last_moment H ≤ t → session_of H n ≡ Some s
-    → OpenAlike H t (CloseChange (record { at = t; session = s }))
-close-alike H t n s later e =
-    opens-after H t later s (record s { closed = Some t }) (own-number H n s e) refl
-    (λ h. absurd (never-closed t s h))
+-- what passes now of what a command leaves of sessions, and of what it leaves of those that were open
+abbrev OpenAlike : History → ℕ → List Session → Changes → Type 0
+OpenAlike H t xs ch = filter (is_open_at t) (sessions_after_changes ch xs)
+    ≡ filter (is_open_at t) (sessions_after_changes ch (filter (is_open_at (last_moment H)) xs))
 
-alike : (H : History) (command : Command) (t : ℕ) → last_moment H ≤ t → (ch : Changes)
-    → changes_of H command t ≡ Some ch → OpenAlike H t ch
-alike H (Load plans) t later ch e =
-    let is : load_change (plan_of H) plans t ≡ ch = cc in subst (OpenAlike H t) is (open_was_open H t later)
-alike H (Issue b p codes) t later ch e = made_of e (OpenAlike H t) (λ plan found. open_was_open H t later)
-alike H (Sell c) t later ch e = made_of e (OpenAlike H t) (λ v found. open_was_open H t later)
-alike H (Redeem d c) t later ch e =
-    made_of e (OpenAlike H t)
-    (λ v found. redeem-alike H t d v (kept_if (is_open_at t) (last_session_of H d)) later refl)
-alike H (Report n bytes) t later ch e =
-    made_of e (OpenAlike H t) (λ s found. report-alike H t bytes n s later found)
-alike H (Refund c) t later ch e = made_of e (OpenAlike H t) (λ v found. open_was_open H t later)
-alike H (Close n) t later ch e = made_of e (OpenAlike H t) (λ s found. close-alike H t n s later found)
+pub unchanged-alike : (H : History) (t : ℕ) → last_moment H ≤ t → (xs : List Session)
+    → filter (is_open_at t) xs ≡ filter (is_open_at t) (filter (is_open_at (last_moment H)) xs)
+unchanged-alike H t later xs = filter-twice (is_open_at (last_moment H)) (is_open_at t)
+    (was_open (last_moment H) t later) xs
+
+-- the sessions are those of the history, or some of them
+module _ (H : History) (t : ℕ) (later : last_moment H ≤ t) (xs : List Session) (all : All (IsOf H) xs) where
+  redeem-alike : (d : List ℕ) (v : Voucher) (running : Option Session)
+      → kept_if (is_open_at t) (last_session_of H d) ≡ running
+      → OpenAlike H t xs (redemption (head_of H) running d t v)
+  redeem-alike d v None is =
+      let s : Session = session_after (head_of H) v.plan None d t in
+      filter-append (is_open_at t) xs (s ∷ [])
+      ∙ ap (λ (ys : List Session). ys ++ filter (is_open_at t) (s ∷ [])) (unchanged-alike H t later xs)
+      ∙ sym (filter-append (is_open_at t) (filter (is_open_at (last_moment H)) xs) (s ∷ []))
+  redeem-alike d v (Some r) is =
+      let known =
+      own-number H (last_number (grants_of H) d) r (kept-some (is_open_at t) (last_session_of H d) r is) in
+      opens-after H t later xs all r (session_after (head_of H) v.plan (Some r) d t) known refl
+      (λ _. was_open (last_moment H) t later r (kept-passes t (last_session_of H d) r is))
+
+  report-alike : (bytes n : ℕ) (s : Session) → session_of H n ≡ Some s
+      → OpenAlike H t xs (ReportChange (record { at = t; session = s; bytes = bytes }))
+  report-alike bytes n s e =
+      opens-after H t later xs all s (with_report bytes s) (own-number H n s e) refl
+      (λ h. open-sooner s (max bytes s.used) (last_moment H) t later (omega arith) h)
+
+  close-alike : (n : ℕ) (s : Session) → session_of H n ≡ Some s
+      → OpenAlike H t xs (CloseChange (record { at = t; session = s }))
+  close-alike n s e =
+      opens-after H t later xs all s (record s { closed = Some t }) (own-number H n s e) refl
+      (λ h. absurd (never-closed t s h))
+
+  pub alike : (command : Command) (ch : Changes) → changes_of H command t ≡ Some ch → OpenAlike H t xs ch
+  alike (Load plans) ch e =
+      let is : load_change (plan_of H) plans t ≡ ch = cc in
+      subst (OpenAlike H t xs) is (unchanged-alike H t later xs)
+  alike (Issue b p codes) ch e =
+      made_of e (OpenAlike H t xs) (λ plan found. unchanged-alike H t later xs)
+  alike (Sell c) ch e = made_of e (OpenAlike H t xs) (λ v found. unchanged-alike H t later xs)
+  alike (Redeem d c) ch e =
+      made_of e (OpenAlike H t xs)
+      (λ v found. redeem-alike d v (kept_if (is_open_at t) (last_session_of H d)) refl)
+  alike (Report n bytes) ch e =
+      made_of e (OpenAlike H t xs) (λ s found. report-alike bytes n s found)
+  alike (Refund c) ch e = made_of e (OpenAlike H t xs) (λ v found. unchanged-alike H t later xs)
+  alike (Close n) ch e = made_of e (OpenAlike H t xs) (λ s found. close-alike n s found)
 
 pub open_follows : OpenFollows
 open_follows H legal command t follows ch e =
     ap (filter (is_open_at t)) (changes_give_sessions H legal command t follows ch e)
-    ∙ alike H command t follows.in_order ch e
+    ∙ alike H t follows.in_order (all_sessions H) (all-numbered H) command ch e
 
 -- the changes have the time of their command
 pub moment_is : (H : History) (command : Command) (t : ℕ) (ch : Changes)
@@ -188,32 +199,3 @@ moment_is H (Redeem d c) t ch e = made_of e (λ x. moment_of x ≡ t) (λ v foun
 moment_is H (Report n bytes) t ch e = made_of e (λ x. moment_of x ≡ t) (λ s found. refl)
 moment_is H (Refund c) t ch e = made_of e (λ x. moment_of x ≡ t) (λ v found. refl)
 moment_is H (Close n) t ch e = made_of e (λ x. moment_of x ≡ t) (λ s found. refl)
-
--- What the calls of the list come to
-
-abbrev pub open_at : ℕ → List Session → OpenAt
-open_at moment sessions = record { moment = moment; sessions = sessions }
-
-pub tells : (H : History) (moment : ℕ) (list : OpenAt) → list ≡ open_at_last H → (t : ℕ)
-    → t ≡ max moment list.moment
-    → map (open_session t) (filter (is_open_at t) list.sessions) ≡ open_sessions_of H moment
-tells H moment list is t at =
-    let now : t ≡ effective_moment H moment = at ∙ ap (λ (o : OpenAt). max moment o.moment) is in
-    ap (λ (u : ℕ). map (open_session u) (filter (is_open_at u) list.sessions)) now
-    ∙ ap (λ (o : OpenAt). map (open_session (effective_moment H moment))
-    (filter (is_open_at (effective_moment H moment)) o.sessions)) is
-    ∙ sessions_at-open H moment
-
-pub follows_on : (H : History) → IsLegal H → (command : Command) (t : ℕ) → Follows H t command
-    → (ch : Changes) → changes_of H command t ≡ Some ch
-    → (list : OpenAt) → list ≡ open_at_last H → (moment : ℕ) → moment ≡ moment_of ch
-    → (all kept : List Session)
-    → all ≡ sessions_after_changes ch list.sessions → kept ≡ filter (is_open_at moment) all
-    → open_at moment kept ≡ open_at_last (entry t command ∷ H)
-follows_on H legal command t follows ch e list is moment at all kept with_changes passed =
-    let now : moment ≡ t = at ∙ moment_is H command t ch e in
-    let still : kept ≡ (open_at_last (entry t command ∷ H)).sessions =
-    passed ∙ ap (λ (u : ℕ). filter (is_open_at u) all) now
-    ∙ ap (filter (is_open_at t)) (with_changes ∙ ap (λ (o : OpenAt). sessions_after_changes ch o.sessions) is)
-    ∙ sym (open_follows H legal command t follows ch e) in
-    ap (λ (u : ℕ). open_at u kept) now ∙ ap (open_at t) still

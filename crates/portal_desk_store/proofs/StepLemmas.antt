@@ -17,7 +17,7 @@ decided_stop is_stopped (Err r) own = inr (own, refl)
 
 module _ {S : Type 0} where
   pub rest_on : (old mid new : StoreDesk S) → KeepsRest old mid → KeepsRest mid new → KeepsRest old new
-  rest_on old mid new first second = (second.0 ∙ first.0, second.1 ∙ first.1)
+  rest_on old mid new first second = (second.0 ∙ first.0, second.1 ∙ first.1, second.2 ∙ first.2)
 
   pub stops_on : {T : Type 0} (old mid new : StoreDesk S) (result : Result T Refusal)
       → stop_flag mid ≡ stop_flag old
@@ -43,7 +43,7 @@ module _ {S : Type 0} {g : Ghosts S} where
       → MovesTables g old (record old { tables = tables }) (Ok found)
       (λ before after. ReadsOf before (λ L. Is L found) after)
   answered read = record {
-    rest = (refl, refl);
+    rest = (refl, refl, refl);
     fault_free = read.fault_free;
     stops = read.stops;
     step = λ honest before at. let it = read.found honest before at in (it.0, it.1, it.3);

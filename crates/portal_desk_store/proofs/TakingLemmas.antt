@@ -254,7 +254,7 @@ pub adds_at : {S V : Type 0} {g : Ghosts S} {desk : StoreDesk S} {result : Resul
     → Returns result (λ v H. items v ≡ takings_over zone H range) (running L) after)
 adds_at {desk = desk} {result = result} items zone range from to holds sales refunds sold refunded one
     two made memory = record {
-      rest = (refl, refl);
+      rest = (refl, refl, refl);
       fault_free = λ honest. honest;
       stops = decided_stop (stop_flag desk) result (lacks_memory result memory);
       step = λ honest L at. (

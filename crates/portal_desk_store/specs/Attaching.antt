@@ -14,8 +14,8 @@ module _ {S : Type 0} (g : Ghosts S) where
   abbrev pub HasStopped : StoreDesk S → Type 0
   HasStopped desk = IsStopped g desk.tables
 
-  -- no foreign key acts on a table of ours, and the database has no table of ours, or the head row has a
-  -- schema version that we read
+  -- no foreign key acts on a table of ours and no table of others refers to one, and the database has no
+  -- table of ours, or the head row has a schema version that we read
   unfoldable pub MayBeAttached : Held S → Type 0
   MayBeAttached conn = IsKnown (state g conn).now
 

@@ -8,12 +8,15 @@ use Rattle.portal_ledger.specs.States.{State}
 use Rattle.portal_desk.specs.Calls.{Moves}
 use Rattle.portal_tables.specs.TablesRepresent.{Files, IsFaultFree, IsCrashState, TablesRepresent}
 use Rattle.portal_desk_store.specs.declared.desks.StoreDesk.{StoreDesk}
+use Rattle.portal_desk_store.specs.KeepsHead.{KeepsHead}
 use Rattle.portal_desk_store.specs.KeepsOpenSessions.{KeepsOpenSessions}
 
 module _ {S : Type 0} (g : Ghosts S) where
-  -- the desk represents the state: its tables do, and the kept open sessions are those of the ledger
+  -- the desk represents the state: its tables do, and the kept open sessions and head row are those of the
+  -- ledger
   abbrev pub DeskRepresents : StoreDesk S → State → Type 0
-  DeskRepresents desk s = TablesRepresent g desk.tables s × KeepsOpenSessions desk.open s
+  DeskRepresents desk s =
+      TablesRepresent g desk.tables s × KeepsOpenSessions desk.open s × KeepsHead desk.head s
 
   -- the disk has returned what was written to it
   abbrev pub DeskIsFaultFree : StoreDesk S → Type 0

@@ -2,7 +2,9 @@ pub mod Acting
 pub mod Attaching
 pub mod Counters
 pub mod DeskRepresents
+pub mod Heads
 pub mod Judging
+pub mod KeepsHead
 pub mod Laws
 pub mod KeepsOpenSessions
 pub mod OpenSessions

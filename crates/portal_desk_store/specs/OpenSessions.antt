@@ -1,6 +1,8 @@
--- The sessions that are open at the time of the last command of a history, and the changes of a command to
--- a list of sessions.
-use Rattle.std.specs.Prelude.{ℕ, cond, nat_eq, List, [], ◌∷◌, ◌++◌, map, filter, Option, Some, None}
+-- The sessions that are open at the time of the last command of a history, the changes of a command to a list
+-- of sessions, and the list that has the open ones.
+use Rattle.std.specs.Prelude.{◌≡◌, ℕ, ◌<◌, cond, nat_eq, List, [], ◌∷◌, ◌++◌, map, filter, Option, Some}
+use Rattle.std.specs.Prelude.{None, All}
+use Rattle.std.specs.List.{AllPairs}
 use Rattle.portal_model.specs.declared.record.Session.{Session}
 use Rattle.portal_model.specs.declared.change.Changes.{Changes}
 use Rattle.portal_model.specs.declared.change.Changes.TheVariants.{LoadChange, IssueChange, SellChange}
@@ -8,9 +10,9 @@ use Rattle.portal_model.specs.declared.change.Changes.TheVariants.{RedeemChange,
 use Rattle.portal_model.specs.declared.change.Changes.TheVariants.{CloseChange}
 use Rattle.portal_model.specs.Captive.{all_sessions}
 use Rattle.portal_model.specs.Change.{with_report}
-use Rattle.portal_model.specs.History.{History, is_open_at, last_moment}
+use Rattle.portal_model.specs.History.{History, is_open_at, last_moment, session_of}
 
--- the sessions that are open at a time, by their numbers
+-- a time, and sessions in ascending order of their numbers
 pub record OpenAt : Type 0 where
   pub moment : ℕ
   pub sessions : List Session
@@ -49,3 +51,16 @@ sessions_after_changes (ReportChange c) sessions =
 sessions_after_changes (CloseChange c) sessions =
     map (replaced_if_same (record c.session { closed = Some c.at })) sessions
 sessions_after_changes _ sessions = sessions
+
+-- each session has a smaller number than those after it
+abbrev pub IsAscending : List Session → Type 0
+IsAscending sessions = AllPairs (λ s later. s.number < later.number) sessions
+
+-- The list has the time of the last command of the history. Its sessions are sessions of the history, in
+-- ascending order of their numbers. Those of them that are open at that time are all that are open then; the
+-- others have ended, and a session that has ended is never open again.
+pub record HasOpenSessions (H : History) (list : OpenAt) : Type 0 where
+  pub moment : list.moment ≡ last_moment H
+  pub ascending : IsAscending list.sessions
+  pub known : All (λ s. session_of H s.number ≡ Some s) list.sessions
+  pub open_ones : filter (is_open_at list.moment) list.sessions ≡ (open_at_last H).sessions

@@ -70,6 +70,7 @@ impl<S: Alter> StoreDesk<S> {
             tables,
             settings,
             open: None,
+            head: None,
         })
     }
 
@@ -87,6 +88,7 @@ impl<S: Alter> StoreDesk<S> {
             tables,
             settings: _,
             open: _,
+            head: _,
         } = self;
         tables.release()
     }

@@ -9,12 +9,14 @@ ghost use Rattle.portal_tables.specs.TablesRepresent.{
 };
 ghost use Rattle.portal_desk_store.specs.Counters.{CountersAre};
 ghost use Rattle.portal_desk_store.specs.Laws.{crash_state_is_allowed, found_is_sound};
+ghost use Rattle.portal_desk_store.specs.KeepsHead.{KeepsHead};
 ghost use Rattle.portal_desk_store.specs.KeepsOpenSessions.{KeepsOpenSessions};
 
+use crate::heads::update_head;
 use crate::keeping::update_open_sessions;
 use crate::open_sessions::OpenSessions;
 use portal_codes::Code;
-use portal_core::{captive_of, effective};
+use portal_core::{effective, session_details};
 use portal_desk::Desk;
 use portal_desk::prepared::{Marked, Prepared};
 use portal_files::{BatchSheet, Settings};
@@ -23,14 +25,15 @@ use portal_ledger::request::{RequestMark, fingerprint_is_typed};
 use portal_model::calendar::DayRange;
 use portal_model::captive::{Captive, OpenSession};
 use portal_model::command::Command;
+use portal_model::details::SessionDetails;
 use portal_model::lists::Codes;
 use portal_model::moment::Moment;
 use portal_model::name::{Device, Id};
 use portal_model::proof::witness;
-use portal_model::record::Voucher;
+use portal_model::record::{Head, Voucher};
 use portal_model::refusal::Refusal;
 use portal_model::takings::DayTakings;
-use portal_tables::questions::{BatchOf, CodesOf, LastSessionOf, PlanOf, TheHead, VoucherOf};
+use portal_tables::questions::{BatchOf, CodesOf, LastSessionOf, PlanOf, SessionOf, VoucherOf};
 use portal_tables::tables::Tables;
 use sqlite::Alter;
 use std::alloc::Global;
@@ -39,11 +42,13 @@ use std::alloc::Global;
 ///
 /// Beside the tables it keeps the settings, and the sessions that are open at the time of the last command,
 /// so that listing them reads no table. It reads these from the tables when they are first listed, and
-/// again after it ran out of memory while updating them.
+/// again after it ran out of memory while updating them. It keeps the head row too: it reads it from the
+/// tables when it first needs it, and updates it after each command.
 pub struct StoreDesk<S: Alter> {
     pub(crate) tables: Tables<S>,
     pub(crate) settings: Settings,
     pub(crate) open: Option<OpenSessions>,
+    pub(crate) head: Option<Head>,
 }
 
 impl<S: Alter> Desk for StoreDesk<S> {
@@ -63,7 +68,8 @@ impl<S: Alter> Desk for StoreDesk<S> {
 
     ghost sound = { found_is_sound };
 
-    ghost represents = { λ d s. TablesRepresent S.Store d.tables s × KeepsOpenSessions d.open s };
+    ghost represents = { λ d s.
+        TablesRepresent S.Store d.tables s × KeepsOpenSessions d.open s × KeepsHead d.head s };
 
     ghost settings = { λ d. d.settings };
 
@@ -76,9 +82,10 @@ impl<S: Alter> Desk for StoreDesk<S> {
     }
 
     fn state(&mut self, moment: Moment, device: Device) -> Result<Captive, Refusal> {
-        let head = self.tables.read(TheHead)?;
-        let last = self.tables.read(LastSessionOf { device: &device })?;
-        Ok(captive_of(last.as_ref(), effective(moment, head.last)))
+        match self.captive_if_kept(moment, &device)? {
+            Some(captive) => Ok(captive),
+            None => self.read_captive(moment, &device),
+        }
     }
 
     fn voucher(&mut self, code: &Code) -> Result<Voucher, Refusal> {
@@ -107,6 +114,35 @@ impl<S: Alter> Desk for StoreDesk<S> {
         let listing = list.sessions_at(alloc, moment);
         self.open = Some(list);
         Ok(listing?)
+    }
+
+    fn open_details(
+        &mut self,
+        alloc: Global,
+        moment: Moment,
+    ) -> Result<Vec<SessionDetails>, Refusal> {
+        let list = self.take_open_sessions(alloc)?;
+        let listing = list.details_at(alloc, moment);
+        self.open = Some(list);
+        Ok(listing?)
+    }
+
+    fn session(&mut self, moment: Moment, number: u64) -> Result<SessionDetails, Refusal> {
+        let head = self.head()?;
+        let session = self
+            .tables
+            .read(SessionOf { number })?
+            .ok_or(Refusal::UnknownSession)?;
+        Ok(session_details(&session, effective(moment, head.last)))
+    }
+
+    fn last_session(&mut self, moment: Moment, device: Device) -> Result<SessionDetails, Refusal> {
+        let head = self.head()?;
+        let last = self
+            .tables
+            .read(LastSessionOf { device: &device })?
+            .ok_or(Refusal::UnknownSession)?;
+        Ok(session_details(&last, effective(moment, head.last)))
     }
 
     fn takings(&mut self, alloc: Global, range: DayRange) -> Result<Vec<DayTakings>, Refusal> {
@@ -148,6 +184,7 @@ impl<S: Alter> Desk for StoreDesk<S> {
         match self.tables.commit(&marked) {
             Ok(()) => {
                 self.open = update_open_sessions(self.open.take(), &marked.changes);
+                self.head = update_head(self.head, &marked.changes);
                 Ok(())
             }
             Err(fault) => Err(Refusal::from(fault)),

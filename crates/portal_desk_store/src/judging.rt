@@ -19,7 +19,8 @@ ghost use Rattle.portal_ledger.specs.Ledger.{history_of};
 ghost use Rattle.portal_ledger.specs.States.{running};
 ghost use Rattle.portal_desk.specs.Calls.{Returns};
 ghost use Rattle.portal_desk_store.specs.Judging.{Decides, Judges};
-ghost use Rattle.portal_desk_store.specs.Steps.{MovesTables, MovesFromLedger};
+ghost use Rattle.portal_desk_store.specs.DeskRepresents.{MovesDesk};
+ghost use Rattle.portal_desk_store.specs.Steps.{MovesFromLedger};
 
 use crate::desks::StoreDesk;
 use portal_codes::Code;
@@ -35,9 +36,7 @@ use portal_model::plan::Plan;
 use portal_model::proof::witness;
 use portal_model::record::Head;
 use portal_model::refusal::Refusal;
-use portal_tables::questions::{
-    BatchOf, IsHeld, LastSessionOf, PlanOf, SessionOf, TheHead, VoucherOf,
-};
+use portal_tables::questions::{BatchOf, IsHeld, LastSessionOf, PlanOf, SessionOf, VoucherOf};
 use sqlite::Alter;
 use std::alloc::Global;
 
@@ -55,7 +54,7 @@ fn add_plan_if_found(held: &mut Vec<Plan>, found: Option<Plan>) -> Result<(), Re
 }
 
 impl<S: Alter> StoreDesk<S> {
-    /// Decides on a command at a time: reads the head row and the records that the command needs, and
+    /// Decides on a command at a time: takes the head row, reads the records that the command needs, and
     /// returns the changes.
     ///
     /// Errors: `NoMemory`, `Stopped`; else the verdict on the command.
@@ -66,11 +65,11 @@ impl<S: Alter> StoreDesk<S> {
         command: &Command,
     ) -> Result<Changes, Refusal>
         requires { IsWellFormed command.now }
-        ensures { MovesTables S.Store self.old self.new result
+        ensures { MovesDesk S.Store self.old self.new result
             (λ old new. Decides result command.now moment old new) }
     {
         witness(command_is_typed(command));
-        let head = self.tables.read(TheHead)?;
+        let head = self.head()?;
         self.judge_by_head(alloc, &head, command, effective(moment, head.last))
     }
 

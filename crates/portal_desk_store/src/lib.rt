@@ -3,7 +3,9 @@
 
 mod acting;
 mod attaching;
+mod captives;
 mod desks;
+mod heads;
 mod judging;
 mod keeping;
 mod lists;

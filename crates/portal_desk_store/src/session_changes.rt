@@ -1,6 +1,7 @@
 //! Applying the changes of a command to a list of sessions.
 ghost use Rattle.std.specs.Prelude.{◌≡◌, IfOk, map};
-ghost use Rattle.portal_desk_store.specs.OpenSessions.{replaced_if_same, sessions_after_changes, moment_of};
+ghost use Rattle.portal_desk_store.specs.OpenSessions.{IsAscending, replaced_if_same, sessions_after_changes};
+ghost use Rattle.portal_desk_store.specs.OpenSessions.{moment_of};
 
 use portal_model::change::Changes;
 use portal_model::moment::Moment;
@@ -22,34 +23,26 @@ pub(crate) fn moment_of(changes: &Changes) -> Moment
     }
 }
 
-/// Returns the session, replaced by `now` if both have the same number.
-fn replace_if_same(session: &Session, now: &Session) -> Session
-    ensures { result ≡ replaced_if_same now.now session.now }
-{
-    if now.number == session.number {
-        *now
-    } else {
-        *session
-    }
-}
-
-/// Replaces the session that has the number of `now`.
+/// Replaces the session that has the number of `now`, if there is one. The list is in ascending order of
+/// numbers, and a binary search finds it.
 fn replace_session(sessions: &mut [Session], now: &Session)
-    ensures { sessions.new ≡ map (replaced_if_same now.now) sessions.old }
+    ensures { IsAscending sessions.old → sessions.new ≡ map (replaced_if_same now.now) sessions.old }
 {
-    for session in sessions.iter_mut() {
-        *session = replace_if_same(session, now);
+    if let Ok(place) = sessions.binary_search_by_key(&now.number, |session| session.number) {
+        sessions[place] = *now;
     }
 }
 
-/// Applies the changes of a command to a list of all sessions: appends one, or replaces one.
+/// Applies the changes of a command to a list of sessions, in ascending order of numbers: appends one, or
+/// replaces one.
 ///
 /// Error: `AllocError` when out of memory.
 pub(crate) fn apply_to_sessions(
     sessions: &mut Vec<Session>,
     changes: &Changes,
 ) -> Result<(), AllocError>
-    ensures { IfOk result (λ _. sessions.new.items ≡ sessions_after_changes changes.now sessions.old.items) }
+    ensures { IfOk result (λ _. IsAscending sessions.old.items
+        → sessions.new.items ≡ sessions_after_changes changes.now sessions.old.items) }
 {
     match changes {
         Changes::RedeemChange(c) if c.running.is_none() => sessions.push(c.session)?,

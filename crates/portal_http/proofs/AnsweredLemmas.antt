@@ -19,6 +19,8 @@ use Rattle.portal_ledger.proofs.Repetitions.{answered_held}
 use Rattle.portal_http_request.specs.declared.operation.Operation.{Operation}
 use Rattle.portal_http_request.specs.declared.operation.Operation.TheVariants.{State as Asks, Sheet, Voucher}
 use Rattle.portal_http_request.specs.declared.operation.Operation.TheVariants.{Takings, OpenSessions, Act}
+use Rattle.portal_http_request.specs.declared.operation.Operation.TheVariants.{OpenDetails, Session}
+use Rattle.portal_http_request.specs.declared.operation.Operation.TheVariants.{LastSession, OwnSession}
 use Rattle.portal_http_request.specs.declared.rejection.Rejection.{Rejection}
 use Rattle.portal_http_request.specs.Checks.{IsChecked}
 use Rattle.portal_http_request.proofs.CheckedOnce.{checked_once}
@@ -51,6 +53,10 @@ command_stays L (Ok (Sheet id)) moment = λ mark k held. held
 command_stays L (Ok (Voucher code)) moment = λ mark k held. held
 command_stays L (Ok (Takings range)) moment = λ mark k held. held
 command_stays L (Ok OpenSessions) moment = λ mark k held. held
+command_stays L (Ok OpenDetails) moment = λ mark k held. held
+command_stays L (Ok (Session number)) moment = λ mark k held. held
+command_stays L (Ok (LastSession device)) moment = λ mark k held. held
+command_stays L (Ok (OwnSession device)) moment = λ mark k held. held
 command_stays L (Err denied) moment = λ mark k held. held
 
 -- nothing is held if nothing is answered

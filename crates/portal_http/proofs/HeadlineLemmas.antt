@@ -11,14 +11,19 @@ use Rattle.portal_http.proofs.Common.{IsReply, sheet_of, takings_over, Stops, St
 use Rattle.portal_http.proofs.Common.{with_command, Acknowledges, Replies, Leads, IsInDoubt, IsFound}
 use Rattle.portal_http.proofs.Common.{Survives}
 use Rattle.portal_model.specs.Captive.{captive_of, open_sessions_of}
+use Rattle.portal_model.specs.Details.{session_details_of, last_details_of, open_details_of}
+use Rattle.portal_model.specs.declared.refusal.Refusal.TheVariants.{UnknownSession}
 use Rattle.portal_model_laws.proofs.Granted.{grants_bounded}
 use Rattle.portal_ledger.proofs.Ledgers.{the_sound_is_legal}
 use Rattle.portal_http_request.specs.declared.operation.Operation.TheVariants.{State as Asks, Voucher}
+use Rattle.portal_http_request.specs.declared.operation.Operation.TheVariants.{OpenDetails, Session}
+use Rattle.portal_http_request.specs.declared.operation.Operation.TheVariants.{LastSession, OwnSession}
 use Rattle.portal_http_request.specs.Rejection.{error_of, allow_of}
-use Rattle.portal_http.specs.Replies.{IsSheet, IsVoucher, IsAnswer}
+use Rattle.portal_http.specs.Replies.{IsSheet, IsVoucher, IsAnswer, IsDetails, IsOwnDetails}
 use Rattle.portal_desk.proofs.Verdicts.{verdict_is_no_stop, repeat_is_no_stop}
 use Rattle.portal_http.proofs.Lines.{state_ok, sheet_ok, voucher_ok, takings_ok, sessions_ok, answer_ok}
-use Rattle.portal_http.proofs.Lines.{refused_off, other_apart, ok_apart}
+use Rattle.portal_http.proofs.Lines.{details_ok, own_details_ok, open_details_ok, refused_off, other_apart}
+use Rattle.portal_http.proofs.Lines.{ok_apart}
 
 memory_is_no_stop : NoMemory ≢ Stopped
 memory_is_no_stop e = cc
@@ -28,6 +33,9 @@ batch_is_no_stop e = cc
 
 code_is_no_stop : UnknownCode ≢ Stopped
 code_is_no_stop e = cc
+
+session_is_no_stop : UnknownSession ≢ Stopped
+session_is_no_stop e = cc
 
 -- what is held under a key refuses with one refusal alone
 held_is_no_stop : (L : Ledger) (mark : Option Fingerprint) (r : Refusal)
@@ -112,6 +120,21 @@ module _ (settings : SettingsValue) where
   replied L a r (Ok OpenSessions) after checked other reply =
       by_told L a r after OpenSessions
       (sessions_ok (open_sessions_of (history_of L) a.moment) a.moment r reply.0) checked refl reply.1
+  replied L a r (Ok OpenDetails) after checked other reply =
+      by_told L a r after OpenDetails
+      (open_details_ok (open_details_of (history_of L) a.moment) a.moment r reply.0) checked refl reply.1
+  replied L a r (Ok (Session number)) after checked other reply =
+      by_found L a r after (Session number) UnknownSession session_is_no_stop
+      (λ details. IsDetails details a.moment r) (λ details is. details_ok details a.moment r is)
+      checked refl (session_details_of (history_of L) number a.moment) reply.0 reply.1
+  replied L a r (Ok (LastSession device)) after checked other reply =
+      by_found L a r after (LastSession device) UnknownSession session_is_no_stop
+      (λ details. IsDetails details a.moment r) (λ details is. details_ok details a.moment r is)
+      checked refl (last_details_of (history_of L) device a.moment) reply.0 reply.1
+  replied L a r (Ok (OwnSession device)) after checked other reply =
+      by_found L a r after (OwnSession device) UnknownSession session_is_no_stop
+      (λ details. IsOwnDetails details a.moment r) (λ details is. own_details_ok details a.moment r is)
+      checked refl (last_details_of (history_of L) device a.moment) reply.0 reply.1
   replied L a r (Ok (Act command mark)) after checked other reply = go (repeat_in L mark) refl reply
     where
       own : Accepted
@@ -206,6 +229,10 @@ module _ (settings : SettingsValue) where
       go (Ok (Voucher code)) checked stops = let it = lead None stops in halts L it.1 it.0
       go (Ok (Takings range)) checked stops = let it = lead None stops in halts L it.1 it.0
       go (Ok OpenSessions) checked stops = let it = lead None stops in halts L it.1 it.0
+      go (Ok OpenDetails) checked stops = let it = lead None stops in halts L it.1 it.0
+      go (Ok (Session number)) checked stops = let it = lead None stops in halts L it.1 it.0
+      go (Ok (LastSession device)) checked stops = let it = lead None stops in halts L it.1 it.0
+      go (Ok (OwnSession device)) checked stops = let it = lead None stops in halts L it.1 it.0
       go (Ok (Act command mark)) checked (inl is) = let it = lead None is in halts L it.1 it.0
       go (Ok (Act command mark)) checked (inr it) =
           let own = accepted_at L a.moment command mark in

@@ -1,5 +1,6 @@
 pub mod Common
 pub mod ResponseLemmas
+pub mod SpareLemmas
 pub mod ServeLemmas
 pub mod RunLemmas
 pub mod Lines

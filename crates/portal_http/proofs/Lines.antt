@@ -14,11 +14,13 @@ use Rattle.serde_json.proofs.OnLiterals.{serde_json_on_literals}
 use Rattle.portal_model.specs.declared.takings.DayTakings.{DayTakings}
 use Rattle.portal_model.specs.declared.captive.Captive.{Captive}
 use Rattle.portal_model.specs.declared.captive.OpenSession.{OpenSession}
+use Rattle.portal_model.specs.declared.details.SessionDetails.{SessionDetails}
 use Rattle.portal_model.specs.declared.record.Voucher.{Voucher}
 use Rattle.portal_files.specs.declared.sheet.BatchSheet.{BatchSheet}
 use Rattle.portal_json.specs.Bodies.{error_body}
 use Rattle.portal_http_message.specs.Bytes.{head_bytes}
 use Rattle.portal_http.specs.Replies.{IsError, IsState, IsSheet, IsVoucher, IsTakings, AreSessions, IsAnswer}
+use Rattle.portal_http.specs.Replies.{IsDetails, IsOwnDetails, AreDetails}
 
 -- the body of the refusal of a desk that stopped
 abbrev stopped_body : List ℕ
@@ -59,6 +61,21 @@ pub sessions_ok : (sessions : List OpenSession) (moment : ℕ) (response : List 
     → AreSessions sessions moment response → is_ok response ≡ true
 unfolding AreSessions
 sessions_ok sessions moment response (date, dated, same) = ap is_ok same ∙ ok_line _ _ _ _ _ _
+
+pub details_ok : (details : SessionDetails) (moment : ℕ) (response : List ℕ)
+    → IsDetails details moment response → is_ok response ≡ true
+unfolding IsDetails
+details_ok details moment response (date, dated, same) = ap is_ok same ∙ ok_line _ _ _ _ _ _
+
+pub own_details_ok : (details : SessionDetails) (moment : ℕ) (response : List ℕ)
+    → IsOwnDetails details moment response → is_ok response ≡ true
+unfolding IsOwnDetails
+own_details_ok details moment response (date, dated, same) = ap is_ok same ∙ ok_line _ _ _ _ _ _
+
+pub open_details_ok : (sessions : List SessionDetails) (moment : ℕ) (response : List ℕ)
+    → AreDetails sessions moment response → is_ok response ≡ true
+unfolding AreDetails
+open_details_ok sessions moment response (date, dated, same) = ap is_ok same ∙ ok_line _ _ _ _ _ _
 
 pub answer_ok : (answer : Answer) (moment : ℕ) (response : List ℕ)
     → IsAnswer answer moment response → is_ok response ≡ true

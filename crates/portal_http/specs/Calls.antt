@@ -16,9 +16,10 @@ use Rattle.portal_desk.specs.Calls.{StaysStopped}
 use Rattle.portal_http_request.specs.declared.operation.Operation.{Operation}
 use Rattle.portal_http.specs.declared.exchanges.Done.{Done}
 use Rattle.portal_http.specs.declared.exchanges.Cut.{Cut}
+use Rattle.portal_http.specs.declared.reply.Response.{Response}
 use Rattle.portal_http.specs.Arrived.{Arrived}
 use Rattle.portal_http.specs.Runs.{ServesInOrder, bytes_of_responses}
-use Rattle.portal_http.specs.Serving.{Finishes, ServesOperation}
+use Rattle.portal_http.specs.Serving.{Finishes, HoldsOfResponse, ServesOperation}
 use Rattle.portal_http.specs.Headline.{Survives}
 use Rattle.portal_http.specs.Exchanges.{Wire, EndsExchange}
 
@@ -31,21 +32,21 @@ pub record MovesState {D : Type 0} (g : Ghosts D) (Does : State → State → Ty
   pub step : g.is_fault_free new → (before : State) → g.represents old before
       → (after : State) × g.represents new after × Does before after
 
--- the operation is executed, or there was no memory for it, with a response of those bytes
-abbrev pub ServesAt : {D : Type 0} → Ghosts D → Operation → ℕ → List ℕ → D → D → Type 0
-ServesAt g asked moment bytes old new =
-    MovesState g (λ before after. ServesOperation (g.settings old) asked before moment bytes after) old new
+-- the operation is executed, or there was no memory for it, with the response that is sent for the result
+abbrev pub ServesAt : {D : Type 0} → Ghosts D → Operation → ℕ → Result Response Refusal → D → D → Type 0
+ServesAt g asked moment result old new = MovesState g (λ before after. HoldsOfResponse result moment
+    (λ bytes. ServesOperation (g.settings old) asked before moment bytes after)) old new
 
 -- A command that was prepared is committed and answered, or it is not.
-pub record FinishesAt {D : Type 0} (g : Ghosts D) (prepared : MarkedChanges) (moment : ℕ) (bytes : List ℕ)
-    (old new : D) : Type 0 where
+pub record FinishesAt {D : Type 0} (g : Ghosts D) (prepared : MarkedChanges) (moment : ℕ)
+    (result : Result Response Refusal) (old new : D) : Type 0 where
   pub same_settings : g.settings new ≡ g.settings old
   pub fault_free : g.is_fault_free new → g.is_fault_free old
   pub stays : StaysStopped (g.has_stopped old) (g.has_stopped new)
   pub finishes : g.is_fault_free new → (L : Ledger) → g.represents old (running L) → (a : Accepted)
       → Fits (running L) prepared a
       → (after : State) × g.represents new after
-      × Finishes L a (answer_of prepared.changes) moment bytes after
+      × HoldsOfResponse result moment (λ bytes. Finishes L a (answer_of prepared.changes) moment bytes after)
 
 -- The first requests were served, and their responses were added: all of them, or fewer and an error.
 abbrev pub AddsResponses : SettingsValue → State → List Arrived → List (Vec ℕ Global) → List (Vec ℕ Global)

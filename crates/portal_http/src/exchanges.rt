@@ -7,6 +7,7 @@ ghost use Rattle.portal_http.specs.Calls.{ExchangesOn, MovesState};
 
 use crate::arrivals::Arrival;
 use crate::serving::serve_request;
+use crate::spares::Spare;
 use portal_desk::Desk;
 use portal_http_message::{ReadError, read_request, write_response};
 use portal_http_routes::Routes;
@@ -87,6 +88,7 @@ fn read_serve_and_write<D: Desk, R: Read, W: Write>(
     alloc: Global,
     desk: &mut D,
     routes: &Routes,
+    kept: &mut Option<Spare>,
     moment: Moment,
     seed: [u8; 32],
     reader: &mut R,
@@ -106,7 +108,7 @@ fn read_serve_and_write<D: Desk, R: Read, W: Write>(
         Err(ReadError::NoMemory) => return Err(cut_without_response(Cause::NoRoom)),
     };
     let arrival = Arrival::at(moment, seed, received);
-    let Ok(response) = serve_request(alloc, desk, routes, &arrival) else {
+    let Ok(response) = serve_request(alloc, desk, routes, kept, &arrival) else {
         return Err(cut_without_response(Cause::NoRoom));
     };
     let whole = response.bytes.len();
@@ -125,6 +127,7 @@ fn read_serve_and_write<D: Desk, R: Read, W: Write>(
 
 /// Reads one request from a connection, executes it at `moment`, and writes the response.
 ///
+/// `kept` has the spare responses of an earlier exchange, and then those of this one, unless one was sent.
 /// `seed` gives the codes of a new batch. Reading ends once the response is decided or the input ends. Each
 /// read asks for at most 4,096 bytes, and at most 77,824 bytes are read. Each write is offered all the rest
 /// of the response. An interrupted read or write is one that failed.
@@ -141,6 +144,7 @@ pub fn exchange<D: Desk, R: Read, W: Write>(
     alloc: Global,
     desk: &mut D,
     routes: &Routes,
+    kept: &mut Option<Spare>,
     moment: Moment,
     seed: [u8; 32],
     reader: &mut R,
@@ -149,5 +153,5 @@ pub fn exchange<D: Desk, R: Read, W: Write>(
     ensures { ExchangesOn D.Desk (between (R.remaining reader.old) (R.remaining reader.new)
         (W.contents writer.old) (W.contents writer.new)) moment seed desk.old desk.new result }
 {
-    read_serve_and_write(alloc, desk, routes, moment, seed, reader, writer)
+    read_serve_and_write(alloc, desk, routes, kept, moment, seed, reader, writer)
 }

@@ -50,9 +50,10 @@ fn serve_each<D: Desk>(
     ensures desk { MovesState D.Desk (λ old new. AddsResponses (D.settings desk.old) old arrivals.now
         out.old.items out.new.items result new) desk.old desk.new }
 {
+    let mut kept = None;
     for arrival in arrivals {
         out.reserve(1)?;
-        let response = serve_request(alloc, desk, routes, arrival)?;
+        let response = serve_request(alloc, desk, routes, &mut kept, arrival)?;
         let Ok(()) = out.push(response.bytes) else {
             unreachable!()
         };

@@ -9,10 +9,12 @@ use Rattle.portal_http_request.proofs.Common.{SettingsValue, ReadsJson, text_at,
 use Rattle.portal_http_request.proofs.Common.{IsBatchOrder, IsReportOrder, IsCloseOrder, issue_of, HeadError}
 use Rattle.portal_http_request.proofs.Common.{Message, message_in, Route, Captive, Plans, Batches, Print}
 use Rattle.portal_http_request.proofs.Common.{Sales, Refunds, Closes, Voucher, Takings, Reports, Sessions}
+use Rattle.portal_http_request.proofs.Common.{Session, LastSession, OwnSession, SessionDetails}
 use Rattle.portal_http_request.proofs.Common.{method_of, FindsRoute, path_of, query_of, parameter_of}
 use Rattle.portal_http_request.proofs.Common.{Operation, Rejection, Method, Refused, IsGuest, holds_token}
 use Rattle.portal_http_request.proofs.Common.{ReadsKey, fingerprint_of, Gives, SaysBody, GivesCommand}
-use Rattle.portal_http_request.proofs.Common.{NamesBatch, NamesCode, AreDays, AtGuest, AtToken, operation_of}
+use Rattle.portal_http_request.proofs.Common.{NamesBatch, NamesCode, IsSessionNumber, AreDays, IsDeviceAt}
+use Rattle.portal_http_request.proofs.Common.{AtGuest, AtToken, operation_of}
 use Rattle.portal_http_request.proofs.Common.{AsksForCommand, AtRoute, AtPath, AtMessage, IsChecked}
 use Rattle.std.specs.List.{join_with_byte}
 use Rattle.httparse.specs.Grammar.{RequestHead}
@@ -110,6 +112,15 @@ days_once query range other is also =
     let first = day_once (codes "from") query range.first other.first is.from also.from in
     let last = day_once (codes "to") query range.last other.last is.to also.to in
     λ i. record { first = first i; last = last i }
+
+session_once : (text : List ℕ) (n k : ℕ) → IsSessionNumber text n → IsSessionNumber text k → n ≡ k
+session_once text n k is also = is.2 ∙ sym also.2
+
+device_once : (query : Option (List ℕ)) (d e : List ℕ) → IsDeviceAt query d → IsDeviceAt query e → d ≡ e
+device_once query d e (text, at, is) (text2, at2, also) =
+    let found = sym at ∙ at2 in
+    let same : text2 ≡ text = cc in
+    spelled_once text d e is.1 (subst (λ (t : List ℕ). SpellsDevice t e) same also.1)
 
 -- ---- bodies
 
@@ -261,6 +272,16 @@ route_once settings seed m Reports = at_token_once settings.gateway_token m _
     (λ order. Report order.session order.bytes) m.body report_once))
 route_once settings seed m Sessions =
     at_token_once settings.gateway_token m _ (λ x y is also. both x y (Ok wanted.OpenSessions) is also)
+route_once settings seed m Session =
+    at_token_once settings.desk_token m _ (gives_once (IsSessionNumber (parameter_of (path_of m.target)))
+    wanted.Session (Refused BadRequest) (session_once (parameter_of (path_of m.target))))
+route_once settings seed m LastSession = at_token_once settings.desk_token m _
+    (gives_once (IsDeviceAt (query_of m.target)) wanted.LastSession (Refused BadDevice)
+    (device_once (query_of m.target)))
+route_once settings seed m OwnSession =
+    at_guest_once m _ (λ device x y is also. both x y (Ok (wanted.OwnSession device)) is also)
+route_once settings seed m SessionDetails =
+    at_token_once settings.gateway_token m _ (λ x y is also. both x y (Ok wanted.OpenDetails) is also)
 
 path_once : (settings : SettingsValue) (seed : List ℕ) (m : Message) (route : Option Route)
     → Once (AtPath settings seed m route)

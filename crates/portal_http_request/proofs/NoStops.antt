@@ -8,10 +8,12 @@ use Rattle.portal_http_request.proofs.Common.{UnknownBatch, NoMemory, Stopped, C
 use Rattle.portal_http_request.proofs.Common.{IsPlansFile, SettingsValue, text_at, CodeText, CodeOrder}
 use Rattle.portal_http_request.proofs.Common.{Exactly, IsCloseOrder, IsReportOrder, issue_of, HeadError}
 use Rattle.portal_http_request.proofs.Common.{Message, Route, Captive, Plans, Batches, Print, Sales, Refunds}
-use Rattle.portal_http_request.proofs.Common.{Closes, Voucher, Takings, Reports, Sessions, method_of, path_of}
+use Rattle.portal_http_request.proofs.Common.{Closes, Voucher, Takings, Reports, Sessions, Session}
+use Rattle.portal_http_request.proofs.Common.{LastSession, OwnSession, SessionDetails, method_of, path_of}
 use Rattle.portal_http_request.proofs.Common.{query_of, parameter_of, Operation, Rejection, Method, Refused}
 use Rattle.portal_http_request.proofs.Common.{holds_token, ReadsKey, fingerprint_of, Gives, SaysBody}
-use Rattle.portal_http_request.proofs.Common.{GivesCommand, NamesBatch, NamesCode, AreDays, AtGuest, AtToken}
+use Rattle.portal_http_request.proofs.Common.{GivesCommand, NamesBatch, NamesCode, IsSessionNumber, AreDays}
+use Rattle.portal_http_request.proofs.Common.{IsDeviceAt, AtGuest, AtToken}
 use Rattle.portal_http_request.proofs.Common.{operation_of, AsksForCommand, AtRoute, AtPath, AtMessage}
 use Rattle.portal_http_request.proofs.Common.{IsOfRequest, syntax_error}
 use Rattle.std.proofs.lemmas.Bool.{false≢true}
@@ -180,6 +182,16 @@ route_no_stop settings seed m Reports =
     (λ order. Report order.session order.bytes) m.body (λ value. exactly_other (IsReportOrder value))))
 route_no_stop settings seed m Sessions =
     token_no_stop settings.gateway_token m _ (λ r same. wanted_by wanted.OpenSessions r same)
+route_no_stop settings seed m Session =
+    token_no_stop settings.desk_token m _ (gives_wanted (IsSessionNumber (parameter_of (path_of m.target)))
+    wanted.Session BadRequest (other_than BadRequest refl))
+route_no_stop settings seed m LastSession =
+    token_no_stop settings.desk_token m _
+    (gives_wanted (IsDeviceAt (query_of m.target)) wanted.LastSession BadDevice (other_than BadDevice refl))
+route_no_stop settings seed m OwnSession =
+    guest_no_stop m _ (λ device r same. wanted_by (wanted.OwnSession device) r same)
+route_no_stop settings seed m SessionDetails =
+    token_no_stop settings.gateway_token m _ (λ r same. wanted_by wanted.OpenDetails r same)
 
 -- ---- the whole request
 

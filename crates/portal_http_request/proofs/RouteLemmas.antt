@@ -8,15 +8,22 @@ use Rattle.portal_http_request.proofs.Common.{fingerprint_of, OrMemory, AtGuest,
 use Rattle.portal_http_request.proofs.Common.{AsksForCommand, AtRoute, AtMessage}
 
 -- a caller who holds the token
+pub let_through : (token text : List ℕ) (m : Message) (Then : Result Operation Rejection → Type 0)
+    (result : Result Operation Rejection)
+    → text ≡ token → holds_token text m.token ≡ true → Then result → AtToken token m Then result
+let_through token text m Then result same holds then =
+    let opened : true ≡ holds_token token m.token =
+    sym holds ∙ ap (λ (t : List ℕ). holds_token t m.token) same in
+    subst (λ (b : Bool). MatchBool b (Then result) (result ≡ Err (Refused Forbidden))) opened then
+
+-- the same, where there may be no memory
 pub let_in : (token text : List ℕ) (m : Message) (Then : Result Operation Rejection → Type 0)
     (result : Result Operation Rejection)
     → text ≡ token → holds_token text m.token ≡ true → OrMemory Then result
     → OrMemory (AtToken token m Then) result
 let_in token text m Then result same holds (inl memory) = inl memory
 let_in token text m Then result same holds (inr then) =
-    let opened : true ≡ holds_token token m.token =
-    sym holds ∙ ap (λ (t : List ℕ). holds_token t m.token) same in
-    inr (subst (λ (b : Bool). MatchBool b (Then result) (result ≡ Err (Refused Forbidden))) opened then)
+    inr (let_through token text m Then result same holds then)
 
 -- a guest
 pub let_guest_in : (field : Option (List ℕ)) (m : Message) (device : List ℕ)

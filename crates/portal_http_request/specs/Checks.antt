@@ -27,7 +27,8 @@ use Rattle.portal_http_message.specs.Message.{HeadOf, Message, message_in}
 use Rattle.portal_http_routes.specs.declared.Route.{Route}
 use Rattle.portal_http_routes.specs.declared.Route.TheVariants.{Captive, Redeem, Plans, Batches, Print, Sales}
 use Rattle.portal_http_routes.specs.declared.Route.TheVariants.{Refunds, Closes, Voucher, Takings, Reports}
-use Rattle.portal_http_routes.specs.declared.Route.TheVariants.{Sessions}
+use Rattle.portal_http_routes.specs.declared.Route.TheVariants.{Sessions, Session, LastSession, OwnSession}
+use Rattle.portal_http_routes.specs.declared.Route.TheVariants.{SessionDetails}
 use Rattle.portal_http_routes.specs.Route.{method_of}
 use Rattle.portal_http_routes.specs.Table.{FindsRoute}
 use Rattle.portal_http_routes.specs.Targets.{path_of, query_of, parameter_of}
@@ -38,7 +39,7 @@ use Rattle.portal_http_request.specs.declared.rejection.Rejection.TheVariants.{M
 use Rattle.portal_http_request.specs.Rejection.{error_of}
 use Rattle.portal_http_request.specs.Callers.{IsGuest, holds_token, ReadsKey, fingerprint_of}
 use Rattle.portal_http_request.specs.Bodies.{Gives, GivesCommand}
-use Rattle.portal_http_request.specs.Queries.{NamesBatch, NamesCode, AreDays}
+use Rattle.portal_http_request.specs.Queries.{NamesBatch, NamesCode, IsSessionNumber, AreDays, IsDeviceAt}
 
 -- the result is so, or out of memory
 abbrev pub OrMemory : (Result Operation Rejection → Type 0) → Result Operation Rejection → Type 0
@@ -75,7 +76,7 @@ AsksForCommand m caller Ordered result =
     × (result ≡ operation_of (fingerprint_of m caller n) ordered))
     (λ r. result ≡ Err (Refused r))
 
--- ---- the twelve routes
+-- ---- the sixteen routes
 
 -- what each route requires of a request, and the operation that it asks of the desk
 abbrev pub AtRoute : SettingsValue → List ℕ → Message → Route → Result Operation Rejection → Type 0
@@ -103,6 +104,14 @@ AtRoute settings seed m Reports =
     (λ value. Exactly (IsReportOrder value)) (λ order. Report order.session order.bytes) m.body))
 AtRoute settings seed m Sessions =
     AtToken settings.gateway_token m (λ result. result ≡ Ok operations.OpenSessions)
+AtRoute settings seed m Session = AtToken settings.desk_token m
+    (Gives (IsSessionNumber (parameter_of (path_of m.target))) operations.Session (Refused BadRequest))
+AtRoute settings seed m LastSession = AtToken settings.desk_token m
+    (Gives (IsDeviceAt (query_of m.target)) operations.LastSession (Refused BadDevice))
+AtRoute settings seed m OwnSession =
+    AtGuest m (λ device result. result ≡ Ok (operations.OwnSession device))
+AtRoute settings seed m SessionDetails =
+    AtToken settings.gateway_token m (λ result. result ≡ Ok operations.OpenDetails)
 
 -- ---- the whole request
 

@@ -1,10 +1,12 @@
 -- The values in a path and in a query.
-use Rattle.std.specs.Prelude.{◌≡◌, ℕ, ℤ, List, Option, Some, codes, option_and_then, IsUtf8}
+use Rattle.std.specs.Prelude.{◌≡◌, ℕ, ◌<◌, ◌^◌, ℤ, List, Option, Some, codes, option_and_then, IsUtf8}
+use Rattle.std.specs.Str.Parse.{IsNumeral, digits_value}
 use Rattle.portal_codes.specs.Code.{Spells}
 use Rattle.portal_model.specs.Span.{Span, IsSpan}
 use Rattle.portal_model.specs.IdText.{IsIdText}
 use Rattle.portal_files.specs.DayText.{IsDayText}
 use Rattle.portal_http_routes.specs.Queries.{only_of, values_of}
+use Rattle.portal_http_request.specs.Callers.{NamesDevice}
 
 -- the text is that id
 abbrev pub NamesBatch : List ℕ → List ℕ → Type 0
@@ -13,6 +15,10 @@ NamesBatch text id = IsUtf8 text × IsIdText text × (id ≡ text)
 -- the text spells that code
 abbrev pub NamesCode : List ℕ → List ℕ → Type 0
 NamesCode text code = IsUtf8 text × Spells text code
+
+-- the text is that number of a session: decimal digits alone, with a value below 2^63
+abbrev pub IsSessionNumber : List ℕ → ℕ → Type 0
+IsSessionNumber text n = IsNumeral 10 text × (digits_value 10 text < 2 ^ 63) × (n ≡ digits_value 10 text)
 
 -- the day under a key of a query, if the key is in the query exactly once
 abbrev pub IsDayAt : List ℕ → Option (List ℕ) → ℤ → Type 0
@@ -26,3 +32,9 @@ pub record AreDays (query : Option (List ℕ)) (range : Span) : Type 0 where
   pub from : IsDayAt (codes "from") query range.first
   pub to : IsDayAt (codes "to") query range.last
   pub span : IsSpan range.first range.last
+
+-- The device under `device` in a query, if the key is in the query exactly once. Other keys are ignored.
+abbrev pub IsDeviceAt : Option (List ℕ) → List ℕ → Type 0
+IsDeviceAt query device =
+    (text : List ℕ) × (option_and_then (λ q. only_of (values_of (codes "device") q)) query ≡ Some text)
+    × NamesDevice text device

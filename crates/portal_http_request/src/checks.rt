@@ -71,8 +71,9 @@ fn syntax_error(error: HeadError) -> Refusal
 ///   without one field Portal-Token with their token;
 /// - `BadRequest`, on routes with a command, for more than one field Portal-Request, or a value that is not
 ///   1 to 36 letters, digits and hyphens;
-/// - `BadPlans`, `BadCode` or `BadRequest` for its body; `UnknownBatch` or `BadCode` for its parameter;
-///   `BadRequest` for a query without valid days.
+/// - `BadPlans`, `BadCode` or `BadRequest` for its body; `UnknownBatch`, `BadCode` or `BadRequest` for its
+///   parameter; `BadRequest` for a query without valid days; `BadDevice` for a query without one valid
+///   device.
 ///
 /// `NoMemory` can come in place of any of these. No check returns `Stopped`.
 pub fn check_request(

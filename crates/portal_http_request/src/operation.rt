@@ -19,6 +19,14 @@ pub enum Operation {
     Takings(DayRange),
     /// List the open sessions.
     OpenSessions,
+    /// Read the details of the session with a number.
+    Session(u64),
+    /// Read the details of the last session of a device, which the desk names.
+    LastSession(Device),
+    /// Read the details of the last session of the caller's own device.
+    OwnSession(Device),
+    /// List the open sessions with their details.
+    OpenDetails,
     /// Execute a command, idempotently if the request has a fingerprint.
     Act(Command, Option<RequestMark>),
 }

@@ -1,14 +1,24 @@
 //! Reads the values in a path and in a query.
 ghost use Rattle.std.specs.Prelude.{◌≡◌, ℕ, ℤ, List, None, IfSome, option_map};
 ghost use Rattle.portal_model.specs.Span.{Span};
-ghost use Rattle.portal_http_request.specs.Queries.{NamesBatch, NamesCode, IsDayAt, AreDays};
+ghost use Rattle.portal_http_request.specs.Queries.{
+  NamesBatch,
+  NamesCode,
+  IsSessionNumber,
+  IsDayAt,
+  AreDays,
+  IsDeviceAt,
+};
 
 use portal_codes::Code;
 use portal_files::read_day;
 use portal_http_routes::only_value;
 use portal_model::calendar::{Day, DayRange};
-use portal_model::name::Id;
+use portal_model::name::{Device, Id};
 use std::str;
+
+/// The greatest number of a session.
+const GREATEST: u64 = 9_223_372_036_854_775_807;
 
 /// Reads the id of a batch, if the text is one.
 pub fn batch_id_of_text(text: &[u8]) -> Option<Id>
@@ -24,6 +34,23 @@ pub fn code_of_text(text: &[u8]) -> Option<Code>
     ensures none { result ≡ None → (code : List ℕ) → ¬ (NamesCode text.now code) }
 {
     Code::read(str::from_utf8(text).ok()?).ok()
+}
+
+/// Reads the number of a session, if the text is one: decimal digits alone, with a value of at most
+/// `GREATEST`.
+pub fn number_of_text(text: &[u8]) -> Option<u64>
+    ensures some { IfSome result (IsSessionNumber text.now) }
+    ensures none { result ≡ None → (n : ℕ) → ¬ (IsSessionNumber text.now n) }
+{
+    if text.first() == Some(&b'+') {
+        return None;
+    }
+    let number = str::from_utf8(text).ok()?.parse::<u64>().ok()?;
+    if number <= GREATEST {
+        Some(number)
+    } else {
+        None
+    }
 }
 
 /// Reads the day under a key of a query as `YYYY-MM-DD`, if the key is in the query exactly once.
@@ -48,4 +75,16 @@ pub fn days_of_query(query: Option<&[u8]>) -> Option<DayRange>
     let from = day_at(query, b"from")?;
     let to = day_at(query, b"to")?;
     DayRange::new(from, to)
+}
+
+/// Reads the device under `device` in a query, if the key is in the query exactly once.
+pub fn device_of_query(query: Option<&[u8]>) -> Option<Device>
+    ensures some { IfSome result (IsDeviceAt (option_map (λ q. q.now) query.entry)) }
+    ensures none { result ≡ None → (device : List ℕ)
+        → ¬ (IsDeviceAt (option_map (λ q. q.now) query.entry) device) }
+{
+    match str::from_utf8(only_value(query?, b"device")?) {
+        Ok(text) => Device::read(text).ok(),
+        Err(_) => None,
+    }
 }

@@ -14,7 +14,9 @@ use crate::bodies::{
 use crate::callers::{fingerprint_of, guest_device, holds_token};
 use crate::issue::issue_command;
 use crate::operation::Operation;
-use crate::queries::{batch_id_of_text, code_of_text, days_of_query};
+use crate::queries::{
+    batch_id_of_text, code_of_text, days_of_query, device_of_query, number_of_text,
+};
 use crate::rejection::Rejection;
 use crate::routed::RoutedRequest;
 use portal_files::Settings;
@@ -242,6 +244,53 @@ fn check_sessions(settings: &Settings, asked: &RoutedRequest<'_>) -> Result<Oper
     Ok(Operation::OpenSessions)
 }
 
+/// Checks `GET /desk/sessions/{number}`. Rejections: `Forbidden`; `BadRequest`.
+fn check_session(settings: &Settings, asked: &RoutedRequest<'_>) -> Result<Operation, Rejection>
+    ensures checks { (seed : List ℕ) → AtRoute settings.now seed asked.now route.Session result }
+    ensures in_order { IfOk result IsInOrder }
+{
+    require_token(settings.desk_token(), asked)?;
+    let number = number_of_text(path_parameter(asked.path().as_bytes())).ok_or(
+        Refusal::BadRequest,
+    )?;
+    Ok(Operation::Session(number))
+}
+
+/// Checks `GET /desk/sessions`. Rejections: `Forbidden`; `BadDevice`.
+fn check_last_session(
+    settings: &Settings,
+    asked: &RoutedRequest<'_>,
+) -> Result<Operation, Rejection>
+    ensures checks { (seed : List ℕ) → AtRoute settings.now seed asked.now route.LastSession result }
+    ensures in_order { IfOk result IsInOrder }
+{
+    require_token(settings.desk_token(), asked)?;
+    let device = device_of_query(asked.query()).ok_or(Refusal::BadDevice)?;
+    Ok(Operation::LastSession(device))
+}
+
+/// Checks `GET /portal/session`. Rejection: `BadDevice`.
+fn check_own_session(asked: &RoutedRequest<'_>) -> Result<Operation, Rejection>
+    ensures checks { (settings : SettingsValue) (seed : List ℕ)
+        → AtRoute settings seed asked.now route.OwnSession result }
+    ensures in_order { IfOk result IsInOrder }
+{
+    let own_device = guest_device(asked.device()).ok_or(Refusal::BadDevice)?;
+    Ok(Operation::OwnSession(own_device))
+}
+
+/// Checks `GET /gateway/sessions/details`. Rejection: `Forbidden`.
+fn check_session_details(
+    settings: &Settings,
+    asked: &RoutedRequest<'_>,
+) -> Result<Operation, Rejection>
+    ensures checks { (seed : List ℕ) → AtRoute settings.now seed asked.now route.SessionDetails result }
+    ensures in_order { IfOk result IsInOrder }
+{
+    require_token(settings.gateway_token(), asked)?;
+    Ok(Operation::OpenDetails)
+}
+
 /// Checks what a route requires of its request, and returns the operation.
 ///
 /// The caller is checked first, then the idempotency key if the route has a command, then the body or the
@@ -269,5 +318,9 @@ pub fn check_route(
         Route::Takings => check_takings(settings, asked),
         Route::Reports => check_reports(alloc, settings, asked),
         Route::Sessions => check_sessions(settings, asked),
+        Route::Session => check_session(settings, asked),
+        Route::LastSession => check_last_session(settings, asked),
+        Route::OwnSession => check_own_session(asked),
+        Route::SessionDetails => check_session_details(settings, asked),
     }
 }

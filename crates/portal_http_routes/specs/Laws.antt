@@ -3,7 +3,8 @@ use Rattle.std.specs.Prelude.{◌≡◌, ◌≢◌, ◌↔◌, ℕ, ◌<◌, Lis
 use Rattle.portal_http_routes.specs.declared.Route.{Route}
 use Rattle.portal_http_routes.specs.declared.Route.TheVariants.{Captive, Redeem, Plans, Batches, Print, Sales}
 use Rattle.portal_http_routes.specs.declared.Route.TheVariants.{Refunds, Closes, Voucher, Takings, Reports}
-use Rattle.portal_http_routes.specs.declared.Route.TheVariants.{Sessions}
+use Rattle.portal_http_routes.specs.declared.Route.TheVariants.{Sessions, Session, LastSession, OwnSession}
+use Rattle.portal_http_routes.specs.declared.Route.TheVariants.{SessionDetails}
 use Rattle.portal_http_routes.specs.Targets.{slash, parameter_of}
 use Rattle.portal_http_routes.specs.Table.{route_in}
 
@@ -25,6 +26,10 @@ print_path id = codes "/desk/batches/" ++ (id ++ codes "/print")
 abbrev pub voucher_path : List ℕ → List ℕ
 voucher_path code = codes "/desk/vouchers/" ++ code
 
+-- the path of a session
+abbrev pub session_path : List ℕ → List ℕ
+session_path number = codes "/desk/sessions/" ++ number
+
 -- the paths of a route
 abbrev pub IsPathOf : Route → List ℕ → Type 0
 IsPathOf Captive path = path ≡ codes "/captive"
@@ -39,6 +44,10 @@ IsPathOf Voucher path = (code : List ℕ) × IsSegment code × (path ≡ voucher
 IsPathOf Takings path = path ≡ codes "/desk/takings"
 IsPathOf Reports path = path ≡ codes "/gateway/reports"
 IsPathOf Sessions path = path ≡ codes "/gateway/sessions"
+IsPathOf Session path = (number : List ℕ) × IsSegment number × (path ≡ session_path number)
+IsPathOf LastSession path = path ≡ codes "/desk/sessions"
+IsPathOf OwnSession path = path ≡ codes "/portal/session"
+IsPathOf SessionDetails path = path ≡ codes "/gateway/sessions/details"
 
 -- a path has a route exactly if it is one of the route's paths
 abbrev pub RoutesAreExact : Type 0
@@ -46,8 +55,10 @@ RoutesAreExact =
     (route : Route) (path : List ℕ) → All (λ b. b < 256) path
     → (route_in path ≡ Some route) ↔ IsPathOf route path
 
--- the parameter of a print path is its batch, and that of a voucher's path its code
+-- the parameter of a print path is its batch, that of a voucher's path its code, and that of a session's
+-- path its number
 abbrev pub ParametersAreExact : Type 0
 ParametersAreExact =
     (word : List ℕ) → IsSegment word
     → (parameter_of (print_path word) ≡ word) × (parameter_of (voucher_path word) ≡ word)
+    × (parameter_of (session_path word) ≡ word)

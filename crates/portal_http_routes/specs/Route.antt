@@ -3,7 +3,8 @@ use Rattle.std.specs.Prelude.{ℕ, List, codes}
 use Rattle.portal_http_routes.specs.declared.Route.{Route}
 use Rattle.portal_http_routes.specs.declared.Route.TheVariants.{Captive, Redeem, Plans, Batches, Print, Sales}
 use Rattle.portal_http_routes.specs.declared.Route.TheVariants.{Refunds, Closes, Voucher, Takings, Reports}
-use Rattle.portal_http_routes.specs.declared.Route.TheVariants.{Sessions}
+use Rattle.portal_http_routes.specs.declared.Route.TheVariants.{Sessions, Session, LastSession, OwnSession}
+use Rattle.portal_http_routes.specs.declared.Route.TheVariants.{SessionDetails}
 use Rattle.portal_http_routes.specs.declared.Role.{Role}
 use Rattle.portal_http_routes.specs.declared.Role.TheVariants.{Guest, Desk, Gateway}
 
@@ -21,6 +22,10 @@ method_of Voucher = codes "GET"
 method_of Takings = codes "GET"
 method_of Reports = codes "POST"
 method_of Sessions = codes "GET"
+method_of Session = codes "GET"
+method_of LastSession = codes "GET"
+method_of OwnSession = codes "GET"
+method_of SessionDetails = codes "GET"
 
 -- the role of the callers that may use the route
 abbrev pub role_of : Route → Role
@@ -36,3 +41,7 @@ role_of Voucher = Desk
 role_of Takings = Desk
 role_of Reports = Gateway
 role_of Sessions = Gateway
+role_of Session = Desk
+role_of LastSession = Desk
+role_of OwnSession = Guest
+role_of SessionDetails = Gateway

@@ -10,7 +10,8 @@ use Rattle.matchit.specs.declared.error.InsertError.{InsertError}
 use Rattle.portal_http_routes.specs.declared.Route.{Route}
 use Rattle.portal_http_routes.specs.declared.Route.TheVariants.{Captive, Redeem, Plans, Batches, Print, Sales}
 use Rattle.portal_http_routes.specs.declared.Route.TheVariants.{Refunds, Closes, Voucher, Takings, Reports}
-use Rattle.portal_http_routes.specs.declared.Route.TheVariants.{Sessions}
+use Rattle.portal_http_routes.specs.declared.Route.TheVariants.{Sessions, Session, LastSession, OwnSession}
+use Rattle.portal_http_routes.specs.declared.Route.TheVariants.{SessionDetails}
 use Rattle.portal_http_routes.specs.Targets.{is_path}
 
 -- a router's rows with one route added, by the result of parsing its pattern
@@ -27,14 +28,16 @@ abbrev pub place_all : List (List ℕ × Route) → RowsOf (RouteOf Route) → R
 place_all [] rows = rows
 place_all ((text, route) ∷ rest) rows = place_all rest (place_route text route rows)
 
--- the twelve routes
+-- the sixteen routes
 abbrev pub all_routes : List (List ℕ × Route)
 all_routes =
     (codes "/captive", Captive) ∷ (codes "/portal/redeem", Redeem) ∷ (codes "/desk/plans", Plans)
     ∷ (codes "/desk/batches", Batches) ∷ (codes "/desk/batches/{id}/print", Print)
     ∷ (codes "/desk/sales", Sales) ∷ (codes "/desk/refunds", Refunds) ∷ (codes "/desk/closes", Closes)
     ∷ (codes "/desk/vouchers/{code}", Voucher) ∷ (codes "/desk/takings", Takings)
-    ∷ (codes "/gateway/reports", Reports) ∷ (codes "/gateway/sessions", Sessions) ∷ []
+    ∷ (codes "/gateway/reports", Reports) ∷ (codes "/gateway/sessions", Sessions)
+    ∷ (codes "/desk/sessions/{number}", Session) ∷ (codes "/desk/sessions", LastSession)
+    ∷ (codes "/portal/session", OwnSession) ∷ (codes "/gateway/sessions/details", SessionDetails) ∷ []
 
 -- the router's rows
 abbrev pub table : RowsOf (RouteOf Route)

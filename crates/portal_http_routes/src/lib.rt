@@ -43,6 +43,14 @@ pub enum Route {
     Reports,
     /// `/gateway/sessions`: lists the open sessions.
     Sessions,
+    /// `/desk/sessions/{number}`: gives the details of a session.
+    Session,
+    /// `/desk/sessions`: gives the details of the last session of a device.
+    LastSession,
+    /// `/portal/session`: gives the details of the last session of the guest's device.
+    OwnSession,
+    /// `/gateway/sessions/details`: lists the open sessions with their details.
+    SessionDetails,
 }
 
 /// The role of a caller, which decides how the caller is identified.
@@ -64,9 +72,15 @@ impl Route {
         ensures { result ≡ method_of self }
     {
         match self {
-            Route::Captive | Route::Print | Route::Voucher | Route::Takings | Route::Sessions => {
-                Method::GET
-            }
+            Route::Captive
+            | Route::Print
+            | Route::Voucher
+            | Route::Takings
+            | Route::Sessions
+            | Route::Session
+            | Route::LastSession
+            | Route::OwnSession
+            | Route::SessionDetails => Method::GET,
             Route::Redeem
             | Route::Plans
             | Route::Batches
@@ -82,9 +96,15 @@ impl Route {
         ensures { result.now ≡ method_of self }
     {
         match self {
-            Route::Captive | Route::Print | Route::Voucher | Route::Takings | Route::Sessions => {
-                "GET"
-            }
+            Route::Captive
+            | Route::Print
+            | Route::Voucher
+            | Route::Takings
+            | Route::Sessions
+            | Route::Session
+            | Route::LastSession
+            | Route::OwnSession
+            | Route::SessionDetails => "GET",
             Route::Redeem
             | Route::Plans
             | Route::Batches
@@ -100,7 +120,7 @@ impl Route {
         ensures { result ≡ role_of self }
     {
         match self {
-            Route::Captive | Route::Redeem => Role::Guest,
+            Route::Captive | Route::Redeem | Route::OwnSession => Role::Guest,
             Route::Plans
             | Route::Batches
             | Route::Print
@@ -108,8 +128,10 @@ impl Route {
             | Route::Refunds
             | Route::Closes
             | Route::Voucher
-            | Route::Takings => Role::Desk,
-            Route::Reports | Route::Sessions => Role::Gateway,
+            | Route::Takings
+            | Route::Session
+            | Route::LastSession => Role::Desk,
+            Route::Reports | Route::Sessions | Route::SessionDetails => Role::Gateway,
         }
     }
 }

@@ -38,7 +38,7 @@ fn add_route(router: &mut Router<Route>, text: &str, route: Route) -> Result<(),
     router.insert(text, route)
 }
 
-/// Makes a router with the twelve routes. Error: as for `add_route`.
+/// Makes a router with the sixteen routes. Error: as for `add_route`.
 fn whole_router(alloc: Global) -> Result<Router<Route>, InsertError>
     ensures { IfOk result (λ router. router ≡ table) }
 {
@@ -55,11 +55,19 @@ fn whole_router(alloc: Global) -> Result<Router<Route>, InsertError>
     add_route(&mut router, "/desk/takings", Route::Takings)?;
     add_route(&mut router, "/gateway/reports", Route::Reports)?;
     add_route(&mut router, "/gateway/sessions", Route::Sessions)?;
+    add_route(&mut router, "/desk/sessions/{number}", Route::Session)?;
+    add_route(&mut router, "/desk/sessions", Route::LastSession)?;
+    add_route(&mut router, "/portal/session", Route::OwnSession)?;
+    add_route(
+        &mut router,
+        "/gateway/sessions/details",
+        Route::SessionDetails,
+    )?;
     Ok(router)
 }
 
 impl Routes {
-    /// Makes the table of the twelve routes. The only error is out of memory.
+    /// Makes the table of the sixteen routes. The only error is out of memory.
     pub fn new(alloc: Global) -> Result<Routes, AllocError>
         ensures { IfOk result (λ routes. routes ≡ table) }
     {
@@ -80,7 +88,8 @@ impl Routes {
     /// Finds the route of a target's path.
     ///
     /// None if the path does not begin with a slash, has an empty segment, names no route, or is not UTF-8.
-    /// A segment in the place of `{id}` or `{code}` is taken as it is: nothing is percent-decoded.
+    /// A segment in the place of `{id}`, `{code}` or `{number}` is taken as it is: nothing is
+    /// percent-decoded.
     pub fn find(&self, path: &str) -> Option<Route>
         ensures { FindsRoute path.now result }
     {

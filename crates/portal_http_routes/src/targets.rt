@@ -35,7 +35,7 @@ pub fn split_target(target: &[u8]) -> (&[u8], Option<&[u8]>)
     split_at_byte(target, b'?')
 }
 
-/// Returns the parameter of a path: its third segment, in the place of `{id}` or `{code}`.
+/// Returns the parameter of a path: its third segment, in the place of `{id}`, `{code}` or `{number}`.
 ///
 /// Nothing is percent-decoded. The parameter is empty if the path has no third segment.
 pub fn path_parameter(path: &[u8]) -> &[u8]

@@ -1,4 +1,6 @@
 pub mod Common
+pub mod DetailsLemmas
+pub mod ListedLemmas
 pub mod ObjectLemmas
 pub mod SessionLemmas
 pub mod TextLemmas

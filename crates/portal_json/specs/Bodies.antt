@@ -1,11 +1,14 @@
 -- The bodies of responses: JSON without spaces between its tokens, keys in byte order.
-use Rattle.std.specs.Prelude.{ℕ, List, [], ◌∷◌, Option, Some, option_map, map, codes}
-use Rattle.serde_json.specs.Data.{Data, boolean, string, array}
+use Rattle.std.specs.Prelude.{ℕ, List, [], ◌∷◌, Option, Some, None, option_map, map, codes}
+use Rattle.serde_json.specs.Data.{Data, null, boolean, string, array}
 use Rattle.serde_json.specs.View.{items_of}
 use Rattle.serde_json.specs.Written.{compact_text}
 use Rattle.portal_codes.specs.Code.{text_of}
 use Rattle.portal_model.specs.declared.captive.Captive.{Captive}
 use Rattle.portal_model.specs.declared.captive.OpenSession.{OpenSession}
+use Rattle.portal_model.specs.declared.details.End.{End}
+use Rattle.portal_model.specs.declared.details.End.TheVariants.{Closed, Time, Bytes}
+use Rattle.portal_model.specs.declared.details.SessionDetails.{SessionDetails}
 use Rattle.portal_model.specs.declared.record.Voucher.{Voucher}
 use Rattle.portal_model.specs.declared.change.Answer.{Answer}
 use Rattle.portal_model.specs.declared.change.Answer.TheVariants.{LoadAnswer, IssueAnswer, SellAnswer}
@@ -79,10 +82,64 @@ session_keys s =
 abbrev pub session_data : OpenSession → Data
 session_data s = object_of (session_keys s)
 
+-- an object with a list of sessions, in this order
+abbrev pub sessions_list : {A : Type 0} → (A → Data) → List A → Data
+sessions_list shown sessions =
+    object_of ((codes "sessions", Some (array (items_of (map shown sessions)))) ∷ [])
+
 -- open sessions, in the order listed
 abbrev pub sessions_data : List OpenSession → Data
-sessions_data sessions =
-    object_of ((codes "sessions", Some (array (items_of (map session_data sessions)))) ∷ [])
+sessions_data sessions = sessions_list session_data sessions
+
+-- the word for the reason for which a session has ended
+abbrev pub word_of_end : End → List ℕ
+word_of_end Closed = codes "closed"
+word_of_end Time = codes "time"
+word_of_end Bytes = codes "bytes"
+
+-- that word, or null while the session is open
+abbrev pub end_or_null : Option End → Data
+end_or_null None = null
+end_or_null (Some end) = string (word_of_end end)
+
+-- the keys of the details of a session, with the device that is shown, if one is
+abbrev pub details_keys : Option (List ℕ) → SessionDetails → List KeyedValue
+details_keys device s =
+    (codes "at", option_map integer s.at)
+    ∷ (codes "bytes-remaining", option_map integer s.bytes)
+    ∷ (codes "device", option_map string device)
+    ∷ (codes "ended", Some (end_or_null s.ended))
+    ∷ (codes "opened", Some (integer s.opened))
+    ∷ (codes "plan", Some (string s.plan))
+    ∷ (codes "seconds-remaining", option_map integer s.seconds)
+    ∷ (codes "session", Some (integer s.number))
+    ∷ (codes "used", Some (integer s.used)) ∷ []
+
+-- the details of a session, with its device
+abbrev pub details_data : SessionDetails → Data
+details_data s = object_of (details_keys (Some (text_of_device s.device)) s)
+
+-- the same without the device, for the device itself
+abbrev pub own_details_data : SessionDetails → Data
+own_details_data s = object_of (details_keys None s)
+
+-- the keys of an open session in the list of details
+abbrev pub open_details_keys : SessionDetails → List KeyedValue
+open_details_keys s =
+    (codes "bytes-remaining", option_map integer s.bytes)
+    ∷ (codes "device", Some (string (text_of_device s.device)))
+    ∷ (codes "opened", Some (integer s.opened))
+    ∷ (codes "plan", Some (string s.plan))
+    ∷ (codes "seconds-remaining", option_map integer s.seconds)
+    ∷ (codes "session", Some (integer s.number)) ∷ []
+
+-- an open session in that list
+abbrev pub open_details_data : SessionDetails → Data
+open_details_data s = object_of (open_details_keys s)
+
+-- the details of open sessions, in the order listed
+abbrev pub details_list_data : List SessionDetails → Data
+details_list_data sessions = sessions_list open_details_data sessions
 
 -- the text of a captive state
 unfoldable pub captive_body : Captive → List ℕ → Option (List ℕ) → List ℕ
@@ -103,3 +160,15 @@ voucher_body voucher = compact_text (voucher_data voucher)
 -- the text of open sessions
 unfoldable pub sessions_body : List OpenSession → List ℕ
 sessions_body sessions = compact_text (sessions_data sessions)
+
+-- the text of the details of a session
+unfoldable pub details_body : SessionDetails → List ℕ
+details_body s = compact_text (details_data s)
+
+-- the text of the details of the session of the device that asks
+unfoldable pub own_details_body : SessionDetails → List ℕ
+own_details_body s = compact_text (own_details_data s)
+
+-- the text of the details of open sessions
+unfoldable pub open_details_body : List SessionDetails → List ℕ
+open_details_body sessions = compact_text (details_list_data sessions)

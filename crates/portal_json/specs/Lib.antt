@@ -1,3 +1,4 @@
 pub mod Objects
 pub mod Bodies
 pub mod Orders
+pub mod Listed

@@ -3,6 +3,8 @@
 
 mod answers;
 mod captives;
+mod details;
+mod listed;
 mod objects;
 mod orders;
 mod sessions;
@@ -10,6 +12,7 @@ mod vouchers;
 
 pub use answers::{answer_text, error_text};
 pub use captives::captive_text;
+pub use details::{details_text, open_details_text, own_details_text};
 pub use orders::{
     BatchOrder, ReportOrder, read_batch, read_close, read_redeem, read_refund, read_report,
     read_sale,

@@ -5,6 +5,7 @@ ghost use Rattle.serde_json.specs.View.{view, members_view};
 ghost use Rattle.serde_json.specs.Written.{compact_text, has_float};
 ghost use Rattle.portal_json.specs.Objects.{integer, integer_or_null, put_some};
 
+use portal_model::moment::Moment;
 use portal_model::refusal::Refusal;
 use serde_json::{Map, Value};
 use std::alloc::{AllocError, Global};
@@ -31,6 +32,13 @@ pub fn integer_if_some(value: Option<u64>) -> Option<Value>
     ensures { option_map view result ≡ option_map integer value }
 {
     value.map(|number| Value::from(number))
+}
+
+/// Returns the seconds of a moment since 1970, if there is a moment.
+pub fn seconds_of_moment(moment: Option<Moment>) -> Option<u64>
+    ensures { result ≡ moment }
+{
+    moment.map(|moment| moment.get())
 }
 
 /// Makes a JSON boolean, if there is one.

@@ -3,19 +3,11 @@ ghost use Rattle.std.specs.Prelude.{◌≡◌, IfOk, IfErr, string_bytes};
 ghost use Rattle.serde_json.specs.View.{view};
 ghost use Rattle.portal_json.specs.Bodies.{voucher_data, voucher_body};
 
-use crate::objects::{as_text, integer_or_null, text_of_value};
-use portal_model::moment::Moment;
+use crate::objects::{as_text, integer_or_null, seconds_of_moment, text_of_value};
 use portal_model::record::Voucher;
 use portal_model::refusal::Refusal;
 use serde_json::{Value, json};
 use std::alloc::{AllocError, Global};
-
-/// Returns the seconds of a moment since 1970, if there is a moment.
-fn seconds_of_moment(moment: Option<Moment>) -> Option<u64>
-    ensures { result ≡ moment }
-{
-    moment.map(|moment| moment.get())
-}
 
 /// Returns the JSON object of a voucher's state. The only error is out of memory.
 fn voucher_value(alloc: Global, voucher: &Voucher) -> Result<Value, AllocError>

@@ -5,3 +5,4 @@ pub mod Ledgers
 pub mod Repetitions
 pub mod KnownByRow
 pub mod Typed
+pub mod UniqueKeys

@@ -1,5 +1,6 @@
 -- Laws of ledgers.
 use Rattle.std.specs.Prelude.{◌≡◌, ℕ, ◌+◌, ◌≤◌, true, cond, [], ◌∷◌, ◌++◌, Some, All}
+use Rattle.std.specs.List.{IsDistinct}
 use Rattle.portal_model.specs.declared.change.Changes.{Changes}
 use Rattle.portal_model.specs.Change.{changes_of}
 use Rattle.portal_model.specs.Verdict.{IsLegal}
@@ -34,6 +35,10 @@ times_under (a ∷ L) mark = cond (is_under mark a.mark) (times_under L mark + 1
 -- at most one command was accepted with each key
 abbrev pub KeyIsHeldOnce : Type 0
 KeyIsHeldOnce = (L : Ledger) → IsSound L → (mark : Fingerprint) → times_under L mark ≤ 1
+
+-- no two kept requests have the same key
+abbrev pub RequestKeysAreUnique : Type 0
+RequestKeysAreUnique = (L : Ledger) → IsSound L → IsDistinct (λ k j. same_key k.mark j.mark) (requests_of L)
 
 -- the kept request with a key is that of one command of the ledger, and its answer is the answer to that
 -- command

@@ -15,6 +15,7 @@ ghost use Rattle.portal_ledger.specs.Laws.{
   CallerIsKnownByText,
   KeptRequestsAreTyped,
   RequestIsKnownByRow,
+  RequestKeysAreUnique,
 };
 
 /// The history of a sound ledger is legal.
@@ -39,6 +40,12 @@ pub fn held_request_is_row()
 #[tactic(auto, using(crate::proofs::Ledgers::the_key_is_held_once))]
 pub fn key_is_held_once()
     ensures { KeyIsHeldOnce }
+{}
+
+/// No two kept requests have the same caller and idempotency key.
+#[tactic(auto, using(crate::proofs::UniqueKeys::the_keys_are_unique))]
+pub fn request_keys_are_unique()
+    ensures { RequestKeysAreUnique }
 {}
 
 /// The answer of a kept request is the answer that the caller of its command got.

@@ -31,6 +31,7 @@ session_after head plan (Some s) device t =
 session_after head plan None device t = record {
   number = head.sessions + 1;
   device = device;
+  plan = plan.id;
   extend = plan.extend;
   opened = t;
   ends = limit_or_none plan.seconds (t + plan.seconds);

@@ -191,6 +191,7 @@ abbrev pub session_row : History → ℕ → List Grant → Grant → Session
 session_row H n gs first = record {
   number = n;
   device = first.device;
+  plan = first.plan.id;
   extend = first.plan.extend;
   opened = first.at;
   ends = limit_or_none first.plan.seconds (first.at + sum_by (λ g. g.plan.seconds) gs);

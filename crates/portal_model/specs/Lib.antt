@@ -8,9 +8,11 @@ pub mod Verdict
 pub mod Change
 pub mod Rows
 pub mod Captive
+pub mod Details
 pub mod Payments
 pub mod Private
 pub mod Span
 pub mod Takings
 pub mod TestVectors
 pub mod VerdictVectors
+pub mod DetailsVectors

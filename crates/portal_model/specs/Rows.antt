@@ -361,6 +361,7 @@ abbrev pub session_of_rows : SessionRow → TotalRow → Plan → Session
 session_of_rows row total plan = record {
   number = row.number;
   device = row.device;
+  plan = row.plan;
   extend = plan.extend;
   opened = row.opened;
   ends = total.ends;

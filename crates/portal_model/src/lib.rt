@@ -5,6 +5,7 @@ pub mod calendar;
 pub mod captive;
 pub mod change;
 pub mod command;
+pub mod details;
 pub mod lists;
 mod memory;
 pub mod moment;

@@ -41,6 +41,8 @@ pub struct Voucher {
 pub struct Session {
     pub number: u64,
     pub device: Device,
+    /// The plan of the voucher that opened it.
+    pub plan: Id,
     /// Whether it may be extended. The plan that opened it decides this.
     pub extend: bool,
     /// The time of the redemption that opened it.

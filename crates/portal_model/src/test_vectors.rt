@@ -1,5 +1,5 @@
-//! Test vectors of the model: histories with the answers to commands and the captive state of devices. The
-//! function does nothing; its contract states the vectors.
+//! Test vectors of the model: histories with the answers to commands, the captive state of devices and the
+//! details of sessions. The functions do nothing; their contracts state the vectors.
 ghost use Rattle.portal_model.specs.TestVectors.{
   IssueSellRedeem,
   ClockSetBack,
@@ -12,6 +12,12 @@ ghost use Rattle.portal_model.specs.TestVectors.{
   NotSoldThenExpired,
   CloseSession,
   AllowanceIsFull,
+};
+ghost use Rattle.portal_model.specs.DetailsVectors.{
+  DetailsOfHour,
+  DetailsOfBytes,
+  DetailsOfBoth,
+  DetailsOfLast,
 };
 ghost use Rattle.portal_model.specs.VerdictVectors.{
   LoadVerdicts,
@@ -54,4 +60,12 @@ pub fn history_vectors_hold()
     ensures numbers_full { NumbersAreFull }
     ensures refunds { RefundVerdicts }
     ensures sessions { SessionVerdicts }
+{}
+
+/// Test vectors of the details of sessions: limited in time, in bytes and in both, closed, and extended.
+pub fn details_vectors_hold()
+    ensures hour { DetailsOfHour }
+    ensures bytes { DetailsOfBytes }
+    ensures both { DetailsOfBoth }
+    ensures last { DetailsOfLast }
 {}

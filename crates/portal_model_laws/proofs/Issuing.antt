@@ -32,7 +32,7 @@ Agrees batches plans (Some i) None = ⊥
 Agrees batches plans (Some i) (Some k) = IsBacked batches plans i k
 
 -- what was found of an id is found later too
-abbrev Keeps : {A : Type 0} → (List ℕ → Option A) → (List ℕ → Option A) → Type 0
+abbrev pub Keeps : {A : Type 0} → (List ℕ → Option A) → (List ℕ → Option A) → Type 0
 Keeps {A} f g = (id : List ℕ) (x : A) → f id ≡ Some x → g id ≡ Some x
 
 keeps_all : {A : Type 0} (f : List ℕ → Option A) → Keeps f f
@@ -63,7 +63,7 @@ placed-batch code b n (c ∷ codes) k e =
       | inr is ↦ placed-batch code b (n + 1) codes k is.1
     ]
 
-new_batch-keeps : (H : History) (t : ℕ) (b p : List ℕ) (codes : List (List ℕ)) → batch_of H b ≡ None
+pub new_batch-keeps : (H : History) (t : ℕ) (b p : List ℕ) (codes : List (List ℕ)) → batch_of H b ≡ None
     → Keeps (batch_of H) (batch_of (entry t (Issue b p codes) ∷ H))
 new_batch-keeps H t b p codes none = λ id x e. go id x e (bytes_eq b id) refl
   where
@@ -75,7 +75,7 @@ new_batch-keeps H t b p codes none = λ id x e. go id x e (bytes_eq b id) refl
 
 module _ (H : History) (t : ℕ) (b p : List ℕ) (codes : List (List ℕ)) (plan : Plan)
     (known : plan_of H p ≡ Some plan) (none : batch_of H b ≡ None) where
-  issue_found : batch_of (entry t (Issue b p codes) ∷ H) b ≡ Some (batch_row t b (length codes) plan)
+  pub issue_found : batch_of (entry t (Issue b p codes) ∷ H) b ≡ Some (batch_row t b (length codes) plan)
   issue_found = cond-true (bytes_eq b b) (option_map (batch_row t b (length codes)) (plan_of H p))
       (batch_of H b) (bytes_refl b) ∙ ap (option_map (batch_row t b (length codes))) known
 

@@ -144,7 +144,7 @@ one-more batches r id before is new =
     go true h = let none : batch_among batches id ≡ None = sym is ∙ h refl in rw none
     go false h = is ∙ sym (or-right (batch_among batches id))
 
-batches-issued : (H : History) (t : ℕ) (b p : List ℕ) (codes : List (List ℕ)) (plan : Plan)
+pub batches-issued : (H : History) (t : ℕ) (b p : List ℕ) (codes : List (List ℕ)) (plan : Plan)
     → plan_of H p ≡ Some plan
     → batches_of (entry t (Issue b p codes) ∷ H) ≡ batches_of H ++ batch_row t b (length codes) plan ∷ []
 batches-issued H t b p codes plan e =

@@ -21,6 +21,7 @@ pub mod Paid
 pub mod Placed
 pub mod Placing
 pub mod Plans
+pub mod References
 pub mod Remaining
 pub mod Sessions
 pub mod Telling

@@ -80,7 +80,7 @@ join_at H n g is knows =
     ∙ ap (λ (a : Option ℕ). Some (record s { allowance = a })) (allowance-again s.allowance s.used)
     ∙ ap (λ (m : ℕ). Some (session_row H m (members (grants_of H) m) g)) is
 
-session_among-openings : (H : History) → IsLegal H → (n : ℕ)
+pub session_among-openings : (H : History) → IsLegal H → (n : ℕ)
     → session_among (sessions_of H) n ≡ option_map (row_of_opening H) (oldest (members (grants_of H) n))
 session_among-openings H legal n =
     find-map (row_of_opening H) (λ s. nat_eq s.number n) (openings (grants_of H))

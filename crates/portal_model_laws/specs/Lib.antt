@@ -4,3 +4,4 @@ pub mod FromRows
 pub mod Laws
 pub mod Limits
 pub mod Records
+pub mod References

@@ -3,6 +3,7 @@
 #![tactic(auto)]
 
 ghost use Rattle.portal_model_laws.specs.Everyday.{EveryCommandIsLegal};
+ghost use Rattle.portal_model_laws.specs.References.{PlacesAreUnique, RowsReferToRows};
 ghost use Rattle.portal_model_laws.specs.Laws.{
   AnswersFollow,
   BatchIsRow,
@@ -184,6 +185,19 @@ pub fn totals_are_sums()
 #[tactic(auto, using(crate::proofs::Numbers::keys_apart))]
 pub fn keys_are_unique()
     ensures { KeysAreUnique }
+{}
+
+/// No two vouchers have the same place in a batch.
+#[tactic(auto, using(crate::proofs::References::places_apart))]
+pub fn places_are_unique()
+    ensures { PlacesAreUnique }
+{}
+
+/// Each row that another refers to is there: the plan of a batch and of a session, the batch of a voucher,
+/// the voucher and the session of a redemption, and the voucher of a count.
+#[tactic(auto, using(crate::proofs::References::rows_refer))]
+pub fn rows_refer_to_rows()
+    ensures { RowsReferToRows }
 {}
 
 /// Sessions and redemptions are numbered from 1 without a gap, and the head row has the numbers of their

@@ -1,7 +1,7 @@
 -- A database file beside a log with no frame holds all tables by itself, as it reads and after a crash.
 use Rattle.portal_os.proofs.Common.{◌≡◌, ℕ, ◌<◌, List, [], ◌∷◌, true, false, Some, inl, inr, sym, ◌∙◌, ap}
 use Rattle.portal_os.proofs.Common.{subst, arith, length, Image, IsPageSize, Held, Ghosts, Files, file_state}
-use Rattle.portal_os.proofs.Common.{image_of, HoldsAlone, HoldsDatabase, IsCopied, IsAlone}
+use Rattle.portal_os.proofs.Common.{image_of, HoldsAlone, HoldsDatabase, IsCopied, IsAlone, IsIgnored}
 use Rattle.portal_os.specs.Opening.{IsSettledAlone}
 use Rattle.std.proofs.Common.{◌+◌, ◌-◌, ◌*◌, ◌≤◌, Option, take, slice_index, unwrap_or, cond, eqb, refl, ap₂}
 use Rattle.std.proofs.Common.{get_or-take, le-ltb, lt-ltb, zero-add}
@@ -29,11 +29,10 @@ use Rattle.sqlite_store.specs.Listing.{IsOurs}
 use Rattle.sqlite.specs.State.{HasCleanDisk}
 use Rattle.sqlite.specs.Files.{AreFoundIn, Finds, IsNothing, IsOpened}
 
--- nothing of such a log is replayed
-none_replayed : (size : ℕ) (log : List ℕ) (frames : ℕ) → length log < 56 → Replays size log frames
+-- nothing of a log that is passed over is replayed
+pub none_replayed : (size : ℕ) (log : List ℕ) (frames : ℕ) → IsIgnored log → Replays size log frames
     → frames ≡ 0
-none_replayed size log frames bare replays = replays_once size log frames 0 replays
-    (inl (inl (omega (arith, bare)), refl))
+none_replayed size log frames ignored replays = replays_once size log frames 0 replays (inl (ignored, refl))
 
 bare_pages : (size : ℕ) (log db : List ℕ) → pages_after size log db 0 ≡ pages_after size [] db 0
 unfolding pages_after
@@ -42,7 +41,7 @@ bare_pages size log db = refl
 without_log : (size : ℕ) (image : Image) (pages : PageMap) → length image.log < 56
     → raw.Recovers size image pages → raw.Recovers size (record image { log = [] }) pages
 without_log size image pages bare found =
-    let none = none_replayed size image.log found.frames bare found.replays in record {
+    let none = none_replayed size image.log found.frames (inl bare) found.replays in record {
       frames = 0;
       replays = inl (inl (omega arith), refl);
       present = found.present;
@@ -54,7 +53,7 @@ adopts_alone : (size : ℕ) (image : Image) (pages : PageMap) → length image.l
     → Adopts size (record image { log = [] }) pages
 adopts_alone size image pages bare it =
     let none : it.numbers ≡ [] = empty_list it.numbers (none_replayed (stored_size size) image.log
-    (length it.numbers) bare it.frames.0) in record {
+    (length it.numbers) (inl bare) it.frames.0) in record {
       stored = it.stored;
       found = without_log (stored_size size) image it.stored bare it.found;
       whole = it.whole;
@@ -70,13 +69,13 @@ adopts_alone size image pages bare it =
     empty_list (n ∷ more) none = absurd (omega (arith, none))
 
 -- the size that the file names is that of its pages
-module _ (size : ℕ) (image : Image) (pages : PageMap) (bare : length image.log < 56)
+module _ (size : ℕ) (image : Image) (pages : PageMap) (ignored : IsIgnored image.log)
     (found : Adopts size image pages) (sound : IsSoundFile size pages) where
   byte_of_file : (k : ℕ) → k < size → k < 100 → slice_index (header_in pages) k ≡ slice_index image.db k
   byte_of_file k small low =
       let whole = stored_size size in
       let raw = found.found in
-      let none = none_replayed whole image.log raw.frames bare raw.replays in
+      let none = none_replayed whole image.log raw.frames ignored raw.replays in
       let (page, is) = some_value (found.stored 1) found.whole.first in
       let alone : pages_after whole image.log image.db 0 1 ≡ Some page = ap (λ (p : PageMap). p 1)
       (ap (pages_after whole image.log image.db) (sym none) ∙ raw.gives) ∙ is in
@@ -118,7 +117,7 @@ module _ (size : ℕ) (image : Image) (pages : PageMap) (bare : length image.log
     ))
   ]
 
-  size_named : 18 ≤ length image.db → size_in_file image.db ≡ stored_size size
+  pub size_named : 18 ≤ length image.db → size_in_file image.db ≡ stored_size size
   size_named long =
       let named = ap₂ (λ (a b : ℕ). a * 256 + b) (byte_of_file 16 (omega (arith, reaches)) (omega arith))
       (byte_of_file 17 (omega (arith, reaches)) (omega arith)) in
@@ -154,7 +153,7 @@ held_alone : (image : Image) (db : Trees) (schema : Schema) → IsAlone image �
 held_alone image db schema alone sound (inr (nothing, empty)) = absurd (something image alone nothing)
 held_alone image db schema alone sound (inl (size, pages, wanted, adopts, ours, reads)) =
     let sized = λ (o : IsOurs size true wanted pages). subst IsPageSize (size_named size image pages
-    alone.bare adopts o.file.sound (named_within image.db alone.sized)) alone.sized in record {
+    (inl alone.bare) adopts o.file.sound (named_within image.db alone.sized)) alone.sized in record {
       both = ∥∥₁_map ours (λ o.
           let r : HoldsDatabase image db = (
             size,

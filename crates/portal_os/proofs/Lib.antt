@@ -1,5 +1,6 @@
 pub mod AloneLemmas
 pub mod Common
+pub mod CopyingLemmas
 pub mod OpeningLemmas
 pub mod ClosingLemmas
 pub mod ImageLemmas

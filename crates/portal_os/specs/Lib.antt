@@ -1,3 +1,4 @@
+pub mod Copying
 pub mod CrashImages
 pub mod Errors
 pub mod Laws

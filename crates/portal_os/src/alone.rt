@@ -11,7 +11,7 @@ use sqlite_wal::probe_page_size;
 use std::io;
 
 /// The length of a log with one frame that has no page: a shorter one holds no commits.
-const LOG_WITH_FRAME: usize = 56;
+pub const LOG_WITH_FRAME: usize = 56;
 
 /// Checks whether a file begins with the first byte of a database.
 fn begins_database<D: Disk>(db: &mut D) -> io::Result<bool>

@@ -14,6 +14,7 @@ ghost use Rattle.portal_tables.specs.Images.{ImageHoldsLedger};
 
 use crate::closing::close_desk;
 use crate::errors::{error_of_file, error_of_store};
+use crate::obstacles::unattached;
 use crate::opening::{attach_store, open_memory_desk, open_store};
 use crate::pairs::FilePair;
 use crate::remains::Remains;
@@ -108,7 +109,10 @@ impl<'h, P: FilePair> Place for HostFiles<'h, P> {
         match open_store(self.host, path, self.pair, purpose) {
             Ok(conn) => match attach_store(conn, settings) {
                 Ok(desk) => Ok(desk),
-                Err((error, left)) => Err((Trouble::plain(error), Remains::Refused(left))),
+                Err((error, left)) => {
+                    let trouble = unattached(alloc, path, error, left.schema());
+                    Err((trouble, Remains::Refused(left)))
+                }
             },
             Err(error) => Err((
                 trouble_at(alloc, path, error.program_error(), &error),

@@ -5,12 +5,14 @@
 mod alone;
 mod cache;
 mod closing;
+mod copying;
 mod errors;
 mod files;
 mod finding;
 mod images;
 mod looking;
 mod network;
+mod obstacles;
 mod opening;
 mod opening_error;
 mod pairs;

@@ -16,6 +16,7 @@ ghost use Rattle.portal_os.specs.Opening.{ComesFrom, OpensAgain, OpensFiles, Ref
 
 use crate::alone::needs_copy;
 use crate::cache::with_kept_pages;
+use crate::copying::copy_unopened;
 use crate::errors::error_of_open;
 use crate::looking::check_database;
 use crate::opening_error::OpeningError;
@@ -118,7 +119,7 @@ fn copies_for(purpose: Purpose) -> bool
     }
 }
 
-/// Opens a connection to a database file and its log; to serve, the log is then copied into the file. Errors
+/// Opens a connection to a database file and its log; to serve, the log is copied into the file. Errors
 /// among others: `Lost`, if the file is empty but its log holds commits: it is never taken for a new
 /// database; `NoDatabase`, to ask of a database that has yet to be made: then nothing is written.
 ///
@@ -133,9 +134,11 @@ pub fn open_database_files<D: Disk + Drop>(
     requires db { IsTrue (D.Disk.is_usable files.db) }
     ensures { OpensFiles (image_of D.Disk files) purpose result }
 {
+    let copies = copies_for(purpose);
     check_database(alloc, &mut files, purpose)?;
-    let options = with_kept_pages(&mut files, options)?;
-    open_connection(alloc, files, options, copies_for(purpose))
+    let mut copied = copy_unopened(alloc, files, options.seed, copies)?;
+    let options = with_kept_pages(&mut copied, options)?;
+    open_connection(alloc, copied, options, copies)
 }
 
 /// Opens a connection to a database file and its log, and copies the log into the file if `copies` is true. A
@@ -186,9 +189,9 @@ fn open_with_clock<D: Disk + Drop>(
 }
 
 /// Opens a connection to the database file at a path. To serve or to answer, the file is made if it is
-/// missing. To serve, the log has been copied into the file before: where it may hold commits, the files are
-/// opened, closed and opened again. The connection finds all tables that the file and its log held, ours and those of others, and holds
-/// the file's lock until it is released.
+/// missing. To serve, the log has been copied into the file before: ahead of the opening or, where that
+/// cannot be, by a first opening and its close. The connection finds all tables that the file and its log
+/// held, ours and those of others, and holds the file's lock until it is released.
 ///
 /// No contract ties a path to what its file holds: `pair` stands for that. If it holds a ledger, the
 /// connection represents it. Errors among others: `Lost`, if the file is empty but its log holds commits;

@@ -11,6 +11,7 @@ ghost use Rattle.portal_server.specs.Turns.{wire_of};
 
 use crate::error::ProgramError;
 use portal_desk::Desk;
+use portal_http::Spare;
 use portal_http::exchanges::exchange;
 use portal_http_routes::Routes;
 use portal_model::moment::Moment;
@@ -19,11 +20,12 @@ use std::io::{Read, Write};
 
 /// Serves one connection: at most one request is executed, at this time and with this seed.
 ///
-/// `exchange` says how. If the connection breaks off, it prints `portal: cut`.
+/// `exchange` says how, and what `kept` is. If the connection breaks off, it prints `portal: cut`.
 pub fn serve_peer<D: Desk, R: Read, W: Write, E: Write>(
     alloc: Global,
     desk: &mut D,
     routes: &Routes,
+    kept: &mut Option<Spare>,
     moment: Moment,
     seed: [u8; 32],
     reader: &mut R,
@@ -40,7 +42,7 @@ pub fn serve_peer<D: Desk, R: Read, W: Write, E: Write>(
         (λ arrivals responses. ServesInOrder (D.settings desk.old) old arrivals responses new) ended
         × PrintsOfConnection (said_of ended) (E.contents errors.old) (E.contents errors.new)) }
 {
-    match exchange(alloc, desk, routes, moment, seed, reader, writer) {
+    match exchange(alloc, desk, routes, kept, moment, seed, reader, writer) {
         Ok(_) => {}
         Err(_) => {
             ProgramError::Cut.report(errors);

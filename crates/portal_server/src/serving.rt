@@ -10,6 +10,7 @@ use crate::error::ProgramError;
 use crate::host::Host;
 use crate::peers::serve_peer;
 use portal_desk::Desk;
+use portal_http::Spare;
 use portal_http_routes::Routes;
 use portal_model::refusal::Refusal;
 use std::alloc::Global;
@@ -22,6 +23,7 @@ fn serve_connection<D: Desk, H: Host, E: Write>(
     alloc: Global,
     desk: &mut D,
     routes: &Routes,
+    kept: &mut Option<Spare>,
     host: &mut H,
     mut reader: H::Reader,
     mut writer: H::Writer,
@@ -45,6 +47,7 @@ fn serve_connection<D: Desk, H: Host, E: Write>(
         alloc,
         desk,
         routes,
+        kept,
         moment,
         seed,
         &mut reader,
@@ -72,6 +75,7 @@ fn accept_and_serve<D: Desk, H: Host, E: Write>(
     alloc: Global,
     desk: &mut D,
     routes: &Routes,
+    kept: &mut Option<Spare>,
     host: &mut H,
     has_failed: bool,
     errors: &mut E,
@@ -92,7 +96,7 @@ fn accept_and_serve<D: Desk, H: Host, E: Write>(
     match host.accept() {
         Some(peer) => {
             let (reader, writer) = peer;
-            serve_connection(alloc, desk, routes, host, reader, writer, errors)?;
+            serve_connection(alloc, desk, routes, kept, host, reader, writer, errors)?;
             Ok(false)
         }
         None => {
@@ -134,7 +138,8 @@ pub fn serve_connections<D: Desk, H: Host, E: Write>(
         × TakesTurns (host_of H.Host H.Reader.Read H.Writer.Write)
         (D.settings desk.old) count host.old old said result host.new new) }
 {
-    accept_loop(alloc, desk, routes, host, count, errors)
+    let mut kept = None;
+    accept_loop(alloc, desk, routes, &mut kept, host, count, errors)
 }
 
 /// Takes the turns one after another, as `serve_connections` says.
@@ -144,6 +149,7 @@ fn accept_loop<D: Desk, H: Host, E: Write>(
     alloc: Global,
     desk: &mut D,
     routes: &Routes,
+    kept: &mut Option<Spare>,
     host: &mut H,
     count: u64,
     errors: &mut E,
@@ -164,7 +170,7 @@ fn accept_loop<D: Desk, H: Host, E: Write>(
         if desk.is_stopped() {
             return Err(ProgramError::Refused(Refusal::Stopped));
         }
-        has_failed = accept_and_serve(alloc, desk, routes, host, has_failed, errors)?;
+        has_failed = accept_and_serve(alloc, desk, routes, kept, host, has_failed, errors)?;
     }
     if desk.is_stopped() {
         Err(ProgramError::Refused(Refusal::Stopped))

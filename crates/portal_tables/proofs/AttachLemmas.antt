@@ -6,8 +6,12 @@ use Rattle.portal_tables.proofs.Common.{Contents, Holds, HoldsIn, this_schema_ve
 use Rattle.portal_tables.proofs.Common.{CrashStateHasOthers, are_names_free, QueryAnswers, IsOneRow}
 use Rattle.portal_tables.proofs.Common.{GivesSchemaVersion, is_usable_schema, HasMigrated, version_number}
 use Rattle.portal_tables.proofs.Common.{migrated_rows, OldSchema, First, Second, Third, Fourth, IsCarried}
+use Rattle.portal_tables.proofs.Common.{Fifth, []}
 use Rattle.portal_tables.proofs.Common.{IsCompleted, CrashStateCarries, MayBeMigrated, HasNoActionOnOurs}
-use Rattle.portal_tables.proofs.Common.{GivesKnownVersion}
+use Rattle.portal_tables.proofs.Common.{GivesKnownVersion, HasNoTableOnOurs, MayBeCarried, hangs_on_ours}
+use Rattle.portal_tables.proofs.Common.{is_entangled, true≢false}
+use Rattle.std.specs.Prelude.{find, is_some, option_map}
+use Rattle.sqlite.specs.Table.{Table}
 use Rattle.sqlite.specs.Order.{Row}
 
 -- what was made of the rows that the head answered
@@ -27,11 +31,27 @@ whole_spares schema whole = (both _ _ whole).1
 pub free_spares : (schema : Schema) → are_names_free schema ≡ true → HasNoActionOnOurs schema
 free_spares schema free = (both _ _ free).1
 
+-- no table was found that refers to one of the product's
+pub none_found : {A : Type 0} (schema : Schema) (f : A → Table) (o : Option A)
+    → option_map f o ≡ find hangs_on_ours schema.tables → is_some o ≡ false → HasNoTableOnOurs schema
+none_found schema f None is none = sym is
+none_found schema f (Some one) is none = absurd (true≢false none)
+
 -- reading the head changed nothing
 pub spared_before : (old mid : State) → IsUnchanged old mid → HasNoActionOnOurs mid.now.schema
     → HasNoActionOnOurs old.now.schema
 spared_before old mid same spared =
     subst (λ (db : Database). HasNoActionOnOurs db.schema) same.0.now_is spared
+
+untangled_before : (old mid : State) → IsUnchanged old mid → is_entangled mid.now.schema ≡ false
+    → is_entangled old.now.schema ≡ false
+untangled_before old mid same free =
+    subst (λ (db : Database). is_entangled db.schema ≡ false) same.0.now_is free
+
+pub carried_before : (old mid : State) (schema_version : ℕ) → IsUnchanged old mid
+    → MayBeCarried mid.now.schema schema_version → MayBeCarried old.now.schema schema_version
+carried_before old mid schema_version same may =
+    subst (λ (db : Database). MayBeCarried db.schema schema_version) same.0.now_is may
 
 -- ---- reading the head, and then the migration
 
@@ -47,9 +67,10 @@ upgrades_crash from old mid new look one two =
       (
         from,
         it.0,
+        untangled_before old mid it.1 may.1,
         λ t h.
-            let left = may.1 it.1.0.is_open t
-            (subst (λ db. HoldsIn (version_number from) false db t) (sym it.1.0.now_is) h) in
+            let left = may.2 it.1.0.is_open t
+            (subst (λ db. HoldsIn (version_number from) [] db t) (sym it.1.0.now_is) h) in
             (left.0, subst (λ (was : Database). CrashStateHasOthers was db) it.1.0.now_is left.1),
       ),
     )) one two
@@ -62,7 +83,7 @@ brings from old mid new tells same did = record {
     from,
     tells,
     λ t h.
-        let here = subst (λ db. HoldsIn (version_number from) false db t) (sym same.0.now_is) h in (
+        let here = subst (λ db. HoldsIn (version_number from) [] db t) (sym same.0.now_is) h in (
           did.holds t here,
           subst (λ (was : Database). KeepsOthers was new.now) same.0.now_is (did.others t here),
         ),
@@ -76,15 +97,15 @@ completes : (old mid new : State) → GivesSchemaVersion old.now (Some this_sche
     → IsUnchanged old mid → IsCompleted mid new → IsCarried old new
 completes old mid new tells same did = go did.holds
   where
-    here : (t : Contents) → HoldsIn this_schema_version false old.now t
-        → HoldsIn this_schema_version false mid.now t
-    here t h = subst (λ db. HoldsIn this_schema_version false db t) (sym same.0.now_is) h
+    here : (t : Contents) → HoldsIn this_schema_version [] old.now t
+        → HoldsIn this_schema_version [] mid.now t
+    here t h = subst (λ db. HoldsIn this_schema_version [] db t) (sym same.0.now_is) h
 
-    others : (t : Contents) → HoldsIn this_schema_version false old.now t → KeepsOthers old.now new.now
+    others : (t : Contents) → HoldsIn this_schema_version [] old.now t → KeepsOthers old.now new.now
     others t h = subst (λ (was : Database). KeepsOthers was new.now) same.0.now_is (did.others t (here t h))
 
-    go : ((t : Contents) → HoldsIn this_schema_version false mid.now t → Holds new.now t) ⊎ ((t : Contents)
-        → HoldsIn this_schema_version false mid.now t → Holds new.now (migrated_rows Fourth t))
+    go : ((t : Contents) → HoldsIn this_schema_version [] mid.now t → Holds new.now t) ⊎ ((t : Contents)
+        → HoldsIn this_schema_version [] mid.now t → Holds new.now (migrated_rows Fifth t))
         → IsCarried old new
     go (inl kept) = record {
       carries = inl (tells, λ t h. (kept t (here t h), others t h));
@@ -93,7 +114,7 @@ completes old mid new tells same did = go did.holds
       same = did.same;
     }
     go (inr up) = record {
-      carries = inr (Fourth, tells, λ t h. (up t (here t h), others t h));
+      carries = inr (Fifth, tells, λ t h. (up t (here t h), others t h));
       is_open = did.is_open;
       ended = did.ended;
       same = did.same;
@@ -104,6 +125,7 @@ known First = (lit≤ tt, lit≤ tt)
 known Second = (lit≤ tt, lit≤ tt)
 known Third = (lit≤ tt, lit≤ tt)
 known Fourth = (lit≤ tt, lit≤ tt)
+known Fifth = (lit≤ tt, lit≤ tt)
 
 -- the schema version that was read
 module _ (from : OldSchema) (old mid new : State) {o : Option ℕ}
@@ -116,11 +138,24 @@ module _ (from : OldSchema) (old mid new : State) {o : Option ℕ}
       → Survives old new (λ trees. HasNoActionOnOurs old.now.schema × CrashStateCarries old.now trees)
   resumed_crash first = upgrades_crash from old mid new seen first later
 
-  pub resumed_why : HasCleanDisk new → HasNoActionOnOurs mid.now.schema
+  pub resumed_why : HasCleanDisk new
+      → HasNoActionOnOurs mid.now.schema × MayBeCarried mid.now.schema (version_number from)
       → HasNoActionOnOurs old.now.schema × GivesKnownVersion old.now
-  resumed_why clean spared =
-      let it = seen (omega (arith, clean, later.clean)) in
-      (spared_before old mid it.1 spared, (version_number from, (known from).0, (known from).1, it.0))
+  resumed_why clean spared = let it = seen (omega (arith, clean, later.clean)) in (
+    spared_before old mid it.1 spared.0,
+    (
+      version_number from,
+      (known from).0,
+      (known from).1,
+      it.0,
+      carried_before old mid (version_number from) it.1 spared.1,
+    ),
+  )
+
+  pub migrated_why : HasCleanDisk new
+      → HasNoActionOnOurs mid.now.schema × (is_entangled mid.now.schema ≡ false)
+      → HasNoActionOnOurs old.now.schema × GivesKnownVersion old.now
+  migrated_why clean spared = resumed_why clean (spared.0, inr spared.1)
 
   pub resumed_done : HasCleanDisk new → (IsTrue mid.is_open → HasMigrated from mid new) → IsCarried old new
   resumed_done clean did = let it = seen (omega (arith, clean, later.clean)) in
@@ -128,9 +163,9 @@ module _ (from : OldSchema) (old mid new : State) {o : Option ℕ}
 
 pub completed_done : (old mid new : State) {o : Option ℕ}
     → (HasCleanDisk mid → GivesSchemaVersion old.now o × IsUnchanged old mid) → o ≡ Some this_schema_version
-    → Survives mid new (MayBeMigrated Fourth mid) → HasCleanDisk new
+    → Survives mid new (MayBeMigrated Fifth mid) → HasCleanDisk new
     → old.now ≡ old.committed
     → (IsTrue mid.is_open → mid.now ≡ mid.committed → IsCompleted mid new) → IsCarried old new
 completed_done old mid new look told later clean settled did =
-    let it = seen Fourth old mid new look told later (omega (arith, clean, later.clean)) in
+    let it = seen Fifth old mid new look told later (omega (arith, clean, later.clean)) in
     completes old mid new it.0 it.1 (did it.1.0.is_open (it.1.0.now_is ∙ settled ∙ sym it.1.0.committed_is))

@@ -6,6 +6,7 @@ use Rattle.portal_tables.proofs.Common.{HasCleanDisk, Survives, survives_weaker,
 use Rattle.portal_tables.proofs.Common.{IsAsBefore, CrashStateHolds, at_open, new_store, Holds}
 use Rattle.portal_tables.proofs.Common.{CrashStateHoldsRows, this_schema_version, KeepsOthers}
 use Rattle.portal_tables.proofs.Common.{CrashStateHasOthers, others_none, version_number, OldSchema, First}
+use Rattle.portal_tables.proofs.Common.{Fifth}
 use Rattle.portal_tables.proofs.Common.{Second, Third, Fourth, GivesSchemaVersion, Refused, KeepsOrMigrates}
 use Rattle.portal_tables.proofs.Common.{Stays, IsMigrated, FailsToAttach, HeadIsNoView, IsExactCause, IsKnown}
 use Rattle.portal_tables.proofs.Common.{AreTablesReady, IsCauseIn, CrashStateCarries, MayAttach}
@@ -50,12 +51,14 @@ low_enough First = lit≤ tt
 low_enough Second = lit≤ tt
 low_enough Third = lit≤ tt
 low_enough Fourth = lit≤ tt
+low_enough Fifth = lit≤ tt
 
 high_enough : (from : OldSchema) → version_number from ≤ this_schema_version
 high_enough First = lit≤ tt
 high_enough Second = lit≤ tt
 high_enough Third = lit≤ tt
 high_enough Fourth = lit≤ tt
+high_enough Fifth = lit≤ tt
 
 tells_old : (from : OldSchema) (L : Ledger) (db : Database) → HoldsLedgerIn (version_number from) L db
     → (o : Option ℕ) → GivesSchemaVersion db o → o ≡ Some (version_number from)
@@ -63,13 +66,15 @@ tells_old from L db shown = tells_it (version_number from) L db shown (low_enoug
 
 -- a schema version is known by its number
 abbrev by_number : ℕ → OldSchema
-by_number n = cond (nat_eq n 1) First (cond (nat_eq n 2) Second (cond (nat_eq n 3) Third Fourth))
+by_number n = cond (nat_eq n 1) First (cond (nat_eq n 2) Second
+    (cond (nat_eq n 3) Third (cond (nat_eq n 4) Fourth Fifth)))
 
 numbered_back : (from : OldSchema) → by_number (version_number from) ≡ from
 numbered_back First = refl
 numbered_back Second = refl
 numbered_back Third = refl
 numbered_back Fourth = refl
+numbered_back Fifth = refl
 
 same_number : {a b : ℕ} → ◌≡◌ {A = Option ℕ} (Some a) (Some b) → a ≡ b
 same_number e = cc
@@ -78,10 +83,10 @@ same_layout : (a b : OldSchema)
     → ◌≡◌ {A = Option ℕ} (Some (version_number a)) (Some (version_number b)) → a ≡ b
 same_layout a b e = sym (numbered_back a) ∙ ap by_number (same_number e) ∙ numbered_back b
 
--- a database of this schema version, as one that may lack the index
+-- a database of this schema version, as one that may lack an index
 as_older : (L : Ledger) (db : Database) → HoldsLedger L db → HoldsOlder L db
 as_older L db shown = (
-  Fourth,
+  Fifth,
   record {
     sound = shown.0;
     unmarked = λ few. absurd (omega (arith, few));
@@ -89,8 +94,7 @@ as_older L db shown = (
     no_counts = λ few. absurd (omega (arith, few));
     no_totals = λ few. absurd (omega (arith, few));
     no_requests = λ few. absurd (omega (arith, few));
-    holds = less_indexed this_schema_version true db
-        (all_contents_of this_schema_version (all_rows_of L)) shown.1;
+    holds = less_indexed db (all_contents_of this_schema_version (all_rows_of L)) shown.1;
   },
 )
 
@@ -103,8 +107,8 @@ new_shown L db none holds = subst (λ x. HoldsLedger x db) (sym none) (tt, holds
 stays_shown : (from : OldSchema) (L : Ledger) (old new : Database) → Stays old new
     → HoldsLedgerIn (version_number from) L old → HoldsLedger L new × KeepsOthers old new
 stays_shown from L old new kept shown =
-    let is : Fourth ≡ from =
-    same_layout Fourth from (tells_old from L old shown (Some this_schema_version) kept.0) in
+    let is : Fifth ≡ from =
+    same_layout Fifth from (tells_old from L old shown (Some this_schema_version) kept.0) in
     let here : HoldsLedgerIn this_schema_version L old =
     subst (λ (f : OldSchema). HoldsLedgerIn (version_number f) L old) (sym is) shown in
     let led = kept.1 _ here.holds in
@@ -150,7 +154,7 @@ left_carried L old trees kept shown =
     same_layout kept.0 shown.0 (tells_old shown.0 L old shown.1 (Some (version_number kept.0)) kept.1) in
     let here : HoldsLedgerIn (version_number kept.0) L old =
     subst (λ (f : OldSchema). HoldsLedgerIn (version_number f) L old) (sym is) shown.1 in
-    let led = kept.2 _ here.holds in
+    let led = kept.3 _ here.holds in
     let it = led.0 in (
       (
         it.0,
@@ -167,7 +171,7 @@ new_left L trees none left =
 
 left_shown : (L : Ledger) (old : Database) (trees : Trees) → StoreHolds L old → MayAttach old trees
     → CrashStateHolds (HoldsLedger L) trees × CrashStateHasOthers old trees
-left_shown L old trees shows may = go shows may.1
+left_shown L old trees shows may = go shows may.2
   where
     go : StoreHolds L old
         → (IsNoNameTaken old.schema × CrashStateHoldsRows trees new_store × CrashStateHasOthers old trees)
@@ -213,7 +217,7 @@ module _ (db : Database) (no_view : HeadIsNoView db.schema) (ours : IsAnyNameTak
     (told : Option ℕ) (tells_this : GivesSchemaVersion db told) where
   pub exact_known : IsKnown db → (schema_version : ℕ) × (1 ≤ schema_version)
       × (schema_version ≤ this_schema_version) × (told ≡ Some schema_version)
-  exact_known known = go known.1
+  exact_known known = go known.2
     where
       go : IsNoNameTaken db.schema ⊎ (IsAnyNameTaken db.schema × GivesKnownVersion db) → (schema_version : ℕ)
           × (1 ≤ schema_version) × (schema_version ≤ this_schema_version) × (told ≡ Some schema_version)
@@ -229,14 +233,14 @@ module _ (db : Database) (no_view : HeadIsNoView db.schema) (ours : IsAnyNameTak
 -- ---- a store that is not known
 
 known_by : (db : Database) (trees : Trees) → MayAttach db trees → IsKnown db
-known_by db trees may = (may.0, go may.1)
+known_by db trees may = (may.0, may.1, go may.2)
   where
     go : (IsNoNameTaken db.schema × CrashStateHoldsRows trees new_store × CrashStateHasOthers db trees)
         ⊎ (IsAnyNameTaken db.schema × CrashStateCarries db trees)
         → IsNoNameTaken db.schema ⊎ (IsAnyNameTaken db.schema × GivesKnownVersion db)
     go (inl made) = inl made.0
     go (inr kept) = let it = kept.1 in
-        inr (kept.0, (version_number it.0, low_enough it.0, high_enough it.0, it.1))
+        inr (kept.0, (version_number it.0, low_enough it.0, high_enough it.0, it.1, inr it.2))
 
 -- no crash state is added
 pub spares : (old new : State) → ¬ IsKnown old.now → Survives old new (MayAttach old.now)

@@ -32,8 +32,10 @@ pub use Rattle.portal_tables_rows.specs.Migrations.{HasMigrated, MayMigrate, ver
 pub use Rattle.portal_tables_rows.specs.Creation.{are_names_free, new_store}
 pub use Rattle.portal_tables_rows.specs.SchemaVersions.{QueryAnswers, IsOneRow, GivesSchemaVersion}
 pub use Rattle.portal_tables_rows.specs.SchemaVersions.{is_any_name_taken, is_usable_schema}
+pub use Rattle.portal_tables_rows.specs.SchemaVersions.{hangs_on_ours, is_entangled, is_indexed}
 pub use Rattle.portal_tables_rows.specs.declared.schema_versions.OldSchema.{OldSchema}
-pub use Rattle.portal_tables_rows.specs.declared.schema_versions.OldSchema.TheVariants.{First, Fourth, Second}
+pub use Rattle.portal_tables_rows.specs.declared.schema_versions.OldSchema.TheVariants.{Fifth, First, Fourth}
+pub use Rattle.portal_tables_rows.specs.declared.schema_versions.OldSchema.TheVariants.{Second}
 pub use Rattle.portal_tables_rows.specs.declared.schema_versions.OldSchema.TheVariants.{Third}
 pub use Rattle.portal_ledger.proofs.Ledgers.{kept_under, the_held_is_row, the_sound_is_legal}
 pub use Rattle.portal_ledger.specs.Ledger.{Accepted, IsSound, Ledger, all_rows_of, answer_in, held_in}
@@ -106,6 +108,7 @@ pub use Rattle.portal_tables.specs.Attaching.{KeepsOrMigrates, FailsToAttach, He
 pub use Rattle.portal_tables.specs.Attaching.{IsCarried, IsCompleted, IsExactCause, IsKnown, AreTablesReady}
 pub use Rattle.portal_tables.specs.Attaching.{IsCauseIn, CrashStateCarries, MayAttach, MayBeMigrated}
 pub use Rattle.portal_tables.specs.Attaching.{AttachesOthers, HasNoActionOnOurs, Stays, GivesKnownVersion}
+pub use Rattle.portal_tables.specs.Attaching.{HasNoTableOnOurs, MayBeCarried}
 pub use Rattle.portal_tables.specs.PaymentLists.{AreOrderedSales, AreRefunds, AreSales, is_paid_within}
 pub use Rattle.portal_tables.specs.PaymentLists.{open_session_of, payment_of}
 pub use Rattle.portal_tables.specs.Older.{HaveNoFingerprints, CrashStateHoldsEither, HoldsLedgerIn}

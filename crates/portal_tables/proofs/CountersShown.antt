@@ -9,7 +9,7 @@ use Rattle.portal_tables.proofs.Common.{totals_are_sums, rows_are_typed, rows_fo
 use Rattle.portal_tables.proofs.Common.{voucher_kept, session_kept, grant_kept, count_kept, contents_of}
 use Rattle.portal_tables.proofs.Common.{RequestRow, this_schema_version, code_test}
 use Rattle.sqlite_trees.proofs.ListLemmas.{map-map, filter-map}
-use Rattle.portal_tables_rows.specs.Audit.{IsAudited, total_in}
+use Rattle.portal_tables_rows.specs.Audit.{HasCounters, total_in}
 
 -- ---- counts
 
@@ -81,12 +81,12 @@ totals_shown h legal =
     session_kept (rows_of h).sessions ∙ (λ i. map (λ s. total_kept (rows_of h) s i) (rows_of h).sessions)
     ∙ sym (totals_are_sums h legal)
 
--- ---- the audit
+-- ---- both
 
--- the tables of a history pass it
-pub audit_shown : (ks : List RequestRow) (h : History) → IsLegal h
-    → IsAudited (contents_of ks this_schema_version (rows_of h))
-audit_shown ks h legal =
+-- the counters of a history's tables agree with its other rows
+pub counters_shown : (ks : List RequestRow) (h : History) → IsLegal h
+    → HasCounters (contents_of ks this_schema_version (rows_of h))
+counters_shown ks h legal =
     let r = rows_of h in
     let t = contents_of ks this_schema_version r in
     let counts = counts_shown h legal in

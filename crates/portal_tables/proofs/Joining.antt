@@ -225,6 +225,7 @@ module _ (h : History) (legal : IsLegal h) where
       → Some (record {
         number = row.number;
         device = row.device;
+        plan = row.plan;
         extend = plan.extend;
         opened = row.opened;
         ends = total.ends;
@@ -254,6 +255,7 @@ module _ (h : History) (legal : IsLegal h) where
       let same : session_of_rows x (ends_row total) plan ≡ record {
         number = row.number;
         device = row.device;
+        plan = row.plan;
         extend = plan.extend;
         opened = row.opened;
         ends = total.ends;
@@ -264,6 +266,7 @@ module _ (h : History) (legal : IsLegal h) where
       λ i. record {
         number = sym number_is i;
         device = sym device_is i;
+        plan = sym plan_is i;
         extend = plan.extend;
         opened = sym opened_is i;
         ends = total.ends;

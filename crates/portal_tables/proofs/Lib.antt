@@ -1,6 +1,7 @@
 pub mod Common
 pub mod AttachLemmas
 pub mod AttachedLemmas
+pub mod AuditShown
 pub mod CountersShown
 pub mod InOrder
 pub mod Joining

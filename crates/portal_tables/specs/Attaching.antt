@@ -1,5 +1,5 @@
 -- The result of attaching the tables to a connection.
-use Rattle.std.specs.Prelude.{◌≡◌, ◌⊎◌, ◌<◌, ◌≤◌, ℕ, false, true, IsTrue, Option, Some, None}
+use Rattle.std.specs.Prelude.{◌≡◌, ◌⊎◌, ◌<◌, ◌≤◌, ℕ, [], false, true, IsTrue, Option, Some, None, find}
 use Rattle.sqlite.specs.Tree.{Trees}
 use Rattle.sqlite.specs.Effect.{Database}
 use Rattle.sqlite.specs.Schema.{Schema}
@@ -13,10 +13,11 @@ use Rattle.portal_tables_rows.specs.Creation.{new_store}
 use Rattle.portal_tables_rows.specs.Holds.{Holds, HoldsIn, CrashStateHoldsRows, this_schema_version}
 use Rattle.portal_tables_sql.specs.Tables.{head_name}
 use Rattle.portal_tables_rows.specs.Others.{KeepsOthers, CrashStateHasOthers}
-use Rattle.portal_tables_rows.specs.SchemaVersions.{GivesSchemaVersion, has_no_action_on_ours}
+use Rattle.portal_tables_rows.specs.SchemaVersions.{GivesSchemaVersion, hangs_on_ours, has_no_action_on_ours}
+use Rattle.portal_tables_rows.specs.SchemaVersions.{is_entangled, is_indexed}
 use Rattle.portal_tables_rows.specs.Migrations.{MayMigrate, version_number, migrated_rows}
 use Rattle.portal_tables_rows.specs.declared.schema_versions.OldSchema.{OldSchema}
-use Rattle.portal_tables_rows.specs.declared.schema_versions.OldSchema.TheVariants.{Fourth}
+use Rattle.portal_tables_rows.specs.declared.schema_versions.OldSchema.TheVariants.{Fifth}
 use Rattle.portal_tables.specs.declared.errors.OpenFault.{OpenFault}
 use Rattle.portal_tables.specs.declared.errors.OpenFault.TheVariants.{NotOurs, Newer, Memory, Store}
 use Rattle.portal_tables.specs.declared.attaching.Refused.{Refused}
@@ -27,21 +28,31 @@ use Rattle.portal_tables.specs.TablesRepresent.{OthersStay}
 
 -- ---- by the tables that exist
 
--- the head is one row with this schema version or an older one
+-- The tables of this schema version have their indexes and stay as they are, or nothing of others hangs on
+-- them, so that they may be made anew.
+abbrev pub MayBeCarried : Schema → ℕ → Type 0
+MayBeCarried schema schema_version =
+    ((schema_version ≡ this_schema_version) × (is_indexed schema ≡ true)) ⊎ (is_entangled schema ≡ false)
+
+-- the head is one row with this schema version or an older one, and the tables may be carried to this one
 abbrev pub GivesKnownVersion : Database → Type 0
 GivesKnownVersion db =
     (schema_version : ℕ) × (1 ≤ schema_version) × (schema_version ≤ this_schema_version)
-    × GivesSchemaVersion db (Some schema_version)
+    × GivesSchemaVersion db (Some schema_version) × MayBeCarried db.schema schema_version
 
 -- no foreign key acts on one of the product's tables, whether that table exists or not
 abbrev pub HasNoActionOnOurs : Schema → Type 0
 HasNoActionOnOurs schema = has_no_action_on_ours schema ≡ true
 
--- A database to which the tables may be attached: no foreign key acts on one of the product's tables, and
--- either none of them exists or the head has a known schema version.
+-- no table of others refers to one of the product's tables, whether that table exists or not
+abbrev pub HasNoTableOnOurs : Schema → Type 0
+HasNoTableOnOurs schema = find hangs_on_ours schema.tables ≡ None
+
+-- A database to which the tables may be attached: no foreign key acts on one of the product's tables, no
+-- table of others refers to one, and either none of them exists or the head has a known schema version.
 abbrev pub IsKnown : Database → Type 0
 IsKnown db =
-    HasNoActionOnOurs db.schema
+    HasNoActionOnOurs db.schema × HasNoTableOnOurs db.schema
     × (IsNoNameTaken db.schema ⊎ (IsAnyNameTaken db.schema × GivesKnownVersion db))
 
 -- the head is one row with a schema version that is newer than this one
@@ -82,16 +93,17 @@ IsExactCause told Store = Unit {0}
 -- ---- the tables after it
 
 -- The crash states that a migration adds. There are none if a foreign key acts on one of the product's
--- tables.
+-- tables, or if a table or an index of others hangs on one.
 abbrev pub MayBeMigrated : OldSchema → State → Trees → Type 0
-MayBeMigrated from old trees = HasNoActionOnOurs old.now.schema × MayMigrate from old trees
+MayBeMigrated from old trees =
+    HasNoActionOnOurs old.now.schema × (is_entangled old.now.schema ≡ false) × MayMigrate from old trees
 
--- a database of this schema version has its index, and all is committed
+-- a database of this schema version has its indexes, and all is committed
 pub record IsCompleted (old new : State) : Type 0 where
-  pub holds : ((t : Contents) → HoldsIn this_schema_version false old.now t → Holds new.now t)
-      ⊎ ((t : Contents) → HoldsIn this_schema_version false old.now t
-      → Holds new.now (migrated_rows Fourth t))
-  pub others : (t : Contents) → HoldsIn this_schema_version false old.now t → KeepsOthers old.now new.now
+  pub holds : ((t : Contents) → HoldsIn this_schema_version [] old.now t → Holds new.now t)
+      ⊎ ((t : Contents) → HoldsIn this_schema_version [] old.now t
+      → Holds new.now (migrated_rows Fifth t))
+  pub others : (t : Contents) → HoldsIn this_schema_version [] old.now t → KeepsOthers old.now new.now
   pub is_open : IsTrue new.is_open
   pub ended : new.in_transaction ≡ false
   pub same : new.committed ≡ new.now
@@ -99,30 +111,32 @@ pub record IsCompleted (old new : State) : Type 0 where
 -- the rows of the product's tables stay in this schema version, and the other tables are kept
 abbrev pub Stays : Database → Database → Type 0
 Stays db after = GivesSchemaVersion db (Some this_schema_version)
-    × ((t : Contents) → HoldsIn this_schema_version false db t → Holds after t × KeepsOthers db after)
+    × ((t : Contents) → HoldsIn this_schema_version [] db t → Holds after t × KeepsOthers db after)
 
--- the rows of an older schema version, or of this one without its index, are migrated to this one, and the
+-- the rows of an older schema version, or of this one without its indexes, are migrated to this one, and the
 -- other tables are kept
 abbrev pub IsMigrated : Database → Database → Type 0
 IsMigrated db after =
     (from : OldSchema) × GivesSchemaVersion db (Some (version_number from)) × ((t : Contents)
-    → HoldsIn (version_number from) false db t → Holds after (migrated_rows from t) × KeepsOthers db after)
+    → HoldsIn (version_number from) [] db t → Holds after (migrated_rows from t) × KeepsOthers db after)
 
 -- one of the two
 abbrev pub KeepsOrMigrates : Database → Database → Type 0
 KeepsOrMigrates db after = Stays db after ⊎ IsMigrated db after
 
--- the trees of a crash state hold the migrated rows, and the other tables
+-- the trees of a crash state hold the migrated rows, and the other tables; nothing of others hangs on ours
 abbrev pub CrashStateCarries : Database → Trees → Type 0
 CrashStateCarries db trees = (from : OldSchema) × GivesSchemaVersion db (Some (version_number from))
-    × ((t : Contents) → HoldsIn (version_number from) false db t
+    × (is_entangled db.schema ≡ false) × ((t : Contents) → HoldsIn (version_number from) [] db t
     → CrashStateHoldsRows trees (migrated_rows from t) × CrashStateHasOthers db trees)
 
 -- The crash states that are added: a new database if the product's tables did not exist, or else the rows
--- that were there. There are none if a foreign key acts on one of the product's tables.
+-- that were there. There are none if a foreign key acts on one of the product's tables, or if a table of
+-- others refers to one.
 abbrev pub MayAttach : Database → Trees → Type 0
-MayAttach db trees = HasNoActionOnOurs db.schema × ((IsNoNameTaken db.schema × CrashStateHoldsRows trees
-    new_store × CrashStateHasOthers db trees) ⊎ (IsAnyNameTaken db.schema × CrashStateCarries db trees))
+MayAttach db trees = HasNoActionOnOurs db.schema × HasNoTableOnOurs db.schema
+    × ((IsNoNameTaken db.schema × CrashStateHoldsRows trees new_store × CrashStateHasOthers db trees)
+    ⊎ (IsAnyNameTaken db.schema × CrashStateCarries db trees))
 
 -- the rows of the product's tables are kept or migrated, and all is committed
 pub record IsCarried (old new : State) : Type 0 where

@@ -1,5 +1,5 @@
 -- When a database of an older schema version holds a ledger, and the crash states of its migration.
-use Rattle.std.specs.Prelude.{◌≡◌, ◌⊎◌, ◌<◌, ◌≤◌, ℕ, false, List, length, All, None}
+use Rattle.std.specs.Prelude.{◌≡◌, ◌⊎◌, ◌<◌, ◌≤◌, ℕ, [], false, List, length, All, None}
 use Rattle.sqlite.specs.Tree.{Trees}
 use Rattle.sqlite.specs.Effect.{Database}
 use Rattle.portal_model.specs.declared.command.Command.{Command}
@@ -41,7 +41,7 @@ pub record HoldsLedgerIn (schema_version : ℕ) (L : Ledger) (db : Database) : T
   pub no_counts : schema_version < 2 → is_name_taken db.schema counts_name ≡ false
   pub no_totals : schema_version < 2 → is_name_taken db.schema totals_name ≡ false
   pub no_requests : schema_version < 3 → is_name_taken db.schema requests_name ≡ false
-  pub holds : HoldsIn schema_version false db (all_contents_of schema_version (all_rows_of L))
+  pub holds : HoldsIn schema_version [] db (all_contents_of schema_version (all_rows_of L))
 
 -- the trees of a crash state hold the ledger in that schema version, or in this one
 abbrev pub CrashStateHoldsEither : OldSchema → Ledger → Trees → Type 0

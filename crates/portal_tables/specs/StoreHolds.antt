@@ -21,7 +21,7 @@ IsAnyNameTaken schema = is_any_name_taken schema ≡ true
 abbrev pub IsNewDatabase : Ledger → Database → Type 0
 IsNewDatabase L db = (L ≡ []) × IsNoNameTaken db.schema
 
--- a database of an older schema version, or of this one without the index of the sessions
+-- a database of an older schema version, or of this one without one of its indexes
 abbrev pub HoldsOlder : Ledger → Database → Type 0
 HoldsOlder L db = (from : OldSchema) × HoldsLedgerIn (version_number from) L db
 

@@ -7,11 +7,11 @@ ghost use Rattle.sqlite.specs.Held.{state};
 ghost use Rattle.sqlite.specs.State.{HasCleanDisk, IsUnchanged, Survives};
 ghost use Rattle.portal_tables_sql.specs.States.{IsAsBefore};
 ghost use Rattle.portal_tables_rows.specs.Creation.{IsCommitted, new_store};
-ghost use Rattle.portal_tables_rows.specs.Holds.{Holds, CrashStateHoldsRows};
+ghost use Rattle.portal_tables_rows.specs.Holds.{Holds, CrashStateHoldsRows, this_schema_version};
 ghost use Rattle.portal_tables_rows.specs.Others.{KeepsOthers, CrashStateHasOthers};
-ghost use Rattle.portal_tables_rows.specs.SchemaVersions.{GivesSchemaVersion};
+ghost use Rattle.portal_tables_rows.specs.SchemaVersions.{GivesSchemaVersion, is_entangled};
 ghost use Rattle.portal_tables_rows.specs.Migrations.{HasMigrated};
-ghost use Rattle.portal_tables_rows.specs.declared.schema_versions.OldSchema.TheVariants.{Fourth};
+ghost use Rattle.portal_tables_rows.specs.declared.schema_versions.OldSchema.TheVariants.{Fifth};
 ghost use Rattle.portal_tables.specs.Attaching.{IsCarried, IsCompleted, IsKnown, AreTablesReady, IsCauseIn};
 ghost use Rattle.portal_tables.specs.Attaching.{
   CrashStateCarries,
@@ -19,12 +19,13 @@ ghost use Rattle.portal_tables.specs.Attaching.{
   MayBeMigrated,
   HasNoActionOnOurs,
 };
-ghost use Rattle.portal_tables.specs.Attaching.{GivesKnownVersion, GivesNewerVersion};
+ghost use Rattle.portal_tables.specs.Attaching.{GivesKnownVersion, GivesNewerVersion, MayBeCarried};
 ghost use Rattle.portal_tables.specs.declared.errors.OpenFault.TheVariants.{NotOurs, Newer, Memory, Store};
 
 use crate::errors::{OpenFault, open_fault_of};
 use crate::migration::migrate_database;
 use portal_tables_rows::creation::{can_add_tables, create_schema};
+use portal_tables_rows::entangled::{find_table_on_ours, is_entangled};
 use portal_tables_rows::rows::RowError;
 use portal_tables_rows::schema_versions::{
     OldSchema, has_no_action_on_ours, is_any_name_taken, is_indexed, is_usable_schema,
@@ -81,12 +82,14 @@ fn create_tables<S: Alter>(conn: &mut Connection<S>) -> Result<(), OpenFault>
 }
 
 /// Migrates the database from an older schema version. If a foreign key acts on one of the product's
-/// table names, it fails with `Store` and writes nothing.
+/// table names, if a table of others refers to one of the tables, or if an index of others is on one, it
+/// fails with `Store` and writes nothing: these would not outlive that the tables are made anew.
 fn check_and_migrate<S: Alter>(conn: &mut Connection<S>, from: OldSchema) -> Result<(), OpenFault>
     requires { conn.old.in_transaction ≡ false }
     ensures done { HasCleanDisk (state S.Store conn.new) → IsTrue (state S.Store conn.old).is_open
         → OnOk result (HasMigrated from (state S.Store conn.old) (state S.Store conn.new)) }
-    ensures spares { OnOk result (HasNoActionOnOurs (state S.Store conn.old).now.schema) }
+    ensures spares { OnOk result (HasNoActionOnOurs (state S.Store conn.old).now.schema
+        × (is_entangled (state S.Store conn.old).now.schema ≡ false)) }
     ensures faults { IfErr result (λ fault. (fault ≡ Memory) ⊎ (fault ≡ Store)) }
     ensures memory { HasCleanDisk (state S.Store conn.new) → IsTrue (state S.Store conn.old).is_open
         → (state S.Store conn.old).now ≡ (state S.Store conn.old).committed
@@ -95,28 +98,29 @@ fn check_and_migrate<S: Alter>(conn: &mut Connection<S>, from: OldSchema) -> Res
     ensures crash { Survives (state S.Store conn.old) (state S.Store conn.new)
         (MayBeMigrated from (state S.Store conn.old)) }
 {
-    if !has_no_action_on_ours(conn.schema()) {
+    if !has_no_action_on_ours(conn.schema()) || is_entangled(conn.schema()) {
         return Err(OpenFault::Store);
     }
     migrate_database(conn, from)?;
     Ok(())
 }
 
-/// Creates the index of the sessions in a database of this schema version, if it is missing. Fails with
-/// `Store` if a table is missing or a foreign key acts on one.
-fn add_session_index<S: Alter>(conn: &mut Connection<S>) -> Result<(), OpenFault>
+/// Makes the tables of this schema version anew if one of their indexes is missing. Fails with `Store` if a
+/// table is missing or a foreign key acts on one, or if what of others hangs on them would be lost.
+fn complete_indexes<S: Alter>(conn: &mut Connection<S>) -> Result<(), OpenFault>
     requires { conn.old.in_transaction ≡ false }
     ensures done { HasCleanDisk (state S.Store conn.new) → IsTrue (state S.Store conn.old).is_open
         → (state S.Store conn.old).now ≡ (state S.Store conn.old).committed
         → OnOk result (IsCompleted (state S.Store conn.old) (state S.Store conn.new)) }
-    ensures spares { OnOk result (HasNoActionOnOurs (state S.Store conn.old).now.schema) }
+    ensures spares { OnOk result (HasNoActionOnOurs (state S.Store conn.old).now.schema
+        × MayBeCarried (state S.Store conn.old).now.schema this_schema_version) }
     ensures faults { IfErr result (λ fault. (fault ≡ Memory) ⊎ (fault ≡ Store)) }
     ensures memory { HasCleanDisk (state S.Store conn.new) → IsTrue (state S.Store conn.old).is_open
         → (state S.Store conn.old).now ≡ (state S.Store conn.old).committed
         → IfErr result (λ fault. fault ≡ Memory
         → IsAsBefore (state S.Store conn.old) (state S.Store conn.new)) }
     ensures crash { Survives (state S.Store conn.old) (state S.Store conn.new)
-        (MayBeMigrated Fourth (state S.Store conn.old)) }
+        (MayBeMigrated Fifth (state S.Store conn.old)) }
 {
     if !is_usable_schema(conn.schema()) {
         return Err(OpenFault::Store);
@@ -124,7 +128,10 @@ fn add_session_index<S: Alter>(conn: &mut Connection<S>) -> Result<(), OpenFault
     if is_indexed(conn.schema()) {
         return Ok(());
     }
-    migrate_database(conn, OldSchema::Fourth)?;
+    if is_entangled(conn.schema()) {
+        return Err(OpenFault::Store);
+    }
+    migrate_database(conn, OldSchema::Fifth)?;
     Ok(())
 }
 
@@ -164,7 +171,11 @@ fn migrate_existing<S: Alter>(conn: &mut Connection<S>) -> Result<(), OpenFault>
             Ok(())
         }
         Some(4) => {
-            add_session_index(conn)?;
+            check_and_migrate(conn, OldSchema::Fourth)?;
+            Ok(())
+        }
+        Some(5) => {
+            complete_indexes(conn)?;
             Ok(())
         }
         Some(_) => Err(OpenFault::Newer),
@@ -172,7 +183,8 @@ fn migrate_existing<S: Alter>(conn: &mut Connection<S>) -> Result<(), OpenFault>
 }
 
 /// Makes the tables ready: creates them if the database has none of them, or else checks and migrates
-/// those that it has. Fails with `Store` inside a transaction.
+/// those that it has. Fails with `Store` inside a transaction, and if a table of others refers to one of
+/// them: SQLite would carry out no change of the rows that it refers to.
 pub(crate) fn create_or_migrate<S: Alter>(conn: &mut Connection<S>) -> Result<(), OpenFault>
     ensures why { HasCleanDisk (state S.Store conn.new)
         → MatchResult result (λ _. IsKnown (state S.Store conn.old).now)
@@ -186,7 +198,7 @@ pub(crate) fn create_or_migrate<S: Alter>(conn: &mut Connection<S>) -> Result<()
     ensures crash { Survives (state S.Store conn.old) (state S.Store conn.new)
         (MayAttach (state S.Store conn.old).now) }
 {
-    if !conn.is_autocommit() {
+    if !conn.is_autocommit() || find_table_on_ours(conn.schema()).is_some() {
         return Err(OpenFault::Store);
     }
     if is_any_name_taken(conn.schema()) {

@@ -44,10 +44,11 @@ impl<S: Alter> Tables<S> {
     ///
     /// A database with none of the product's table names gets the tables, in one transaction. A database
     /// of an older schema version is migrated, in one transaction. A database of this version stays as
-    /// it is, but gets the index of the sessions if it is missing. All other tables keep their rows.
+    /// it is, but gets its indexes if one is missing. All other tables keep their rows.
     ///
-    /// If a foreign key of another table acts on one of the product's table names, whether that table
-    /// exists or not, the error is `Store` and nothing changes.
+    /// If another table refers to one of the product's table names, whether that table exists or not, the error
+    /// is `Store` and nothing changes. So it is if the tables would have to be made anew while another's index is
+    /// on one of them.
     pub fn adopt(conn: Connection<S>) -> Result<Tables<S>, Refused<S>>
         ensures fault_free { MatchResult result (λ tables. IsFaultFree S.Store tables
             → ConnIsFaultFree S.Store conn)

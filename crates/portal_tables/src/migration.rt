@@ -17,8 +17,7 @@ use portal_tables_rows::from_versions;
 use portal_tables_rows::schema_versions::OldSchema;
 use sqlite::{Alter, Connection};
 
-/// Migrates a database of an older schema version to this version, with the index of the sessions, in
-/// one transaction. After `Memory` the database is as it was. After `Store` the files hold the same
+/// Migrates a database of an older schema version to this version, with its indexes, in one transaction. After `Memory` the database is as it was. After `Store` the files hold the same
 /// ledger, in the old schema version or in this one.
 pub(crate) fn migrate_database<S: Alter>(
     conn: &mut Connection<S>,

@@ -118,6 +118,7 @@ fn session_of_row<S: Alter>(
     Ok(Session {
         number: row.number,
         device: row.device,
+        plan: row.plan,
         extend: plan.extend,
         opened: row.opened,
         ends: total.ends,

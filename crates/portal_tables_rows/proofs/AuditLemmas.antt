@@ -1,4 +1,4 @@
--- From tests row by row to an audit of the tables.
+-- From tests row by row to counters that agree with the other rows.
 use Rattle.portal_tables_rows.proofs.Common.{◌≡◌, inl, inr, ℕ, ◌+◌, ◌<◌, Bool, true, false, cond, ◌&&◌, ◌||◌}
 use Rattle.portal_tables_rows.proofs.Common.{◌↔◌, IsTrue, List, [], ◌∷◌, map, take, length, get_or, Less}
 use Rattle.portal_tables_rows.proofs.Common.{refl, sym, ap, ap₂, subst, ◌∙◌, bytes_eq, true≢false, lit≤}
@@ -10,7 +10,8 @@ use Rattle.portal_tables_rows.proofs.Common.{same_rows, length-map, SessionRow, 
 use Rattle.portal_tables_rows.proofs.Common.{total_from, Total, ends_row, grant_read, rows_for_sums, uses_in}
 use Rattle.portal_tables_rows.proofs.Common.{CountValue, Contents, HeadRow, head_stored, session_stored}
 use Rattle.portal_tables_rows.proofs.Common.{total_stored, Holds, voucher_read, session_read, count_read}
-use Rattle.portal_tables_rows.proofs.Common.{IsAudited, Agrees, AreReadRows, is_counted, has_count, total_in}
+use Rattle.portal_tables_rows.proofs.Common.{HasCounters, IsAudited, Agrees, AreReadRows, is_counted}
+use Rattle.portal_tables_rows.proofs.Common.{has_count, total_in}
 use Rattle.portal_tables_rows.proofs.Common.{has_mapped, both}
 use Rattle.portal_tables_rows.proofs.Cells.{exact_head, exact_session, exact_total}
 use Rattle.portal_tables_rows.proofs.Compose.{more_mapped}
@@ -25,17 +26,18 @@ use Rattle.portal_tables_sql.proofs.TableLemmas.{always}
 
 -- ---- tests of all rows, and of any
 
-all_true : {X : Type 0} (p : X → Bool) (xs : List X) → list_all p xs ≡ true → (x : X) → Has xs x → p x ≡ true
+pub all_true : {X : Type 0} (p : X → Bool) (xs : List X)
+    → list_all p xs ≡ true → (x : X) → Has xs x → p x ≡ true
 all_true p [] h x has = absurd has
 all_true p (y ∷ xs) h x (inl e) = ap p e ∙ (both (p y) (list_all p xs) h).0
 all_true p (y ∷ xs) h x (inr later) = all_true p xs (both (p y) (list_all p xs) h).1 x later
 
-true_all : {X : Type 0} (p : X → Bool) (xs : List X)
+pub true_all : {X : Type 0} (p : X → Bool) (xs : List X)
     → ((x : X) → Has xs x → p x ≡ true) → list_all p xs ≡ true
 true_all p [] each = refl
 true_all p (y ∷ xs) each = ap₂ ◌&&◌ (each y (inl refl)) (true_all p xs (λ x has. each x (inr has)))
 
-any_true : {X : Type 0} (p : X → Bool) (xs : List X) → list_any p xs ≡ true
+pub any_true : {X : Type 0} (p : X → Bool) (xs : List X) → list_any p xs ≡ true
     → (x : X) × Has xs x × (p x ≡ true)
 any_true p [] h = absurd (true≢false (sym h))
 any_true p (y ∷ xs) h = elim (cases_Bool (p y)) [
@@ -47,7 +49,8 @@ or_true : (b : Bool) → (b || true) ≡ true
 or_true true = refl
 or_true false = refl
 
-true_any : {X : Type 0} (p : X → Bool) (xs : List X) (x : X) → Has xs x → p x ≡ true → list_any p xs ≡ true
+pub true_any : {X : Type 0} (p : X → Bool) (xs : List X) (x : X)
+    → Has xs x → p x ≡ true → list_any p xs ≡ true
 true_any p [] x has on = absurd has
 true_any p (y ∷ xs) x (inl e) on = ap (λ b. b || list_any p xs) (sym (ap p e) ∙ on)
 true_any p (y ∷ xs) x (inr later) on = ap (λ b. p y || b) (true_any p xs x later on) ∙ or_true (p y)
@@ -128,7 +131,7 @@ total_exact a b e = exact_total a b (ap (λ r. column r 0 ∷ column r 2 ∷ col
 
 module _ (db : Database) (t : Contents) (held : Holds db t) (head : HeadRow) (has : Has t.heads head)
     (first : head.id ≡ 1) where
-  to_audit : Agrees head t → IsAudited t
+  to_audit : Agrees head t → HasCounters t
   to_audit a = record {
     counts = λ k among. eqb-true k.redeemed (uses_in t.grants k.code)
         (all_true (is_counted t.grants) t.counts a.counts k among);
@@ -147,7 +150,7 @@ module _ (db : Database) (t : Contents) (held : Holds db t) (head : HeadRow) (ha
     head = (head, has, first, a.grants, a.sessions);
   }
 
-  same_totals : IsAudited t → t.totals ≡ map (total_in t) t.sessions
+  same_totals : HasCounters t → t.totals ≡ map (total_in t) t.sessions
   same_totals a =
       let by_number : IsTable (map session_stored t.sessions) = table_of session_stored
       (db.trees (held.places our.Sessions).tree) t.sessions (held.store our.Sessions (always _)) in
@@ -176,7 +179,7 @@ module _ (db : Database) (t : Contents) (held : Holds db t) (head : HeadRow) (ha
       subst (Has (map total_stored t.totals)) (ap total_stored total ∙ sym m.2)
       (has_mapped total_stored t.totals own.0 own.1)))
 
-  to_agree : IsAudited t → Agrees head t
+  to_agree : HasCounters t → Agrees head t
   to_agree a =
       let one : a.head.0 ≡ head =
       head_exact a.head.0 head (one_of_number head_stored t.heads
@@ -193,12 +196,15 @@ module _ (db : Database) (t : Contents) (held : Holds db t) (head : HeadRow) (ha
         totals = same_totals a;
       }
 
-  pub audited : Agrees head t ↔ IsAudited t
+  pub audited : Agrees head t ↔ HasCounters t
   audited = (to_audit, to_agree)
 
 -- where there is no head
 pub no_head : (t : Contents) → ((h : HeadRow) → Has t.heads h → h.id ≡ 1 → ⊥) → IsTrue false ↔ IsAudited t
-no_head t none = (λ on. absurd (true≢false (sym on)), λ a. absurd (none a.head.0 a.head.1 a.head.2))
+no_head t none = (
+  λ on. absurd (true≢false (sym on)),
+  λ a. let head = a.counters.head in absurd (none head.0 head.1 head.2),
+)
 
 -- ---- what was read is what the tables hold
 

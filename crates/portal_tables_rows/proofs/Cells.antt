@@ -7,7 +7,7 @@ use Rattle.portal_tables_rows.proofs.Common.{TotalRow, head, plans, batches, vou
 use Rattle.portal_tables_rows.proofs.Common.{counts, totals, HeadRow, flag, batch_cells, count_cells}
 use Rattle.portal_tables_rows.proofs.Common.{grant_cells, grant_stored, head_cells, head_stored, plan_cells}
 use Rattle.portal_tables_rows.proofs.Common.{session_cells, session_stored, total_cells, total_stored}
-use Rattle.portal_tables_rows.proofs.Common.{voucher_cells}
+use Rattle.portal_tables_rows.proofs.Common.{voucher_cells, request_cells, requests, RequestRow}
 use Rattle.portal_model.specs.declared.record.Batch.{Batch}
 use Rattle.portal_model.proofs.SamePlan.{same-plan}
 
@@ -50,6 +50,11 @@ pub totals_in : (db : Trees) (tree : ℕ) (ps : List TotalRow) → Stores whole_
     → rows_in (totals tree) db ≡ map total_cells ps
 totals_in db tree ps h = rows_shown whole_row total_stored total_cells (λ n p. total_stored p)
     (opens_numbered total_stored) (fields (totals tree)) (λ n p. refl) (db tree) ps h.are.keyed h.is
+
+pub requests_in : (db : Trees) (tree : ℕ) (ps : List RequestRow)
+    → Stores less_rowid request_cells (db tree) ps → rows_in (requests tree) db ≡ map request_cells ps
+requests_in db tree ps h = rows_shown less_rowid request_cells request_cells (λ n p. Int n ∷ request_cells p)
+    (opens_keyed request_cells) (fields (requests tree)) (λ n p. refl) (db tree) ps h.are.keyed h.is
 
 exact_flag : (a b : Bool) → ◌≡◌ {A = Value} (flag a) (flag b) → a ≡ b
 exact_flag true true e = refl

@@ -33,8 +33,8 @@ pub use Rattle.portal_model.specs.Device.{IsDevice, SpellsDevice, text_of_device
 pub use Rattle.portal_model.specs.Rows.{CountRow, GrantRow, SessionRow, TotalRow, VoucherRow, count_from}
 pub use Rattle.portal_model.specs.Rows.{new_counts, new_vouchers, total_from, total_row}
 pub use Rattle.portal_model.specs.declared.plan.Plan.{Plan}
-pub use Rattle.portal_tables_rows.specs.Audit.{Agrees, AreReadRows, IsAudited, has_count, is_counted}
-pub use Rattle.portal_tables_rows.specs.Audit.{total_in}
+pub use Rattle.portal_tables_rows.specs.Audit.{Agrees, AreReadRows, HasCounters, IsAudited, has_count}
+pub use Rattle.portal_tables_rows.specs.Audit.{is_counted, total_in}
 pub use Rattle.portal_tables_rows.specs.Contents.{Contents, HeadRow, batch_cells, count_cells, flag}
 pub use Rattle.portal_tables_rows.specs.Contents.{grant_cells, grant_stored, head_cells, head_stored}
 pub use Rattle.portal_tables_rows.specs.Contents.{plan_cells, request_cells, session_cells, session_stored}
@@ -47,17 +47,18 @@ pub use Rattle.portal_tables_rows.specs.Foreign.{AreOfOwn, AreOwn, BlamesForeign
 pub use Rattle.portal_tables_rows.specs.Foreign.{IsOwnCount, IsOwnGrant, IsOwnHead, IsOwnPlan, IsOwnRefund}
 pub use Rattle.portal_tables_rows.specs.Foreign.{IsOwnSession, IsOwnTotal, IsOwnVoucher, IsPrintedCode}
 pub use Rattle.portal_tables_rows.specs.Foreign.{IsPrintedDevice, NotForeign}
-pub use Rattle.portal_tables_rows.specs.Holds.{CrashStateHoldsRows, HasSessionIndex, HasTables, Holds}
-pub use Rattle.portal_tables_rows.specs.Holds.{HoldsIn, IsTableAt, StoresRows, TablePlace, TablePlaces}
+pub use Rattle.portal_tables_rows.specs.Holds.{CrashStateHoldsRows, HasTables, HasTablesIn, Holds}
+pub use Rattle.portal_tables_rows.specs.Holds.{HoldsIn, HoldsTables, IsTableAt, StoresRows, TablePlace}
+pub use Rattle.portal_tables_rows.specs.Holds.{TablePlaces, has_clauses}
 pub use Rattle.portal_tables_rows.specs.Holds.{TablesExist, this_schema_version}
 pub use Rattle.portal_tables_rows.specs.Keyed.{has_keys}
 pub use Rattle.portal_tables_rows.specs.Lists.{IsOwnSale, Lists, ListsAs, by_number, by_place, by_refund}
 pub use Rattle.portal_tables_rows.specs.Lists.{by_sale, is_within, may_be_open, numbers_open, refund_columns}
 pub use Rattle.portal_tables_rows.specs.Lists.{refund_read, sale_cells, sale_columns, sale_read}
-pub use Rattle.portal_tables_rows.specs.Migrations.{CommitsFrom, CountersFit, HasFreeNames, HasMigrated}
-pub use Rattle.portal_tables_rows.specs.Migrations.{MakesRowsFrom, MayCommitFrom, MayMigrate, Rise}
+pub use Rattle.portal_tables_rows.specs.Migrations.{CommitsFrom, CountersFit, HasMigrated, IsReadFree}
+pub use Rattle.portal_tables_rows.specs.Migrations.{MayCommitFrom, MayMigrate, Rebuilds, Rise, tables_of}
 pub use Rattle.portal_tables_rows.specs.Migrations.{after_migration, counts_read, counts_summed}
-pub use Rattle.portal_tables_rows.specs.Migrations.{has_free_names, migrated_rows, totals_read, totals_summed}
+pub use Rattle.portal_tables_rows.specs.Migrations.{migrated_rows, totals_read, totals_summed}
 pub use Rattle.portal_tables_rows.specs.Migrations.{version_number, with_counters, with_empty_tables}
 pub use Rattle.portal_tables_rows.specs.Migrations.{with_totals, without_counters, without_requests}
 pub use Rattle.portal_tables_rows.specs.Others.{CrashStateHasOthers, KeepsOthers, is_own}
@@ -71,7 +72,7 @@ pub use Rattle.portal_tables_sql.specs.Tables.{plans_name, requests, requests_na
 pub use Rattle.portal_tables_sql.specs.Tables.{totals, totals_name, vouchers, vouchers_name}
 pub use Rattle.portal_tables_rows.specs.SchemaVersions.{GivesSchemaVersion, IsNoQuery, IsOneRow, QueryAnswers}
 pub use Rattle.portal_tables_rows.specs.SchemaVersions.{has_index_on, is_any_name_taken, is_indexed}
-pub use Rattle.portal_tables_rows.specs.SchemaVersions.{is_session_index, schema_version_text}
+pub use Rattle.portal_tables_rows.specs.SchemaVersions.{schema_version_text}
 pub use Rattle.portal_tables_rows.specs.Selects.{ReadsMany, ReadsRow}
 pub use Rattle.portal_tables_rows.specs.Steps.{CommitsRows, MakesRows, MayCommitRows, Writes, count_row}
 pub use Rattle.portal_tables_rows.specs.Steps.{ends_row, first_head, granted_row, new_voucher, opened_row}

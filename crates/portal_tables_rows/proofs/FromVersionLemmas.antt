@@ -12,7 +12,7 @@ use Rattle.portal_tables_rows.proofs.Common.{voucher_read, session_read, count_r
 use Rattle.portal_tables_rows.proofs.Common.{CommitsFrom, MayCommitFrom, HasMigrated, MayMigrate}
 use Rattle.portal_tables_rows.proofs.Common.{after_migration, migrated_rows, counts_read, totals_read}
 use Rattle.portal_tables_rows.proofs.Common.{counts_summed, totals_summed, version_number, CountersFit}
-use Rattle.portal_tables_rows.proofs.Common.{get_or-map, length-map}
+use Rattle.portal_tables_rows.proofs.Common.{get_or-map, length-map, HoldsIn, true}
 use Rattle.sqlite.specs.Tree.{IsTable}
 use Rattle.portal_tables_sql.specs.Looks.{ReadsOnly, Fails}
 use Rattle.portal_model.specs.declared.plan.Plan.{Plan}
@@ -22,6 +22,9 @@ use Rattle.portal_tables_rows.specs.declared.rows.VoucherValue.{VoucherValue}
 use Rattle.portal_tables_rows.specs.declared.rows.SessionValue.{SessionValue}
 use Rattle.portal_tables_rows.specs.declared.grants.GrantValue.{GrantValue}
 use Rattle.portal_tables_rows.proofs.MigrateLemmas.{brought_first}
+use Rattle.portal_tables_rows.proofs.Common.{AreNamesFree, IsReadFree, Trees, tables_of}
+use Rattle.portal_tables_rows.specs.Copying.{AreRead}
+use Rattle.portal_tables_rows.specs.declared.copies.WholeTable.{WholeTable}
 use Rattle.portal_tables_sql.specs.declared.our_tables.OurTable.TheVariants as our
 use Rattle.portal_tables_sql.proofs.TableLemmas.{always}
 
@@ -64,7 +67,7 @@ numbers_read (m ∷ ms) = ap (λ l. m.number ∷ l) (numbers_read ms)
 pub summed_rise : (db : Database) (t : Contents) (totals : List Total) → HoldsFirst db t
     → totals_read totals ≡ totals_summed t → Rise totals
 summed_rise db t totals first is =
-    let stored = (first.store our.Sessions (always _)) in
+    let stored = (first.1.store our.Sessions (always _)) in
     let table = subst IsTable (sym (map_whole _) ∙ stored.is) stored.are.rise in
     let numbers = sym (numbers_summed t t.sessions) ∙ ap (map (λ (m : TotalRow). m.number)) (sym is)
     ∙ numbers_read totals in
@@ -106,6 +109,10 @@ module _ (a b : State) (read : ReadsOnly Anything a b) (clean : HasCleanDisk b) 
 all_back : {X Y : Type 0} (P : Y → Type 0) (f : X → Y) (xs : List X)
     → All P (map f xs) → All (λ x. P (f x)) xs
 all_back P f xs h k d within = rw (get_or-map f xs k d (f d) within) at (h k (f d) (rw (length-map) within))
+
+-- the tables of schema version 1, whatever clauses they have
+pub of_first : (db : Database) (t : Contents) → HoldsIn 1 [] db t → HoldsFirst db t
+of_first db t was = (true, was)
 
 -- what is known of the counters when they are written
 record Knows (db : Database) (ks : List CountValue) (ms : List Total) (t : Contents) : Type 0 where
@@ -156,38 +163,50 @@ module _ (a b c d e : State) (one : ReadsOnly Anything a b) (two : ReadsOnly Any
         all_back (λ (x : TotalRow). x.number < 2 ^ 63) ends_row ms1 ended,
       )
 
+  read_all : ReadsOnly Anything a d
+  read_all = reads_then Anything a b d one (reads_then Anything b c d two three)
+
   -- nothing was changed by reading
   read_same : HasCleanDisk d → IsTrue a.is_open → d.now ≡ a.now
-  read_same clean live = same_now Anything a d
-      (reads_then Anything a b d one (reads_then Anything b c d two three)) clean live tt
+  read_same clean live = same_now Anything a d read_all clean live tt
+
+  same_first : HasCleanDisk d → IsTrue a.is_open → (t : Contents) → HoldsIn 1 [] a.now t →
+      HoldsIn 1 [] d.now t
+  same_first clean live t was = subst (λ (db : Database). HoldsIn 1 [] db t) (sym (read_same clean live)) was
 
   pub upgrade_done : HasCleanDisk d → IsTrue a.is_open
-      → CommitsFrom 1 false Anything (after_migration First ks1 ms1) d e → HasMigrated First a e
+      → CommitsFrom First (λ _ _. Unit {0}) (after_migration First ks1 ms1) d e → HasMigrated First a e
   upgrade_done clean live gained = record {
-    holds = λ t first.
+    holds = λ t was.
+        let first = of_first a.now t was in
         let k = knows clean live t first in
         let rise = summed_rise d.now t ms1 k.first k.totals in
-        subst (Holds e.now) (upgraded_is ks1 ms1 t rise k.counts k.totals) (gained.holds tt t k.first);
-    others = λ t first. subst (λ (was : Database). KeepsOthers was e.now) (read_same clean live)
-        (gained.others tt t (knows clean live t first).first);
+        subst (Holds e.now) (upgraded_is ks1 ms1 t rise k.counts k.totals)
+        (gained.holds t (same_first clean live t was) tt);
+    others = λ t was. subst (λ (db : Database). KeepsOthers db e.now) (read_same clean live)
+        (gained.others t (same_first clean live t was) tt);
     committed = gained.committed;
     ended = gained.ended;
     is_open = gained.is_open;
   }
 
-  pub upgrade_crash : Survives d e (MayCommitFrom 1 false Anything (after_migration First ks1 ms1) d)
+  pub upgrade_crash : Survives d e
+      (λ trees. IsTrue d.is_open → MayCommitFrom First (λ _ _. Unit {0}) (after_migration First ks1 ms1) d
+      trees)
       → Survives a e (MayMigrate First a)
   upgrade_crash ending =
       survives_then a d e _ _ (MayMigrate First a) (λ _ db none live t first. absurd (none live tt))
-      (λ clean db may live t first.
-      let k = knows (omega (arith, clean, ending.clean)) live t first in
+      (λ clean db may live t was.
+      let first = of_first a.now t was in
+      let late : HasCleanDisk d = omega (arith, clean, ending.clean) in
+      let k = knows late live t first in
       let rise = summed_rise d.now t ms1 k.first k.totals in
-      let left = may tt t k.first in (
+      let left = may (still_open Anything a d (read_all) late live tt) t (same_first late live t was) tt in (
         subst (CrashStateHoldsRows db) (upgraded_is ks1 ms1 t rise k.counts k.totals) left.0,
         subst (λ (was : Database). CrashStateHasOthers was db)
-            (read_same (omega (arith, clean, ending.clean)) live) left.1,
+            (read_same late live) left.1,
       ))
-      (reads_then Anything a b d one (reads_then Anything b c d two three)).crash ending
+      read_all.crash ending
 
 -- where a reading fails, nothing is changed
 pub fails_crash : (a b : State) → Fails Anything a b → Survives a b (MayMigrate First a)
@@ -207,10 +226,10 @@ undone_after a d e read clean live undone =
 -- a schema version that has its counters is migrated without new ones
 pub later_done : (from : OldSchema) (a e : State)
     → ((t : Contents) → after_migration from [] [] t ≡ migrated_rows from t)
-    → CommitsFrom (version_number from) false Anything (after_migration from [] []) a e → HasMigrated from a e
+    → CommitsFrom from (λ _ _. Unit {0}) (after_migration from [] []) a e → HasMigrated from a e
 later_done from a e same led = record {
-  holds = λ t h. subst (Holds e.now) (same t) (led.holds tt t h);
-  others = λ t h. led.others tt t h;
+  holds = λ t h. subst (Holds e.now) (same t) (led.holds t h tt);
+  others = λ t h. led.others t h tt;
   committed = led.committed;
   ended = led.ended;
   is_open = led.is_open;
@@ -218,9 +237,56 @@ later_done from a e same led = record {
 
 pub later_crash : (from : OldSchema) (a e : State)
     → ((t : Contents) → after_migration from [] [] t ≡ migrated_rows from t)
-    → Survives a e (MayCommitFrom (version_number from) false Anything (after_migration from [] []) a)
+    → Survives a e (λ trees. IsTrue a.is_open
+    → MayCommitFrom from (λ _ _. Unit {0}) (after_migration from [] []) a trees)
     → Survives a e (MayMigrate from a)
-later_crash from a e same = survives_weaker a e _ _ (λ _ db may live t h. let left = may tt t h in (
+later_crash from a e same = survives_weaker a e _ _ (λ _ db may live t h. let left = may live t h tt in (
   subst (CrashStateHoldsRows db) (same t) left.0,
   left.1,
 ))
+
+-- ---- the rows are read, and then committed
+
+module _ (from : OldSchema) (read : List WholeTable) (f : Contents → Contents) (a b e : State)
+    (reads : ReadsOnly Anything a b) (free : AreNamesFree a.now.schema)
+    (are : HasCleanDisk b → IsTrue a.is_open → (t : Contents) → HoldsIn (version_number from) [] a.now t
+    → AreRead read (tables_of from) t) where
+  still : HasCleanDisk b → IsTrue a.is_open → b.now ≡ a.now
+  still clean live = same_now Anything a b reads clean live tt
+
+  ready : HasCleanDisk b → IsTrue a.is_open → (t : Contents) → HoldsIn (version_number from) [] a.now t
+      → HoldsIn (version_number from) [] b.now t × IsReadFree from read b t
+  ready clean live t h =
+      let same = sym (still clean live) in (
+        subst (λ (db : Database). HoldsIn (version_number from) [] db t) same h,
+        (subst (λ (db : Database). AreNamesFree db.schema) same free, are clean live t h),
+      )
+
+  pub read_done : HasCleanDisk b → IsTrue a.is_open → CommitsFrom from (IsReadFree from read) f b e
+      → CommitsFrom from (λ _ _. Unit {0}) f a e
+  read_done clean live done = record {
+    holds = λ t h any. let it = ready clean live t h in done.holds t it.0 it.1;
+    others = λ t h any.
+        let it = ready clean live t h in
+        subst (λ (db : Database). KeepsOthers db e.now) (still clean live) (done.others t it.0 it.1);
+    committed = done.committed;
+    ended = done.ended;
+    is_open = done.is_open;
+  }
+
+  pub read_crash : Survives b e (MayCommitFrom from (IsReadFree from read) f b)
+      → Survives a e (λ trees. IsTrue a.is_open → MayCommitFrom from (λ _ _. Unit {0}) f a trees)
+  read_crash ending =
+      survives_then a b e _ _ (λ trees. IsTrue a.is_open → MayCommitFrom from (λ _ _. Unit {0}) f a trees)
+      (λ _ db none live. absurd (none live tt))
+      (λ clean db may live t h any.
+      let late : HasCleanDisk b = omega (arith, clean, ending.clean) in
+      let it = ready late live t h in
+      let left = may t it.0 it.1 in
+      (left.0, subst (λ (was : Database). CrashStateHasOthers was db) (still late live) left.1))
+      reads.crash ending
+
+-- where the reading failed
+pub read_fails : (a b : State) (May : Trees → Type 0) → Fails Anything a b
+    → Survives a b (λ trees. IsTrue a.is_open → May trees)
+read_fails a b May failed = survives_weaker a b _ _ (λ _ db none live. absurd (none live tt)) failed.crash

@@ -9,9 +9,11 @@ use Rattle.sqlite.specs.Store.{Ghosts}
 use Rattle.portal_tables_rows.specs.Selects.{ReadsRow}
 use Rattle.portal_tables_rows.specs.Selects.{ReadsFirst, ReadsOpen}
 use Rattle.portal_tables_rows.proofs.WholeReading.{first_held, first_there}
+use Rattle.portal_tables_rows.proofs.Common.{false}
+use Rattle.portal_tables_sql.specs.Indexes.{our_indexes}
 
 pub first_stands : (db : Database) (t : Contents) → HoldsFirst db t → HasFirst db.schema
-first_stands db t held = (held.places, held.tables_exist)
+first_stands db t held = (held.0, (held.1.places, held.1.tables_exist))
 
 pub all_stand : (db : Database) (t : Contents) → Holds db t → HasTables db.schema
 all_stand db t held = (held.places, held.tables_exist)
@@ -45,10 +47,11 @@ module _ {S : Type 0} (g : Ghosts S) where
       → ReadsOpen g HasTables Holds a b result Is Own
   open_wider {a = a} {result = result} r = record {
     read =
-        λ clean live t held. r.read clean live t (first_held this_schema_version true (state g a).now t held);
+        λ clean live t held. r.read clean live t (first_held false this_schema_version our_indexes
+        (state g a).now t held);
     looks = looks_weaker HasFirst HasTables first_there result _ _ r.looks;
     foreign = λ clean live t held own.
-        r.foreign clean live t (first_held this_schema_version true (state g a).now t held) own;
+        r.foreign clean live t (first_held false this_schema_version our_indexes (state g a).now t held) own;
   }
 
   module _ {Has : Schema → Type 0} {Hold : Database → Contents → Type 0} where

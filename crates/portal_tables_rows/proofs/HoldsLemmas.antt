@@ -7,10 +7,12 @@ use Rattle.portal_tables_rows.proofs.Common.{VoucherRow, SessionRow, GrantRow, C
 use Rattle.portal_tables_rows.proofs.Common.{plans, batches, vouchers, sessions, grants, counts, totals}
 use Rattle.portal_tables_rows.proofs.Common.{requests, Contents, HeadRow, head_stored, plan_cells}
 use Rattle.portal_tables_rows.proofs.Common.{batch_cells, voucher_cells, session_stored, grant_stored}
-use Rattle.portal_tables_rows.proofs.Common.{count_cells, total_stored, request_cells, RequestRow, HoldsIn}
+use Rattle.portal_tables_rows.proofs.Common.{count_cells, total_stored, request_cells, RequestRow}
+use Rattle.portal_tables_rows.proofs.Common.{HoldsTables}
 use Rattle.portal_tables_rows.proofs.Common.{TablesExist}
 use Rattle.portal_tables_sql.specs.Stored.{Keeps}
-use Rattle.portal_tables_sql.specs.Tables.{table_of, name_of, since}
+use Rattle.portal_tables_sql.specs.Tables.{table_in, name_of, since}
+use Rattle.portal_tables_sql.specs.declared.our_indexes.OurIndex.{OurIndex}
 use Rattle.portal_tables_sql.specs.declared.our_tables.OurTable.{OurTable}
 use Rattle.portal_tables_sql.specs.declared.our_tables.OurTable.TheVariants as our
 use Rattle.portal_tables_sql.proofs.TableLemmas.{for_each, name_is, tree_is}
@@ -80,26 +82,27 @@ Unless false P = P
 abbrev Differ : OurTable → Contents → Contents → Type 0
 Differ y t now = (x : OurTable) → Unless (initial_of x == initial_of y) (shown x t ≡ shown x now)
 
-module _ {v : ℕ} {indexed : Bool} {db after : Database} {t : Contents} (h : HoldsIn v indexed db t)
-    (y : OurTable) (k : Touches db (table_of y (h.places y).tree) after) where
+module _ {keyed : Bool} {v : ℕ} {indexes : List OurIndex} {db after : Database} {t : Contents}
+    (h : HoldsTables keyed v indexes db t)
+    (y : OurTable) (k : Touches db (table_in keyed y (h.places y).tree) after) where
   initials : (x z : OurTable) (n m : ℕ) → (initial_of x == initial_of z) ≡ false
-      → (initial (table_of x n) == initial (table_of z m)) ≡ false
-  initials x z n m off = rw (name_is x n, name_is z m) off
+      → (initial (table_in keyed x n) == initial (table_in keyed z m)) ≡ false
+  initials x z n m off = rw (name_is keyed x n, name_is keyed z m) off
 
   stays : (x : OurTable) → since x ≤ v → (initial_of x == initial_of y) ≡ false
       → StoresIn x (after.trees (h.places x).tree) t
   stays x on off =
-      let table = table_of x (h.places x).tree in
+      let table = table_in keyed x (h.places x).tree in
       let same : after.trees table.tree ≡ db.trees table.tree =
       k.others (h.places x).at table (h.tables_exist.tables x on).exists (initials x y _ _ off) in
-      moved (subst (λ n. after.trees n ≡ db.trees n) (tree_is x (h.places x).tree) same) (h.store x on)
+      moved (subst (λ n. after.trees n ≡ db.trees n) (tree_is keyed x (h.places x).tree) same) (h.store x on)
 
   -- the touched table stores these rows now
   holds_now : (now : Contents) → StoresIn y (after.trees (h.places y).tree) now → Differ y t now
-      → HoldsIn v indexed after now
+      → HoldsTables keyed v indexes after now
   holds_now now stored differ = record {
     places = h.places;
-    tables_exist = subst (λ s. TablesExist v indexed s h.places) (sym k.schema) h.tables_exist;
+    tables_exist = subst (λ s. TablesExist keyed v indexes s h.places) (sym k.schema) h.tables_exist;
     store = λ x on. elim (cases_Bool (initial_of x == initial_of y)) [
       | inl same ↦
           subst (λ z. StoresIn z (after.trees (h.places z).tree) now) (sym (same_table x y same)) stored
@@ -111,57 +114,58 @@ module _ {v : ℕ} {indexed : Bool} {db after : Database} {t : Contents} (h : Ho
 
 -- ---- the touched table stores these rows now
 
-module _ {v : ℕ} {indexed : Bool} {db after : Database} {t : Contents} (h : HoldsIn v indexed db t) where
+module _ {v : ℕ} {indexes : List OurIndex} {db after : Database} {t : Contents}
+    (h : HoldsTables false v indexes db t) where
   pub heads_now : (now : List HeadRow) → Touches db (head (h.places our.Head).tree) after
       → Stores whole_row head_stored (after.trees (h.places our.Head).tree) now
-      → HoldsIn v indexed after (record t { heads = now })
+      → HoldsTables false v indexes after (record t { heads = now })
   heads_now now k stored =
       holds_now h our.Head k _ stored (for_each _ tt refl refl refl refl refl refl refl refl)
 
   pub plans_now : (now : List Plan) → Touches db (plans (h.places our.Plans).tree) after
       → Stores less_rowid plan_cells (after.trees (h.places our.Plans).tree) now
-      → HoldsIn v indexed after (record t { plans = now })
+      → HoldsTables false v indexes after (record t { plans = now })
   plans_now now k stored =
       holds_now h our.Plans k _ stored (for_each _ refl tt refl refl refl refl refl refl refl)
 
   pub batches_now : (now : List Batch) → Touches db (batches (h.places our.Batches).tree) after
       → Stores less_rowid batch_cells (after.trees (h.places our.Batches).tree) now
-      → HoldsIn v indexed after (record t { batches = now })
+      → HoldsTables false v indexes after (record t { batches = now })
   batches_now now k stored =
       holds_now h our.Batches k _ stored (for_each _ refl refl tt refl refl refl refl refl refl)
 
   pub vouchers_now : (now : List VoucherRow) → Touches db (vouchers (h.places our.Vouchers).tree) after
       → Stores less_rowid voucher_cells (after.trees (h.places our.Vouchers).tree) now
-      → HoldsIn v indexed after (record t { vouchers = now })
+      → HoldsTables false v indexes after (record t { vouchers = now })
   vouchers_now now k stored =
       holds_now h our.Vouchers k _ stored (for_each _ refl refl refl tt refl refl refl refl refl)
 
   pub sessions_now : (now : List SessionRow) → Touches db (sessions (h.places our.Sessions).tree) after
       → Stores whole_row session_stored (after.trees (h.places our.Sessions).tree) now
-      → HoldsIn v indexed after (record t { sessions = now })
+      → HoldsTables false v indexes after (record t { sessions = now })
   sessions_now now k stored =
       holds_now h our.Sessions k _ stored (for_each _ refl refl refl refl tt refl refl refl refl)
 
   pub grants_now : (now : List GrantRow) → Touches db (grants (h.places our.Grants).tree) after
       → Stores whole_row grant_stored (after.trees (h.places our.Grants).tree) now
-      → HoldsIn v indexed after (record t { grants = now })
+      → HoldsTables false v indexes after (record t { grants = now })
   grants_now now k stored =
       holds_now h our.Grants k _ stored (for_each _ refl refl refl refl refl tt refl refl refl)
 
   pub counts_now : (now : List CountRow) → Touches db (counts (h.places our.Counts).tree) after
       → Stores less_rowid count_cells (after.trees (h.places our.Counts).tree) now
-      → HoldsIn v indexed after (record t { counts = now })
+      → HoldsTables false v indexes after (record t { counts = now })
   counts_now now k stored =
       holds_now h our.Counts k _ stored (for_each _ refl refl refl refl refl refl tt refl refl)
 
   pub totals_now : (now : List TotalRow) → Touches db (totals (h.places our.Totals).tree) after
       → Stores whole_row total_stored (after.trees (h.places our.Totals).tree) now
-      → HoldsIn v indexed after (record t { totals = now })
+      → HoldsTables false v indexes after (record t { totals = now })
   totals_now now k stored =
       holds_now h our.Totals k _ stored (for_each _ refl refl refl refl refl refl refl tt refl)
 
   pub requests_now : (now : List RequestRow) → Touches db (requests (h.places our.Requests).tree) after
       → Stores less_rowid request_cells (after.trees (h.places our.Requests).tree) now
-      → HoldsIn v indexed after (record t { requests = now })
+      → HoldsTables false v indexes after (record t { requests = now })
   requests_now now k stored =
       holds_now h our.Requests k _ stored (for_each _ refl refl refl refl refl refl refl refl tt)

@@ -6,7 +6,7 @@ use Rattle.portal_tables_rows.proofs.Common.{vouchers, sessions, grants, counts,
 use Rattle.portal_tables_rows.proofs.Common.{count_cells, grant_cells, grant_stored, head_stored, plan_cells}
 use Rattle.portal_tables_rows.proofs.Common.{session_stored, total_cells, total_stored, voucher_cells}
 use Rattle.portal_tables_rows.proofs.Common.{with_plan, with_batch, with_voucher, with_session, with_grant}
-use Rattle.portal_tables_rows.proofs.Common.{with_head, with_count, with_total}
+use Rattle.portal_tables_rows.proofs.Common.{with_head, with_count, with_total, head_cells, session_cells}
 use Rattle.portal_model.specs.declared.record.Batch.{Batch}
 use Rattle.portal_tables_rows.proofs.OthersLemmas.{kept_others, own_named}
 use Rattle.portal_tables_sql.specs.declared.our_tables.OurTable.TheVariants as our
@@ -95,3 +95,38 @@ add_total p old new count ran t h =
     (λ (x : TotalRow). x.number) total_stored (λ x. refl) t.totals p (h.store our.Totals (lit≤ tt))
     (simp (cast_null, cast_int, cast_or_null, cast_signed_or_null)) in
     (totals_now h _ k.0 k.1, kept_others old.now (totals place.tree) new.now (own_named our.Totals) k.0)
+
+-- ---- with all columns
+
+pub add_whole_voucher : (p : VoucherRow) → LeadsTo texts.add_whole_voucher_text (voucher_cells p)
+    (with_voucher p)
+add_whole_voucher p old new count ran t h =
+    let place = (h.places our.Vouchers) in
+    let exists = (h.tables_exist.tables our.Vouchers (always _)).exists in
+    let k = adds texts.add_whole_voucher_text (voucher_cells p) old new count ran (vouchers place.tree) exists
+    texts.add_whole_voucher_terms 7 (texts.add_whole_voucher_means old.now.schema place.at place.tree exists)
+    refl
+    voucher_cells t.vouchers p (h.store our.Vouchers (always _)) (simp (cast_null, cast_int, cast_or_null)) in
+    (vouchers_now h _ k.0 k.1, kept_others old.now (vouchers place.tree) new.now (own_named our.Vouchers) k.0)
+
+pub add_whole_session : (p : SessionRow) → LeadsTo texts.add_whole_session_text (session_cells p)
+    (with_session p)
+add_whole_session p old new count ran t h =
+    let place = (h.places our.Sessions) in
+    let exists = (h.tables_exist.tables our.Sessions (always _)).exists in
+    let k = puts texts.add_whole_session_text (session_cells p) old new count ran (sessions place.tree) exists
+    texts.add_whole_session_terms 7 (texts.add_whole_session_means old.now.schema place.at place.tree exists)
+    refl
+    (λ (x : SessionRow). x.number) session_stored (λ x. refl) t.sessions p (h.store our.Sessions (always _))
+    (simp (cast_null, cast_int, cast_or_null)) in
+    (sessions_now h _ k.0 k.1, kept_others old.now (sessions place.tree) new.now (own_named our.Sessions) k.0)
+
+pub add_whole_head : (p : HeadRow) → LeadsTo texts.add_whole_head_text (head_cells p) (with_head p)
+add_whole_head p old new count ran t h =
+    let place = (h.places our.Head) in
+    let exists = (h.tables_exist.tables our.Head (always _)).exists in
+    let k = puts texts.add_whole_head_text (head_cells p) old new count ran (head place.tree) exists
+    texts.add_whole_head_terms 6 (texts.add_whole_head_means old.now.schema place.at place.tree exists) refl
+    (λ (x : HeadRow). x.id) head_stored (λ x. refl) t.heads p (h.store our.Head (always _))
+    (simp (cast_null, cast_int)) in
+    (heads_now h _ k.0 k.1, kept_others old.now (head place.tree) new.now (own_named our.Head) k.0)

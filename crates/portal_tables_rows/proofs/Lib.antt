@@ -1,10 +1,11 @@
 pub mod Asking
 pub mod AuditLemmas
-pub mod BesideLemmas
 pub mod Cells
 pub mod Common
 pub mod Compose
+pub mod CopySteps
 pub mod CreateLemmas
+pub mod DropSteps
 pub mod Finding
 pub mod Foreign
 pub mod Frame
@@ -18,6 +19,7 @@ pub mod HoldsLemmas
 pub mod IndexedLemmas
 pub mod Indexing
 pub mod InsertSteps
+pub mod KeyLemmas
 pub mod ListReading
 pub mod Listing
 pub mod MakeLemmas
@@ -33,6 +35,7 @@ pub mod Reading
 pub mod RequestCells
 pub mod RequestReading
 pub mod RequestSteps
+pub mod RestoreLemmas
 pub mod SameCode
 pub mod SumLemmas
 pub mod TableSteps

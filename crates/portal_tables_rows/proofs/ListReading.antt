@@ -1,4 +1,5 @@
 -- The result of each SELECT of a list, by the rows that the tables hold.
+use Rattle.portal_tables_rows.proofs.Common.{false}
 use Rattle.portal_tables_rows.proofs.Common.{◌≡◌, ◌<◌, ℕ, List, [], ◌∷◌, ◌++◌, Bool, map, filter, length}
 use Rattle.portal_tables_rows.proofs.Common.{true, false, refl, sym, ap, ap₂, subst, ◌∙◌, lit<, bytes_eq}
 use Rattle.portal_tables_rows.proofs.Common.{Ordering, lit≤, Key, then-Equal, value_cmp-Text, Text, Row}
@@ -78,7 +79,7 @@ totals_rows_are old new rows shown t h =
     let place = (h.places our.Totals) in
     let table = totals place.tree in
     let it = selected all_totals_text table [] _ [] old new total_columns (λ _. true) (λ r. refl)
-    (by_column 0) (orders_by table 0 [] (lit< tt)) (all_totals_means old.now.schema place.at place.tree
+    (by_column 0) (orders_by table 0 [] (lit< tt)) (all_totals_means old.now.schema false place.at place.tree
     (h.tables_exist.tables our.Totals (lit≤ tt)).exists) rows shown in
     let all = subst (λ xs. IsSelection (λ _. true) (by_column 0) xs rows)
     (totals_in old.now.trees place.tree t.totals (h.store our.Totals (lit≤ tt))) it in

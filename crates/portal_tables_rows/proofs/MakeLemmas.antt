@@ -2,7 +2,7 @@
 use Rattle.portal_tables_rows.proofs.Common.{◌≡◌, inl, inr, Result, Ok, IsTrue, ℕ, Bool, List, [], ◌∷◌, ◌++◌}
 use Rattle.portal_tables_rows.proofs.Common.{refl, sym, subst, ◌∙◌, Error, Ghosts, State, Database, Has}
 use Rattle.portal_tables_rows.proofs.Common.{HasMade, IsUnactedBy, TablePlace, KeepsOthers, makes_inside}
-use Rattle.portal_tables_rows.proofs.Common.{Contents, HoldsIn}
+use Rattle.portal_tables_rows.proofs.Common.{false}
 use Rattle.sqlite.specs.declared.transaction.Transaction.{Transaction}
 use Rattle.portal_tables_sql.specs.Inside.{Inside, Runs}
 use Rattle.portal_tables_sql.proofs.InsideLemmas.{inside_none, inside_then}
@@ -12,7 +12,6 @@ use Rattle.portal_tables_sql.specs.Tables.{table_of, name_of, create_of}
 use Rattle.portal_tables_sql.specs.declared.our_tables.OurTable.{OurTable}
 use Rattle.portal_tables_rows.specs.Creation.{HaveMade, Makes}
 use Rattle.portal_tables_rows.proofs.CreateLemmas.{IsReady, new_place, still_by, made_ready, still_ready}
-use Rattle.portal_tables_rows.proofs.BesideLemmas.{still_in}
 use Rattle.portal_tables_rows.proofs.OthersLemmas.{others_none, others_then}
 use Rattle.portal_tables_rows.proofs.OthersMade.{others_made}
 
@@ -54,12 +53,6 @@ others_still [] db after same = subst (KeepsOthers db) (sym same) (others_none d
 others_still (x ∷ xs) db after made = others_then db made.0 after
     (others_made db (table_of x 0) made.0 made.1) (others_still xs made.0 after made.2)
 
-pub still_held : (xs : List OurTable) (v : ℕ) (had : Bool) (db after : Database) → HaveMade xs db after
-    → (t : Contents) → HoldsIn v had db t → HoldsIn v had after t
-still_held [] v had db after same t f = subst (λ (d : Database). HoldsIn v had d t) (sym same) f
-still_held (x ∷ xs) v had db after made t f =
-    still_held xs v had made.0 after made.2 t (still_in v had db made.0 (table_of x 0) (idle x) made.1 t f)
-
 -- ---- what was created is ready
 
 -- the table exists somewhere, and has no row yet
@@ -73,7 +66,7 @@ just_made db after x made free =
     let place = new_place db in (
       place,
       made_ready db after (table_of x) (placed x place.tree) (names_itself x) made
-          (subst (IsUnactedBy after.schema) (sym (name_is x place.tree)) unacted),
+          (subst (IsUnactedBy after.schema) (sym (name_is false x place.tree)) unacted),
     )
 
 still_new : (xs : List OurTable) (db after : Database) → HaveMade xs db after → (x : OurTable)
@@ -81,7 +74,7 @@ still_new : (xs : List OurTable) (db after : Database) → HaveMade xs db after 
 still_new [] db after same x new = subst (λ (d : Database). IsNew d x) (sym same) new
 still_new (y ∷ ys) db after made x new = still_new ys made.0 after made.2 x (
   new.0,
-  still_ready db made.0 (table_of y 0) (table_of x) new.0 (tree_is x new.0.tree) (idle y) made.1 new.1,
+  still_ready db made.0 (table_of y 0) (table_of x) new.0 (tree_is false x new.0.tree) (idle y) made.1 new.1,
 )
 
 pub all_new : (xs : List OurTable) (db after : Database)

@@ -78,10 +78,10 @@ module _ {S T : Type 0} (g : Ghosts S) {old new : Held S} {cells : T → Row} {w
       → HoldsFirst (state g old).now t → TellsAll cells width own rows (Is t) (Own t))
       → ReadsMany g cells width own sql params old new result → ReadsFirst g old new result Is Own
   reads_first asks simple tells many = record {
-    found = many_found HoldsFirst (λ t h. simple _ (h.places, h.tables_exist)) tells many;
+    found = many_found HoldsFirst (λ t h. simple _ (h.0, (h.1.places, h.1.tables_exist))) tells many;
     looks = looks_weaker (Asks sql) HasFirst (λ schema has. asks schema) result _ _ many.looks;
     always = looks_weaker (Asks sql) Anything (λ schema has. asks schema) result _ _ many.looks;
-    foreign = many_foreign HoldsFirst (λ t h. simple _ (h.places, h.tables_exist)) tells many;
+    foreign = many_foreign HoldsFirst (λ t h. simple _ (h.0, (h.1.places, h.1.tables_exist))) tells many;
   }
 
 -- the vouchers that pass a test, in an order

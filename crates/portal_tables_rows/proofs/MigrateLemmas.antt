@@ -7,27 +7,17 @@ use Rattle.portal_tables_rows.proofs.Common.{IsStrictlyIncreasing, State, value_
 use Rattle.portal_tables_rows.proofs.Common.{put_by, CountRow, TotalRow, Contents, this_schema_version}
 use Rattle.portal_tables_rows.proofs.Common.{MakesRows, with_count, with_counts, with_total}
 use Rattle.portal_tables_rows.proofs.Common.{with_schema_version, CountValue, Total, OldSchema, First}
-use Rattle.portal_tables_rows.proofs.Common.{MakesRowsFrom, Rise, with_totals, counts_read, totals_read}
+use Rattle.portal_tables_rows.proofs.Common.{Rebuilds, Rise, with_totals, counts_read, totals_read}
+use Rattle.portal_tables_rows.specs.declared.copies.WholeTable.{WholeTable}
 use Rattle.portal_tables_rows.proofs.Common.{with_empty_tables, after_migration}
 use Rattle.portal_tables_rows.proofs.Compose.{steps_then, steps_none, steps_same}
 use Rattle.portal_tables_rows.proofs.OthersLemmas.{others_then}
 
-pub from_then : (k : ℕ) (a : Bool) (l : ℕ) (b : Bool) (m : ℕ) (d : Bool) (f g : Contents → Contents)
-    (x y z : State) → MakesRowsFrom k a l b f x y → MakesRowsFrom l b m d g y z
-    → MakesRowsFrom k a m d (λ t. g (f t)) x z
-from_then k a l b m d f g x y z p q = record {
-  holds = λ t h. q.holds (f t) (p.holds t h);
-  others = λ t h. others_then x.now y.now z.now (p.others t h) (q.others (f t) (p.holds t h));
-  committed = q.committed ∙ p.committed;
-  mode = q.mode;
-}
-
-pub from_steps : (k : ℕ) (a : Bool) (f g : Contents → Contents) (x y z : State)
-    → MakesRowsFrom k a this_schema_version true f x y → MakesRows g y z
-    → MakesRowsFrom k a this_schema_version true (λ t. g (f t)) x z
-from_steps k a f g x y z p q = record {
-  holds = λ t h. q.holds (f t) (p.holds t h);
-  others = λ t h. others_then x.now y.now z.now (p.others t h) (q.others (f t) (p.holds t h));
+pub rebuilt_then : (from : OldSchema) (read : List WholeTable) (f g : Contents → Contents) (x y z : State)
+    → Rebuilds from read f x y → MakesRows g y z → Rebuilds from read (λ t. g (f t)) x z
+rebuilt_then from read f g x y z p q = record {
+  holds = λ t h is. q.holds (f t) (p.holds t h is);
+  others = λ t h is. others_then x.now y.now z.now (p.others t h is) (q.others (f t) (p.holds t h is));
   committed = q.committed ∙ p.committed;
   mode = q.mode;
 }

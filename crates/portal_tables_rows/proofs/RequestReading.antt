@@ -1,16 +1,21 @@
--- The result of the SELECT, by the rows that the table holds, and the request that is found.
+-- The results of the SELECTs, by the rows that the table holds, and the request that is found.
+use Rattle.portal_tables_rows.proofs.Common.{◌≡◌, ap, ap₂, sym, ◌∙◌, true, map-map, column, field_at}
+use Rattle.portal_tables_rows.proofs.Common.{IsSimple}
+use Rattle.portal_tables_rows.proofs.Common.{means_simple}
 use Rattle.portal_tables_rows.proofs.Common.{ℕ, Option, Result, option_map, Ghosts, Held, RequestRow, Finds}
 use Rattle.portal_tables_rows.proofs.Common.{key_of, request_read, List, [], ◌∷◌, map, filter, refl, subst}
 use Rattle.portal_tables_rows.proofs.Common.{Equal, lit<, lit≤, IsPermutation, Text, Row, Schema, understood}
 use Rattle.portal_tables_rows.proofs.Common.{State, Shown, IsPlain, selected, requests, Contents}
 use Rattle.portal_tables_rows.proofs.Common.{request_cells, Holds, HasTables, has_keys}
 use Rattle.portal_tables_sql.proofs.RequestTexts as texts
+use Rattle.portal_tables_rows.specs.Requests.{key_cells}
 use Rattle.portal_tables_rows.specs.Selects.{ReadsOne, ReadsRow}
 use Rattle.portal_tables_rows.specs.declared.rows.RowError.{RowError}
 use Rattle.portal_tables_rows.specs.declared.stored_requests.StoredRequest.{StoredRequest}
 use Rattle.portal_tables_rows.proofs.Finding.{reads_one}
 use Rattle.portal_tables_rows.proofs.RequestCells.{exact_request, requests_in}
 use Rattle.portal_tables_rows.proofs.Pairs.{pair_meets, pair_only, pair_tests, tested_none, tested_some}
+use Rattle.portal_tables_sql.proofs.WholeTables.{some_columns}
 use Rattle.portal_tables_sql.specs.declared.our_tables.OurTable.TheVariants as our
 
 pub request_plain : (schema : Schema) → HasTables schema → IsPlain (understood schema texts.request_text)
@@ -55,3 +60,37 @@ reads_request g caller id =
           meets 10 (λ k. refl) exact_request t.requests rows answer got;
       owns = λ own row got. tt;
     })
+
+-- ---- the keys of all requests
+
+pub exact_key : (a b : List ℕ × List ℕ) → key_cells a ≡ key_cells b → a ≡ b
+exact_key a b e =
+    let caller : a.0 ≡ b.0 = cc in
+    let number : a.1 ≡ b.1 = cc in
+    λ i. (caller i, number i)
+
+all_pass : (rows : List Row) → filter (λ _. true) rows ≡ rows
+all_pass [] = refl
+all_pass (r ∷ rows) = ap (λ xs. r ∷ xs) (all_pass rows)
+
+pub keys_simple : (schema : Schema) → HasTables schema → IsSimple (understood schema texts.keys_text)
+keys_simple schema h = let place = (h.0 our.Requests) in
+    means_simple schema texts.keys_text _ _
+    (texts.keys_means schema place.at place.tree (h.1.tables our.Requests (lit≤ tt)).exists)
+
+pub keys_are : (old new : State) (rows : List Row) → Shown texts.keys_text [] old new rows
+    → (t : Contents) → Holds old.now t → rows ≡ map key_cells (map key_of t.requests)
+keys_are old new rows shown t h =
+    let place = (h.places our.Requests) in
+    let table = requests place.tree in
+    let two : Row → Row = λ r. column r 0 ∷ column r 1 ∷ [] in
+    some_columns texts.keys_text table [] (texts.keys_terms table) [] texts.keys_columns
+    old new (λ _. true) (λ r. refl) two
+    (λ r. ap₂ (λ a b. a ∷ b ∷ []) (sym (field_at table 0 r (lit< tt))) (sym (field_at table 1 r (lit< tt))))
+    (texts.keys_means old.now.schema place.at place.tree
+    (h.tables_exist.tables our.Requests (lit≤ tt)).exists)
+    (h.store our.Requests (lit≤ tt)).are.rise rows shown
+    ∙ ap (map two) (all_pass _
+    ∙ requests_in old.now.trees place.tree t.requests (h.store our.Requests (lit≤ tt)))
+    ∙ map-map two request_cells t.requests
+    ∙ sym (map-map key_cells key_of t.requests)

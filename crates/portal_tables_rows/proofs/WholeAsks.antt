@@ -1,4 +1,4 @@
--- The texts that read a whole table of schema version 1 only ask, under any schema.
+-- The texts that read a whole table only ask, under any schema.
 use Rattle.portal_tables_rows.proofs.Common.{codes, None, refl, OnlyAsks, select_of, up, plans_name}
 use Rattle.portal_tables_rows.proofs.Common.{vouchers_name, sessions_name, grants_name}
 use Rattle.portal_tables_sql.proofs.SelectTexts.{plan_columns, session_columns, voucher_columns}
@@ -6,6 +6,12 @@ use Rattle.sqlite_tied.specs.Compute.{everything}
 use Rattle.sqlite_ast.specs.declared.Statement.TheVariants as written
 use Rattle.portal_tables_rows.proofs.Asking.{understood_idle}
 use Rattle.portal_tables_sql.proofs.WholeTexts as texts
+use Rattle.portal_tables_sql.proofs.RequestTexts.{request_columns}
+use Rattle.portal_tables_sql.proofs.SelectTexts.{head_columns, batch_columns, count_columns, total_columns}
+use Rattle.portal_tables_rows.proofs.Common.{head_name, batches_name, counts_name, totals_name, requests_name}
+use Rattle.portal_tables_sql.specs.Copies.{select_of as select_all_of}
+use Rattle.portal_tables_sql.specs.declared.our_tables.OurTable.{OurTable}
+use Rattle.portal_tables_sql.specs.declared.our_tables.OurTable.TheVariants as our
 
 pub plans_asked : OnlyAsks texts.all_plans_text
 unfolding everything
@@ -50,3 +56,74 @@ grants_asked schema c is =
     (written.Select (select_of grants_name texts.all_grants_columns None (up (codes "number")) None))
     0 (record { parsed = _; read = refl; is = refl; timeless = refl; counted = refl }) (λ schema. refl)
     (λ schema base. refl) schema c is).0
+
+pub heads_asked : OnlyAsks texts.all_heads_text
+unfolding everything
+heads_asked schema c is =
+    (understood_idle texts.all_heads_text
+    (written.Select (select_of head_name head_columns None (up (codes "id")) None)) 0 (record {
+      parsed = _;
+      read = refl;
+      is = refl;
+      timeless = refl;
+      counted = refl;
+    }) (λ schema. refl) (λ schema base. refl) schema c is).0
+
+pub batches_asked : OnlyAsks texts.all_batches_text
+unfolding everything
+batches_asked schema c is =
+    (understood_idle texts.all_batches_text
+    (written.Select (select_of batches_name batch_columns None (up (codes "rowid")) None)) 0 (record {
+      parsed = _;
+      read = refl;
+      is = refl;
+      timeless = refl;
+      counted = refl;
+    }) (λ schema. refl) (λ schema base. refl) schema c is).0
+
+pub counts_asked : OnlyAsks texts.all_counts_text
+unfolding everything
+counts_asked schema c is =
+    (understood_idle texts.all_counts_text
+    (written.Select (select_of counts_name count_columns None (up (codes "rowid")) None)) 0 (record {
+      parsed = _;
+      read = refl;
+      is = refl;
+      timeless = refl;
+      counted = refl;
+    }) (λ schema. refl) (λ schema base. refl) schema c is).0
+
+pub totals_asked : OnlyAsks texts.all_totals_text
+unfolding everything
+totals_asked schema c is =
+    (understood_idle texts.all_totals_text
+    (written.Select (select_of totals_name total_columns None (up (codes "number")) None)) 0 (record {
+      parsed = _;
+      read = refl;
+      is = refl;
+      timeless = refl;
+      counted = refl;
+    }) (λ schema. refl) (λ schema base. refl) schema c is).0
+
+pub requests_asked : OnlyAsks texts.all_requests_text
+unfolding everything
+requests_asked schema c is =
+    (understood_idle texts.all_requests_text
+    (written.Select (select_of requests_name request_columns None (up (codes "rowid")) None)) 0 (record {
+      parsed = _;
+      read = refl;
+      is = refl;
+      timeless = refl;
+      counted = refl;
+    }) (λ schema. refl) (λ schema base. refl) schema c is).0
+
+pub whole_asked : (x : OurTable) → OnlyAsks (select_all_of x)
+whole_asked our.Head = heads_asked
+whole_asked our.Plans = plans_asked
+whole_asked our.Batches = batches_asked
+whole_asked our.Vouchers = vouchers_asked
+whole_asked our.Sessions = sessions_asked
+whole_asked our.Grants = grants_asked
+whole_asked our.Counts = counts_asked
+whole_asked our.Totals = totals_asked
+whole_asked our.Requests = requests_asked

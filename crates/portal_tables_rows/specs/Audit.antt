@@ -1,6 +1,7 @@
--- When the counters of a database are what its other rows give.
-use Rattle.std.specs.Prelude.{◌≡◌, ℕ, Bool, true, nat_eq, bytes_eq, List, map, length, IsTrue}
-use Rattle.std.specs.List.{list_all, list_any}
+-- When the rows of a database agree with each other: each has a key of its own, each row that another refers
+-- to is there, and the counters are what the other rows give.
+use Rattle.std.specs.Prelude.{◌≡◌, ℕ, Bool, true, ◌&&◌, nat_eq, bytes_eq, List, map, length, IsTrue}
+use Rattle.std.specs.List.{IsDistinct, list_all, list_any}
 use Rattle.std.specs.HashSet.{HashSet, contains}
 use Rattle.sqlite.specs.State.{State, HasCleanDisk}
 use Rattle.sqlite_rules.specs.Lists.{Has}
@@ -10,15 +11,52 @@ use Rattle.portal_tables_rows.specs.declared.counted_rows.CountedRows.{CountedRo
 use Rattle.portal_tables_rows.specs.Contents.{Contents, HeadRow}
 use Rattle.portal_tables_rows.specs.First.{HoldsFirst}
 use Rattle.portal_tables_rows.specs.Read.{voucher_read, session_read}
+use Rattle.portal_tables_rows.specs.Requests.{key_of}
 use Rattle.portal_tables_rows.specs.Sums.{grant_read, rows_for_sums, uses_in}
+
+-- ---- keys
+
+-- the same batch and the same place in it
+abbrev pub same_place : VoucherRow → VoucherRow → Bool
+same_place v w = bytes_eq v.batch w.batch && nat_eq v.place w.place
+
+-- the same caller and the same idempotency key
+abbrev pub same_key : List ℕ × List ℕ → List ℕ × List ℕ → Bool
+same_key a b = bytes_eq a.0 b.0 && bytes_eq a.1 b.1
+
+-- No two rows of a table have the same key.
+pub record HasDistinctKeys (t : Contents) : Type 0 where
+  pub plans : IsDistinct bytes_eq (map (λ p. p.id) t.plans)
+  pub batches : IsDistinct bytes_eq (map (λ b. b.id) t.batches)
+  pub codes : IsDistinct bytes_eq (map (λ v. v.code) t.vouchers)
+  pub places : IsDistinct same_place t.vouchers
+  pub counts : IsDistinct bytes_eq (map (λ k. k.code) t.counts)
+  pub requests : IsDistinct same_key (map key_of t.requests)
+
+-- ---- references
+
+-- each of the first list is in the second
+abbrev pub AreAmong : {X : Type 0} → List X → List X → Type 0
+AreAmong {X = X} xs ys = (x : X) → Has xs x → Has ys x
+
+-- Each row that another refers to is there.
+pub record HasReferences (t : Contents) : Type 0 where
+  pub batch_plans : AreAmong (map (λ b. b.plan) t.batches) (map (λ p. p.id) t.plans)
+  pub voucher_batches : AreAmong (map (λ v. v.batch) t.vouchers) (map (λ b. b.id) t.batches)
+  pub session_plans : AreAmong (map (λ s. s.plan) t.sessions) (map (λ p. p.id) t.plans)
+  pub grant_codes : AreAmong (map (λ g. g.code) t.grants) (map (λ v. v.code) t.vouchers)
+  pub grant_sessions : AreAmong (map (λ g. g.session) t.grants) (map (λ s. s.number) t.sessions)
+  pub count_codes : AreAmong (map (λ k. k.code) t.counts) (map (λ v. v.code) t.vouchers)
+
+-- ---- counters
 
 -- the end of a session and what remains, by the sums over its redemptions
 abbrev pub total_in : Contents → SessionRow → TotalRow
 total_in t s = total_from (rows_for_sums t.plans t.grants) s
 
 -- The counters agree with the other rows.
-pub record IsAudited (t : Contents) : Type 0 where
-  -- each count is the number of the redemptions with its code, also where no voucher has the code
+pub record HasCounters (t : Contents) : Type 0 where
+  -- each count is the number of the redemptions with its code
   pub counts : (k : CountRow) → Has t.counts k → k.redeemed ≡ uses_in t.grants k.code
   -- each total is what the sums give of a session that exists
   pub totals : (m : TotalRow) → Has t.totals m → (s : SessionRow) × Has t.sessions s × (m ≡ total_in t s)
@@ -30,7 +68,14 @@ pub record IsAudited (t : Contents) : Type 0 where
   pub head : (h : HeadRow) × Has t.heads h × (h.id ≡ 1) × (h.grants ≡ length t.grants)
       × (h.sessions ≡ length t.sessions)
 
--- The same, tested row by row
+-- ---- all three
+
+pub record IsAudited (t : Contents) : Type 0 where
+  pub keys : HasDistinctKeys t
+  pub references : HasReferences t
+  pub counters : HasCounters t
+
+-- ---- the counters, tested row by row
 
 -- the count is the number of the redemptions with its code
 abbrev pub is_counted : List GrantRow → CountRow → Bool
@@ -53,7 +98,7 @@ pub record Agrees (h : HeadRow) (t : Contents) : Type 0 where
   pub vouchers : list_all (has_count t.counts) t.vouchers ≡ true
   pub totals : t.totals ≡ map (total_in t) t.sessions
 
--- What was read
+-- ---- what was read
 
 -- the rows are those of the tables
 pub record AreReadRows (rows : CountedRows) (t : Contents) : Type 0 where

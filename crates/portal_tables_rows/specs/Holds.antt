@@ -1,10 +1,8 @@
 -- When a database holds rows in the product's tables of a schema version, wherever those tables are among
 -- others.
-use Rattle.std.specs.Prelude.{◌≡◌, ℕ, ◌≤◌, Bool, true, IsTrue, List, [], ◌∷◌, map, codes}
+use Rattle.std.specs.Prelude.{◌≡◌, ℕ, ◌≤◌, nat_le, Bool, false, List, map}
 use Rattle.sqlite.specs.Schema.{Schema}
 use Rattle.sqlite.specs.Table.{Table}
-use Rattle.sqlite_schema.specs.declared.schema.Index.{Index}
-use Rattle.sqlite_schema.specs.Names.{same_name}
 use Rattle.sqlite_rules.specs.Lists.{Has}
 use Rattle.sqlite.specs.Tree.{Trees}
 use Rattle.sqlite.specs.Order.{Row}
@@ -12,7 +10,9 @@ use Rattle.sqlite.specs.Effect.{Database, IsDatabase}
 use Rattle.portal_tables_sql.specs.TableExists.{TableExists, IsUnacted}
 use Rattle.portal_tables_sql.specs.Represents.{CrashStateHolds}
 use Rattle.portal_tables_sql.specs.Stored.{Keeps, whole_row, less_rowid}
-use Rattle.portal_tables_sql.specs.Tables.{table_of, since}
+use Rattle.portal_tables_sql.specs.Indexes.{described_index, our_indexes, HasOurIndex}
+use Rattle.portal_tables_sql.specs.Tables.{table_in, since}
+use Rattle.portal_tables_sql.specs.declared.our_indexes.OurIndex.{OurIndex}
 use Rattle.portal_tables_sql.specs.declared.our_tables.OurTable.{OurTable}
 use Rattle.portal_tables_sql.specs.declared.our_tables.OurTable.TheVariants as our
 use Rattle.portal_tables_rows.specs.Contents.{Contents, head_stored, plan_cells, batch_cells, voucher_cells}
@@ -33,26 +33,13 @@ pub record IsTableAt (schema : Schema) (table : ℕ → Table) (place : TablePla
   pub exists : TableExists schema place.at (table place.tree)
   pub unacted : IsUnacted schema place.tree
 
--- the name of the index of the sessions
-abbrev pub index_name : List ℕ
-index_name = codes "portal_sessions_by_device"
-
--- an index by which the last session of a device is found: on the devices, and then the numbers, of the
--- sessions in the tree
-pub record IsSessionIndex (index : Index) (tree : ℕ) : Type 0 where
-  pub name : same_name index.name index_name ≡ true
-  pub table : index.table ≡ tree
-  pub columns : index.columns ≡ 2 ∷ 0 ∷ []
-
-abbrev pub HasSessionIndex : Schema → ℕ → Type 0
-HasSessionIndex schema tree = (index : Index) × Has schema.indexes index × IsSessionIndex index tree
-
--- The tables of the schema version exist at these places. A database of any version may have the index of the
--- sessions.
-pub record TablesExist (schema_version : ℕ) (indexed : Bool) (schema : Schema)
+-- The tables of the schema version exist at these places, with their clauses or without, and have these
+-- indexes.
+pub record TablesExist (keyed : Bool) (schema_version : ℕ) (indexes : List OurIndex) (schema : Schema)
     (places : TablePlaces) : Type 0 where
-  pub tables : (x : OurTable) → since x ≤ schema_version → IsTableAt schema (table_of x) (places x)
-  pub index : IsTrue indexed → HasSessionIndex schema (places our.Sessions).tree
+  pub tables : (x : OurTable) → since x ≤ schema_version → IsTableAt schema (table_in keyed x) (places x)
+  pub indexed : (x : OurIndex) → Has indexes x
+      → HasOurIndex x schema (places (described_index x).table).tree
 
 -- the rows that the table stores, with the rowid where it is the key
 abbrev pub shown : OurTable → Contents → List Row
@@ -88,29 +75,38 @@ abbrev pub StoresRows : ℕ → TablePlaces → Trees → Contents → Type 0
 StoresRows schema_version places trees t =
     (x : OurTable) → since x ≤ schema_version → StoresIn x (trees (places x).tree) t
 
--- the database holds just these rows in the tables of the schema version
-pub record HoldsIn (schema_version : ℕ) (indexed : Bool) (db : Database) (t : Contents) : Type 0 where
+-- the database holds just these rows in the tables of the schema version, and has these indexes
+pub record HoldsTables (keyed : Bool) (schema_version : ℕ) (indexes : List OurIndex) (db : Database)
+    (t : Contents) : Type 0 where
   pub places : TablePlaces
-  pub tables_exist : TablesExist schema_version indexed db.schema places
+  pub tables_exist : TablesExist keyed schema_version indexes db.schema places
   pub store : StoresRows schema_version places db.trees t
   pub sound : IsDatabase db
 
+-- up to schema version 4 the tables have their clauses
+abbrev pub has_clauses : ℕ → Bool
+has_clauses schema_version = nat_le schema_version 4
+
+abbrev pub HoldsIn : ℕ → List OurIndex → Database → Contents → Type 0
+HoldsIn schema_version indexes db t =
+    HoldsTables (has_clauses schema_version) schema_version indexes db t
+
 -- the schema version of this program
 abbrev pub this_schema_version : ℕ
-this_schema_version = 4
+this_schema_version = 5
 
--- the database holds just these rows in the tables of this schema version, with the index
+-- the database holds just these rows in the tables of this schema version, with its indexes
 abbrev pub Holds : Database → Contents → Type 0
-Holds db t = HoldsIn this_schema_version true db t
+Holds db t = HoldsIn this_schema_version our_indexes db t
 
--- the schema has the tables of the schema version, whatever rows they hold
-abbrev pub HasTablesIn : ℕ → Bool → Schema → Type 0
-HasTablesIn schema_version indexed schema =
-    (places : TablePlaces) × TablesExist schema_version indexed schema places
+-- the schema has the tables of the schema version and these indexes, whatever rows they hold
+abbrev pub HasTablesIn : Bool → ℕ → List OurIndex → Schema → Type 0
+HasTablesIn keyed schema_version indexes schema =
+    (places : TablePlaces) × TablesExist keyed schema_version indexes schema places
 
--- the schema has the tables of this schema version and the index, whatever rows they hold
+-- the schema has the tables of this schema version and its indexes, whatever rows they hold
 abbrev pub HasTables : Schema → Type 0
-HasTables schema = HasTablesIn this_schema_version true schema
+HasTables schema = HasTablesIn false this_schema_version our_indexes schema
 
 -- the trees of a crash state hold the rows, under the schema that they list
 abbrev pub CrashStateHoldsRows : Trees → Contents → Type 0

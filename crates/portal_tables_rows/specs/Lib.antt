@@ -1,6 +1,7 @@
 pub mod Audit
 pub mod Commands
 pub mod Contents
+pub mod Copying
 pub mod Creation
 pub mod First
 pub mod Foreign

@@ -1,24 +1,18 @@
 -- The migration of a database of an older schema version to this one, in one transaction.
-use Rattle.std.specs.Prelude.{◌≡◌, ◌<◌, ◌^◌, ℕ, Bool, true, false, IsTrue, not, is_some, ◌&&◌, ◌||◌, List, []}
-use Rattle.std.specs.Prelude.{◌∷◌, map, fold, All}
-use Rattle.std.specs.List.{list_all}
+use Rattle.std.specs.Prelude.{◌≡◌, ◌<◌, ◌^◌, ℕ, Bool, false, true, IsTrue, List, [], ◌∷◌, map, fold, All}
 use Rattle.std.specs.List.Sorted.{IsStrictlyIncreasing}
-use Rattle.sqlite.specs.Schema.{Schema}
 use Rattle.sqlite.specs.Tree.{Trees}
 use Rattle.sqlite.specs.State.{State}
-use Rattle.sqlite.specs.Rows.{sequence}
-use Rattle.portal_tables_sql.specs.TableExists.{IsUnactedBy}
 use Rattle.portal_tables_sql.specs.Stored.{put_by}
-use Rattle.portal_tables_sql.specs.Made.{HasItsSequence}
-use Rattle.portal_tables_sql.specs.Harmless.{are_harmless, any_autoincrement}
 use Rattle.portal_model.specs.Rows.{CountRow, TotalRow, count_from, total_from}
 use Rattle.portal_tables_rows.specs.declared.rows.CountValue.{CountValue}
 use Rattle.portal_tables_rows.specs.declared.column_values.Total.{Total}
-use Rattle.portal_tables_sql.specs.Tables.{name_of}
+use Rattle.portal_tables_rows.specs.declared.copies.WholeTable.{WholeTable}
 use Rattle.portal_tables_sql.specs.declared.our_tables.OurTable.{OurTable}
 use Rattle.portal_tables_sql.specs.declared.our_tables.OurTable.TheVariants as our
-use Rattle.sqlite_rules.specs.Lists.{Has}
 use Rattle.portal_tables_rows.specs.Contents.{Contents}
+use Rattle.portal_tables_rows.specs.Copying.{AreRead}
+use Rattle.portal_tables_rows.specs.Creation.{AreNamesFree}
 use Rattle.portal_tables_rows.specs.Foreign.{AreOwnRows}
 use Rattle.portal_tables_rows.specs.Read.{count_read}
 use Rattle.portal_tables_rows.specs.Steps.{ends_row, with_counts, with_schema_version}
@@ -27,14 +21,15 @@ use Rattle.portal_tables_rows.specs.Others.{KeepsOthers, CrashStateHasOthers}
 use Rattle.portal_tables_rows.specs.Sums.{SumsFit, rows_for_sums}
 use Rattle.portal_tables_rows.specs.declared.schema_versions.OldSchema.{OldSchema}
 use Rattle.portal_tables_rows.specs.declared.schema_versions.OldSchema.TheVariants.{First, Second, Third}
-use Rattle.portal_tables_rows.specs.declared.schema_versions.OldSchema.TheVariants.{Fourth}
+use Rattle.portal_tables_rows.specs.declared.schema_versions.OldSchema.TheVariants.{Fourth, Fifth}
 
--- the number of a schema version; the fourth is this one, without its index
+-- the number of a schema version; the fifth is this one, without one of its indexes
 abbrev pub version_number : OldSchema → ℕ
 version_number First = 1
 version_number Second = 2
 version_number Third = 3
 version_number Fourth = 4
+version_number Fifth = 5
 
 -- ---- the rows after a migration
 
@@ -52,6 +47,7 @@ with_later_tables First t = record t { counts = counts_summed t; totals = totals
 with_later_tables Second t = record t { requests = [] }
 with_later_tables Third t = t
 with_later_tables Fourth t = t
+with_later_tables Fifth t = t
 
 -- the same rows in this schema version
 abbrev pub migrated_rows : OldSchema → Contents → Contents
@@ -60,34 +56,36 @@ migrated_rows from t = with_schema_version this_schema_version (with_later_table
 -- The tables were migrated to this schema version, with the index, and the other tables kept. It is
 -- committed.
 pub record HasMigrated (from : OldSchema) (old new : State) : Type 0 where
-  pub holds : (t : Contents) → HoldsIn (version_number from) false old.now t
+  pub holds : (t : Contents) → HoldsIn (version_number from) [] old.now t
       → Holds new.now (migrated_rows from t)
-  pub others : (t : Contents) → HoldsIn (version_number from) false old.now t → KeepsOthers old.now new.now
+  pub others : (t : Contents) → HoldsIn (version_number from) [] old.now t → KeepsOthers old.now new.now
   pub committed : new.committed ≡ new.now
   pub ended : new.in_transaction ≡ false
   pub is_open : IsTrue new.is_open
 
 -- the crash states that are added: the migrated rows, with the other tables
 abbrev pub MayMigrate : OldSchema → State → Trees → Type 0
-MayMigrate from old trees = IsTrue old.is_open → (t : Contents) → HoldsIn (version_number from) false old.now
+MayMigrate from old trees = IsTrue old.is_open → (t : Contents) → HoldsIn (version_number from) [] old.now
     t → CrashStateHoldsRows trees (migrated_rows from t) × CrashStateHasOthers old.now trees
 
--- ---- free names
+-- ---- the tables of each schema version
 
--- the tables that were added after schema version 1
-abbrev pub later_tables : List OurTable
-later_tables = our.Counts ∷ our.Totals ∷ our.Requests ∷ []
+-- a table comes before those that it refers to, as they are dropped in this order
+abbrev pub first_tables : List OurTable
+first_tables = our.Grants ∷ our.Sessions ∷ our.Vouchers ∷ our.Batches ∷ our.Plans ∷ our.Head ∷ []
 
--- no foreign key acts on the names of the later tables, and a schema with AUTOINCREMENT has sqlite_sequence
-pub record HasFreeNames (schema : Schema) : Type 0 where
-  pub numbered : HasItsSequence schema
-  pub unacted : (x : OurTable) → Has later_tables x → IsUnactedBy schema (name_of x)
+abbrev pub second_tables : List OurTable
+second_tables = our.Totals ∷ our.Counts ∷ first_tables
 
--- the same as a test
-abbrev pub has_free_names : Schema → Bool
-has_free_names schema =
-    (not (any_autoincrement schema) || is_some (sequence schema))
-    && list_all (λ x. are_harmless (name_of x) schema) later_tables
+abbrev pub all_tables : List OurTable
+all_tables = our.Requests ∷ second_tables
+
+abbrev pub tables_of : OldSchema → List OurTable
+tables_of First = first_tables
+tables_of Second = second_tables
+tables_of Third = all_tables
+tables_of Fourth = all_tables
+tables_of Fifth = all_tables
 
 -- ---- counters that fit
 
@@ -129,6 +127,7 @@ with_empty_tables First t = without_requests (without_counters t)
 with_empty_tables Second t = without_requests t
 with_empty_tables Third t = t
 with_empty_tables Fourth t = t
+with_empty_tables Fifth t = t
 
 -- the rows with these totals inserted, each at its place by number
 abbrev pub with_totals : List TotalRow → Contents → Contents
@@ -144,28 +143,36 @@ abbrev pub after_migration : OldSchema → List CountValue → List Total → Co
 after_migration from counts totals t =
     with_schema_version this_schema_version (with_counters counts totals (with_empty_tables from t))
 
--- Inside a transaction, statements changed the rows by f and the schema version from k to l, and kept the
--- other tables. Nothing is committed.
-pub record MakesRowsFrom (k : ℕ) (a : Bool) (l : ℕ) (b : Bool) (f : Contents → Contents)
+-- Inside a transaction, the tables of the schema version were made anew with the rows that were read of them,
+-- changed by f, and the other tables kept. Nothing is committed.
+pub record Rebuilds (from : OldSchema) (read : List WholeTable) (f : Contents → Contents)
     (old new : State) : Type 0 where
-  pub holds : (t : Contents) → HoldsIn k a old.now t → HoldsIn l b new.now (f t)
-  pub others : (t : Contents) → HoldsIn k a old.now t → KeepsOthers old.now new.now
+  pub holds : (t : Contents) → HoldsIn (version_number from) [] old.now t → AreRead read (tables_of from) t
+      → Holds new.now (f t)
+  pub others : (t : Contents) → HoldsIn (version_number from) [] old.now t → AreRead read (tables_of from) t
+      → KeepsOthers old.now new.now
   pub committed : new.committed ≡ old.committed
   pub mode : new.in_transaction ≡ true
 
 -- ---- one transaction
 
--- The rows were changed by f and the schema version to this one, and the other tables kept. It is committed,
--- and the connection is outside a transaction.
-pub record CommitsFrom (k : ℕ) (a : Bool) (Ready : Schema → Type 0) (f : Contents → Contents)
+-- The rows that Ready allows were changed by f and the schema version to this one, and the other tables kept.
+-- It is committed, and the connection is outside a transaction.
+pub record CommitsFrom (from : OldSchema) (Ready : State → Contents → Type 0) (f : Contents → Contents)
     (old new : State) : Type 0 where
-  pub holds : Ready old.now.schema → (t : Contents) → HoldsIn k a old.now t → Holds new.now (f t)
-  pub others : Ready old.now.schema → (t : Contents) → HoldsIn k a old.now t → KeepsOthers old.now new.now
+  pub holds : (t : Contents) → HoldsIn (version_number from) [] old.now t → Ready old t → Holds new.now (f t)
+  pub others : (t : Contents) → HoldsIn (version_number from) [] old.now t → Ready old t
+      → KeepsOthers old.now new.now
   pub committed : new.committed ≡ new.now
   pub ended : new.in_transaction ≡ false
   pub is_open : IsTrue new.is_open
 
+-- the names are free, and just these tables were read
+abbrev pub IsReadFree : OldSchema → List WholeTable → State → Contents → Type 0
+IsReadFree from read old t = AreNamesFree old.now.schema × AreRead read (tables_of from) t
+
 -- the crash states that are added: the rows changed by f, with the other tables
-abbrev pub MayCommitFrom : ℕ → Bool → (Schema → Type 0) → (Contents → Contents) → State → Trees → Type 0
-MayCommitFrom k a Ready f old trees = Ready old.now.schema → (t : Contents) → HoldsIn k a old.now t
-    → CrashStateHoldsRows trees (f t) × CrashStateHasOthers old.now trees
+abbrev pub MayCommitFrom : OldSchema → (State → Contents → Type 0) → (Contents → Contents) → State → Trees
+    → Type 0
+MayCommitFrom from Ready f old trees = (t : Contents) → HoldsIn (version_number from) [] old.now t
+    → Ready old t → CrashStateHoldsRows trees (f t) × CrashStateHasOthers old.now trees

@@ -1,12 +1,23 @@
 -- The rows of portal_requests as they are found and read.
-use Rattle.std.specs.Prelude.{ℕ, List, option_map}
+use Rattle.std.specs.Prelude.{ℕ, List, [], ◌∷◌, option_map}
 use Rattle.std.specs.String.{string_bytes}
 use Rattle.portal_ledger.specs.RequestRow.{RequestRow, cells}
+use Rattle.sqlite.specs.Order.{Row}
+use Rattle.sqlite.specs.declared.types.Value.TheVariants.{Text}
+use Rattle.portal_tables_rows.specs.declared.stored_requests.RequestKey.{RequestKey}
 use Rattle.portal_tables_rows.specs.declared.stored_requests.StoredRequest.{StoredRequest}
 
 -- the caller and the idempotency key are the table's key together
 abbrev pub key_of : RequestRow → List ℕ × List ℕ
 key_of k = (k.caller, k.number)
+
+-- the key as SELECT gives it
+abbrev pub key_cells : List ℕ × List ℕ → Row
+key_cells key = Text key.0 ∷ Text key.1 ∷ []
+
+-- a key that was read
+abbrev pub key_read : RequestKey → List ℕ × List ℕ
+key_read k = (string_bytes k.caller, string_bytes k.number)
 
 -- the row of a stored request
 abbrev pub request_read : StoredRequest → RequestRow

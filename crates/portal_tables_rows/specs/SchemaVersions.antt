@@ -1,11 +1,12 @@
 -- Which of the product's tables a schema has, by their names, and which schema version the head row gives.
 use Rattle.std.specs.Prelude.{◌≡◌, ◌≤◌, ◌⊎◌, ℕ, Bool, ◌||◌, ◌&&◌, is_some, List, [], ◌∷◌, codes, Option, Some}
-use Rattle.std.specs.Prelude.{None, Ok, Err, false, nat_eq, bytes_eq, slice_get, option_and_then}
+use Rattle.std.specs.Prelude.{None, Ok, Err, false, nat_eq, bytes_eq, slice_get, option_and_then, not}
 use Rattle.sqlite.specs.Order.{Row, column}
-use Rattle.std.specs.List.{list_all, list_any}
+use Rattle.std.specs.List.{list_all, list_any, starts_with}
 use Rattle.sqlite.specs.Schema.{Schema}
 use Rattle.sqlite.specs.Table.{Table}
 use Rattle.sqlite_schema.specs.declared.schema.Index.{Index}
+use Rattle.sqlite_schema.specs.declared.schema.Reference.{Reference}
 use Rattle.sqlite.specs.Effect.{Database, Reads}
 use Rattle.sqlite.specs.Listing.{understood, reads_listing, IsSourceOf}
 use Rattle.sqlite_schema.specs.Names.{table_named, view_named, same_name}
@@ -13,8 +14,9 @@ use Rattle.sqlite_resolve.specs.declared.compiled.Compiled.{Compiled}
 use Rattle.sqlite_resolve.specs.declared.error.CompileError.{CompileError}
 use Rattle.portal_tables_sql.specs.Harmless.{are_harmless}
 use Rattle.portal_tables_sql.specs.Stored.{number}
-use Rattle.portal_tables_sql.specs.Tables.{name_of, our_tables, sessions_name}
-use Rattle.portal_tables_rows.specs.Holds.{index_name}
+use Rattle.portal_tables_sql.specs.Indexes.{described_index, our_indexes}
+use Rattle.portal_tables_sql.specs.Tables.{name_of, our_tables}
+use Rattle.portal_tables_sql.specs.declared.our_indexes.OurIndex.{OurIndex}
 
 -- ---- names
 
@@ -42,20 +44,60 @@ has_our_tables schema = list_all (λ x. has_table schema (name_of x)) our_tables
 abbrev pub is_usable_schema : Schema → Bool
 is_usable_schema schema = has_our_tables schema && has_no_action_on_ours schema
 
--- the index by which the last session of a device is found, on the table with this tree
-abbrev pub is_session_index : ℕ → Index → Bool
-is_session_index tree index =
-    same_name index.name index_name && (nat_eq index.table tree && bytes_eq index.columns (2 ∷ 0 ∷ []))
+-- the index is this one, on the table with the tree
+abbrev pub is_our_index : OurIndex → ℕ → Index → Bool
+is_our_index x tree index = same_name index.name (described_index x).name
+    && (nat_eq index.table tree && bytes_eq index.columns (described_index x).columns)
 
--- one of the indexes is that of the sessions in the table
-abbrev pub has_index_on : List Index → Option Table → Bool
-has_index_on indexes None = false
-has_index_on indexes (Some table) = list_any (is_session_index table.tree) indexes
+-- one of the indexes is this one, on the table
+abbrev pub has_index_on : OurIndex → List Index → Option Table → Bool
+has_index_on x indexes None = false
+has_index_on x indexes (Some table) = list_any (is_our_index x table.tree) indexes
 
--- the product's table of sessions has this index
+-- the product's table has this index
+abbrev pub has_our_index : Schema → OurIndex → Bool
+has_our_index schema x = has_index_on x schema.indexes
+    (option_and_then (slice_get schema.tables) (table_named schema (name_of (described_index x).table)))
+
+-- the product's tables have all of their indexes
 abbrev pub is_indexed : Schema → Bool
-is_indexed schema =
-    has_index_on schema.indexes (option_and_then (slice_get schema.tables) (table_named schema sessions_name))
+is_indexed schema = list_all (has_our_index schema) our_indexes
+
+-- ---- what of others hangs on the product's tables
+
+-- one of the product's tables has the name, as SQL compares names
+abbrev pub names_ours : List ℕ → Bool
+names_ours name = list_any (λ x. same_name name (name_of x)) our_tables
+
+-- one of the foreign keys refers to a table of the product's names
+abbrev pub refers_to_ours : Table → Bool
+refers_to_ours t = list_any (λ (ref : Reference). names_ours ref.parent) t.references
+
+-- the table is another's, and refers to one of the product's
+abbrev pub hangs_on_ours : Table → Bool
+hangs_on_ours t = not (names_ours t.name) && refers_to_ours t
+
+-- one of the product's indexes has the name, as SQL compares names
+abbrev pub names_our_index : List ℕ → Bool
+names_our_index name = list_any (λ x. same_name name (described_index x).name) our_indexes
+
+-- the index is one of the product's, or was made by a clause
+abbrev pub is_own_index : Index → Bool
+is_own_index index = names_our_index index.name || starts_with nat_eq index.name (codes "sqlite_")
+
+-- the index is on a table of the product's names
+abbrev pub is_on_ours : Schema → Index → Bool
+is_on_ours schema index =
+    list_any (λ (t : Table). nat_eq t.tree index.table && names_ours t.name) schema.tables
+
+-- the index is another's, and on one of the product's tables
+abbrev pub is_others_index : Schema → Index → Bool
+is_others_index schema index = not (is_own_index index) && is_on_ours schema index
+
+-- a table or an index of others would not outlive that the product's tables are made anew
+abbrev pub is_entangled : Schema → Bool
+is_entangled schema =
+    list_any hangs_on_ours schema.tables || list_any (is_others_index schema) schema.indexes
 
 -- ---- the schema version
 

@@ -1,4 +1,4 @@
-//! The audit: whether the counters agree with the other rows.
+//! The audit: whether the rows of a database agree with each other.
 
 ghost use Rattle.std.specs.Prelude.{◌≡◌, ◌↔◌, List, map, length, IfOk, IsTrue};
 ghost use Rattle.std.specs.List.{list_all};
@@ -9,19 +9,23 @@ ghost use Rattle.portal_tables_rows.specs.Holds.{HasTables, Holds};
 ghost use Rattle.portal_tables_rows.specs.Steps.{ends_row};
 ghost use Rattle.portal_tables_rows.specs.Read.{head_read, voucher_read, count_read};
 ghost use Rattle.portal_tables_rows.specs.Sums.{AreUses, SumsFit, grant_read};
-ghost use Rattle.portal_tables_rows.specs.Audit.{Agrees, AreCounted, AreReadRows, IsAudited, is_counted};
-ghost use Rattle.portal_tables_rows.specs.Audit.{has_count};
+ghost use Rattle.portal_tables_rows.specs.Audit.{Agrees, AreCounted, AreReadRows, HasDistinctKeys};
+ghost use Rattle.portal_tables_rows.specs.Audit.{HasReferences, IsAudited, has_count, is_counted};
+ghost use Rattle.portal_tables_rows.specs.Requests.{key_of, key_read};
 ghost use Rattle.portal_tables_rows.specs.Selects.{ReadsOpen};
 
 use crate::column_values::Total;
 use crate::counted_rows::{CountedRows, read_counted_rows};
 use crate::finds::read_head_row;
 use crate::grants::GrantValue;
+use crate::keys::{are_keys_distinct, are_references_there};
 use crate::rows::{CountValue, HeadValue, RowError, VoucherValue};
+use crate::stored_requests::RequestKey;
 use crate::sums::{count_uses_by_code, sum_totals, uses_of_code};
-use crate::whole::{read_all_counts, read_all_totals};
+use crate::whole::{read_all_batches, read_all_counts, read_all_request_keys, read_all_totals};
 use portal_codes::Code;
 use portal_model::proof::witness;
+use portal_model::record::Batch;
 use sqlite::{Alter, Connection};
 use std::alloc::Global;
 use std::collections::{HashMap, HashSet};
@@ -145,11 +149,38 @@ fn counters_agree(
     Ok(are_totals_equal(totals, &sums))
 }
 
-/// Whether the counters of the database agree with its other rows: each count is the number of
-/// redemptions with its code, each total is the sum over the redemptions of its session, each voucher
-/// has its count and each session its total, and the head row has the numbers of redemptions and of
-/// sessions. Fails with `ForeignRow` if a row is not one that this product writes, or if a sum does not
-/// fit in a column.
+/// Whether each of these rows has a key of its own, each row that another refers to is among them, and
+/// the counters agree with them.
+fn rows_agree(
+    head: &HeadValue,
+    rows: &CountedRows,
+    batches: &[Batch],
+    counts: &[CountValue],
+    totals: &[Total],
+    requests: Vec<RequestKey>,
+) -> Result<bool, RowError>
+    ensures agree { IfOk result
+        (λ agree. (t : Contents) → AreReadRows rows.now t → batches.now ≡ t.batches
+        → map count_read counts.now ≡ t.counts → map ends_row totals.now ≡ t.totals
+        → map key_read requests.items ≡ map key_of t.requests
+        → IsTrue agree ↔ (HasDistinctKeys t × HasReferences t × Agrees (head_read head.now) t)) }
+    ensures kept { (t : Contents) → AreReadRows rows.now t → SumsFit t.plans t.sessions t.grants
+        → NotForeign result }
+{
+    if !are_keys_distinct(rows, batches, counts, requests)? {
+        return Ok(false);
+    }
+    if !are_references_there(rows, batches, counts)? {
+        return Ok(false);
+    }
+    counters_agree(head, rows, counts, totals)
+}
+
+/// Whether the rows of the database agree with each other. No two rows of a table have the same key, and
+/// each row that another refers to is there. Each count is the number of redemptions with its code, each
+/// total is the sum over the redemptions of its session, each voucher has its count and each session its
+/// total, and the head row has the numbers of redemptions and of sessions. Fails with `ForeignRow` if a row
+/// is not one that this product writes, or if a sum does not fit in a column.
 pub fn audit<S: Alter>(conn: &mut Connection<S>) -> Result<bool, RowError>
     ensures { ReadsOpen S.Store HasTables Holds conn.old conn.new result
         (λ t audited. IsTrue audited ↔ IsAudited t)
@@ -159,7 +190,9 @@ pub fn audit<S: Alter>(conn: &mut Connection<S>) -> Result<bool, RowError>
         return Ok(false);
     };
     let rows = read_counted_rows(conn)?;
+    let batches = read_all_batches(conn)?;
     let counts = read_all_counts(conn)?;
     let totals = read_all_totals(conn)?;
-    counters_agree(&head, &rows, &counts, &totals)
+    let requests = read_all_request_keys(conn)?;
+    rows_agree(&head, &rows, &batches, &counts, &totals, requests)
 }

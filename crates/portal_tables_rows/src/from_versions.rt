@@ -1,7 +1,7 @@
 //! Migrates a database of an older schema version to this version, with counters that are computed from
 //! its rows.
 
-ghost use Rattle.std.specs.Prelude.{◌≡◌, ◌<◌, ◌^◌, ◌↔◌, OnOk, OnErr, IfOk, IsTrue, All, true, false, map};
+ghost use Rattle.std.specs.Prelude.{◌≡◌, ◌<◌, ◌^◌, ◌↔◌, OnOk, OnErr, IfOk, IsTrue, All, [], true, false, map};
 ghost use Rattle.sqlite.specs.Held.{state};
 ghost use Rattle.sqlite.specs.State.{HasCleanDisk, Survives};
 ghost use Rattle.portal_tables_sql.specs.States.{IsUndone};
@@ -32,14 +32,17 @@ ghost use Rattle.portal_tables_rows.specs.Migrations.{
   totals_read,
   counts_summed,
 };
-ghost use Rattle.portal_tables_rows.specs.Migrations.{totals_summed, has_free_names, version_number};
+ghost use Rattle.portal_tables_rows.specs.Creation.{are_names_free};
+ghost use Rattle.portal_tables_rows.specs.Migrations.{totals_summed, version_number};
 ghost use Rattle.portal_tables_rows.specs.Sums.{SumsFit, grant_read};
 
 use crate::column_values::Total;
+use crate::copies::read_tables;
+use crate::creation::can_add_tables;
 use crate::grants::GrantValue;
-use crate::migrations::{can_add_later_tables, commit_migration};
+use crate::migrations::{commit_migration, tables_of};
 use crate::rows::{CountValue, RowError};
-use crate::schema_versions::{OldSchema, is_indexed};
+use crate::schema_versions::OldSchema;
 use crate::sums::{sum_counts, sum_totals};
 use crate::whole::{read_all_grants, read_all_plans, read_all_sessions, read_all_vouchers};
 use sqlite::{Alter, Connection, Error, ErrorCode};
@@ -111,26 +114,29 @@ fn migrate_with_counters<S: Alter>(
     totals: &[Total],
 ) -> Result<(), RowError>
     ensures done { HasCleanDisk (state S.Store conn.new)
-        → OnOk result (CommitsFrom (version_number from) false Anything
-        (after_migration from counts.now totals.now)
+        → IsTrue (state S.Store conn.old).is_open
+        → OnOk result (CommitsFrom from (λ _ _. Unit {0}) (after_migration from counts.now totals.now)
         (state S.Store conn.old) (state S.Store conn.new)) }
-    ensures undone { HasCleanDisk (state S.Store conn.new) → conn.old.in_transaction ≡ false
+    ensures undone { HasCleanDisk (state S.Store conn.new) → IsTrue (state S.Store conn.old).is_open
+        → (state S.Store conn.old).in_transaction ≡ false
+        → (state S.Store conn.old).now ≡ (state S.Store conn.old).committed
         → OnErr result (IsUndone (state S.Store conn.old) (state S.Store conn.new)) }
     ensures crash { Survives (state S.Store conn.old) (state S.Store conn.new)
-        (MayCommitFrom (version_number from) false Anything (after_migration from counts.now totals.now)
-        (state S.Store conn.old)) }
-    ensures foreign { has_free_names (state S.Store conn.old).now.schema ≡ true
+        (λ trees. IsTrue (state S.Store conn.old).is_open
+        → MayCommitFrom from (λ _ _. Unit {0}) (after_migration from counts.now totals.now)
+        (state S.Store conn.old) trees) }
+    ensures foreign { are_names_free (state S.Store conn.old).now.schema ≡ true
         → All (λ k. k.redeemed < 2 ^ 63) counts.now → All (λ m. m.number < 2 ^ 63) totals.now
         → NotForeign result }
 {
+    if !can_add_tables(conn.schema()) || !counts_fit(counts) || !totals_fit(totals) {
+        return Err(RowError::ForeignRow);
+    }
+    let read = read_tables(conn, tables_of(from))?;
     if !conn.is_autocommit() {
         return Err(RowError::Sql(Error::SqliteFailure(ErrorCode::TransactionState)));
     }
-    if !can_add_later_tables(conn.schema()) || !counts_fit(counts) || !totals_fit(totals) {
-        return Err(RowError::ForeignRow);
-    }
-    let has_index = is_indexed(conn.schema());
-    commit_migration(conn, from, counts, totals, has_index)?;
+    commit_migration(conn, from, read.as_slice(), counts, totals)?;
     Ok(())
 }
 
@@ -145,7 +151,7 @@ fn migrate_from_first<S: Alter>(conn: &mut Connection<S>) -> Result<(), RowError
     ensures crash { Survives (state S.Store conn.old) (state S.Store conn.new)
         (MayMigrate First (state S.Store conn.old)) }
     ensures foreign { OfFirst (state S.Store conn.old) (state S.Store conn.new)
-        (λ t. has_free_names (state S.Store conn.old).now.schema ≡ true → CanMigrate First t
+        (λ t. are_names_free (state S.Store conn.old).now.schema ≡ true → CanMigrate First t
         → NotForeign result) }
 {
     let grants = read_all_grants(conn)?;
@@ -155,8 +161,8 @@ fn migrate_from_first<S: Alter>(conn: &mut Connection<S>) -> Result<(), RowError
     Ok(())
 }
 
-/// Migrates a database of an older schema version to this version and adds the index of the sessions, in
-/// one transaction: all of it or nothing.
+/// Migrates a database of an older schema version to this version, with its indexes, in one transaction: all
+/// of it or nothing. It makes the tables anew, with the rows that they have.
 pub fn migrate_schema<S: Alter>(conn: &mut Connection<S>, from: OldSchema) -> Result<(), RowError>
     ensures done { HasCleanDisk (state S.Store conn.new) → IsTrue (state S.Store conn.old).is_open
         → OnOk result (HasMigrated from (state S.Store conn.old) (state S.Store conn.new)) }
@@ -167,8 +173,8 @@ pub fn migrate_schema<S: Alter>(conn: &mut Connection<S>, from: OldSchema) -> Re
     ensures crash { Survives (state S.Store conn.old) (state S.Store conn.new)
         (MayMigrate from (state S.Store conn.old)) }
     ensures foreign { HasCleanDisk (state S.Store conn.new) → IsTrue (state S.Store conn.old).is_open
-        → has_free_names (state S.Store conn.old).now.schema ≡ true → (t : Contents)
-        → HoldsIn (version_number from) false (state S.Store conn.old).now t → CanMigrate from t
+        → are_names_free (state S.Store conn.old).now.schema ≡ true → (t : Contents)
+        → HoldsIn (version_number from) [] (state S.Store conn.old).now t → CanMigrate from t
         → NotForeign result }
 {
     match from {
@@ -176,6 +182,7 @@ pub fn migrate_schema<S: Alter>(conn: &mut Connection<S>, from: OldSchema) -> Re
         OldSchema::Second => migrate_with_counters(conn, OldSchema::Second, &[], &[])?,
         OldSchema::Third => migrate_with_counters(conn, OldSchema::Third, &[], &[])?,
         OldSchema::Fourth => migrate_with_counters(conn, OldSchema::Fourth, &[], &[])?,
+        OldSchema::Fifth => migrate_with_counters(conn, OldSchema::Fifth, &[], &[])?,
     }
     Ok(())
 }

@@ -67,7 +67,10 @@ impl FromRow for SaleValue {
 }
 
 /// Returns the codes of these vouchers, in this order. The only error is out of memory.
-fn codes_of_vouchers(alloc: Global, vouchers: &[VoucherValue]) -> Result<Vec<Code>, RowError>
+pub(crate) fn codes_of_vouchers(
+    alloc: Global,
+    vouchers: &[VoucherValue],
+) -> Result<Vec<Code>, RowError>
     ensures read { IfOk result
         (λ codes. map text_of codes.items ≡ map (λ v. (voucher_read v).code) vouchers.now) }
     ensures codes { IfOk result (λ codes. All IsCode codes.items) }

@@ -1,20 +1,20 @@
-//! The transaction that takes the tables of an older schema version to those of this version.
+//! The transaction that takes the tables of an older schema version to those of this version. SQLite as we
+//! have it alters no table and renames none, so all of them are made anew.
 
-ghost use Rattle.std.specs.Prelude.{◌≡◌, Bool, true, false, IsTrue};
+ghost use Rattle.std.specs.Prelude.{◌≡◌, false};
 ghost use Rattle.portal_tables_sql.specs.Commits.{Commits};
 ghost use Rattle.portal_tables_sql.specs.Inside.{Inside};
 ghost use Rattle.portal_tables_sql.specs.States.{IsUndone};
-ghost use Rattle.portal_tables_rows.specs.Holds.{this_schema_version};
+ghost use Rattle.portal_tables_rows.specs.Creation.{AreNamesFree};
 ghost use Rattle.portal_tables_rows.specs.Steps.{Writes, with_counts};
 ghost use Rattle.portal_tables_rows.specs.Migrations.{
-  HasFreeNames,
-  has_free_names,
-  MakesRowsFrom,
   CommitsFrom,
+  IsReadFree,
   MayCommitFrom,
+  Rebuilds,
+  tables_of,
 };
 ghost use Rattle.portal_tables_rows.specs.Migrations.{
-  version_number,
   with_empty_tables,
   with_totals,
   with_counters,
@@ -22,66 +22,75 @@ ghost use Rattle.portal_tables_rows.specs.Migrations.{
 ghost use Rattle.portal_tables_rows.specs.Migrations.{after_migration, counts_read, totals_read};
 
 use crate::column_values::Total;
-use crate::creation::{create_tables, make_session_index};
+use crate::copies::{WholeTable, insert_tables};
+use crate::creation::{create_empty_tables, drop_tables};
 use crate::inserts::{insert_count, insert_total};
 use crate::rows::CountValue;
 use crate::schema_versions::OldSchema;
 use crate::updates::set_schema_version;
 use portal_tables_sql::our_tables::OurTable;
-use portal_tables_sql::room::{has_autoincrement, has_no_action_on, has_sequence};
 use sqlite::{Alter, Connection, Error, Transaction};
-use sqlite_schema::schema::Schema;
 
-/// The tables that were added after schema version 1.
-const LATER_TABLES: [OurTable; 3] = [OurTable::Counts, OurTable::Totals, OurTable::Requests];
+/// The tables of schema version 1, each before those that it refers to.
+const FIRST_TABLES: [OurTable; 6] = [
+    OurTable::Grants,
+    OurTable::Sessions,
+    OurTable::Vouchers,
+    OurTable::Batches,
+    OurTable::Plans,
+    OurTable::Head,
+];
 
-/// Creates the tables that the schema version `from` lacks, without rows.
-fn add_missing_tables<S: Alter>(tx: &mut Transaction<'_, S>, from: OldSchema) -> Result<(), Error>
-    ensures { Inside S.Store (λ old new. HasFreeNames old.now.schema → (had : Bool) →
-        MakesRowsFrom (version_number from) had this_schema_version had (with_empty_tables from) old new)
-        tx.old tx.new result }
+/// Those of schema version 2.
+const SECOND_TABLES: [OurTable; 8] = [
+    OurTable::Totals,
+    OurTable::Counts,
+    OurTable::Grants,
+    OurTable::Sessions,
+    OurTable::Vouchers,
+    OurTable::Batches,
+    OurTable::Plans,
+    OurTable::Head,
+];
+
+/// Those of the schema versions from 3 on.
+const ALL_TABLES: [OurTable; 9] = [
+    OurTable::Requests,
+    OurTable::Totals,
+    OurTable::Counts,
+    OurTable::Grants,
+    OurTable::Sessions,
+    OurTable::Vouchers,
+    OurTable::Batches,
+    OurTable::Plans,
+    OurTable::Head,
+];
+
+/// The tables of a schema version, each before those that it refers to.
+pub fn tables_of(from: OldSchema) -> &'static [OurTable]
+    ensures { result.now ≡ tables_of from }
 {
     match from {
-        OldSchema::First => {
-            create_tables(tx, &LATER_TABLES)?;
-            Ok(())
-        }
-        OldSchema::Second => {
-            create_tables(tx, &[OurTable::Requests])?;
-            Ok(())
-        }
-        OldSchema::Third => Ok(()),
-        OldSchema::Fourth => Ok(()),
+        OldSchema::First => &FIRST_TABLES,
+        OldSchema::Second => &SECOND_TABLES,
+        OldSchema::Third | OldSchema::Fourth | OldSchema::Fifth => &ALL_TABLES,
     }
 }
 
-/// Creates the index of the sessions, unless `has_index`.
-fn add_missing_index<S: Alter>(tx: &mut Transaction<'_, S>, has_index: bool) -> Result<(), Error>
-    ensures { Inside S.Store
-        (λ old new. MakesRowsFrom this_schema_version has_index this_schema_version true (λ t. t) old new)
-        tx.old tx.new result }
-{
-    if has_index {
-        return Ok(());
-    }
-    make_session_index(tx)?;
-    Ok(())
-}
-
-/// Creates the tables that the schema version `from` lacks, and the index of the sessions unless
-/// `has_index`.
-fn add_tables_and_index<S: Alter>(
+/// Drops the tables of the schema version `from`, creates those of this version, and inserts the rows
+/// that were read. It does not commit.
+fn rebuild_tables<S: Alter>(
     tx: &mut Transaction<'_, S>,
     from: OldSchema,
-    has_index: bool,
+    read: &[WholeTable],
 ) -> Result<(), Error>
-    ensures { Inside S.Store (λ old new. HasFreeNames old.now.schema →
-        MakesRowsFrom (version_number from) has_index this_schema_version true
-        (with_empty_tables from) old new)
+    ensures { Inside S.Store (λ old new. AreNamesFree old.now.schema
+        → Rebuilds from read.now (with_empty_tables from) old new)
         tx.old tx.new result }
 {
-    add_missing_tables(tx, from)?;
-    add_missing_index(tx, has_index)?;
+    drop_tables(tx, tables_of(from))?;
+    create_empty_tables(tx)?;
+    insert_tables(tx, read)?;
     Ok(())
 }
 
@@ -121,68 +130,45 @@ fn insert_counters<S: Alter>(
     Ok(())
 }
 
-/// Adds the missing tables and the index, inserts the counters and sets the schema version, inside a
-/// transaction. It does not commit.
+/// Makes the tables anew with the rows that were read, inserts the counters and sets the schema version,
+/// inside a transaction. It does not commit.
 fn migrate_inside<S: Alter>(
     tx: &mut Transaction<'_, S>,
     from: OldSchema,
+    read: &[WholeTable],
     kept: &[CountValue],
     totals: &[Total],
-    has_index: bool,
 ) -> Result<(), Error>
-    ensures { Inside S.Store (λ old new. HasFreeNames old.now.schema →
-        MakesRowsFrom (version_number from) has_index this_schema_version true
-        (after_migration from kept.now totals.now) old new)
+    ensures { Inside S.Store (λ old new. AreNamesFree old.now.schema
+        → Rebuilds from read.now (after_migration from kept.now totals.now) old new)
         tx.old tx.new result }
 {
-    add_tables_and_index(tx, from, has_index)?;
+    rebuild_tables(tx, from, read)?;
     insert_counters(tx, kept, totals)?;
-    set_schema_version(tx, 4)?;
+    set_schema_version(tx, 5)?;
     Ok(())
 }
 
-/// Migrates to this schema version in one transaction: it adds the missing tables, inserts these
-/// counters in this order, creates the index unless `has_index`, and sets the schema version. On an
-/// error the database is as it was while the connection is open; a crash state may have the whole
+/// Migrates to this schema version in one transaction: it makes the tables anew with the rows that were
+/// read of those of the version `from`, inserts these counters in this order, and sets the schema version.
+/// On an error the database is as it was while the connection is open; a crash state may have the whole
 /// change.
 pub fn commit_migration<S: Alter>(
     conn: &mut Connection<S>,
     from: OldSchema,
+    read: &[WholeTable],
     kept: &[CountValue],
     totals: &[Total],
-    has_index: bool,
 ) -> Result<(), Error>
     requires { conn.old.in_transaction ≡ false }
     ensures { Commits S.Store
-        (CommitsFrom (version_number from) has_index HasFreeNames (after_migration from kept.now totals.now))
-        (λ old new. HasFreeNames old.now.schema → IsUndone old new)
-        (MayCommitFrom (version_number from) has_index HasFreeNames
-        (after_migration from kept.now totals.now))
+        (CommitsFrom from (IsReadFree from read.now) (after_migration from kept.now totals.now))
+        (λ old new. AreNamesFree old.now.schema → IsUndone old new)
+        (MayCommitFrom from (IsReadFree from read.now) (after_migration from kept.now totals.now))
         conn.old conn.new result }
 {
     let mut tx = conn.transaction();
-    migrate_inside(&mut tx, from, kept, totals, has_index)?;
+    migrate_inside(&mut tx, from, read, kept, totals)?;
     tx.commit()?;
     Ok(())
-}
-
-/// Whether no foreign key acts on a name of the tables that were added after schema version 1, and a
-/// schema that uses AUTOINCREMENT has `sqlite_sequence`.
-fn has_free_names(schema: &Schema) -> bool
-    ensures { result ≡ has_free_names schema.now }
-{
-    (!has_autoincrement(schema) || has_sequence(schema))
-        && LATER_TABLES
-            .iter()
-            .all(|table| has_no_action_on(schema, table.name()))
-}
-
-/// Whether the tables that were added after schema version 1 can be created: no foreign key acts on
-/// their names.
-pub fn can_add_later_tables(schema: &Schema) -> bool
-    ensures test { result ≡ has_free_names schema.now }
-    ensures room { IsTrue result → HasFreeNames schema.now }
-{
-    let can_add_tables = has_free_names(schema);
-    can_add_tables
 }

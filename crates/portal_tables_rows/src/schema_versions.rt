@@ -1,13 +1,14 @@
 //! Finds which of the product's tables a schema has, and reads the schema version from the head row.
 
-ghost use Rattle.std.specs.Prelude.{◌≡◌, ℕ, true, false, IsTrue, OnErr, IfOk, IfErr, IfSome, IfNone};
+ghost use Rattle.std.specs.Prelude.{◌≡◌, ℕ, [], true, false, IsTrue, OnErr, IfOk, IfErr, IfSome, IfNone};
 ghost use Rattle.std.specs.List.{list_any};
 ghost use Rattle.sqlite.specs.Held.{state};
 ghost use Rattle.sqlite.specs.State.{HasCleanDisk, IsUnchanged, Survives};
 ghost use Rattle.sqlite.specs.declared.error.Error.TheVariants.{SqlInputError};
 ghost use Rattle.sqlite_resolve.specs.declared.error.CompileError.{CompileError};
 ghost use Rattle.portal_tables_sql.specs.States.{IsUndone};
-ghost use Rattle.portal_tables_rows.specs.Holds.{TablePlaces, TablesExist};
+ghost use Rattle.portal_tables_sql.specs.Indexes.{our_indexes};
+ghost use Rattle.portal_tables_rows.specs.Holds.{TablePlaces, TablesExist, this_schema_version};
 ghost use Rattle.portal_tables_rows.specs.SchemaVersions.{
   is_name_taken,
   is_any_name_taken,
@@ -17,12 +18,14 @@ ghost use Rattle.portal_tables_rows.specs.SchemaVersions.{
 ghost use Rattle.portal_tables_rows.specs.SchemaVersions.{
   is_usable_schema,
   is_indexed,
-  is_session_index,
+  is_our_index,
+  has_our_index,
   IsNoQuery,
   QueryAnswers,
 };
 ghost use Rattle.portal_tables_rows.specs.SchemaVersions.{IsOneRow};
 
+use portal_tables_sql::our_indexes::{OUR_INDEXES, OurIndex};
 use portal_tables_sql::our_tables::OUR_TABLES;
 use portal_tables_sql::room::{has_no_action_on, has_table};
 use portal_tables_sql::statements::SELECT_SCHEMA_VERSION;
@@ -31,14 +34,15 @@ use sqlite::{Alter, Connection, Error, Row};
 use sqlite_schema::names::same_name;
 use sqlite_schema::schema::{Index, Schema};
 
-/// A schema version from which a database is migrated. `Fourth` is this version, which may still lack
-/// the index of the sessions.
+/// A schema version from which a database is migrated. `Fifth` is this version, where one of its indexes
+/// is missing.
 #[derive(Clone, Copy, Debug, PartialEq, Eq)]
 pub enum OldSchema {
     First,
     Second,
     Third,
     Fourth,
+    Fifth,
 }
 
 /// Whether a table or a view has this name.
@@ -82,45 +86,51 @@ pub fn is_usable_schema(schema: &Schema) -> bool
     has_our_tables(schema) && has_no_action_on_ours(schema)
 }
 
-/// Whether `index` is the index of the sessions: it has the right name and covers the columns device and
-/// number of the table with this tree.
-fn is_session_index(index: &Index, tree: u32) -> bool
-    ensures { result ≡ is_session_index tree index.now }
+/// Whether `index` is this index: it has its name, and its columns of the table with this tree.
+fn is_our_index(ours: OurIndex, index: &Index, tree: u32) -> bool
+    ensures { result ≡ is_our_index ours tree index.now }
 {
-    same_name(index.name.as_slice(), b"portal_sessions_by_device")
+    same_name(index.name.as_slice(), ours.name())
         && index.table == tree
-        && index.columns.as_slice() == [2usize, 0].as_slice()
+        && index.columns.as_slice() == ours.columns()
 }
 
-/// Whether one of these indexes is the index of the sessions in the table with this tree.
-fn is_any_session_index(indexes: &[Index], tree: u32) -> bool
-    ensures { result ≡ list_any (is_session_index tree) indexes.now }
+/// Whether one of these indexes is this index of the table with this tree.
+fn is_any_our_index(ours: OurIndex, indexes: &[Index], tree: u32) -> bool
+    ensures { result ≡ list_any (is_our_index ours tree) indexes.now }
 {
-    indexes.iter().any(|index| is_session_index(index, tree))
+    indexes.iter().any(|index| is_our_index(ours, index, tree))
 }
 
-/// Whether the schema has the index of the sessions on `portal_sessions`.
-fn has_session_index(schema: &Schema) -> bool
-    ensures { result ≡ is_indexed schema.now }
+/// Whether the schema has this index on the product's table.
+fn has_our_index(schema: &Schema, ours: OurIndex) -> bool
+    ensures { result ≡ has_our_index schema.now ours }
 {
-    let Some(at) = schema.table_named(b"portal_sessions") else {
+    let Some(at) = schema.table_named(ours.table().name()) else {
         return false;
     };
     match schema.tables.as_slice().get(at) {
-        Some(table) => is_any_session_index(schema.indexes.as_slice(), table.tree),
+        Some(table) => is_any_our_index(ours, schema.indexes.as_slice(), table.tree),
         None => false,
     }
 }
 
-/// Whether the index exists by which the last session of a device is found.
+/// Whether the schema has each of the product's indexes.
+fn has_our_indexes(schema: &Schema) -> bool
+    ensures { result ≡ is_indexed schema.now }
+{
+    OUR_INDEXES.iter().all(|ours| has_our_index(schema, *ours))
+}
+
+/// Whether the indexes of this schema version exist.
 pub fn is_indexed(schema: &Schema) -> bool
     ensures test { result ≡ is_indexed schema.now }
-    ensures index { IsTrue result → (schema_version : ℕ) (places : TablePlaces)
-        → TablesExist schema_version false schema.now places
-        → TablesExist schema_version true schema.now places }
+    ensures index { IsTrue result → (places : TablePlaces)
+        → TablesExist false this_schema_version [] schema.now places
+        → TablesExist false this_schema_version our_indexes schema.now places }
 {
-    let is_made = has_session_index(schema);
-    is_made
+    let are_made = has_our_indexes(schema);
+    are_made
 }
 
 /// Runs the SELECT of the schema version in `portal_head`, whatever has this name. Fails with

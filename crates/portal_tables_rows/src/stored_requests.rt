@@ -13,7 +13,7 @@ ghost use Rattle.portal_tables_rows.specs.Foreign.{
   NotForeign,
 };
 ghost use Rattle.portal_tables_rows.specs.Foreign.{SparesOwn};
-ghost use Rattle.portal_tables_rows.specs.Requests.{request_read};
+ghost use Rattle.portal_tables_rows.specs.Requests.{key_cells, key_read, request_read};
 
 use crate::from_row::FromRow;
 use crate::rows::{RowError, parse_boolean, parse_printed_code, parse_printed_device};
@@ -24,6 +24,31 @@ use portal_model::moment::Moment;
 use portal_model::name::Id;
 use sqlite::Row;
 use std::alloc::Global;
+
+/// The key of a row of `portal_requests`: the caller and the idempotency key.
+#[derive(Debug, PartialEq, Eq, Hash, Drop)]
+pub struct RequestKey {
+    pub caller: String,
+    pub number: String,
+}
+
+impl FromRow for RequestKey {
+    ghost cells = { λ key. key_cells (key_read key) };
+
+    ghost width = { 2 };
+
+    ghost proper = { λ _. Unit {0} };
+
+    ghost own = { λ _. Unit {0} };
+
+    /// Reads the two columns of a key. It does not fail with `ForeignRow`.
+    fn from_row(row: &Row) -> Result<RequestKey, RowError> {
+        Ok(RequestKey {
+            caller: row.get(0)?,
+            number: row.get(1)?,
+        })
+    }
+}
 
 /// A row of `portal_requests`, not parsed yet.
 #[derive(Drop)]

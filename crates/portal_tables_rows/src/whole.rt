@@ -8,6 +8,7 @@ ghost use Rattle.portal_tables_rows.specs.Foreign.{IsOwnTotal, IsOwnVoucher};
 ghost use Rattle.portal_tables_rows.specs.Selects.{ReadsRow};
 ghost use Rattle.portal_tables_rows.specs.Steps.{ends_row};
 ghost use Rattle.portal_tables_rows.specs.Read.{voucher_read, session_read, count_read};
+ghost use Rattle.portal_tables_rows.specs.Requests.{key_of, key_read};
 ghost use Rattle.portal_tables_rows.specs.Selects.{ReadsFirst};
 ghost use Rattle.portal_tables_rows.specs.Sums.{grant_read};
 
@@ -15,11 +16,12 @@ use crate::column_values::Total;
 use crate::grants::GrantValue;
 use crate::queries::read_table;
 use crate::rows::{CountValue, RowError, SessionValue, VoucherValue};
+use crate::stored_requests::RequestKey;
 use portal_model::plan::Plan;
 use portal_model::record::Batch;
 use portal_tables_sql::statements::{
     SELECT_ALL_BATCHES, SELECT_ALL_COUNTS, SELECT_ALL_GRANTS, SELECT_ALL_PLANS,
-    SELECT_ALL_SESSIONS, SELECT_ALL_TOTALS, SELECT_ALL_VOUCHERS,
+    SELECT_ALL_REQUEST_KEYS, SELECT_ALL_SESSIONS, SELECT_ALL_TOTALS, SELECT_ALL_VOUCHERS,
 };
 use sqlite::{Alter, Connection};
 
@@ -84,4 +86,15 @@ pub fn read_all_totals<S: Alter>(conn: &mut Connection<S>) -> Result<Vec<Total>,
         (λ t. AreOwn IsOwnTotal t.totals) }
 {
     read_table(conn, SELECT_ALL_TOTALS)
+}
+
+/// Reads the keys of all requests, and nothing else of them.
+pub fn read_all_request_keys<S: Alter>(
+    conn: &mut Connection<S>,
+) -> Result<Vec<RequestKey>, RowError>
+    ensures { ReadsRow S.Store conn.old conn.new result
+        (λ t keys. map key_read keys.items ≡ map key_of t.requests)
+        (λ t. Unit {0}) }
+{
+    read_table(conn, SELECT_ALL_REQUEST_KEYS)
 }

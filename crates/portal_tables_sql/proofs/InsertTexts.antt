@@ -144,3 +144,59 @@ add_total_means schema at tree exists =
     (expr.Parameter 1 ∷ expr.Parameter 2 ∷ expr.Parameter 3 ∷ []))
     3 _ (record { parsed = _; read = refl; is = refl; timeless = refl; counted = refl })
     (simp (exists.named, exists.there) refl) (λ base. refl) (λ base. simp (exists.named, exists.there) refl)
+
+-- ---- with all columns
+
+abbrev pub add_whole_voucher_text : List ℕ
+add_whole_voucher_text =
+    codes "INSERT INTO portal_vouchers (code, batch_id, place, sold, refunded, amount) VALUES (?1, ?2, "
+    ++ codes "?3, ?4, ?5, ?6)"
+
+abbrev pub add_whole_voucher_terms : List Term
+add_whole_voucher_terms = lit Null ∷ col 0 0 ∷ col 0 1 ∷ col 0 2 ∷ col 0 3 ∷ col 0 4 ∷ col 0 5 ∷ []
+
+pub add_whole_voucher_means : (schema : Schema) (at tree : ℕ) → TableExists schema at (vouchers tree)
+    → Means schema add_whole_voucher_text (Insert at (Values add_whole_voucher_terms 7))
+unfolding everything
+add_whole_voucher_means schema at tree exists =
+    means_is schema add_whole_voucher_text (insert_into vouchers_name
+    (codes "code" ∷ codes "batch_id" ∷ codes "place" ∷ codes "sold" ∷ codes "refunded" ∷ codes "amount" ∷ [])
+    (expr.Parameter 1 ∷ expr.Parameter 2 ∷ expr.Parameter 3 ∷ expr.Parameter 4 ∷ expr.Parameter 5
+    ∷ expr.Parameter 6 ∷ []))
+    6 _ (record { parsed = _; read = refl; is = refl; timeless = refl; counted = refl })
+    (simp (exists.named, exists.there) refl) (λ base. refl) (λ base. simp (exists.named, exists.there) refl)
+
+abbrev pub add_whole_session_text : List ℕ
+add_whole_session_text =
+    codes "INSERT INTO portal_sessions (number, device, plan_id, opened, used, closed) VALUES (?1, ?2, "
+    ++ codes "?3, ?4, ?5, ?6)"
+
+abbrev pub add_whole_session_terms : List Term
+add_whole_session_terms = col 0 0 ∷ lit Null ∷ col 0 1 ∷ col 0 2 ∷ col 0 3 ∷ col 0 4 ∷ col 0 5 ∷ []
+
+pub add_whole_session_means : (schema : Schema) (at tree : ℕ) → TableExists schema at (sessions tree)
+    → Means schema add_whole_session_text (Insert at (Values add_whole_session_terms 7))
+unfolding everything
+add_whole_session_means schema at tree exists =
+    means_is schema add_whole_session_text (insert_into sessions_name (codes "number" ∷ codes "device"
+    ∷ codes "plan_id" ∷ codes "opened" ∷ codes "used" ∷ codes "closed" ∷ []) (expr.Parameter 1
+    ∷ expr.Parameter 2 ∷ expr.Parameter 3 ∷ expr.Parameter 4 ∷ expr.Parameter 5 ∷ expr.Parameter 6 ∷ []))
+    6 _ (record { parsed = _; read = refl; is = refl; timeless = refl; counted = refl })
+    (simp (exists.named, exists.there) refl) (λ base. refl) (λ base. simp (exists.named, exists.there) refl)
+
+abbrev pub add_whole_head_text : List ℕ
+add_whole_head_text =
+    codes "INSERT INTO portal_head (id, layout, last_moment, grants, sessions) VALUES (?1, ?2, ?3, ?4, ?5)"
+
+abbrev pub add_whole_head_terms : List Term
+add_whole_head_terms = col 0 0 ∷ lit Null ∷ col 0 1 ∷ col 0 2 ∷ col 0 3 ∷ col 0 4 ∷ []
+
+pub add_whole_head_means : (schema : Schema) (at tree : ℕ) → TableExists schema at (head tree)
+    → Means schema add_whole_head_text (Insert at (Values add_whole_head_terms 6))
+unfolding everything
+add_whole_head_means schema at tree exists =
+    means_is schema add_whole_head_text (insert_into head_name (codes "id" ∷ codes "layout"
+    ∷ codes "last_moment" ∷ codes "grants" ∷ codes "sessions" ∷ []) (expr.Parameter 1
+    ∷ expr.Parameter 2 ∷ expr.Parameter 3 ∷ expr.Parameter 4 ∷ expr.Parameter 5 ∷ []))
+    5 _ (record { parsed = _; read = refl; is = refl; timeless = refl; counted = refl })
+    (simp (exists.named, exists.there) refl) (λ base. refl) (λ base. simp (exists.named, exists.there) refl)

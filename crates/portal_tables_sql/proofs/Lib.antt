@@ -2,10 +2,14 @@ pub mod Acts
 pub mod AskLemmas
 pub mod Common
 pub mod CreateTexts
+pub mod DropTexts
+pub mod DroppedLemmas
+pub mod Drops
 pub mod FindLemmas
 pub mod Frame
 pub mod HarmlessLemmas
 pub mod IndexLemmas
+pub mod IndexTexts
 pub mod InsertTexts
 pub mod InsideLemmas
 pub mod Keys

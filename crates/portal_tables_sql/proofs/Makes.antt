@@ -59,7 +59,7 @@ any_more : {X : Type 0} (p : X → Bool) (xs : List X) (x : X) → p x ≡ false
 any_more p [] x off = rw off refl
 any_more p (y ∷ xs) x off = ap (λ b. p y || b) (any_more p xs x off)
 
-counted_off : (any some : Bool) → some ≡ true → (any && not some) ≡ false
+pub counted_off : (any some : Bool) → some ≡ true → (any && not some) ≡ false
 counted_off any true e = either any
   where
     either : (b : Bool) → (b && false) ≡ false
@@ -67,12 +67,12 @@ counted_off any true e = either any
     either false = refl
 counted_off any false e = absurd cc
 
-one_of : (any some : Bool) → (any && not some) ≡ false → (any ≡ false) ⊎ (some ≡ true)
+pub one_of : (any some : Bool) → (any && not some) ≡ false → (any ≡ false) ⊎ (some ≡ true)
 one_of false some e = inl refl
 one_of true true e = inr refl
 one_of true false e = absurd cc
 
-found_in : (o : Option ℕ) (tables : List Table) → is_some (option_and_then (slice_get tables) o) ≡ true
+pub found_in : (o : Option ℕ) (tables : List Table) → is_some (option_and_then (slice_get tables) o) ≡ true
     → (k : ℕ) × (t : Table) × (o ≡ Some k) × (slice_get tables k ≡ Some t)
 found_in None tables e = absurd cc
 found_in (Some k) tables e = at_place (slice_get tables k) refl e

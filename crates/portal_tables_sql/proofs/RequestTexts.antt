@@ -2,16 +2,17 @@
 use Rattle.portal_tables_sql.proofs.Common.{◌++◌, ℕ, pos, negsuc, List, [], ◌∷◌, codes, Option, Some, None}
 use Rattle.portal_tables_sql.proofs.Common.{refl}
 use Rattle.portal_tables_sql.proofs.Common.{Int, Null, Term, lit, col, Schema, Table, Values, Insert, Binary}
-use Rattle.portal_tables_sql.proofs.Common.{TableExists}
+use Rattle.portal_tables_sql.proofs.Common.{TableExists, place_of}
 use Rattle.portal_tables_sql.proofs.Queries.{drafted, unlimited}
 use Rattle.portal_tables_sql.proofs.Texts.{Means, means_is}
 use Rattle.portal_tables_sql.proofs.Lookup.{IsSelect, all_columns, column_is}
-use Rattle.portal_tables_sql.proofs.Selects.{select_means, insert_into}
+use Rattle.portal_tables_sql.proofs.Selects.{select_means, insert_into, up}
 use Rattle.portal_tables_sql.specs.Tables.{requests, requests_name}
 use Rattle.sqlite_tied.specs.Compute.{everything}
 use Rattle.sqlite_ast.specs.declared.Expr.{Expr}
 use Rattle.sqlite_ast.specs.declared.Expr.TheVariants as expr
 use Rattle.sqlite_ast.specs.declared.Binary.TheVariants as binary
+use Rattle.portal_tables_sql.proofs.WholeTables.{by_rowid, has_rowids, IsSelectOf}
 
 abbrev pub request_columns : List (List ℕ)
 request_columns = codes "caller" ∷ codes "number" ∷ codes "method" ∷ codes "path" ∷ codes "body"
@@ -60,3 +61,24 @@ request_means schema at tree exists =
     ∷ Some Binary ∷ Some Binary ∷ Some Binary ∷ Some Binary ∷ Some Binary ∷ [])
     (record { parsed = _; read = refl; is = refl; timeless = refl; counted = refl }) refl refl
     (simp (exists.named, exists.there) refl) (simp (exists.low, exists.typed) refl) refl (λ base. refl)
+
+abbrev pub keys_text : List ℕ
+keys_text = codes "SELECT caller, number FROM portal_requests ORDER BY rowid"
+
+abbrev pub keys_columns : List (List ℕ)
+keys_columns = codes "caller" ∷ codes "number" ∷ []
+
+-- the same two as the terms of the result
+abbrev pub keys_terms : Table → List Term
+keys_terms table = col 1 (place_of table 0) ∷ col 1 (place_of table 1) ∷ []
+
+pub keys_means : (schema : Schema) (at tree : ℕ) → TableExists schema at (requests tree)
+    → IsSelectOf schema keys_text (requests tree) [] (keys_terms (requests tree)) keys_columns
+unfolding everything
+keys_means schema at tree exists =
+    select_means schema keys_text requests_name keys_columns None (up (codes "rowid")) None 0
+    (lit (Int (negsuc 0)), lit (Int (pos 0)))
+    (drafted tree [] (keys_terms (requests tree)) by_rowid unlimited) (Some Binary ∷ Some Binary ∷ [])
+    (record { parsed = _; read = refl; is = refl; timeless = refl; counted = refl }) refl refl
+    (simp (exists.named, exists.there, has_rowids tree exists.low) refl)
+    (simp (exists.low, exists.typed) refl) refl (λ base. refl)

@@ -1,11 +1,12 @@
 -- What each description says of its table.
-use Rattle.portal_tables_sql.proofs.Common.{◌≡◌, ◌≤◌, arith, inl, inr, ℕ, List, true, false, refl, Has, Table}
+use Rattle.portal_tables_sql.proofs.Common.{◌≡◌, ◌≤◌, arith, inl, inr, ℕ, Bool, List, true, false, refl, Has}
+use Rattle.portal_tables_sql.proofs.Common.{Table}
 use Rattle.portal_tables_sql.proofs.Common.{Reference, NoAction}
 use Rattle.sqlite_schema.specs.Names.{same_name}
 use Rattle.std.specs.List.{AllByRecursion}
 use Rattle.portal_tables_sql.proofs.Makes.{IsCreate}
 use Rattle.portal_tables_sql.proofs.CreateTexts as texts
-use Rattle.portal_tables_sql.specs.Tables.{table_of, name_of, create_of, our_tables}
+use Rattle.portal_tables_sql.specs.Tables.{table_in, table_of, name_of, create_of, our_tables}
 use Rattle.portal_tables_sql.specs.declared.our_tables.OurTable.{OurTable}
 use Rattle.portal_tables_sql.specs.declared.our_tables.OurTable.TheVariants as our
 
@@ -69,27 +70,27 @@ placed our.Counts n = refl
 placed our.Totals n = refl
 placed our.Requests n = refl
 
-pub tree_is : (x : OurTable) (n : ℕ) → (table_of x n).tree ≡ n
-tree_is our.Head n = refl
-tree_is our.Plans n = refl
-tree_is our.Batches n = refl
-tree_is our.Vouchers n = refl
-tree_is our.Sessions n = refl
-tree_is our.Grants n = refl
-tree_is our.Counts n = refl
-tree_is our.Totals n = refl
-tree_is our.Requests n = refl
+pub tree_is : (keyed : Bool) (x : OurTable) (n : ℕ) → (table_in keyed x n).tree ≡ n
+tree_is keyed our.Head n = refl
+tree_is keyed our.Plans n = refl
+tree_is keyed our.Batches n = refl
+tree_is keyed our.Vouchers n = refl
+tree_is keyed our.Sessions n = refl
+tree_is keyed our.Grants n = refl
+tree_is keyed our.Counts n = refl
+tree_is keyed our.Totals n = refl
+tree_is keyed our.Requests n = refl
 
-pub name_is : (x : OurTable) (n : ℕ) → (table_of x n).name ≡ name_of x
-name_is our.Head n = refl
-name_is our.Plans n = refl
-name_is our.Batches n = refl
-name_is our.Vouchers n = refl
-name_is our.Sessions n = refl
-name_is our.Grants n = refl
-name_is our.Counts n = refl
-name_is our.Totals n = refl
-name_is our.Requests n = refl
+pub name_is : (keyed : Bool) (x : OurTable) (n : ℕ) → (table_in keyed x n).name ≡ name_of x
+name_is keyed our.Head n = refl
+name_is keyed our.Plans n = refl
+name_is keyed our.Batches n = refl
+name_is keyed our.Vouchers n = refl
+name_is keyed our.Sessions n = refl
+name_is keyed our.Grants n = refl
+name_is keyed our.Counts n = refl
+name_is keyed our.Totals n = refl
+name_is keyed our.Requests n = refl
 
 pub names_itself : (x : OurTable) → same_name (name_of x) (name_of x) ≡ true
 unfolding same_name
@@ -109,15 +110,7 @@ IsIdle table = AllByRecursion (λ (ref : Reference). (ref.on_delete ≡ NoAction
     table.references
 
 pub idle : (x : OurTable) → IsIdle (table_of x 0)
-idle our.Head = tt
-idle our.Plans = tt
-idle our.Batches = ((refl, refl), tt)
-idle our.Vouchers = ((refl, refl), tt)
-idle our.Sessions = ((refl, refl), tt)
-idle our.Grants = ((refl, refl), ((refl, refl), tt))
-idle our.Counts = ((refl, refl), tt)
-idle our.Totals = ((refl, refl), tt)
-idle our.Requests = tt
+idle = for_each _ tt tt tt tt tt tt tt tt tt
 
 -- a table that each schema version has
 pub always : (v : ℕ) → 0 ≤ v

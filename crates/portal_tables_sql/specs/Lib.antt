@@ -1,7 +1,10 @@
 pub mod Asks
 pub mod Commits
+pub mod Copies
+pub mod Dropped
 pub mod Finds
 pub mod Harmless
+pub mod Indexes
 pub mod Inside
 pub mod Looks
 pub mod Made

@@ -1,5 +1,7 @@
 -- The tables of all schema versions, each with its tree, and the statements that create them.
-use Rattle.std.specs.Prelude.{◌++◌, Bool, true, false, [], ◌∷◌, Some, None, codes, List, ℕ}
+-- Up to version 4 their ids and codes are PRIMARY KEYs, and REFERENCES and UNIQUE clauses keep them; since
+-- version 5 only numbers are keys, and indexes find the rest.
+use Rattle.std.specs.Prelude.{◌++◌, Bool, true, false, if◌then◌else◌, [], ◌∷◌, Some, None, codes, List, ℕ}
 use Rattle.sqlite.specs.Collation.TheVariants.{Binary}
 use Rattle.sqlite.specs.declared.types.Value.TheVariants.{Null}
 use Rattle.sqlite.specs.Kind.{Kind}
@@ -49,6 +51,10 @@ refers place parent key = record {
   is_deferred = false;
 }
 
+-- what stands in the schema only where the table has its clauses
+abbrev pub clauses : {X : Type 0} → Bool → List X → List X
+clauses keyed xs = if keyed then xs else []
+
 -- with an INTEGER PRIMARY KEY in its first column
 abbrev pub table_with_number : List ℕ → List Column → List Reference → ℕ → Table
 table_with_number name columns references tree = record {
@@ -66,18 +72,19 @@ table_with_number name columns references tree = record {
   is_counted = false;
 }
 
--- with a TEXT PRIMARY KEY in its first column
-abbrev pub table_with_key : List ℕ → List Column → List (List ℕ) → List Order → List Reference → ℕ → Table
-table_with_key name columns uniques orders references tree = record {
+-- with text, and a PRIMARY KEY of it, in its first column
+abbrev pub table_with_key : List ℕ → List Column → List (List ℕ) → List Order → List Reference → Bool → ℕ
+    → Table
+table_with_key name columns uniques orders references keyed tree = record {
   name = name;
   tree = tree;
   columns = columns;
   key = None;
-  primary = 1 ∷ [];
-  uniques = uniques;
-  orders = orders;
+  primary = clauses keyed (1 ∷ []);
+  uniques = clauses keyed uniques;
+  orders = clauses keyed orders;
   checks = [];
-  references = references;
+  references = clauses keyed references;
   computed = [];
   stamps = record { places = []; terms = []; formats = [] };
   is_counted = false;
@@ -110,72 +117,103 @@ totals_name = codes "portal_totals"
 abbrev pub requests_name : List ℕ
 requests_name = codes "portal_requests"
 
-abbrev pub head : ℕ → Table
-head = table_with_number head_name (int_or_null (codes "id") ∷ int (codes "layout")
+abbrev pub head_in : Bool → ℕ → Table
+head_in keyed = table_with_number head_name (int_or_null (codes "id") ∷ int (codes "layout")
     ∷ int (codes "last_moment") ∷ int (codes "grants") ∷ int (codes "sessions") ∷ []) []
 
-abbrev pub plans : ℕ → Table
-plans =
+abbrev pub plans_in : Bool → ℕ → Table
+plans_in =
     table_with_key plans_name
     (text (codes "id") ∷ int (codes "price") ∷ int (codes "uses") ∷ int (codes "seconds")
     ∷ int (codes "bytes") ∷ int (codes "shelf_days") ∷ int (codes "extend") ∷ []) ((1 ∷ []) ∷ [])
     (plain ∷ []) []
 
-abbrev pub batches : ℕ → Table
-batches =
+abbrev pub batches_in : Bool → ℕ → Table
+batches_in =
     table_with_key batches_name (text (codes "id") ∷ text (codes "plan_id") ∷ int (codes "issued")
     ∷ int (codes "expires") ∷ int (codes "size") ∷ []) ((1 ∷ []) ∷ []) (plain ∷ [])
     (refers 2 plans_name (codes "id") ∷ [])
 
-abbrev pub vouchers : ℕ → Table
-vouchers =
+abbrev pub vouchers_in : Bool → ℕ → Table
+vouchers_in =
     table_with_key vouchers_name
     (text (codes "code") ∷ text (codes "batch_id") ∷ int (codes "place") ∷ int_or_null (codes "sold")
     ∷ int_or_null (codes "refunded") ∷ int_or_null (codes "amount") ∷ [])
     ((1 ∷ []) ∷ (2 ∷ 3 ∷ []) ∷ []) (plain ∷ plain ∷ []) (refers 2 batches_name (codes "id") ∷ [])
 
-abbrev pub sessions : ℕ → Table
-sessions =
+abbrev pub sessions_in : Bool → ℕ → Table
+sessions_in keyed =
     table_with_number sessions_name
     (int_or_null (codes "number") ∷ text (codes "device") ∷ text (codes "plan_id") ∷ int (codes "opened")
     ∷ int (codes "used") ∷ int_or_null (codes "closed") ∷ [])
-    (refers 3 plans_name (codes "id") ∷ [])
+    (clauses keyed (refers 3 plans_name (codes "id") ∷ []))
 
-abbrev pub grants : ℕ → Table
-grants =
+abbrev pub grants_in : Bool → ℕ → Table
+grants_in keyed =
     table_with_number grants_name
     (int_or_null (codes "number") ∷ text (codes "code") ∷ int (codes "session") ∷ int (codes "moment")
     ∷ int (codes "seconds") ∷ int (codes "bytes") ∷ [])
-    (refers 2 vouchers_name (codes "code") ∷ refers 3 sessions_name (codes "number") ∷ [])
+    (clauses keyed (refers 2 vouchers_name (codes "code") ∷ refers 3 sessions_name (codes "number") ∷ []))
 
-abbrev pub counts : ℕ → Table
-counts = table_with_key counts_name (text (codes "code") ∷ int (codes "redeemed") ∷ []) ((1 ∷ []) ∷ [])
+abbrev pub counts_in : Bool → ℕ → Table
+counts_in = table_with_key counts_name (text (codes "code") ∷ int (codes "redeemed") ∷ []) ((1 ∷ []) ∷ [])
     (plain ∷ []) (refers 1 vouchers_name (codes "code") ∷ [])
 
-abbrev pub totals : ℕ → Table
-totals =
+abbrev pub totals_in : Bool → ℕ → Table
+totals_in keyed =
     table_with_number totals_name
     (int_or_null (codes "number") ∷ int_or_null (codes "ends") ∷ int_or_null (codes "remaining") ∷ [])
-    (refers 0 sessions_name (codes "number") ∷ [])
+    (clauses keyed (refers 0 sessions_name (codes "number") ∷ []))
 
 -- the caller and the number are the key together
-abbrev pub requests : ℕ → Table
-requests tree = record {
+abbrev pub requests_in : Bool → ℕ → Table
+requests_in keyed tree = record {
   name = requests_name;
   tree = tree;
   columns = text (codes "caller") ∷ text (codes "number") ∷ text (codes "method") ∷ text (codes "path")
       ∷ blob (codes "body") ∷ int (codes "kind") ∷ text_or_null (codes "word") ∷ int (codes "n1")
       ∷ int_or_null (codes "n2") ∷ int_or_null (codes "n3") ∷ [];
   key = None;
-  primary = 1 ∷ 2 ∷ [];
-  uniques = (1 ∷ 2 ∷ []) ∷ [];
-  orders = plain ∷ [];
+  primary = clauses keyed (1 ∷ 2 ∷ []);
+  uniques = clauses keyed ((1 ∷ 2 ∷ []) ∷ []);
+  orders = clauses keyed (plain ∷ []);
   checks = [];
   references = [];
   computed = [];
   stamps = record { places = []; terms = []; formats = [] };
   is_counted = false;
 }
+
+-- ---- the tables of this schema version
+
+abbrev pub head : ℕ → Table
+head = head_in false
+
+abbrev pub plans : ℕ → Table
+plans = plans_in false
+
+abbrev pub batches : ℕ → Table
+batches = batches_in false
+
+abbrev pub vouchers : ℕ → Table
+vouchers = vouchers_in false
+
+abbrev pub sessions : ℕ → Table
+sessions = sessions_in false
+
+abbrev pub grants : ℕ → Table
+grants = grants_in false
+
+abbrev pub counts : ℕ → Table
+counts = counts_in false
+
+abbrev pub totals : ℕ → Table
+totals = totals_in false
+
+abbrev pub requests : ℕ → Table
+requests = requests_in false
+
+-- ---- the statements that create them
 
 abbrev pub create_head : List ℕ
 create_head =
@@ -184,74 +222,72 @@ create_head =
 
 abbrev pub create_plans : List ℕ
 create_plans =
-    codes "CREATE TABLE portal_plans (id TEXT NOT NULL PRIMARY KEY, price INTEGER NOT NULL, "
+    codes "CREATE TABLE portal_plans (id TEXT NOT NULL, price INTEGER NOT NULL, "
     ++ codes "uses INTEGER NOT NULL, seconds INTEGER NOT NULL, bytes INTEGER NOT NULL, "
     ++ codes "shelf_days INTEGER NOT NULL, extend INTEGER NOT NULL) STRICT"
 
 abbrev pub create_batches : List ℕ
 create_batches =
-    codes "CREATE TABLE portal_batches (id TEXT NOT NULL PRIMARY KEY, plan_id TEXT NOT NULL"
-    ++ codes " REFERENCES portal_plans (id), issued INTEGER NOT NULL, expires INTEGER NOT NULL, "
-    ++ codes "size INTEGER NOT NULL) STRICT"
+    codes "CREATE TABLE portal_batches (id TEXT NOT NULL, plan_id TEXT NOT NULL, "
+    ++ codes "issued INTEGER NOT NULL, expires INTEGER NOT NULL, size INTEGER NOT NULL) STRICT"
 
 abbrev pub create_vouchers : List ℕ
 create_vouchers =
-    codes "CREATE TABLE portal_vouchers (code TEXT NOT NULL PRIMARY KEY, batch_id TEXT NOT NULL"
-    ++ codes " REFERENCES portal_batches (id), place INTEGER NOT NULL, sold INTEGER, refunded INTEGER, "
-    ++ codes "amount INTEGER, UNIQUE (batch_id, place)) STRICT"
+    codes "CREATE TABLE portal_vouchers (code TEXT NOT NULL, batch_id TEXT NOT NULL, "
+    ++ codes "place INTEGER NOT NULL, sold INTEGER, refunded INTEGER, amount INTEGER) STRICT"
 
 abbrev pub create_sessions : List ℕ
 create_sessions =
     codes "CREATE TABLE portal_sessions (number INTEGER PRIMARY KEY, device TEXT NOT NULL, "
-    ++ codes "plan_id TEXT NOT NULL REFERENCES portal_plans (id), opened INTEGER NOT NULL, "
-    ++ codes "used INTEGER NOT NULL, closed INTEGER) STRICT"
+    ++ codes "plan_id TEXT NOT NULL, opened INTEGER NOT NULL, used INTEGER NOT NULL, "
+    ++ codes "closed INTEGER) STRICT"
 
 abbrev pub create_grants : List ℕ
 create_grants =
-    codes "CREATE TABLE portal_grants (number INTEGER PRIMARY KEY, code TEXT NOT NULL"
-    ++ codes " REFERENCES portal_vouchers (code), session INTEGER NOT NULL"
-    ++ codes " REFERENCES portal_sessions (number), moment INTEGER NOT NULL, seconds INTEGER NOT NULL, "
+    codes "CREATE TABLE portal_grants (number INTEGER PRIMARY KEY, code TEXT NOT NULL, "
+    ++ codes "session INTEGER NOT NULL, moment INTEGER NOT NULL, seconds INTEGER NOT NULL, "
     ++ codes "bytes INTEGER NOT NULL) STRICT"
 
 abbrev pub create_counts : List ℕ
 create_counts =
-    codes "CREATE TABLE portal_counts (code TEXT NOT NULL PRIMARY KEY REFERENCES portal_vouchers (code), "
-    ++ codes "redeemed INTEGER NOT NULL) STRICT"
+    codes "CREATE TABLE portal_counts (code TEXT NOT NULL, redeemed INTEGER NOT NULL) STRICT"
 
 abbrev pub create_totals : List ℕ
 create_totals =
-    codes "CREATE TABLE portal_totals (number INTEGER PRIMARY KEY REFERENCES portal_sessions (number), "
-    ++ codes "ends INTEGER, remaining INTEGER) STRICT"
+    codes "CREATE TABLE portal_totals (number INTEGER PRIMARY KEY, ends INTEGER, remaining INTEGER) STRICT"
 
 abbrev pub create_requests : List ℕ
 create_requests =
     codes "CREATE TABLE portal_requests (caller TEXT NOT NULL, number TEXT NOT NULL, "
     ++ codes "method TEXT NOT NULL, path TEXT NOT NULL, body BLOB NOT NULL, kind INTEGER NOT NULL, "
-    ++ codes "word TEXT, n1 INTEGER NOT NULL, n2 INTEGER, n3 INTEGER, PRIMARY KEY (caller, number)) STRICT"
+    ++ codes "word TEXT, n1 INTEGER NOT NULL, n2 INTEGER, n3 INTEGER) STRICT"
 
 -- ---- the description of each table
 
--- a table by the number of its tree, the statement that creates it, and the schema version that added it (0:
--- each
--- version has it)
+-- a table, with its clauses or without, by the number of its tree; the statement that creates it; and the
+-- schema version that added it (0: each version has it)
 pub record Description : Type 0 where
-  pub table : ℕ → Table
+  pub table : Bool → ℕ → Table
   pub create : List ℕ
   pub since : ℕ
 
 abbrev pub described : OurTable → Description
-described our.Head = record { table = head; create = create_head; since = 0 }
-described our.Plans = record { table = plans; create = create_plans; since = 0 }
-described our.Batches = record { table = batches; create = create_batches; since = 0 }
-described our.Vouchers = record { table = vouchers; create = create_vouchers; since = 0 }
-described our.Sessions = record { table = sessions; create = create_sessions; since = 0 }
-described our.Grants = record { table = grants; create = create_grants; since = 0 }
-described our.Counts = record { table = counts; create = create_counts; since = 2 }
-described our.Totals = record { table = totals; create = create_totals; since = 2 }
-described our.Requests = record { table = requests; create = create_requests; since = 3 }
+described our.Head = record { table = head_in; create = create_head; since = 0 }
+described our.Plans = record { table = plans_in; create = create_plans; since = 0 }
+described our.Batches = record { table = batches_in; create = create_batches; since = 0 }
+described our.Vouchers = record { table = vouchers_in; create = create_vouchers; since = 0 }
+described our.Sessions = record { table = sessions_in; create = create_sessions; since = 0 }
+described our.Grants = record { table = grants_in; create = create_grants; since = 0 }
+described our.Counts = record { table = counts_in; create = create_counts; since = 2 }
+described our.Totals = record { table = totals_in; create = create_totals; since = 2 }
+described our.Requests = record { table = requests_in; create = create_requests; since = 3 }
+
+-- with its clauses, or without
+abbrev pub table_in : Bool → OurTable → ℕ → Table
+table_in keyed x = (described x).table keyed
 
 abbrev pub table_of : OurTable → ℕ → Table
-table_of x = (described x).table
+table_of x = table_in false x
 
 abbrev pub name_of : OurTable → List ℕ
 name_of x = (table_of x 0).name

@@ -8,12 +8,23 @@ pub const CREATE_HEAD: &str =
     "CREATE TABLE portal_head (id INTEGER PRIMARY KEY, layout INTEGER NOT NULL, \
      last_moment INTEGER NOT NULL, grants INTEGER NOT NULL, sessions INTEGER NOT NULL) STRICT";
 
+pub const DROP_HEAD: &str = "DROP TABLE portal_head";
+
 pub const INSERT_HEAD: &str =
     "INSERT INTO portal_head (id, layout, last_moment, grants, sessions) VALUES (1, ?1, 0, 0, 0)";
+
+/// A head row with these columns.
+pub const INSERT_WHOLE_HEAD: &str =
+    "INSERT INTO portal_head (id, layout, last_moment, grants, sessions) \
+     VALUES (?1, ?2, ?3, ?4, ?5)";
 
 /// The head row.
 pub const SELECT_HEAD: &str =
     "SELECT id, layout, last_moment, grants, sessions FROM portal_head WHERE id = 1";
+
+/// All head rows. There is one.
+pub const SELECT_ALL_HEADS: &str =
+    "SELECT id, layout, last_moment, grants, sessions FROM portal_head ORDER BY id";
 
 pub const SELECT_SCHEMA_VERSION: &str = "SELECT layout FROM portal_head";
 
@@ -27,9 +38,14 @@ pub const SET_SCHEMA_VERSION: &str = "UPDATE portal_head SET layout = ?1 WHERE i
 // ---- portal_plans
 
 pub const CREATE_PLANS: &str =
-    "CREATE TABLE portal_plans (id TEXT NOT NULL PRIMARY KEY, price INTEGER NOT NULL, \
+    "CREATE TABLE portal_plans (id TEXT NOT NULL, price INTEGER NOT NULL, \
      uses INTEGER NOT NULL, seconds INTEGER NOT NULL, bytes INTEGER NOT NULL, \
      shelf_days INTEGER NOT NULL, extend INTEGER NOT NULL) STRICT";
+
+pub const DROP_PLANS: &str = "DROP TABLE portal_plans";
+
+/// The index by which a plan is found by its id.
+pub const INDEX_PLANS_BY_ID: &str = "CREATE INDEX portal_plans_by_id ON portal_plans (id)";
 
 pub const INSERT_PLAN: &str =
     "INSERT INTO portal_plans (id, price, uses, seconds, bytes, shelf_days, extend) \
@@ -46,9 +62,17 @@ pub const SELECT_ALL_PLANS: &str =
 // ---- portal_batches
 
 pub const CREATE_BATCHES: &str =
-    "CREATE TABLE portal_batches (id TEXT NOT NULL PRIMARY KEY, plan_id TEXT NOT NULL \
-     REFERENCES portal_plans (id), issued INTEGER NOT NULL, expires INTEGER NOT NULL, \
-     size INTEGER NOT NULL) STRICT";
+    "CREATE TABLE portal_batches (id TEXT NOT NULL, plan_id TEXT NOT NULL, \
+     issued INTEGER NOT NULL, expires INTEGER NOT NULL, size INTEGER NOT NULL) STRICT";
+
+pub const DROP_BATCHES: &str = "DROP TABLE portal_batches";
+
+/// The index by which a batch is found by its id.
+pub const INDEX_BATCHES_BY_ID: &str = "CREATE INDEX portal_batches_by_id ON portal_batches (id)";
+
+/// The index by which batches are found by the time of their issue.
+pub const INDEX_BATCHES_BY_ISSUE: &str =
+    "CREATE INDEX portal_batches_by_issue ON portal_batches (issued, id)";
 
 pub const INSERT_BATCH: &str =
     "INSERT INTO portal_batches (id, plan_id, issued, expires, size) VALUES (?1, ?2, ?3, ?4, ?5)";
@@ -64,12 +88,26 @@ pub const SELECT_ALL_BATCHES: &str =
 // ---- portal_vouchers
 
 pub const CREATE_VOUCHERS: &str =
-    "CREATE TABLE portal_vouchers (code TEXT NOT NULL PRIMARY KEY, batch_id TEXT NOT NULL \
-     REFERENCES portal_batches (id), place INTEGER NOT NULL, sold INTEGER, refunded INTEGER, \
-     amount INTEGER, UNIQUE (batch_id, place)) STRICT";
+    "CREATE TABLE portal_vouchers (code TEXT NOT NULL, batch_id TEXT NOT NULL, \
+     place INTEGER NOT NULL, sold INTEGER, refunded INTEGER, amount INTEGER) STRICT";
+
+pub const DROP_VOUCHERS: &str = "DROP TABLE portal_vouchers";
+
+/// The index by which a voucher is found by its code.
+pub const INDEX_VOUCHERS_BY_CODE: &str =
+    "CREATE INDEX portal_vouchers_by_code ON portal_vouchers (code)";
+
+/// The index by which the vouchers of a batch are found, by their places.
+pub const INDEX_VOUCHERS_BY_BATCH: &str =
+    "CREATE INDEX portal_vouchers_by_batch ON portal_vouchers (batch_id, place)";
 
 pub const INSERT_VOUCHER: &str =
     "INSERT INTO portal_vouchers (code, batch_id, place) VALUES (?1, ?2, ?3)";
+
+/// A voucher with its sale and its refund.
+pub const INSERT_WHOLE_VOUCHER: &str =
+    "INSERT INTO portal_vouchers (code, batch_id, place, sold, refunded, amount) \
+     VALUES (?1, ?2, ?3, ?4, ?5, ?6)";
 
 /// The voucher with a code.
 pub const SELECT_VOUCHER: &str =
@@ -107,16 +145,23 @@ pub const SET_REFUNDED: &str =
 
 pub const CREATE_SESSIONS: &str =
     "CREATE TABLE portal_sessions (number INTEGER PRIMARY KEY, device TEXT NOT NULL, \
-     plan_id TEXT NOT NULL REFERENCES portal_plans (id), opened INTEGER NOT NULL, \
-     used INTEGER NOT NULL, closed INTEGER) STRICT";
+     plan_id TEXT NOT NULL, opened INTEGER NOT NULL, used INTEGER NOT NULL, \
+     closed INTEGER) STRICT";
+
+pub const DROP_SESSIONS: &str = "DROP TABLE portal_sessions";
 
 /// The index by which the last session of a device is found.
-pub const CREATE_SESSION_INDEX: &str =
+pub const INDEX_SESSIONS_BY_DEVICE: &str =
     "CREATE INDEX portal_sessions_by_device ON portal_sessions (device, number)";
 
 pub const INSERT_SESSION: &str =
     "INSERT INTO portal_sessions (number, device, plan_id, opened, used) VALUES (?1, ?2, ?3, \
      ?4, 0)";
+
+/// A session with its use and its close.
+pub const INSERT_WHOLE_SESSION: &str =
+    "INSERT INTO portal_sessions (number, device, plan_id, opened, used, closed) \
+     VALUES (?1, ?2, ?3, ?4, ?5, ?6)";
 
 /// The session with a number.
 pub const SELECT_SESSION: &str =
@@ -138,10 +183,14 @@ pub const SET_CLOSED: &str = "UPDATE portal_sessions SET closed = ?2 WHERE numbe
 // ---- portal_grants
 
 pub const CREATE_GRANTS: &str =
-    "CREATE TABLE portal_grants (number INTEGER PRIMARY KEY, code TEXT NOT NULL \
-     REFERENCES portal_vouchers (code), session INTEGER NOT NULL \
-     REFERENCES portal_sessions (number), moment INTEGER NOT NULL, seconds INTEGER NOT NULL, \
+    "CREATE TABLE portal_grants (number INTEGER PRIMARY KEY, code TEXT NOT NULL, \
+     session INTEGER NOT NULL, moment INTEGER NOT NULL, seconds INTEGER NOT NULL, \
      bytes INTEGER NOT NULL) STRICT";
+
+pub const DROP_GRANTS: &str = "DROP TABLE portal_grants";
+
+/// The index by which the redemptions of a voucher are found.
+pub const INDEX_GRANTS_BY_CODE: &str = "CREATE INDEX portal_grants_by_code ON portal_grants (code)";
 
 pub const INSERT_GRANT: &str =
     "INSERT INTO portal_grants (number, code, session, moment, seconds, bytes) VALUES (?1, \
@@ -153,8 +202,13 @@ pub const SELECT_ALL_GRANTS: &str =
 
 // ---- portal_counts
 
-pub const CREATE_COUNTS: &str = "CREATE TABLE portal_counts (code TEXT NOT NULL PRIMARY KEY \
-     REFERENCES portal_vouchers (code), redeemed INTEGER NOT NULL) STRICT";
+pub const CREATE_COUNTS: &str =
+    "CREATE TABLE portal_counts (code TEXT NOT NULL, redeemed INTEGER NOT NULL) STRICT";
+
+pub const DROP_COUNTS: &str = "DROP TABLE portal_counts";
+
+/// The index by which the count of a voucher is found by its code.
+pub const INDEX_COUNTS_BY_CODE: &str = "CREATE INDEX portal_counts_by_code ON portal_counts (code)";
 
 pub const INSERT_COUNT: &str = "INSERT INTO portal_counts (code, redeemed) VALUES (?1, ?2)";
 
@@ -168,8 +222,10 @@ pub const SET_REDEEMED: &str = "UPDATE portal_counts SET redeemed = ?2 WHERE cod
 
 // ---- portal_totals
 
-pub const CREATE_TOTALS: &str = "CREATE TABLE portal_totals (number INTEGER PRIMARY KEY \
-     REFERENCES portal_sessions (number), ends INTEGER, remaining INTEGER) STRICT";
+pub const CREATE_TOTALS: &str =
+    "CREATE TABLE portal_totals (number INTEGER PRIMARY KEY, ends INTEGER, remaining INTEGER) STRICT";
+
+pub const DROP_TOTALS: &str = "DROP TABLE portal_totals";
 
 pub const INSERT_TOTAL: &str =
     "INSERT INTO portal_totals (number, ends, remaining) VALUES (?1, ?2, ?3)";
@@ -190,8 +246,13 @@ pub const SET_SESSION_TOTAL: &str =
 pub const CREATE_REQUESTS: &str =
     "CREATE TABLE portal_requests (caller TEXT NOT NULL, number TEXT NOT NULL, \
      method TEXT NOT NULL, path TEXT NOT NULL, body BLOB NOT NULL, kind INTEGER NOT NULL, \
-     word TEXT, n1 INTEGER NOT NULL, n2 INTEGER, n3 INTEGER, PRIMARY KEY (caller, \
-     number)) STRICT";
+     word TEXT, n1 INTEGER NOT NULL, n2 INTEGER, n3 INTEGER) STRICT";
+
+pub const DROP_REQUESTS: &str = "DROP TABLE portal_requests";
+
+/// The index by which a request is found by its caller and idempotency key.
+pub const INDEX_REQUESTS_BY_KEY: &str =
+    "CREATE INDEX portal_requests_by_key ON portal_requests (caller, number)";
 
 pub const INSERT_REQUEST: &str =
     "INSERT INTO portal_requests (caller, number, method, path, body, kind, word, n1, n2, n3) \
@@ -201,3 +262,11 @@ pub const INSERT_REQUEST: &str =
 pub const SELECT_REQUEST: &str =
     "SELECT caller, number, method, path, body, kind, word, n1, n2, n3 FROM portal_requests \
      WHERE caller = ?1 AND number = ?2";
+
+/// All requests.
+pub const SELECT_ALL_REQUESTS: &str =
+    "SELECT caller, number, method, path, body, kind, word, n1, n2, n3 FROM portal_requests \
+     ORDER BY rowid";
+/// The caller and the idempotency key of each request.
+pub const SELECT_ALL_REQUEST_KEYS: &str =
+    "SELECT caller, number FROM portal_requests ORDER BY rowid";

@@ -6,7 +6,7 @@ use crate::day::{COMMANDS, SentRequest, build_questions, build_requests};
 use crate::disks::{CrashResult, InFiles};
 use crate::files::{AT_END, CrashPoint, Image, Part};
 use crate::jobs::{Job, JobResult};
-use crate::versions::{FIRST, SECOND, THIRD};
+use crate::versions::{FIRST, FOURTH, SECOND, THIRD};
 use portal_tables::errors::OpenFault;
 use std::alloc::Global;
 use std::process::Abort;
@@ -420,6 +420,41 @@ fn third_version_with_log_crashes(rt: HostRuntime) -> Result<(), Fail> {
 #[test]
 fn third_version_with_database_crashes(rt: HostRuntime) -> Result<(), Fail> {
     crash_store_opening(rt.alloc(), &rt, THIRD_STORE, Part::Database)
+}
+
+const FOURTH_STORE: &[&str] = &["BEGIN", FIRST, SECOND, THIRD, FOURTH, "COMMIT"];
+
+/// The migration of schema version 4, with a crash at each call of the log.
+#[test]
+fn fourth_version_with_log_crashes(rt: HostRuntime) -> Result<(), Fail> {
+    crash_store_opening(rt.alloc(), &rt, FOURTH_STORE, Part::Log)
+}
+
+/// The migration of schema version 4, with a crash at each call of the database file.
+#[test]
+fn fourth_version_with_database_crashes(rt: HostRuntime) -> Result<(), Fail> {
+    crash_store_opening(rt.alloc(), &rt, FOURTH_STORE, Part::Database)
+}
+
+/// Crashes an opening of a database of this schema version that lacks an index.
+fn crash_without_index(alloc: Global, rt: &impl Abort, part: Part) -> Result<(), Fail> {
+    let day = build_commands(alloc, false)?;
+    let mut files = InFiles::new(alloc);
+    expect_all_accepted(rt, &mut files, day.as_slice())?;
+    drop(files.run_job(Job::Sql(&["DROP INDEX portal_grants_by_code"]))?);
+    crash_opening_of(alloc, rt, &files, part)
+}
+
+/// An index that is made again, with a crash at each call of the log.
+#[test]
+fn index_made_again_with_log_crashes(rt: HostRuntime) -> Result<(), Fail> {
+    crash_without_index(rt.alloc(), &rt, Part::Log)
+}
+
+/// An index that is made again, with a crash at each call of the database file.
+#[test]
+fn index_made_again_with_database_crashes(rt: HostRuntime) -> Result<(), Fail> {
+    crash_without_index(rt.alloc(), &rt, Part::Database)
 }
 
 /// Crashes an opening of files whose commands are in the log alone, since the process ended before the log

@@ -116,7 +116,7 @@ pub const COMMANDS: &[Ask] = &[
 /// A question: its request line, the field of its caller, and the end of its response.
 pub type Question = (&'static str, &'static str, &'static str);
 
-/// What is answered after these commands, also about a code that the desk does not have.
+/// What is answered after these commands, also about a code and a session that the desk does not have.
 pub const QUESTIONS: &[Question] = &[
     (
         "GET /captive",
@@ -124,6 +124,30 @@ pub const QUESTIONS: &[Question] = &[
         "{\"captive\":true,\"user-portal-url\":\"https://wifi.example/portal\"}",
     ),
     ("GET /gateway/sessions", GATE, "{\"sessions\":[]}"),
+    ("GET /gateway/sessions/details", GATE, "{\"sessions\":[]}"),
+    (
+        "GET /desk/sessions/1",
+        DESK,
+        "{\"at\":4000,\"device\":\"02:00:00:00:00:01\",\"ended\":\"closed\",\"opened\":1000,\
+        \"plan\":\"hour\",\"seconds-remaining\":4200,\"session\":1,\"used\":7}",
+    ),
+    (
+        "GET /desk/sessions?device=02-00-00-00-00-01",
+        DESK,
+        "{\"at\":4000,\"device\":\"02:00:00:00:00:01\",\"ended\":\"closed\",\"opened\":1000,\
+        \"plan\":\"hour\",\"seconds-remaining\":4200,\"session\":1,\"used\":7}",
+    ),
+    (
+        "GET /portal/session",
+        GUEST,
+        "{\"at\":4000,\"ended\":\"closed\",\"opened\":1000,\"plan\":\"hour\",\
+        \"seconds-remaining\":4200,\"session\":1,\"used\":7}",
+    ),
+    (
+        "GET /desk/sessions/2",
+        DESK,
+        "{\"error\":\"unknown_session\"}",
+    ),
     (
         "GET /desk/vouchers/3N55-WA4S-KH5V-JR49",
         DESK,

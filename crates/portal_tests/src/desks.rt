@@ -7,18 +7,20 @@ ghost use Rattle.portal_os.specs.Laws.{memory_desk_is_fault_free};
 
 use crate::day::{PLANS, build_questions};
 use crate::exchanges::{ExchangeResult, Peer, exchange_with_peer, exchange_with_peers, whole_peer};
-use crate::requests::{MOMENT, NO_ROUTE, REQUEST, STOPPED, UNROUTED};
+use crate::requests::{DESK, MOMENT, NO_ROUTE, REQUEST, STOPPED, UNROUTED, request};
 use crate::{serving, subcommands};
+use portal_codes::Code;
 use portal_commands::place::{Place, Purpose};
 use portal_commands::trouble::Trouble;
 use portal_desk::Desk;
 use portal_desk::prepared::Prepared;
 use portal_desk_store::StoreDesk;
-use portal_files::{Settings, read_plans, sample_settings};
+use portal_files::{Settings, sample_settings};
 use portal_http::{Arrival, run};
 use portal_http_routes::Routes;
 use portal_model::command::Command;
 use portal_model::moment::Moment;
+use portal_model::name::Device;
 use portal_model::refusal::Refusal;
 use portal_os::HostFiles;
 use portal_server::{Host, ProgramError};
@@ -146,23 +148,46 @@ fn serve_new_desk<P: Place, H: Host, W: Write>(
     ended
 }
 
-/// Prepares a load of the plans file, without the commit.
-fn prepare_plans<D: Desk>(alloc: Global, desk: &mut D) -> Option<Prepared> {
-    let moment = Moment::new(0)?;
-    match read_plans(alloc, PLANS.as_bytes()) {
-        Ok(plans) => desk.prepare(alloc, moment, Command::Load { plans }).ok(),
-        Err(_) => None,
-    }
+/// One voucher of the plan `hour`.
+const BATCH: &[u8] = b"{\"batch\":\"b1\",\"plan\":\"hour\",\"count\":1}";
+
+/// Its code, by the seed of each request of `build_arrivals`.
+const CODE: &str = "3N55-WA4S-KH5V-JR49";
+
+const SALE: &[u8] = b"{\"code\":\"3N55-WA4S-KH5V-JR49\"}";
+
+/// Loads the plans, issues the voucher, and sells it. Returns how many responses came.
+fn sell_voucher<D: Desk>(alloc: Global, desk: &mut D) -> Option<usize> {
+    let plans = request(alloc, "POST /desk/plans", DESK, PLANS.as_bytes())?;
+    let batch = request(alloc, "POST /desk/batches", DESK, BATCH)?;
+    let sale = request(alloc, "POST /desk/sales", DESK, SALE)?;
+    let requests: [(u64, &[u8]); 3] = [
+        (0, plans.as_slice()),
+        (1000, batch.as_slice()),
+        (1000, sale.as_slice()),
+    ];
+    let arrivals = build_arrivals(alloc, requests.as_slice())?;
+    Some(answers_of(alloc, desk, arrivals.as_slice())?.len())
 }
 
-/// Checks that the desk stops if the same plans are prepared twice and committed twice: the database already
-/// has their rows.
+/// Prepares the redemption of the voucher, without the commit.
+fn prepare_redemption<D: Desk>(alloc: Global, desk: &mut D) -> Option<Prepared> {
+    let moment = Moment::new(1000)?;
+    let device = Device::read("02:00:00:00:00:01").ok()?;
+    let code = Code::read(CODE).ok()?;
+    desk.prepare(alloc, moment, Command::Redeem { device, code })
+        .ok()
+}
+
+/// Checks that the desk stops if the same redemption is prepared twice and committed twice: the database
+/// already has a session of that number.
 fn stops_after_duplicate<D: Desk>(alloc: Global, desk: &mut D) -> Option<bool> {
-    let first = prepare_plans(alloc, desk)?;
-    let second = prepare_plans(alloc, desk)?;
+    let count = sell_voucher(alloc, desk)?;
+    let first = prepare_redemption(alloc, desk)?;
+    let second = prepare_redemption(alloc, desk)?;
     let is_kept = desk.finish(first).is_ok();
     let is_refused = desk.finish(second).err() == Some(Refusal::Stopped);
-    Some(is_kept && is_refused && desk.is_stopped())
+    Some(count == 3 && is_kept && is_refused && desk.is_stopped())
 }
 
 /// Checks that the desk answers the request with exactly this response.

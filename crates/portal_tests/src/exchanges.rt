@@ -2,6 +2,7 @@
 use crate::desks::exchange_in_memory;
 use crate::requests::{CAPTIVE, MOMENT, REQUEST};
 use portal_desk::Desk;
+use portal_http::Spare;
 use portal_http::exchanges::{Cause, Cut, Done, exchange};
 use portal_http_routes::Routes;
 use portal_model::moment::Moment;
@@ -115,11 +116,12 @@ pub struct ExchangeResult {
     pub taken: Vec<u8>,
 }
 
-/// Makes one exchange of the desk with the client.
-pub fn exchange_with_peer<D: Desk>(
+/// Makes one exchange of the desk with the client, with the spare responses of an earlier one.
+fn exchange_with_kept<D: Desk>(
     alloc: Global,
     desk: &mut D,
     routes: &Routes,
+    kept: &mut Option<Spare>,
     peer: &Peer<'_>,
 ) -> Option<ExchangeResult> {
     let moment = Moment::new(peer.at)?;
@@ -132,6 +134,7 @@ pub fn exchange_with_peer<D: Desk>(
         alloc,
         desk,
         routes,
+        kept,
         moment,
         [0; 32],
         &mut reader,
@@ -145,7 +148,19 @@ pub fn exchange_with_peer<D: Desk>(
     })
 }
 
-/// Makes one exchange of the desk with each client, in their order.
+/// Makes one exchange of the desk with the client.
+pub fn exchange_with_peer<D: Desk>(
+    alloc: Global,
+    desk: &mut D,
+    routes: &Routes,
+    peer: &Peer<'_>,
+) -> Option<ExchangeResult> {
+    let mut kept = None;
+    exchange_with_kept(alloc, desk, routes, &mut kept, peer)
+}
+
+/// Makes one exchange of the desk with each client, in their order. The spare responses are kept between
+/// them.
 pub fn exchange_with_peers<D: Desk>(
     alloc: Global,
     desk: &mut D,
@@ -153,8 +168,9 @@ pub fn exchange_with_peers<D: Desk>(
 ) -> Option<Vec<ExchangeResult>> {
     let routes = Routes::new(alloc).ok()?;
     let mut met = Vec::new(alloc);
+    let mut kept = None;
     for peer in peers {
-        met.push(exchange_with_peer(alloc, desk, &routes, peer)?)
+        met.push(exchange_with_kept(alloc, desk, &routes, &mut kept, peer)?)
             .ok()?;
     }
     Some(met)

@@ -51,3 +51,8 @@ pub const THIRD: &str =
     INSERT INTO portal_requests VALUES ('02:00:00:00:00:01', 'r-1', 'POST', '/portal/redeem', x'7b7d', 4,
     NULL, 2, 0, 0);
     UPDATE portal_head SET layout = 3";
+
+/// The index of the sessions.
+pub const FOURTH: &str =
+    "CREATE INDEX portal_sessions_by_device ON portal_sessions (device, number);
+    UPDATE portal_head SET layout = 4";

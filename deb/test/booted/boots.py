@@ -19,10 +19,10 @@ BOOTS = {
                "attacks_test.py",
                "half_requests_test.py", "doctor_test.py", "plans_test.py", "restore_test.py", "logs_test.py",
                "before_reboot_test.py"),
-              ("reboot_test.py", "upgrade_test.py", "removal_test.py", "by_hand_test.py")),
+              ("reboot_test.py", "upgrade_test.py", "migration_test.py", "removal_test.py", "by_hand_test.py")),
     "faults": (("before_clock_test.py",), ("wrong_clock_test.py", "healing_test.py", "before_reset_test.py"),
                ("reset_test.py",)),
-    "beside": (("quick_way_test.py", "venues_test.py", "many_vouchers_test.py", "shop_test.py"),),
+    "beside": (("quick_way_test.py", "venues_test.py", "chain_test.py", "many_vouchers_test.py", "shop_test.py"),),
     "again": (("before_loss_test.py",), ("new_machine_test.py",))}     # between them the machine is lost
 RESET = "before_reset_test.py"      # after it the machine is reset, and not shut down
 

@@ -100,6 +100,11 @@ def journal(unit: str) -> list[str]:
     return sh("journalctl", "-b", "-u", unit, "-o", "cat", "--no-pager").stdout.splitlines()
 
 
+def says_since(unit: str, count: int, words: str) -> bool:
+    """Whether a unit writes these words after its first so many lines of this boot."""
+    return until(lambda: any(words in line for line in journal(unit)[count:]), 5) is not None
+
+
 def all_run() -> bool:
     """Whether every unit of the venue is active."""
     return all(active(unit) == "active" for unit in UNITS)

@@ -32,17 +32,22 @@ def ready() -> bool:
     return all(active(unit) == "active" for unit in UNITS) and sh("portal-venues status").returncode == 0
 
 
-@pytest.fixture(scope="module")
-def venues(levels: object) -> None:
-    """Both venues, made where they are not there, and a manager of each."""
-    getattr(levels, "reach")("set_up")
+def put_shared(*more: str) -> None:
+    """Makes the file of what all venues share, and the certificate of their counters where it is not there."""
     if not TLS.exists():
         sh("openssl", "req", "-x509", "-newkey", "ec", "-pkeyopt", "ec_paramgen_curve:P-256", "-nodes", "-days", "2",
            "-subj", "/CN=north.example", "-addext", "subjectAltName=DNS:north.example,DNS:south.example", "-keyout",
            "/etc/portal/tls/venues.key", "-out", TLS)
         print(f"note {output(sh('nginx -t -c /etc/portal/counter-nginx/nginx.conf; ls -l /etc/portal/tls'), 800)}")
-    SHARED.write_text('listen = "10.88.0.1"\nclerks = ["10.88.0.0/24"]\nclock = "host"\n'
-                      f'cert = "{TLS}"\nkey = "/etc/portal/tls/venues.key"\n')
+    SHARED.write_text("".join(('listen = "10.88.0.1"\nclerks = ["10.88.0.0/24"]\nclock = "host"\n'
+                               f'cert = "{TLS}"\nkey = "/etc/portal/tls/venues.key"\n', *more)))
+
+
+@pytest.fixture(scope="module")
+def venues(levels: object) -> None:
+    """Both venues, made where they are not there, and a manager of each."""
+    getattr(levels, "reach")("set_up")
+    put_shared()
     for name in ZONES:
         if not pathlib.Path("/etc/portal/venues", name, "field.toml").exists():
             done = add(name, "--prices-as-shipped")
@@ -179,11 +184,32 @@ def test_copies(venues: None) -> None:
     assert drill.returncode == 0, f"and a copy restores  [{output(drill)}]"
 
 
-def test_renewal(venues: None) -> None:
-    done = sh("portal-venues renew")
+def test_upgrade(venues: None) -> None:
+    done = sh("portal-venues upgrade")
     assert done.returncode == 0 and "[2/2] south: answers" in done.stdout, (
         f"one venue after another is started with the program that is installed  [{output(done, 600)}]")
     assert until(ready, 20) is not None, "and both run"
+
+
+def test_upgrade_to_a_program_that_does_not_start(venues: None) -> None:
+    """The first venue goes back, the other one is left alone; the next upgrade does both."""
+    before = {name: machine.show(f"portal@{name}", "MainPID") for name in ZONES}
+    sh("install -D -m 0755 /usr/bin/portal /var/lib/portal-programs/before")
+    sh("printf '#!/bin/sh\\nexit 1\\n' > /usr/bin/portal-new && chmod 755 /usr/bin/portal-new && mv /usr/bin/portal-new /usr/bin/portal")
+    try:
+        done = sh("portal-venues upgrade")
+        assert done.returncode == 1 and "[1/2] north: FAILED: " in done.stderr, (
+            f"the first venue that is not well stops an upgrade  [{output(done, 900)}]")
+        assert "it went back: it answers with the program of before" in done.stderr, f"and goes back  [{output(done, 900)}]"
+        assert machine.show("portal@south", "MainPID") == before["south"], "the other one goes on"
+        sh("systemctl restart portal@south")
+        assert until(ready, 30) is not None, "also where it is started anew, and both run"
+    finally:
+        sh("install -m 0755 /var/lib/portal-programs/before /usr/bin/portal-new && mv /usr/bin/portal-new /usr/bin/portal")
+    again = sh("portal-venues upgrade")
+    left = sh("ls /var/lib/portal-programs /etc/systemd/system/portal@*.service.d").stdout
+    assert again.returncode == 0 and "program-before" not in left and until(ready, 20) is not None, (
+        f"the next upgrade does both, and nothing of the program of before is left  [{output(again, 600)} {left}]")
 
 
 def test_retired(venues: None) -> None:

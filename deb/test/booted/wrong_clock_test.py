@@ -13,7 +13,7 @@ import pytest
 from fake_clock import AHEAD, BACK, RIGHT, code_of_before, end_the_fake_clock, entry_of_before, set_clock
 from machine import (
     DATABASE, active, ask_for_a_lease, captive, code, count_outside, counter, journal, last_entry, passes,
-    redeem, say_the_time_is_right, serves, server_note, sh, show, until, waits)
+    redeem, say_the_time_is_right, says_since, serves, server_note, sh, show, until, waits)
 
 pytestmark = pytest.mark.container
 
@@ -93,14 +93,14 @@ def test_small_steps(right_clock: None) -> None:
 
 
 def test_clock_is_set_while_it_runs(right_clock: None) -> None:
-    before, pid = last_entry(), show("portal", "MainPID")
+    before, pid, lines = last_entry(), show("portal", "MainPID"), len(journal("portal"))
     set_clock(AHEAD)
     took = until(waits, 5)
-    page, lines = counter("")[1], journal("portal")[-3:]
+    page = counter("")[1]
     assert (took is not None and "The server waits" in page
-            and any("clock was set while the server ran" in line for line in lines)), (
+            and says_since("portal", lines, "clock was set while the server ran")), (
         "a clock that is set by ten years while the server runs ends it, in the journal and on the "
-        f"counter's page  [{took} s; {lines}]")
+        f"counter's page  [{took} s; {journal('portal')[lines:]}]")
     took = until(lambda: not passes(), 10)
     set_clock(RIGHT)
     again = goes_on(20)
@@ -127,16 +127,16 @@ def copy_of_the_database() -> Iterator[None]:
 
 def use_a_clerks_word() -> None:
     """Two days ahead."""
-    before = last_entry()
+    before, lines, clerks = last_entry(), len(journal("portal")), len(journal("portal-counter"))
     set_clock("+2d")
     sh("systemctl start portal")
     until(waits, 10)
     notice = say_the_time_is_right()
     took = until(serves, 10)
-    assert took is not None and "starts now" in notice and any(
-        "clerk said at the counter that it is right" in line for line in journal("portal")[-3:]), (
+    assert took is not None and "starts now" in notice and says_since(
+        "portal", lines, "clerk said at the counter that it is right"), (
         f"a clerk says on the counter's page that the time is right: the server starts  [{took} s; {notice}]")
-    assert any("clerk at 10.88.0.2: time " in line for line in journal("portal-counter")[-5:]), (
+    assert says_since("portal-counter", clerks, "clerk at 10.88.0.2: time "), (
         "the journal of the counter names the clerk")
     sh("systemctl restart portal")
     assert until(serves, 10) is not None and last_entry() == before, (

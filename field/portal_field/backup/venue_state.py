@@ -40,6 +40,8 @@ FOLDERS = {
         "portal-counter", ("%i/journal.db", "%i/accepted-plans.toml", "%i/plans.json"),
         tuple(f"%i/{name}" for name in (*OF_SQLITE, "logins.db", "receipts.db"))),
     "portal-venues-clock": Folder("root", ("clock-steps.json",)),
+    # the report that PostgreSQL is away
+    "portal-venues-collect": Folder("root", (), ("told",)),
     "portal-venues-radius/%i": Folder("portal-radius", ("radacct.db", "logins.db"), OF_SQLITE),
 }
 # The database of a venue by name, below /var/lib, and the folder of its copies

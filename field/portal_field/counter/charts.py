@@ -65,9 +65,10 @@ def step_of(most: int, least: int = 1, lines: int = 3) -> int:
 
 
 def chart(groups: Sequence[Group], kinds: Sequence[str], say: Callable[[int], str], least: int = 1,
-          lines: int = 3) -> Chart | None:
+          lines: int = 3, tick: Callable[[int], str] | None = None) -> Chart | None:
     """The bars of groups, each with a value of each kind; nothing where all are nought. `say` writes a
-    value. `least`: the smallest distance of lines across. `lines`: how many there are at least."""
+    value. `least`: the smallest distance of lines across. `lines`: how many there are at least. `tick`
+    writes the value of such a line, where that is shorter."""
     values = [value for group in groups for value in group.values]
     most, lowest = max([0, *values]), min([0, *values])
     if most == lowest:
@@ -80,7 +81,8 @@ def chart(groups: Sequence[Group], kinds: Sequence[str], say: Callable[[int], st
         """Where a value is from above."""
         return FOOT - (value - low) * scale
 
-    made = Chart(place(0), ticks=[Mark(place(value), say(value)) for value in range(low, high + 1, step)])
+    words = tick or say
+    made = Chart(place(0), ticks=[Mark(place(value), words(value)) for value in range(low, high + 1, step)])
     for at, group in enumerate(groups):
         add(made, group, kinds, at, len(groups), place, say)
     return made

@@ -16,12 +16,14 @@ from portal_field.counter.setting_files import Answer
 from portal_field.lib import passwords
 from portal_field.lib.desk_client import new_number
 from portal_field.lib.forms import BadForm, Form
-from portal_field.settings.accounts import CLERK, Account, Accounts, fault_of_name
+from portal_field.lib.message_marks import clerk_words
+from portal_field.settings.accounts import AT_A_COUNTER, CLERK, OFFICE, Account, Accounts, fault_of_name
 
 if TYPE_CHECKING:
     from portal_field.counter.page import Pages
 
 Reply = flask.Response
+ROOT_ALONE = clerk_words("An account of the office is made and ended on the machine: portal-venues clerk")
 
 
 class Clerks:
@@ -39,7 +41,7 @@ class Clerks:
         return self.page.show("clerks.html", answer.status if answer else 200,
                               Notice(good, lines) if answer else None, rows=rows, quiet=True,
                               roles={"": self.say("As before; of a new one: sales clerk")} | {
-                                  role: self.say(words) for role, words in ROLES.items()},
+                                  role: self.say(ROLES[role]) for role in AT_A_COUNTER},
                               typed=Form() if good else typed, wrong=answer.field if answer else "",
                               least=passwords.LEAST_SIGNS)
 
@@ -59,6 +61,8 @@ class Clerks:
         if passwords.fault_of_password(new) and (new or name not in accounts):
             line = self.own.rule_of_passwords()
             return self.show(Answer(400, (line,), "new"), form)
+        if self.is_of_office(name) or role == OFFICE:
+            return self.show(Answer(409, (self.say(ROOT_ALONE),), "name"), form)
         if self.is_last_manager(name) and role == CLERK:
             return self.show(Answer(409, (self.say("One manager has to stay."),), "role"), form)
         hashed = passwords.hash_of(new) if new else ""
@@ -82,10 +86,16 @@ class Clerks:
         if name == flask.g.login.name or self.is_last_manager(name):
             line = self.say("One manager has to stay, and nobody takes the own account away.")
             return self.show(Answer(409, (line,), "gone"), form)
+        if self.is_of_office(name):
+            return self.show(Answer(409, (self.say(ROOT_ALONE),), "gone"), form)
         answer = self.own.change("account_gone", secret("word"), "word", lambda before: Accounts(
             {key: account for key, account in before.items() if key != name}),
             self.say("The account of %(name)s is gone.", name=name))
         return self.told(answer, form, name, "")
+
+    def is_of_office(self, name: str) -> bool:
+        """Whether this account is one of the office."""
+        return name in self.own.logins.accounts.now.of_office
 
     def is_last_manager(self, name: str) -> bool:
         """Whether nobody else is a manager."""

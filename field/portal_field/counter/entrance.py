@@ -22,6 +22,7 @@ from portal_field.counter.origin import is_from_our_page
 from portal_field.lib.desk_client import REQUEST_NUMBER, new_number
 from portal_field.lib.forms import BadForm, Form
 from portal_field.lib.languages import Language
+from portal_field.settings.accounts import OFFICE
 
 if TYPE_CHECKING:
     from portal_field.counter.page import Pages
@@ -30,9 +31,9 @@ Reply = flask.Response
 OWN_PLACE = re.compile(r"/[a-z.-]{0,20}(\?[A-Za-z0-9=&%._+-]{0,200})?")
 MOST_KEPT = 2500        # bytes of a form that is kept while somebody logs in
 WRONG = "wrong_word"    # in the journal: a wrong password or PIN
-OPEN = ("/login",)
 # What has a password or PIN, or acts on the log-in itself, is not kept to be sent again.
-NOT_KEPT = ("/login", "/logout", "/lock", "/unlock", "/password", "/pin", "/clerk", "/clerk-gone", "/picture")
+NOT_KEPT = ("/login", "/sign-in", "/signed-in", "/logout", "/lock", "/unlock", "/password", "/pin", "/clerk",
+            "/clerk-gone", "/picture")
 SECRET = "password"     # the field of a form that is kept without it
 
 
@@ -79,6 +80,7 @@ class Entrance:
 
     def __init__(self, page: Pages, logins: Logins) -> None:
         self.page, self.logins, self.say = page, logins, page.counter.say
+        self.open = {"/login"}      # addresses for who is not logged in
 
     # Each request
 
@@ -107,7 +109,7 @@ class Entrance:
         if is_form and not is_from_our_page():
             return self.page.show("notice.html", 403, Notice(False, (
                 self.say("This form was not sent from the counter's own page."),)))
-        if path in OPEN:
+        if path in self.open:
             return None
         if login is None:
             return self.login_page(403) if is_form else self.leads_to("login")
@@ -117,6 +119,8 @@ class Entrance:
             return self.lock_page(403) if is_form else self.leads_to("lock")
         if not login.is_locked and not roles.is_for(login.role, path.strip("/")) and self.is_known():
             return self.not_allowed()
+        if not login.is_locked and roles.lacks_password(path.strip("/")) and self.is_known():
+            return self.without_password()
         if path != "/lock":
             self.logins.use(login)
         return None
@@ -146,13 +150,28 @@ class Entrance:
             response.headers["X-Clerk"] = urllib.parse.quote(login.name)
             if self.logins.idle_minutes and response.mimetype == "text/html":
                 back = urllib.parse.urlencode({"to": asked_place()})
-                response.headers["Refresh"] = f"{60 * self.logins.idle_minutes + 1}; url=/lock?{back}"
+                seconds = 60 * self.logins.idle_minutes + 1
+                response.headers.setdefault("Refresh", f"{seconds}; url=/lock?{back}")
         return response
 
     def not_allowed(self) -> Reply:
-        """The page that says that a manager alone may do it."""
+        """The page that says who may do it; who is of the office is led to its page."""
+        name, is_form = flask.request.path.strip("/"), flask.request.method == "POST"
+        if flask.g.role == OFFICE and not name and not is_form:
+            return flask.make_response(flask.redirect("/office", 303))
+        lines = [self.say("Nothing was done.")] if is_form else []
+        if flask.g.role == OFFICE:
+            lines += [self.say("An account of the office sees the page of all venues alone.")]
+        elif name in roles.FOR_OFFICE:
+            lines += [self.say("Only an account of the office may see all venues.")]
+        else:
+            lines += [self.say("Only a manager may do this."), *self.managers()]
+        return self.page.show("notice.html", 403, Notice(False, tuple(lines)))
+
+    def without_password(self) -> Reply:
+        """The page that says that it needs a password of this counter, which this log-in has none of."""
         lines = [self.say("Nothing was done.")] if flask.request.method == "POST" else []
-        lines += [self.say("Only a manager may do this."), *self.managers()]
+        lines += [self.say("Only an account with a password of this counter may do this."), *self.managers()]
         return self.page.show("notice.html", 403, Notice(False, tuple(lines)))
 
     def managers(self) -> list[str]:
@@ -196,7 +215,12 @@ class Entrance:
         kept = {key: form[key] for key in ("then", "fields", "to") if form.get(key)} or kept_form()
         return self.page.show("login.html", status, Notice(good, lines) if lines else None, kept=kept,
                               number=new_number(), typed=form.get("name", "")[:64], is_wrong=status == 401,
-                              quiet=True)
+                              quiet=True, label=self.label())
+
+    def label(self) -> str:
+        """What stands on the link to the chain's sign-in; empty where there is none."""
+        conf = self.page.counter.conf
+        return (conf.get("sign_in_label") or self.say("Sign in by the chain")) if conf.get("sign_in") else ""
 
     def faults(self) -> list[str]:
         """Why nobody, or not everybody, can log in."""
@@ -259,7 +283,8 @@ class Entrance:
             lines = (self.say("The counter is locked. Nothing was done."),)
         account = self.logins.accounts.now.get(flask.g.login.name)
         return self.page.show("lock.html", status, Notice(False, lines) if lines else None, kept=kept,
-                              name=flask.g.login.name, has_pin=bool(account and account.pin), quiet=True)
+                              name=flask.g.login.name, has_pin=bool(account and account.pin), quiet=True,
+                              label=self.label() if flask.g.login.is_signed_in else "")
 
     def see_lock(self) -> Reply:
         """The lock; nothing where it is not locked, so that a browser stays on its page."""
@@ -293,6 +318,19 @@ class Entrance:
         self.let_in(self.logins.of_cookie(login.number))
         return self.comes_in(form)
 
+    def guarded(self, view: Callable[[], Reply]) -> Callable[[], Reply]:
+        """A view whose file of log-ins may fail."""
+        def answer() -> Reply:
+            """Its answer, or why there is none."""
+            try:
+                return view()
+            except sqlite3.Error as fault:
+                return self.without_file(fault)
+            except BadForm:
+                return self.login_page(400, (self.say("The request was not understood."),))
+
+        return answer
+
     # What is said of wrong words
 
     def too_many(self, fault: Locked, form: Form, act: str) -> Reply:
@@ -306,7 +344,9 @@ class Entrance:
 
     def known(self, name: str) -> str:
         """A name that has an account, as logs have it: what else was typed may be a password or a code."""
-        return name if name in self.logins.accounts.now else "?"
+        login = flask.g.get("login")
+        is_known = name in self.logins.accounts.now or login and login.name == name
+        return name if is_known else "?"
 
     def note(self, name: str, what: str) -> None:
         """A line of systemd's journal."""
@@ -327,23 +367,10 @@ def add(app: flask.Flask, page: Pages, logins: Logins) -> Entrance:
     app.before_request(entrance.enter)
     app.after_request(entrance.leave)
 
-    def guarded(view: Callable[[], Reply]) -> Callable[[], Reply]:
-        """A view whose file of log-ins may fail."""
-        def answer() -> Reply:
-            """Its answer, or why there is none."""
-            try:
-                return view()
-            except sqlite3.Error as fault:
-                return entrance.without_file(fault)
-            except BadForm:
-                return entrance.login_page(400, (page.counter.say("The request was not understood."),))
-
-        return answer
-
     for name, seen, sent in (("login", entrance.see_login, entrance.log_in),
                              ("lock", entrance.see_lock, entrance.lock)):
-        app.add_url_rule(f"/{name}", f"see {name}", guarded(seen))
-        app.add_url_rule(f"/{name}", f"send {name}", guarded(sent), methods=["POST"])
+        app.add_url_rule(f"/{name}", f"see {name}", entrance.guarded(seen))
+        app.add_url_rule(f"/{name}", f"send {name}", entrance.guarded(sent), methods=["POST"])
     for name, sent in (("logout", entrance.log_out), ("unlock", entrance.unlock)):
-        app.add_url_rule(f"/{name}", f"send {name}", guarded(sent), methods=["POST"])
+        app.add_url_rule(f"/{name}", f"send {name}", entrance.guarded(sent), methods=["POST"])
     return entrance

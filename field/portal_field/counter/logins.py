@@ -27,6 +27,7 @@ SET_BACK = 60           # seconds that the clock may be set back under a log-in
 IDLE_MINUTES = 10       # after which a log-in is locked, where the venue says nothing else
 OFTEN = 5               # seconds between two notes of the last use
 COOKIE = "__Host-counter"
+SIGNED_IN = "sign-in "      # begins what a log-in by the chain's sign-in has in place of its account's mark
 SCHEMA = """
 CREATE TABLE IF NOT EXISTS logins (
     cookie TEXT PRIMARY KEY,        -- SHA-256 of the cookie's number
@@ -34,7 +35,7 @@ CREATE TABLE IF NOT EXISTS logins (
     token TEXT NOT NULL,            -- of its forms
     name TEXT NOT NULL,
     role TEXT NOT NULL,
-    account TEXT NOT NULL,          -- SHA-256 of the role and of the password's hash
+    account TEXT NOT NULL,          -- SHA-256 of the role and of the password's hash, or the sign-in's mark
     place TEXT NOT NULL,            -- the address of the clerk's computer
     begun INTEGER NOT NULL,         -- seconds since 1970, as all moments here
     ends INTEGER NOT NULL,
@@ -43,7 +44,7 @@ CREATE TABLE IF NOT EXISTS logins (
 ) STRICT
 """
 
-OF_COOKIE = "SELECT name, token, account, begun, ends, used, locked FROM logins WHERE cookie = ?"
+OF_COOKIE = "SELECT name, role, token, account, begun, ends, used, locked FROM logins WHERE cookie = ?"
 
 
 @dataclass(frozen=True)
@@ -56,6 +57,7 @@ class Login:
     role: str
     token: str
     is_locked: bool
+    is_signed_in: bool = False      # by the chain's sign-in: it has no account, password or PIN here
 
 
 class Locked(Exception):
@@ -73,10 +75,16 @@ class AccountsFile:
     def __init__(self, folder: pathlib.Path) -> None:
         self.folder, self.known, self.fault = folder, Accounts(), ""
         self.seen: tuple[int, ...] = ()
+        self.one_reads = threading.Lock()
 
     @property
     def now(self) -> Accounts:
         """The accounts as they are now. `fault` says what is wrong with the file, in English."""
+        with self.one_reads:    # (or another thread would see none while this one reads the file)
+            return self.read()
+
+    def read(self) -> Accounts:
+        """Reads the file where it is another one."""
         path = self.folder / FILE
         try:
             state = path.stat()
@@ -103,10 +111,12 @@ def mark_of(account: Account) -> str:
 
 class Logins:
     """Each call opens the file anew, as the journal's does. `idle_minutes`: after so many without a request a
-    log-in is locked; 0: never."""
+    log-in is locked; 0: never. `sign_in`: the mark of the chain's sign-in, with another one of which the
+    log-ins that came by it end."""
 
     def __init__(self, path: pathlib.Path, accounts: AccountsFile, idle_minutes: int = IDLE_MINUTES,
-                 now: Callable[[], float] = time.time) -> None:
+                 now: Callable[[], float] = time.time, sign_in: str = "") -> None:
+        self.sign_in = SIGNED_IN + sign_in if sign_in else ""
         self.path, self.accounts, self.idle_minutes, self.now = path, accounts, idle_minutes, now
         self.tries, self.turn = Tries(), threading.Lock()
 
@@ -151,16 +161,16 @@ class Logins:
 
     # Log-ins
 
-    def begin(self, account: Account, place: str, form: str) -> str:
+    def begin(self, account: Account, place: str, form: str, mark: str = "") -> str:
         """Begins a log-in; the number of its cookie. Another one that this form began, as by a double click,
-        ends."""
+        ends. `mark`: of the chain's sign-in, where it came by that."""
         number, now = secrets.token_hex(32), int(self.now())
         with self.opened() as link:
             link.execute("DELETE FROM logins WHERE ends <= ?1 OR begun > ?1 + ?2 OR form = ?3",
                          (now, SET_BACK, form))
             link.execute("INSERT INTO logins VALUES (?, ?, ?, ?, ?, ?, ?, ?, ?, ?, NULL)",
                          (hashed(number), form, secrets.token_hex(16), account.name, account.role,
-                          mark_of(account), place, now, now + LONGEST, now))
+                          mark or mark_of(account), place, now, now + LONGEST, now))
         return number
 
     def of_cookie(self, number: str) -> Login | None:
@@ -173,14 +183,19 @@ class Logins:
             row = link.execute(OF_COOKIE, (hashed(number),)).fetchone()
         if row is None:
             return None
-        name, token, mark, begun, ends, used, locked = row
+        name, role, token, mark, begun, ends, used, locked = row
         account = self.accounts.now.get(name)
-        if account is None or mark_of(account) != mark or not begun - SET_BACK <= now < ends:
+        is_signed_in = mark.startswith(SIGNED_IN)
+        if is_signed_in and account is None and mark == self.sign_in:
+            account = Account(name, role, "")
+        elif is_signed_in or account and mark_of(account) != mark:
+            account = None
+        if account is None or not begun - SET_BACK <= now < ends:
             self.end(hashed(number))
             return None
         if locked is None and self.is_idle(now - used):
             number, locked = self.lock(hashed(number)), now
-        return Login(hashed(number), number, name, account.role, token, locked is not None)
+        return Login(hashed(number), number, name, account.role, token, locked is not None, is_signed_in)
 
     def is_idle(self, seconds: int) -> bool:
         """Whether a log-in that was not used for so long is locked."""

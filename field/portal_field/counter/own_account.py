@@ -17,14 +17,14 @@ from portal_field.counter.logins import Locked, Login
 from portal_field.counter.setting_files import Answer
 from portal_field.lib import passwords
 from portal_field.lib.message_marks import clerk_words
-from portal_field.settings.accounts import CLERK, FILE, MANAGER, Accounts, BadAccounts, text_in
+from portal_field.settings.accounts import CLERK, FILE, MANAGER, OFFICE, Accounts, BadAccounts, text_in
 
 if TYPE_CHECKING:
     from portal_field.counter.page import Pages
 
 Reply = flask.Response
 Changed = Callable[[Accounts], Accounts]
-ROLES = {CLERK: clerk_words("Sales clerk"), MANAGER: clerk_words("Manager")}
+ROLES = {CLERK: clerk_words("Sales clerk"), MANAGER: clerk_words("Manager"), OFFICE: clerk_words("Office")}
 # What is said of a refusal of portal-settings.service, and the status of the page.
 REFUSALS = {
     "wrong_password": (clerk_words("This password is wrong."), 401),
@@ -50,6 +50,7 @@ class OwnAccount:
         return self.page.show("account.html", answer.status if answer else 200,
                               Notice(answer.good, answer.lines) if answer else None, facts=facts,
                               wrong=answer.field if answer else "", name=login.name,
+                              is_signed_in=login.is_signed_in,
                               least=passwords.LEAST_SIGNS, quiet=True, minutes=self.logins.idle_minutes)
 
     def rule_of_passwords(self) -> str:

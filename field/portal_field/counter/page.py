@@ -21,8 +21,9 @@ from typing import Any
 import flask
 
 from portal_field.counter import (
-    clerks, confirmation, entrance, fields, figures, form_token, own_account, payment_sums, payments,
-    plan_pages, printing, reasons, repetition, roles, scans, spreadsheet, takings, venue_pages)
+    clerks, confirmation, entrance, fields, figures, finding, form_token, office_pages, own_account,
+    payment_sums, payments, plan_pages, printing, reasons, repetition, roles, scans, sign_in_pages,
+    spreadsheet, takings, venue_pages)
 from portal_field.counter.clerk import STATE, Acts, Counter, Notice
 from portal_field.counter.journal import Act, Entry
 from portal_field.counter.labels import PAPERS
@@ -32,6 +33,7 @@ from portal_field.counter.made_good import MadeGood
 from portal_field.counter.money_pages import MoneyPages
 from portal_field.counter.origin import is_from_our_page
 from portal_field.counter.pictures import qr_picture
+from portal_field.counter.session_pages import SessionPages
 from portal_field.counter.setting_files import SettingFiles
 from portal_field.counter.several import MOST_LINES, Several, codes_of
 from portal_field.counter.sheet import Sheet
@@ -40,7 +42,8 @@ from portal_field.lib.desk_client import (
     REQUEST_NUMBER, Desk, NoAnswer, Refused, credential, new_number, settings)
 from portal_field.lib.forms import BadForm, Form
 from portal_field.lib.message_marks import clerk_words
-from portal_field.lib.typed_codes import scanned_code_beside, without_codes
+from portal_field.lib.typed_codes import DEVICE, scanned_code_beside, without_codes
+from portal_field.settings.accounts import OFFICE
 
 HERE = pathlib.Path(__file__).resolve().parent
 Reply = flask.Response
@@ -109,6 +112,8 @@ class Pages:
     def __init__(self, counter: Counter) -> None:
         self.counter, self.several, self.made_good = counter, Several(counter), MadeGood(counter)
         lost, self.money_pages = LostBatches(counter), MoneyPages(counter, self.show)
+        self.receipts = self.money_pages.receipts.receipts
+        session_pages = SessionPages(counter, self.receipts, self.show, self.sessions)
         self.actions: dict[str, Callable[[Form, str, Acts], Notice]] = {
             "sell": counter.sell, "refund": counter.refund, "close": counter.close, "issue": counter.issue,
             "now": counter.sell_one_now, "time": counter.time_is_right, "sell-batch": self.several.sell_batch,
@@ -125,7 +130,8 @@ class Pages:
             "cash-up": self.cash_up, "cash-up.csv": self.cash_up_file, "batches": self.batches,
             "venue": self.venue,
             "vouchers": lambda _: self.vouchers(), "money": lambda _: self.money(),
-            "sessions": lambda form: self.sessions(form=form), "next": lambda _: self.leads_to(""),
+            "sessions": lambda form: self.sessions(form=form), "session": session_pages.one,
+            "next": lambda _: self.leads_to(""),
             "shown": self.shown, "several": self.listed, "scanner": lambda _: self.scanner(),
             "lost": lambda form: self.ask_reason("lost", form),
             "replace": self.replacement, "replace-session": self.replacement,
@@ -145,7 +151,8 @@ class Pages:
                                      clerk=self.clerk,
                                      conf=self.counter.conf, money=self.counter.money,
                                      plan_name=self.counter.plan_name, plan_words=self.counter.plan_words,
-                                     kinds=self.money_pages.kinds(), drawer=self.money_pages.shifts.state(),
+                                     kinds=self.money_pages.kinds(),
+                                     drawer=self.money_pages.shifts.state() if roles.may("shift") else None,
                                      **values)
         return flask.make_response(text, status)
 
@@ -156,8 +163,10 @@ class Pages:
 
     def home(self, status: int = 200, notice: Notice | None = None, code: str = "",
              waits: Any = None) -> Reply:
-        """The first page, with a notice above it."""
+        """The first page, with a notice above it; of the office the notice alone, as it sells nothing."""
         counter = self.counter
+        if roles.role() == OFFICE:
+            return self.show("notice.html", status, notice)
         return self.show("home.html", status, notice, plans=counter.offers.offered_prices, code=code,
                          waits=waits, numbers=[new_number()], one=name_of_one(), sessions=counter.sessions())
 
@@ -178,9 +187,13 @@ class Pages:
 
     def sessions(self, status: int = 200, notice: Notice | None = None, wrong: str = "",
                  form: Form = NOTHING) -> Reply:
-        """The open sessions that have what is looked for, the first ones of them."""
-        sessions, find = self.counter.sessions(), form.get("find", "").lower().replace("-", ":")
+        """The open sessions that have what is looked for, the first ones of them. A whole device or number
+        that none of them has leads to the page of its session, which has ended."""
+        sessions, find = self.counter.sessions(), form.get("find", "").strip().lower().replace("-", ":")
         found = [row for row in sessions["rows"] or () if find in row["device"] or find in str(row["number"])]
+        if not found and (DEVICE.fullmatch(find) or finding.SESSION.fullmatch(find)):
+            place = finding.place_of(self.counter, self.receipts, find)
+            return flask.make_response(flask.redirect(place, 303))
         return self.show("sessions.html", status, notice, sessions=sessions, rows=found[:MOST_ROWS],
                          left=max(0, len(found) - MOST_ROWS), find=form.get("find", ""), typed=typed(form),
                          wrong=wrong)
@@ -212,7 +225,7 @@ class Pages:
     # Questions
 
     def look_up(self, form: Form) -> Reply:
-        """A code that was typed or scanned: to the page of its voucher, which Back and reload show again."""
+        """What was typed or scanned: to its page, which Back and reload show again."""
         return self.leads_to(scans.code_in(form.word("code"), form.get("kept", "")))
 
     def voucher(self, form: Form) -> Reply:
@@ -336,8 +349,10 @@ class Pages:
         return flask.Response(status=204)
 
     def leads_to(self, code: str) -> Reply:
-        """To the voucher that was typed or scanned, or else to the first page."""
-        place = f"/voucher?look={self.counter.looks.keep(code)}" if code else "/"
+        """To the voucher that was typed or scanned, or what else that names, or else to the first page."""
+        place = finding.place_of(self.counter, self.receipts, code)
+        if not place:
+            place = f"/voucher?look={self.counter.looks.keep(code)}" if code else "/"
         return flask.make_response(flask.redirect(place, 303))
 
     def takings(self, form: Form) -> Reply:
@@ -622,11 +637,14 @@ def pages(counter: Counter, logins: Logins | None = None) -> flask.Flask:
 
 def add_log_in(app: flask.Flask, page: Pages, logins: Logins) -> None:
     """The log-in, and the pages that need it: accounts, and what a manager has written."""
-    own = own_account.add(app, page, entrance.add(app, page, logins))
+    door = entrance.add(app, page, logins)
+    own = own_account.add(app, page, door)
+    sign_in_pages.add(app, page, door)
     clerks.add(app, page, own)
     files = SettingFiles(page, own.entrance)
     plan_pages.add(app, page, files)
     venue_pages.add(app, page, files)
+    office_pages.add(app, page)
 
 
 def add_forms(app: flask.Flask, page: Pages) -> None:

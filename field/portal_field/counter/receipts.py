@@ -143,6 +143,10 @@ class Receipts:
         """The receipt of a line of the journal."""
         return next(iter(self.where("receipts.number = ?", number)), None)
 
+    def named(self, series: str, place: int) -> Receipt | None:
+        """The receipt of a series and a place there."""
+        return next(iter(self.where("series = ? AND receipts.place = ?", series, place)), None)
+
     def newest(self) -> list[Receipt]:
         """The last ones, the newest first."""
         last, = self.journal.asked("SELECT coalesce(max(number), 0) FROM receipts")[0]

@@ -7,7 +7,7 @@ import re
 
 from portal_field.lib.message_marks import clerk_words
 from portal_field.lib.typed_codes import (
-    WHOLE, field_of_address, in_fours, piece_beside, plain_code, scanned_code)
+    DEVICE, WHOLE, field_of_address, in_fours, piece_beside, plain_code, scanned_code)
 
 WIFI = re.compile(r"wifi:", re.I)
 # A colon is a sign of its own on each keyboard: "http" and "wifi" come with another one behind them.
@@ -56,9 +56,11 @@ def kind_of(text: str) -> str:
 
 
 def code_in(text: str, kept: str = "") -> str:
-    """The code in what was scanned into a field, which still held what was `kept` of a refusal. Raises
-    NoCode."""
+    """The code in what was scanned into a field, which still held what was `kept` of a refusal. What is none,
+    as a device, stays as it was typed. Raises NoCode."""
     scanned = piece_beside(text, kept)
+    if DEVICE.fullmatch(scanned.strip()):
+        return scanned.strip()
     if kind := kind_of(scanned):
         raise NoCode(kind)
     return scanned_code(scanned)

@@ -3,9 +3,9 @@
 from __future__ import annotations
 
 import hashlib
-import json
-import socket
 from dataclasses import dataclass
+
+from portal_field.lib import doors
 
 SOCKET = "/run/portal-settings/socket"
 PATIENCE = 20.0     # seconds: a hash takes some of the machine's time
@@ -26,15 +26,7 @@ def write(path: str, kind: str, before: str, after: str, who: str, password: str
     fields = {"kind": kind, "text": after, "was": hashlib.sha256(before.encode()).hexdigest(), "who": who,
               "password": password}
     try:
-        with socket.socket(socket.AF_UNIX) as link:
-            link.settimeout(PATIENCE)
-            link.connect(path)
-            link.sendall(json.dumps(fields, ensure_ascii=False).encode())
-            link.shutdown(socket.SHUT_WR)
-            data = b""
-            while piece := link.recv(65536):
-                data += piece
-        answer = json.loads(data)
+        answer = doors.exchange(path, fields, PATIENCE)
         return Written(str(answer["answer"]), str(answer.get("why", "")), int(answer.get("seconds", 0)))
     except (OSError, ValueError, KeyError, TypeError) as fault:
         return Written("no_answer", str(fault))

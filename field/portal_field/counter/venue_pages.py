@@ -21,7 +21,7 @@ from portal_field.counter.setting_files import CHANGED, Answer, CannotRead, Sett
 from portal_field.guests import texts
 from portal_field.lib.desk_client import new_number
 from portal_field.lib.forms import BadForm, Form
-from portal_field.lib.languages import GUESTS
+from portal_field.lib.language_names import GUESTS
 from portal_field.lib.message_marks import clerk_words
 from portal_field.lib.offers_file import OffersFile
 from portal_field.lib.plans import BadFile

@@ -20,7 +20,7 @@ from portal_field.doctor.base import backup, clock, disk, logo, versions, zone
 from portal_field.doctor.certificates import certificate
 from portal_field.doctor.findings import Finding, Look, Machine, State, findings_of, good, warning, wrong
 from portal_field.doctor.network import addresses, devices, limits, ports
-from portal_field.doctor.optional import optional
+from portal_field.doctor.optional import optional, venue_lines
 from portal_field.doctor.others import others
 from portal_field.doctor.prices import free_minutes, plans
 from portal_field.doctor.running import clerks, connections, rules, server, services
@@ -28,7 +28,8 @@ from portal_field.settings.venue import BadSettings, Field
 
 CHECKS: tuple[Look, ...] = (devices, addresses, limits, certificate, zone, clock, ports, others, rules,
                             services, connections,
-                            server, clerks, plans, free_minutes, logo, optional, backup, disk, versions)
+                            server, clerks, plans, free_minutes, logo, optional, venue_lines,
+                            backup, disk, versions)
 MADE = "/etc/portal/gateway.toml"       # by set-up, each time
 
 

@@ -199,7 +199,7 @@ def clerks(machine: Machine) -> Iterator[Finding]:
     """Whether somebody can log in at the counter, a manager among them, by a file that not every user can
     read."""
     name, before = f"/etc/portal/{accounts.FILE}", f"/etc/portal/{accounts.BEFORE}"
-    add, path = "`portal-setup --clerk NAME`, or step 3 of README.md by hand", machine.path(name)
+    add, path = "`portal-setup --clerk NAME`; by hand `./setup --clerk NAME`", machine.path(name)
     if not path.exists():
         if machine.path(before).exists():
             yield wrong(f"there is no {name}, only the {before} of an earlier version",

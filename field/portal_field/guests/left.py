@@ -3,9 +3,7 @@ page looks again."""
 
 from __future__ import annotations
 
-import threading
 import time
-from collections import OrderedDict
 from dataclasses import dataclass
 from typing import Any
 
@@ -16,28 +14,6 @@ LITTLE = 20             # so is it below one part of so many of the data
 DAY, HOUR, MINUTE = 86_400, 3_600, 60
 LEAST_WAIT = 30         # seconds until a page renews itself, at least
 DATA_WAIT = 60          # and where the data is limited: nobody knows when it changes
-MOST_DEVICES = 4096     # whose data is remembered
-
-
-class MostData:
-    """The most bytes that each device of late had left: all that it bought, as far as this page knows."""
-
-    def __init__(self) -> None:
-        self.entries: OrderedDict[str, int] = OrderedDict()
-        self.lock = threading.Lock()
-
-    def seen(self, device: str, count: int) -> int:
-        """Notes what a device has left; the most of it."""
-        with self.lock:
-            most = self.entries[device] = max(self.entries.pop(device, 0), count)
-            if len(self.entries) > MOST_DEVICES:
-                self.entries.popitem(last=False)
-        return most
-
-    def forget(self, device: str) -> None:
-        """Drops a device whose session is over."""
-        with self.lock:
-            self.entries.pop(device, None)
 
 
 @dataclass(frozen=True)
@@ -65,8 +41,8 @@ def change_of(seconds: int) -> int:
     return seconds % unit + 1
 
 
-def left_of(answer: dict[str, Any], most: int, language: Language) -> Left:
-    """What the page says of the server's answer about a device that is online, and had `most` bytes once."""
+def left_of(answer: dict[str, Any], used: int, language: Language) -> Left:
+    """What the page says of the server's answer about a device that is online, and has used so many bytes."""
     say, amounts, waits, soon = language.say, list[Amount](), list[int](), ""
     seconds, count = answer.get("seconds-remaining"), answer.get("bytes-remaining")
     end = "" if seconds is None else language.until(time.time() + seconds)
@@ -77,7 +53,7 @@ def left_of(answer: dict[str, Any], most: int, language: Language) -> Left:
     if count is not None:
         amounts.append(Amount(say("Data left"), language.volume(count)))
         waits.append(DATA_WAIT)
-        soon = soon or (say("Little of your data is left.") if count * LITTLE < most else "")
+        soon = soon or (say("Little of your data is left.") if count * LITTLE < count + used else "")
     wait = max(LEAST_WAIT, min(waits, default=DAY))
     return Left(tuple(amounts), soon, answer["can-extend-session"], next_code(answer, end, language), wait)
 

@@ -6,18 +6,16 @@ import hashlib
 import hmac
 import pathlib
 import socket
-import time
 import urllib.parse
 from dataclasses import dataclass, field
 from typing import Any
 
 import flask
-import itsdangerous
 
 from portal_field.guests import texts
 from portal_field.guests.agreed import Agreed
 from portal_field.guests.gifts import BUSY, DONE, NO_ANSWER, Gifts, Offer, refusal_of
-from portal_field.guests.left import Left, MostData, left_of
+from portal_field.guests.left import Left, left_of
 from portal_field.guests.prices import prices
 from portal_field.lib import refusals, web
 from portal_field.lib.counts import Counts
@@ -26,7 +24,8 @@ from portal_field.lib.desk_client import (
 from portal_field.lib.devices import Devices, Holders, look_twice
 from portal_field.lib.forms import BadForm, Form
 from portal_field.lib.guest_refusals import refusal_text
-from portal_field.lib.languages import GUESTS, Language, preferred_language
+from portal_field.lib.language_names import GUESTS
+from portal_field.lib.languages import Language, preferred_language
 from portal_field.lib.local_time import use_zone
 from portal_field.lib.machine_time import Notes
 from portal_field.lib.message_marks import guest_words
@@ -34,50 +33,44 @@ from portal_field.lib.one_use import Forms, numbers
 from portal_field.lib.typed_codes import LONGEST_TYPED, plain_code
 
 HERE = pathlib.Path(__file__).resolve().parent
-COOKIE, CHOICE_COOKIE, COOKIE_DAYS = "portal_session", "portal_lang", 30
+COOKIE, COOKIE_DAYS = "portal_lang", 30      # of the language that was chosen
 NO_DESK = guest_words("We cannot ask our server just now. Please try again in a minute.")
 CLOCK_WAITS = guest_words("Our server waits until somebody at the counter confirms the time. Please ask at "
                           "the counter.")
-TIME_ENDED = guest_words("Your time has ended. To go online again, type another code.")
 NOT_AGREED = refusals.Refusal(0, "not_agreed", 400, "", "", guest_words(
     "Please accept the terms of use first. Your code was not used."))
 # The venue's pages, by the ends of their addresses.
 PAGES = {"prices": guest_words("Prices"), texts.TERMS: guest_words("Terms of use"),
          texts.PRIVACY: guest_words("Privacy notice")}
 ENDED_HERE = guest_words("You have ended your session.")
-ENDED = guest_words("Your session has ended: its data is used up, or it was closed at the counter.")
-
-
-@dataclass(frozen=True)
-class Last:
-    """What the page of a device knew last: its session, and until when that runs where its time is
-    limited."""
-    device: str
-    session: int
-    until: int | None = None
+# Why a session has ended, by the word of the server.
+ENDED = {"time": guest_words("Your time has ended. To go online again, type another code."),
+         "bytes": guest_words("Your data is used up. To go online again, type another code."),
+         "closed": guest_words("Your session was closed. To go online again, type another code.")}
 
 
 @dataclass
 class State:
-    """What the desk says of a device: what is left where it is online. `ended`: what was before."""
+    """What the desk says of a device: its last session, what is left where that is open, and else why it has
+    ended, and when where that is known."""
     left: Left | None = None
     fault: str = ""
     session: int | None = None
     ended: str = ""
+    end: str = ""
 
 
 @dataclass
 class Front:
     """What the page needs: the desk, the venue's words and zone, where the gateway's agent hears knocks,
-    which device holds the lease of an address, the key of its forms and of its cookie, the forms that were
-    sent of late, how often each refusal was shown, and what data each device had."""
+    which device holds the lease of an address, the key of its forms, the forms that were sent of late, and
+    how often each refusal was shown."""
     desk: Desk
     conf: dict[str, Any]
     device_at: Holders
     key: str
     forms: Forms = field(default_factory=Forms)
     counts: Counts = field(default_factory=Counts)
-    most_data: MostData = field(default_factory=MostData)
 
     def __post_init__(self) -> None:
         if "zone" in self.conf:     # the file may be of before
@@ -131,19 +124,15 @@ class Front:
         good = hmac.compare_digest(self.signature(device).encode(), form.get("sign", "").encode())
         return device if device and good else None
 
-    @property
-    def cookies(self) -> itsdangerous.URLSafeSerializer:
-        """Signs the cookie of a device with the key of the forms."""
-        return itsdangerous.URLSafeSerializer(self.key, salt="session",
-                                              signer_kwargs={"digest_method": hashlib.sha256})
-
-    def last(self, cookie: str, device: str | None) -> Last | None:
-        """What a cookie of ours says, if it is of this device."""
+    def last_session(self, device: str) -> dict[str, Any] | None:
+        """What the server says of the last session of a device, open or ended; None if it never had one.
+        NoAnswer or Refused: it does not say so."""
         try:
-            last = Last(*self.cookies.loads(cookie))
-        except (itsdangerous.BadData, TypeError):
+            return self.desk.request_json(Routes.OWN_SESSION, device=device)
+        except Refused as fault:
+            if fault.word != "unknown_session":
+                raise
             return None
-        return last if device and last.device == device else None
 
     def knock(self) -> None:
         """Has the agent look at once; if it does not hear, its next poll will do."""
@@ -165,14 +154,12 @@ class Visit:
         except BadForm:
             self.form = Form()
         self.choice = self.form.get("lang", "") if self.form.get("lang") in GUESTS else ""
-        kept = request.cookies.get(CHOICE_COOKIE, "")
+        kept = request.cookies.get(COOKIE, "")
         self.language = Language(preferred_language(request.accept_languages, self.choice, kept))
         self.place = request.headers.get("X-Real-IP", "")       # its address
         self.device = front.device(self.place)
-        self.last = front.last(request.cookies.get(COOKIE, ""), self.device)
         self.typed = self.form.get("code", "")[:LONGEST_TYPED]
         self.code = plain_code(self.typed)
-        self.keep: Last | None = None       # what the next page is to know
 
     def state(self) -> State:
         """What the page of this device says: what is left, or what is wrong."""
@@ -181,26 +168,21 @@ class Visit:
             return State(fault=refusal_text(refusals.NO_LEASE, self.language))
         try:
             reply = self.front.desk.request_json(Routes.CAPTIVE, device=self.device)
+            last = self.front.last_session(self.device)
         except (NoAnswer, Refused):
             return State(fault=say(self.front.silence()))
+        if last is None:
+            return State()
         if reply["captive"]:
-            self.front.most_data.forget(self.device)
-            return State(ended=self.end_text())
-        seconds = reply.get("seconds-remaining")
-        most = self.front.most_data.seen(self.device, reply.get("bytes-remaining", 0))
-        if self.last:
-            self.keep = Last(self.device, self.last.session,
-                             None if seconds is None else round(time.time()) + seconds)
-        return State(left_of(reply, most, self.language), session=self.last.session if self.last else None)
+            end = self.language.until(last["at"]) if "at" in last else ""
+            return State(session=last["session"], ended=self.end_text(last["ended"]), end=end)
+        return State(left_of(reply, last["used"], self.language), session=last["session"])
 
-    def end_text(self) -> str:
-        """What became of the session that the device had."""
-        if self.form.get("ended"):
+    def end_text(self, why: str | None) -> str:
+        """What became of the last session of the device. `why`: the server's word; None while it is open."""
+        if why == "closed" and self.form.get("ended"):
             return self.language.say(ENDED_HERE)
-        if self.last is None:
-            return ""
-        over = self.last.until is not None and time.time() >= self.last.until - 1
-        return self.language.say(TIME_ENDED if over else ENDED)
+        return self.language.say(ENDED[why]) if why in ENDED else ""
 
     def good_text(self) -> str:
         """What the page says of a form that was sent before: that its code is good, and how often it can
@@ -236,7 +218,7 @@ class Visit:
         response = flask.make_response(text, status)
         if state.left and not has_form:
             response.headers["Refresh"] = f"{state.left.wait}; url={self.address()}"
-        return self.with_session(response)
+        return self.in_language(response)
 
     def offer(self, state: State, wrong: str) -> Offer | None:
         """What a device that is not online can have for nothing, where the venue gives something; also where
@@ -270,22 +252,18 @@ class Visit:
         text = None if is_prices else self.front.text(end, self.language)
         if not rows and text is None:
             return flask.make_response(flask.redirect(self.address(), 302))
-        return self.with_session(flask.make_response(flask.render_template(
+        return self.in_language(flask.make_response(flask.render_template(
             "text.html", language=self.language, _=self.language.say, conf=self.front.conf, text=text,
             prices=rows, name=self.language.say(PAGES[end]), address=self.address)))
 
-    def with_session(self, response: flask.Response) -> flask.Response:
-        """The response with its language, and with the cookies of a new session and of a choice. Nothing
-        needs them: nginx's own answers and a page without the choice in its address follow it."""
+    def in_language(self, response: flask.Response) -> flask.Response:
+        """The response with its language, and with the cookie of a choice. No page of ours needs it: nginx's
+        own answers and a page without the choice in its address follow it."""
         response.headers["Content-Language"] = self.language.tag
         response.headers["Vary"] = "Accept-Language, Cookie"
-        cookies = {CHOICE_COOKIE: self.choice} if self.choice else {}
-        if self.keep:
-            words = [self.keep.device, self.keep.session, self.keep.until]
-            cookies[COOKIE] = str(self.front.cookies.dumps(words))
-        for name, text in cookies.items():
-            response.set_cookie(name, text, 86_400 * COOKIE_DAYS, path="/portal", secure=True, httponly=True,
-                                samesite="Lax")
+        if self.choice:
+            response.set_cookie(COOKIE, self.choice, 86_400 * COOKIE_DAYS, path="/portal", secure=True,
+                                httponly=True, samesite="Lax")
         return response
 
     def refuse(self, status: int, refusal: refusals.Refusal | None, **more: Any) -> flask.Response:
@@ -328,9 +306,9 @@ class Visit:
         """The answer to the button of free minutes. Who is online already has what it gives."""
         word = str((reply := self.act("free", device))["answer"])
         if word == DONE:
-            return self.online(device, reply)
+            return self.online(reply)
         if word == "online":
-            return self.with_session(flask.make_response(flask.redirect(self.address(), 303)))
+            return self.in_language(flask.make_response(flask.redirect(self.address(), 303)))
         self.front.counts.add(word)
         return self.page(refusal_of(word).status, self.words_of(word), wrong="offer")
 
@@ -344,7 +322,7 @@ class Visit:
             "end.html", language=self.language, _=self.language.say, choice=self.choice, conf=self.front.conf,
             state=state, address=self.address, device=self.device, sign=self.front.signature(self.device),
             number=new_number(), bad=bad, session=session or gifts.session(self.place, self.device))
-        return self.with_session(flask.make_response(text, status))
+        return self.in_language(flask.make_response(text, status))
 
     def end(self, device: str) -> flask.Response:
         """The answer to the button that ends the session which its page showed."""
@@ -355,7 +333,7 @@ class Visit:
         word = str(self.act("end", device, session)["answer"])
         if word == DONE:
             self.front.knock()
-            return self.with_session(flask.make_response(flask.redirect(self.address(ended="1"), 303)))
+            return self.in_language(flask.make_response(flask.redirect(self.address(ended="1"), 303)))
         self.front.counts.add(word)
         bad, status = self.words_of(word), refusal_of(word).status
         again = word in (NO_ANSWER, BUSY, "no_record")
@@ -381,7 +359,7 @@ class Visit:
                 return self.no_answer(form, number)
             if again or not self.is_over(device):
                 break
-        return self.online(device, reply) if reply else self.refuse(409, refusals.of_word("used_up"))
+        return self.online(reply) if reply else self.refuse(409, refusals.of_word("used_up"))
 
     def no_answer(self, form: str, number: str) -> flask.Response:
         """The page after no answer: to be sent again, or what the server waits for."""
@@ -398,20 +376,17 @@ class Visit:
         except (NoAnswer, Refused, KeyError):
             return False
 
-    def online(self, device: str, reply: dict[str, Any]) -> flask.Response:
+    def online(self, reply: dict[str, Any]) -> flask.Response:
         """The answer to a code that was accepted: it leads to the page."""
         front = self.front
         front.knock()
         if front.terms_version:
             front.agreed.add(reply["session"], front.terms_version)
-        if not reply["extended"]:
-            front.most_data.forget(device)
-        self.keep = Last(device, reply["session"])
         # Another page than the answer to the form, so that loading it again does not send the code again.
         response = flask.Response(status=303)
         said = {"done": reply["session"], "left": reply["uses_left"]} if "uses_left" in reply else {}
         response.headers["Location"] = self.address(**said)
-        return self.with_session(response)
+        return self.in_language(response)
 
 
 def pages(front: Front) -> flask.Flask:

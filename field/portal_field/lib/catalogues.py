@@ -18,7 +18,8 @@ from babel.messages.extract import extract
 from babel.messages.pofile import read_po, write_po
 
 from portal_field import KIT
-from portal_field.lib.languages import CATALOGUES, COUNTER, GUESTS
+from portal_field.lib.language_names import COUNTER, GUESTS
+from portal_field.lib.languages import CATALOGUES
 
 # Where the messages of a domain stand, and the functions that mark them there.
 SAYS = {"_": None, "say": None, "say_plural": (1, 2)}
@@ -57,7 +58,7 @@ SOURCES = {
                 ("portal_field/counter/payments.py", SAYS | {"clerk_words": None}),
                 ("portal_field/counter/*_pages.py", SAYS | {"clerk_words": None}),
                 ("portal_field/counter/receipt_text.py", SAYS),
-                ("portal_field/counter/clerks.py", SAYS),
+                ("portal_field/counter/clerks.py", SAYS | {"clerk_words": None}),
                 ("portal_field/counter/payment_sums.py", SAYS | {"clerk_words": None}),
                 ("portal_field/counter/setting_files.py", SAYS | {"clerk_words": None}),
                 ("portal_field/guests/prices.py", {"say_plural": (1, 2)}),

@@ -28,6 +28,7 @@ class Routes(Route, Enum):
     """All routes of the desk. `{}` stands for the one parameter of a path."""
     CAPTIVE = "GET", "/captive", "guest"
     REDEEM = "POST", "/portal/redeem", "guest", True
+    OWN_SESSION = "GET", "/portal/session", "guest"
     PLANS = "POST", "/desk/plans", "desk", True
     ISSUE = "POST", "/desk/batches", "desk", True
     PRINT = "GET", "/desk/batches/{}/print", "desk"
@@ -35,9 +36,12 @@ class Routes(Route, Enum):
     REFUND = "POST", "/desk/refunds", "desk", True
     CLOSE = "POST", "/desk/closes", "desk", True
     VOUCHER = "GET", "/desk/vouchers/{}", "desk"
+    LAST_SESSION = "GET", "/desk/sessions", "desk"
+    SESSION = "GET", "/desk/sessions/{}", "desk"
     TAKINGS = "GET", "/desk/takings", "desk"
     REPORT = "POST", "/gateway/reports", "gateway", True
     SESSIONS = "GET", "/gateway/sessions", "gateway"
+    SESSION_DETAILS = "GET", "/gateway/sessions/details", "gateway"
 
 
 class NoAnswer(Exception):
@@ -78,7 +82,7 @@ class Desk:
         headers = {"Portal-Token": self.token, "Portal-Device": device, "Portal-Request": number}
         path = route.path.format(*(urllib.parse.quote(word, safe="") for word in part))
         if query:
-            path += "?" + urllib.parse.urlencode(query)
+            path += "?" + urllib.parse.urlencode(query, safe=":")       # the desk decodes no query
         if body is not None and not isinstance(body, bytes):
             body = json.dumps(body).encode()
         status, text = self.exchange(route.method, path, body, {k: v for k, v in headers.items() if v})

@@ -108,19 +108,24 @@ class Door:
             thread.join()
 
 
+def exchange(path: str, question: dict[str, Any], patience: float) -> Any:
+    """What the part at a socket sends back within so many seconds. OSError: nothing. ValueError: no JSON."""
+    end, data = time.monotonic() + patience, b""
+    with socket.socket(socket.AF_UNIX) as link:
+        link.settimeout(patience)
+        link.connect(path)
+        link.sendall(json.dumps(question).encode())
+        link.shutdown(socket.SHUT_WR)
+        while piece := link.recv(1 << 16):
+            data += piece
+            link.settimeout(max(0.01, end - time.monotonic()))
+    return json.loads(data)
+
+
 def ask(path: str, question: dict[str, Any], patience: float) -> Answer:
     """The answer of the part at a socket. One that does not come, or is none, has the word `no_answer`."""
-    end, data = time.monotonic() + patience, b""
     try:
-        with socket.socket(socket.AF_UNIX) as link:
-            link.settimeout(patience)
-            link.connect(path)
-            link.sendall(json.dumps(question).encode())
-            link.shutdown(socket.SHUT_WR)
-            while piece := link.recv(4096):
-                data += piece
-                link.settimeout(max(0.01, end - time.monotonic()))
-        reply = json.loads(data)
+        reply = exchange(path, question, patience)
     except (OSError, ValueError):
         reply = None
     is_answer = isinstance(reply, dict) and isinstance(reply.get("answer"), str)

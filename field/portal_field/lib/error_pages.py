@@ -7,7 +7,8 @@ import pathlib
 
 import jinja2
 
-from portal_field.lib.languages import GUESTS, Language
+from portal_field.lib.language_names import GUESTS
+from portal_field.lib.languages import Language
 from portal_field.lib.message_marks import clerk_words, guest_words
 
 LIB = pathlib.Path(__file__).resolve().parent

@@ -12,6 +12,7 @@ import datetime
 import functools
 import gettext
 import io
+import re
 from collections.abc import Iterable
 from decimal import Decimal
 
@@ -25,16 +26,13 @@ from babel.units import format_unit
 
 from portal_field import KIT
 from portal_field.lib import local_time
+from portal_field.lib.language_names import GUESTS
 
 CATALOGUES = KIT / "languages"
-GUESTS = {"en": "English", "de": "Deutsch", "fr": "Français", "es": "Español", "it": "Italiano",
-          "pt": "Português",
-          "pl": "Polski", "tr": "Türkçe", "uk": "Українська", "ar": "العربية", "ja": "日本語",
-          "zh-Hans": "简体中文", "zh-Hant": "繁體中文", "nl": "Nederlands", "cs": "Čeština", "ko": "한국어"}
-COUNTER = {tag: GUESTS[tag] for tag in ("en", "de")}
 SPANS = (("day", 86_400, "hour", 3_600), ("hour", 3_600, "minute", 60), ("minute", 60, "", 0))
 VOLUMES = (("gigabyte", 10**9), ("megabyte", 10**6), ("kilobyte", 10**3))
 TRADITIONAL = {"hant", "tw", "hk", "mo"}
+LETTER_BEFORE_DIGIT = re.compile(r"(?<=[^\W\d_])(?=\d)")
 SHARP = {"en": "y-MM-dd"}       # how clerks read a day; else as CLDR has it
 
 
@@ -125,7 +123,9 @@ class Language:
         if not currency:
             return str(format_decimal(amount, "#,##0.00", locale=self.locale))
         digits = get_currency_precision(currency) != 0 or hundredths % 100 == 0
-        return str(format_currency(amount, currency, locale=self.locale, currency_digits=digits))
+        text = str(format_currency(amount, currency, locale=self.locale, currency_digits=digits))
+        # A currency without a sign stands as its letters, which a blank keeps apart from the digits (CLDR).
+        return LETTER_BEFORE_DIGIT.sub("\N{NO-BREAK SPACE}", text)
 
     def percent(self, hundredths: int) -> str:
         """Hundredths of a percent, with as many digits after the point as they need."""

@@ -53,4 +53,5 @@ def run_command(unit: str, words: str) -> int:
 
 
 if __name__ == "__main__":
-    sys.exit(run_command(sys.argv[1], "failed"))
+    name, _, word = sys.argv[1].partition(":")      # UNIT:back, by a unit that starts this itself
+    sys.exit(run_command(name, "is well again" if word else "failed"))

@@ -17,16 +17,17 @@ from dataclasses import dataclass
 
 from portal_field.lib.passwords import HASHED
 
-CLERK, MANAGER = "clerk", "manager"
-ROLES = (CLERK, MANAGER)
+CLERK, MANAGER, OFFICE = "clerk", "manager", "office"
+ROLES = (CLERK, MANAGER, OFFICE)
+AT_A_COUNTER = (CLERK, MANAGER)     # the office sees all venues, and sells nowhere
 NEEDED = {"name", "role", "password"}
 MOST_ACCOUNTS, MOST_NAME, MOST_BYTES = 200, 64, 60_000
 MODE, GROUP = 0o640, "portal-counter"       # of the file: root's, and read by the counter's page
 FILE, BEFORE = "clerks.toml", "counter.passwords"       # BEFORE: of earlier versions, which nginx read
 HEAD = """\
-# Who may log in at the counter, and as what: role "clerk" or "manager". `portal-setup --clerk NAME` makes an
-# account, or a new password of one; its owner changes password and PIN on the counter's page. Both write this
-# file anew: comments are not kept. One who leaves: delete the table.
+# Who may log in at the counter, and as what: role "clerk", "manager" or "office" (of venues by name).
+# `portal-setup --clerk NAME` makes an account, or a new password of one; its owner changes password and PIN
+# on the counter's page. Both write this file anew: comments are not kept. One who leaves: delete the table.
 """
 
 
@@ -96,6 +97,11 @@ class Accounts(dict[str, Account]):
     def managers(self) -> list[str]:
         """The names of the managers."""
         return [account.name for account in self.values() if account.role == MANAGER]
+
+    @property
+    def of_office(self) -> dict[str, Account]:
+        """The accounts of the office, which root alone makes: they see all venues."""
+        return {name: account for name, account in self.items() if account.role == OFFICE}
 
     def check_managers(self) -> None:
         """BadAccounts: nobody is a manager."""

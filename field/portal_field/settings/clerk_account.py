@@ -10,7 +10,7 @@ from dataclasses import replace
 
 from portal_field.lib.passwords import fault_of_password, hash_of
 from portal_field.settings.accounts import (
-    CLERK, FILE, MANAGER, ROLES, Account, Accounts, BadAccounts, fault_of_name, of_venue)
+    AT_A_COUNTER, CLERK, FILE, MANAGER, Account, Accounts, BadAccounts, fault_of_name, of_venue)
 
 Write = Callable[[pathlib.Path, str], None]
 
@@ -36,7 +36,8 @@ def role_of(name: str, accounts: Accounts, asked: str) -> str:
         return MANAGER
     if not sys.stdin.isatty():
         return CLERK
-    while (answer := input(f"Role of {name}, clerk or manager [clerk]: ").strip() or CLERK) not in ROLES:
+    asks = f"Role of {name}, clerk or manager [clerk]: "
+    while (answer := input(asks).strip() or CLERK) not in AT_A_COUNTER:
         print("  no: clerk or manager")
     return answer
 

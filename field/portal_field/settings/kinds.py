@@ -57,7 +57,8 @@ class Kind:
 
 
 def check_clerks(who: Account, before: str, after: str) -> None:
-    """A manager changes every account, and a clerk the own password and PIN alone. A manager is left."""
+    """A manager changes every account but those of the office, which see all venues, and anybody else the own
+    password and PIN alone. A manager is left."""
     try:
         old, new = Accounts.read(before), Accounts.read(after)
         new.check_managers()
@@ -68,6 +69,8 @@ def check_clerks(who: Account, before: str, after: str) -> None:
         same = replace(own, password=who.password, pin=who.pin)
         if same != who or {**old, who.name: own} != new:
             raise Refusal("not_allowed", "a clerk changes the own password and PIN alone")
+    elif old.of_office != new.of_office:
+        raise Refusal("not_allowed", "root alone makes, changes and ends an account of the office")
 
 
 def for_managers(check: Callable[[str, str], None]) -> Callable[[Account, str, str], None]:

@@ -35,7 +35,7 @@ from portal_field.doctor.others import others
 from portal_field.doctor.prices import free_minutes, plans
 from portal_field.lib import colours
 from portal_field.lib.error_pages import away_page, error_pages
-from portal_field.lib.languages import GUESTS
+from portal_field.lib.language_names import GUESTS
 from portal_field.radius import radius_files
 from portal_field.settings import accounts, clerk_account, venue_file
 from portal_field.settings.kinds import PICTURE_FILE
@@ -74,7 +74,9 @@ INSTALLED = {       # from the kit, with the words between @ signs filled in
         "portal-radius-agent@.service", "portal-venues.target", "portal-venues.slice",
         "portal-venues-clock.service", "portal-venues-rules.service", "portal-venues-counter.socket",
         "portal-venues-counter.service", "portal-venues-backup.service", "portal-venues-backup.timer",
-        "portal-venues-collect.service", "portal-venues-collect.timer")},
+        "portal-venues-collect.service", "portal-venues-collect.timer", "portal-venues-plans.service",
+        "portal-venues-plans.timer", "portal-office.socket", "portal-office@.service",
+        "portal-sign-in.socket", "portal-sign-in@.service")},
 }
 # Where the counter's page is served: by an nginx of its own; or, as earlier versions have it, by that of the
 # guests' page
@@ -374,7 +376,8 @@ def main() -> int:
     words.add_argument("--prices-as-shipped", action="store_true",
                        help="take the sample's prices, before the first start")
     words.add_argument("--clerk", metavar="NAME", help="make that clerk's account, or set its password")
-    words.add_argument("--role", choices=accounts.ROLES, help="of --clerk; the first account is a manager's")
+    words.add_argument("--role", choices=accounts.AT_A_COUNTER,
+                       help="of --clerk; the first account is a manager's")
     words.add_argument("settings", type=pathlib.Path)
     args = words.parse_args()
     if args.root == pathlib.Path("/"):

@@ -11,6 +11,7 @@ from dataclasses import field as listing
 from typing import Any
 
 from portal_field.lib.colours import COLOUR
+from portal_field.lib.language_names import COUNTER, GUESTS
 from portal_field.lib.zones import NoZone, rule_of
 from portal_field.settings import venue_file
 from portal_field.settings.radius_settings import BadRadius, Radius
@@ -30,10 +31,7 @@ URL = re.compile(r"https://[A-Za-z0-9][A-Za-z0-9._~:/?#@!$&'()*+,;=%-]{0,500}")
 PLAN = re.compile(r"[a-z0-9-]{1,32}")
 VERSION = re.compile(r"[A-Za-z0-9._-]{1,32}")
 CURRENCY = re.compile(r"[A-Z]{3}")
-# of the guests' catalogues
-LANGUAGES = ("en", "de", "fr", "es", "it", "pt", "pl", "tr", "uk", "ar", "ja", "zh-Hans", "zh-Hant", "nl",
-             "cs", "ko")
-COUNTER_LANGUAGES = ("en", "de")
+LANGUAGES, COUNTER_LANGUAGES = tuple(GUESTS), tuple(COUNTER)
 # as portal_field/counter/labels.py has them
 VOUCHER_SIZES = ("a4", "letter", "a4-24", "a4-21", "label", "receipt80", "receipt58")
 RECEIPT_SIZES = ("", "receipt80", "receipt58")      # as portal_field/counter/receipt_text.py has them

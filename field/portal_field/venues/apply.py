@@ -11,10 +11,12 @@ from dataclasses import dataclass, field
 from portal_field import KIT
 from portal_field.settings.samples import is_sample, mark_as_chosen
 from portal_field.settings.venue import Field
+from portal_field.venues import sign_in
 from portal_field.venues.files import VenueFiles, make_shared
 from portal_field.venues.places import BadVenue, Machine, Places
 from portal_field.venues.units import (
-    CLOCK, COLLECT, COUNTER, DOOR, NGINX, RULES, TIMER, UnitFault, Units, units_of)
+    CLOCK, COLLECT, COUNTER, DOOR, NGINX, OFFICE, PLANS, RULES, SIGN_IN, TIMER, UnitFault, Units,
+    units_of)
 
 STEPS = ("files", "prices", "units")
 # Files that a desk reads at its start
@@ -102,7 +104,8 @@ class Apply:
         later ones were not done."""
         written = {path.name for path in make_shared(venues, self.machine, self.root, self.kit)}
         if not venues:
-            self.units.ctl("disable", "--now", CLOCK, COUNTER, DOOR, RULES, TIMER, COLLECT)
+            self.units.ctl("disable", "--now", CLOCK, COUNTER, DOOR, RULES, TIMER, COLLECT, PLANS, OFFICE,
+                           SIGN_IN)
             self.units.ctl("stop", "portal-venues.target")
         else:
             # which desks and pages there are is known to these two since their start
@@ -111,7 +114,12 @@ class Apply:
             self.units.ctl("reload-or-restart" if "desks.nft" in written else "start", RULES)
             self.units.ctl("restart" if is_new else "start", CLOCK)
             self.units.ctl("start", DOOR, TIMER)
-            self.units.ctl("enable" if self.machine.database else "disable", "--now", COLLECT)
+            self.units.ctl("enable" if self.machine.database else "disable", "--now", COLLECT, PLANS,
+                           OFFICE)
+            has_sign_in = (path := self.root / sign_in.FILE).exists()
+            if has_sign_in:
+                path.chmod(0o600)       # it has the client's secret
+            self.units.ctl("enable" if has_sign_in else "disable", "--now", SIGN_IN)
             self.units.ctl("restart" if is_new else "start", COUNTER)
         if {"venues.conf", "nginx.conf"} & written or not self.units.is_active(NGINX):
             self.units.ctl("reload-or-restart", NGINX)

@@ -3,15 +3,19 @@
 A loaded plan never changes, so that a push can be repeated: the server takes the same file once. A venue
 keeps the plans of its own that the chain has not. One that has a plan of the chain with other terms gets
 nothing of the file, and each difference is named.
+
+As a program it is portal-venues-plans.service: it brings what another machine put into the table to the
+venues of this one.
 """
 
 from __future__ import annotations
 
 import contextlib
+import datetime
 import pathlib
 import sys
 from collections.abc import Iterator, Sequence
-from dataclasses import dataclass, replace
+from dataclasses import dataclass, field, replace
 from typing import Any
 
 from portal_field import KIT
@@ -22,35 +26,38 @@ from portal_field.lib.desk_client import Desk, NoAnswer, Refused, Routes
 from portal_field.lib.offers_file import OffersFile
 from portal_field.lib.plans import BadFile, Plans, check_plans, plans_in
 from portal_field.settings.venue import Field
-from portal_field.venues import view
+from portal_field.venues import table, view
 from portal_field.venues.files import Files
-from portal_field.venues.places import BadVenue, Machine, Places
-from portal_field.venues.units import COUNTER, Units
+from portal_field.venues.places import BadVenue, Machine, Places, machine_of
+from portal_field.venues.units import COUNTER, UnitFault, Units
 from portal_field.venues.venue_settings import all_venues
 
 ALL = "*"       # in portal.plan_file: every venue that has no row of its own
+LEFT, NOT_FETCHED = 3, 4    # statuses of the timer's run: a venue has not got them; nothing was fetched
 KEEP = """
 INSERT INTO portal.plan_file (venue, plans, offers) VALUES (%s, %s, %s) ON CONFLICT (venue) DO UPDATE SET
     plans = excluded.plans, offers = excluded.offers, written = now()
 WHERE (plan_file.plans, plan_file.offers) IS DISTINCT FROM (excluded.plans, excluded.offers)"""
 NOTE = """
-INSERT INTO portal.plan_push (venue, pushed, fault) VALUES (%s, clock_timestamp(), %s) ON CONFLICT (venue)
+INSERT INTO portal.plan_push (venue, pushed, fault) VALUES (%s, %s, %s) ON CONFLICT (venue)
 DO UPDATE SET pushed = excluded.pushed, fault = excluded.fault"""
 BEHIND = """
-SELECT venue.name, venue.machine, push.fault, push.pushed IS NULL OR push.pushed < file.written
+SELECT venue.name, venue.machine, push.fault, push.pushed IS DISTINCT FROM file.written
 FROM portal.venue AS venue
     JOIN portal.plan_file AS file ON file.venue = coalesce(
         (SELECT own.venue FROM portal.plan_file AS own WHERE own.venue = venue.name), '*')
     LEFT JOIN portal.plan_push AS push ON push.venue = venue.name
-WHERE venue.retired IS NULL AND (push.pushed IS NULL OR push.pushed < file.written OR push.fault <> '')
+WHERE venue.retired IS NULL AND (push.pushed IS DISTINCT FROM file.written OR push.fault <> '')
 ORDER BY venue.name"""
 
 
 @dataclass(frozen=True)
 class ChainPlans:
-    """Both files of plans: plans.toml, and offers.toml or nothing."""
+    """Both files of plans: plans.toml, and offers.toml or nothing. `written`: when they were put into the
+    table."""
     plans: str
     offers: str = ""
+    written: datetime.datetime | None = field(default=None, compare=False)
 
     def check(self) -> None:
         """BadVenue: one of the files is not what it must be."""
@@ -109,17 +116,32 @@ def keep(machine: Machine, chain: ChainPlans, names: Sequence[str]) -> None:
 def kept(machine: Machine) -> dict[str, ChainPlans]:
     """The files in the table, by the venue, or ALL."""
     with opened(machine) as link:
-        rows = list(link.execute("SELECT venue, plans, offers FROM portal.plan_file"))
-    return {name: ChainPlans(text, offers) for name, text, offers in rows}
+        rows = list(link.execute("SELECT venue, plans, offers, written FROM portal.plan_file"))
+    return {name: ChainPlans(*files) for name, *files in rows}
 
 
 def behind(machine: Machine) -> list[str]:
     """The venues of all machines that have not got the chain's plans, and why, in words."""
     with opened(machine) as link:
         rows = list(link.execute(BEHIND))
-    return [f"{name} has not got the plans of the chain yet: portal-venues plans, on {machine_name}" if is_old
+    return [f"{name} has not got the plans of the chain yet: {machine_name} fetches them each quarter of an "
+            f"hour, or at once by portal-venues plans" if is_old
             else f"{name} has not got the plans of the chain: {fault}"
             for name, machine_name, fault, is_old in rows]
+
+
+def behind_here(machine: Machine) -> list[str]:
+    """The venues of this machine that have not got the chain's plans. While no machine has put plans into
+    the table there are none, and no table of plans is made."""
+    with table.opened(machine) as link:
+        if link.execute("SELECT to_regclass('portal.plan_push')").fetchone() == (None,):
+            return []
+        return [name for name, place, *_ in link.execute(BEHIND) if place == machine.own_name]
+
+
+def of_venue(wanted: dict[str, ChainPlans], name: str) -> ChainPlans:
+    """The files of a venue: those of its own, or those of all venues. KeyError: there are none for it."""
+    return wanted.get(name) or wanted[ALL]
 
 
 class Push:
@@ -160,7 +182,8 @@ class Push:
         """Brings the plans to one venue: what was done, or why it was not. OSError: a file cannot be read or
         written."""
         paths = places.settings / "plans.toml", places.settings / "offers.toml"
-        own = ChainPlans(*(path.read_text(encoding="utf-8") if path.exists() else "" for path in paths))
+        texts = [path.read_text(encoding="utf-8") if path.exists() else "" for path in paths]
+        own = ChainPlans(texts[0], texts[1])
         differences = plans.compare(plans_in(chain.plans.encode()), self.loaded(places))
         if differences:
             return "", "; ".join(map(str, differences))
@@ -186,30 +209,34 @@ class Push:
         self.is_new = self.is_new or bool(changed) or not is_known
         return f"has them: new {' and '.join(changed)}" if changed else "has them", ""
 
+    def note(self, faults: dict[str, str], wanted: dict[str, ChainPlans]) -> None:
+        """Notes in the table which files each venue has got, or why it has not."""
+        with opened(self.machine) as link:
+            for name, fault in faults.items():
+                link.execute(NOTE, (name, of_venue(wanted, name).written, fault))
+
     def run(self, wanted: dict[str, ChainPlans]) -> int:
         """Brings the plans to the venues of this machine that are wanted, and says what came of each; 0 where
-        each has them. Then the counters take them."""
-        fields, faults = all_venues(self.root)
-        failed = False
-        for name in sorted({*fields, *faults}):
-            chain = wanted.get(name) or wanted.get(ALL)
-            if chain is None:
+        each has them. Then the counters take them, and it is noted."""
+        fields, unread = all_venues(self.root)
+        faults: dict[str, str] = {}
+        for name in sorted({*fields, *unread}):
+            if name not in wanted and ALL not in wanted:
                 continue
-            done, fault = "", faults.get(name, "")
+            done, fault = "", unread.get(name, "")
             if name in fields:
                 try:
-                    done, fault = self.venue(Places(name, self.root), fields[name], chain)
+                    done, fault = self.venue(Places(name, self.root), fields[name], of_venue(wanted, name))
                 except (OSError, ValueError) as caught:
                     fault = str(caught)
-            failed = failed or bool(fault)
+            faults[name] = fault
             print(f"{name}: {done or f'it has not got them: {fault}'}", flush=True,
                   file=sys.stderr if fault else sys.stdout)
-            if self.machine.database and not self.looks:
-                with opened(self.machine) as link:
-                    link.execute(NOTE, (name, fault))
         if self.is_new:
             self.units.ctl("try-restart", COUNTER)
-        return int(failed)
+        if self.machine.database and not self.looks:
+            self.note(faults, wanted)
+        return int(any(faults.values()))
 
 
 def push(machine: Machine, root: pathlib.Path, units: Units, chain: ChainPlans | None, names: Sequence[str],
@@ -229,7 +256,32 @@ def push(machine: Machine, root: pathlib.Path, units: Units, chain: ChainPlans |
             raise BadVenue(f"there is no venue {', '.join(unknown)}")
         wanted = {name: chain for name in names or (ALL,)}
     if names:
-        wanted = {name: wanted.get(name) or wanted[ALL] for name in names if name in wanted or ALL in wanted}
+        wanted = {name: of_venue(wanted, name) for name in names if name in wanted or ALL in wanted}
     if not wanted:
         raise BadVenue("no plans of the chain are in the table yet: name a file of plans")
     return Push(machine, root, units, looks).run(wanted)
+
+
+def fetch(machine: Machine, root: pathlib.Path, units: Units) -> int:
+    """Brings the plans of the table to the venues of this machine that have not got them; 0 where each has
+    them. BadVenue, table.Away, UnitFault: what is away."""
+    if names := behind_here(machine):
+        files = kept(machine)
+        return Push(machine, root, units).run({name: of_venue(files, name) for name in names})
+    return 0
+
+
+def main() -> int:
+    """Fetches the plans of the table, for the timer; 0 also where venues.toml names no database. What is away
+    is said by portal-venues-collect, and which venue has not got them by the report of the office."""
+    root = pathlib.Path("/")
+    try:
+        machine = machine_of(root)
+        return LEFT if machine.database and fetch(machine, root, Units()) else 0
+    except (BadVenue, table.Away, UnitFault, OSError) as fault:
+        print(f"the plans of the chain are not fetched: {fault}", file=sys.stderr, flush=True)
+        return NOT_FETCHED
+
+
+if __name__ == "__main__":
+    sys.exit(main())

@@ -14,6 +14,7 @@ from __future__ import annotations
 import concurrent.futures
 import contextlib
 import datetime
+import os
 import pathlib
 import secrets
 import shutil
@@ -37,6 +38,8 @@ from portal_field.venues.places import BadVenue, Machine, Places, machine_of, ve
 from portal_field.venues.records import Head, Records, Row, read_records, time_of
 from portal_field.venues.venue_settings import all_venues
 
+AWAY_STILL = 4              # the status where PostgreSQL was away the last time, too
+BACK = "portal-failed@portal-venues-collect.service:back.service"   # reports that it is there again
 SILENT = 3                  # the status where a venue is silent, or something of it was not read
 WORKERS = 4                 # venues that are collected at a time
 PATIENCE = 30.0             # seconds for the takings of a year
@@ -254,14 +257,30 @@ def collect(machine: Machine, root: pathlib.Path, names: Sequence[str] = ()) -> 
     return SILENT if any(result.fault for result in results) else 0
 
 
+def told_once(told: pathlib.Path) -> int:
+    """The status of a time at which nothing was read: the venue's command hears of the first one alone."""
+    if told.exists():
+        return AWAY_STILL
+    with contextlib.suppress(OSError):
+        told.touch()
+    return 1
+
+
 def main() -> int:
-    """Takes all venues of this machine into the view, for the timer; 1 where PostgreSQL cannot be reached."""
-    root = pathlib.Path("/")
+    """Takes all venues of this machine into the view, for the timer; 1 where PostgreSQL cannot be reached,
+    and another status as long as it stays so."""
+    root, state = pathlib.Path("/"), os.environ.get("STATE_DIRECTORY", "/var/lib/portal-venues-collect")
+    told = pathlib.Path(state, "told")
     try:
-        return collect(machine_of(root), root)
+        status = collect(machine_of(root), root)
     except (BadVenue, table.Away, OSError) as fault:
         print(f"the view is as it was: {fault}", file=sys.stderr, flush=True)
-        return 1
+        return told_once(told)
+    if told.exists():
+        told.unlink()
+        print("the view is filled again", flush=True)
+        subprocess.run(["systemctl", "start", "--no-block", BACK])
+    return status
 
 
 if __name__ == "__main__":

@@ -5,7 +5,7 @@
     portal-venues clerk NAME CLERK [--role ROLE]
     portal-venues retire NAME
     portal-venues status
-    portal-venues renew
+    portal-venues upgrade
     portal-venues collect [NAME ..]
     portal-venues report [--weeks N] [--csv FILE [--from DAY] [--to DAY]]
     portal-venues plans [FILE] [--offers FILE] [--venue NAME ..] [--look]
@@ -15,7 +15,7 @@
 `add` makes a venue's settings, with the next free port, and applies them. `apply` carries out what the
 settings say, of all venues or of some. `clerk` makes an account of a venue's counter, or gives it a new
 password. `retire` ends a venue, after a last copy; its files and its database stay. `status` says how each
-venue is. `renew`, for the package's upgrades, starts one venue after another with the new program. Where the
+venue is. `upgrade` starts one venue after another with the program that is installed now. Where the
 table of venues is in PostgreSQL, `collect` copies takings, vouchers and sessions into the view of all venues
 beside it, `report` says what the office should know of it, and `reader` lets a role of PostgreSQL read it.
 `plans` brings the plans of a chain to its venues. `targets` names the machines of the table to Prometheus.
@@ -38,6 +38,7 @@ from portal_field.venues.ending import RETIRED
 from portal_field.venues.places import (
     FIRST_PORT, LAST_PORT, BadVenue, Machine, Places, check_name, machine_of)
 from portal_field.venues.units import UnitFault, Units
+from portal_field.venues.upgrade import Upgrade
 from portal_field.venues.venue_settings import all_venues, read_venue
 from portal_field.venues.files import Files
 
@@ -207,7 +208,8 @@ def read_words() -> argparse.Namespace:
     person.add_argument("--role", choices=accounts.ROLES)
     old.add_argument("venues", nargs="*", metavar="NAME")
     kinds.add_parser("status", help="say how each venue is")
-    kinds.add_parser("renew", help="for upgrades: start one venue after another with the new program")
+    kinds.add_parser("upgrade", aliases=["renew"],
+                     help="start one venue after another with the program that is installed now")
     add_words_of_view(kinds)
     return words.parse_args()
 
@@ -223,8 +225,8 @@ def run(args: argparse.Namespace) -> int:
         return clerk(args)
     if args.kind == "status":
         return status.show(machine, ROOT, Units())
-    if args.kind == "renew":
-        return ending.renew(machine, ROOT, Units())
+    if args.kind in ("upgrade", "renew"):
+        return Upgrade(machine, ROOT, Units()).run()
     if args.kind == "collect":
         return collect.collect(machine, ROOT, args.venues)
     if args.kind == "report":

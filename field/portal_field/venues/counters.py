@@ -46,7 +46,7 @@ def open_counter(places: Places, token: str) -> VenueCounter:
     folder.mkdir(mode=0o700, parents=True, exist_ok=True)
     counter = Counter(Desk(conf["desk_port"], token), conf, Journal(folder / "journal.db"))
     logins = Logins(folder / "logins.db", AccountsFile(places.settings),
-                    conf.get("lock_minutes", IDLE_MINUTES))
+                    conf.get("lock_minutes", IDLE_MINUTES), sign_in=conf.get("sign_in_mark", ""))
     return VenueCounter(counter, pages(counter, logins), local_time.zone_of(conf["zone"]))
 
 

@@ -1,4 +1,4 @@
-"""The end of a venue by name, and its next start with another program."""
+"""The end of a venue by name, and what an upgrade needs of one that starts."""
 
 from __future__ import annotations
 
@@ -11,23 +11,24 @@ from portal_field import KIT
 from portal_field.lib.desk_client import Desk, NoAnswer, Refused, Routes
 from portal_field.venues import table
 from portal_field.venues.collect import Collector
-from portal_field.venues.files import VenueFiles, make_shared
 from portal_field.venues.places import BadVenue, Machine, Places
-from portal_field.venues.units import CLOCK, COUNTER, NGINX, RULES, Units, units_of
-from portal_field.venues.venue_settings import all_venues
+from portal_field.venues.units import Units, units_of
 
-PATIENCE = 120.0        # seconds within which a desk answers after its start: a large database opens slowly
+PATIENCE = 120.0        # seconds within which a desk answers after its start,
+EACH_MB = 1.0           # and for each MB of its database, whose tables a new program may make anew,
+LARGE, EACH_LARGE_MB = 20.0, 8.0        # and for each beyond so many: pages of its indexes are written again
 NOBODY = "02:00:00:00:00:00"    # a device of no guest
 RETIRED = "field.toml.retired"
 
 
-def backup(places: Places, name: str = "") -> str:
-    """A copy of a database that nobody has open; why there is none, or nothing."""
+def backup(places: Places, name: str = "", program: str = "") -> str:
+    """A copy of a database that nobody has open, which a program checks; why there is none, or nothing."""
     if not places.database.exists():
         return ""
     places.copies.mkdir(parents=True, exist_ok=True, mode=0o700)
-    words = [str(KIT / "portal-backup"), "--still", *(["--name", name] if name else []), "--check",
-             str(places.settings / "portal.toml"), str(places.database), str(places.copies)]
+    words = [str(KIT / "portal-backup"), "--still", *(["--name", name] if name else []),
+             *(["--portal", program] if program else []), "--check", str(places.settings / "portal.toml"),
+             str(places.database), str(places.copies)]
     done = subprocess.run(words, capture_output=True, text=True)
     return "" if done.returncode == 0 else done.stderr.strip()
 
@@ -63,6 +64,13 @@ def retire(places: Places, machine: Machine, units: Units) -> int:
     return 0
 
 
+def patience_of(places: Places) -> float:
+    """Seconds within which the desk of a venue answers after its start, by the size of its database."""
+    files = places.database, pathlib.Path(f"{places.database}-wal")
+    size = sum(path.stat().st_size for path in files if path.exists()) / 2**20
+    return PATIENCE + EACH_MB * size + EACH_LARGE_MB * max(0.0, size - LARGE)
+
+
 def answers(port: int, patience: float = PATIENCE) -> bool:
     """Whether a desk answers within its time."""
     end = time.monotonic() + patience
@@ -75,35 +83,3 @@ def answers(port: int, patience: float = PATIENCE) -> bool:
         except Refused:
             return True
     return False
-
-
-def renew(machine: Machine, root: pathlib.Path, units: Units) -> int:
-    """Starts the venues that run with the program that is installed now: one after another, each after a copy
-    of its own. It stops at the first that is not well; the others go on with the program of before."""
-    venues, faults = all_venues(root)
-    for name, field in venues.items():      # a version may make more files than the one before, or other ones
-        VenueFiles(field, Places(name, root)).make()
-    make_shared(venues, machine, root)
-    if units.is_active(RULES):
-        units.ctl("reload", RULES)
-    running = [name for name in sorted(venues) if units.is_active(Places(name).unit)]
-    moment = time.strftime("%Y%m%dT%H%M%SZ", time.gmtime())
-    for number, name in enumerate(running, 1):
-        places = Places(name, root)
-        units.ctl("stop", places.unit)
-        fault = backup(places, f"before-upgrade-{moment}")
-        units.ctl("start", places.unit)
-        if not fault and not answers(venues[name].desk_port):
-            fault = "its desk does not answer"
-        if fault:
-            done, left = (", ".join(names) or "none" for names in (running[:number - 1], running[number:]))
-            print(f"[{number}/{len(running)}] {name}: FAILED: {fault}\n    done: {done}; not done, with the "
-                  f"program of before: {left}\n"
-                  f"    its copy of before: {places.copies}/before-upgrade-{moment}.db", file=sys.stderr)
-            return 1
-        print(f"[{number}/{len(running)}] {name}: answers", flush=True)
-    for unit in (CLOCK, COUNTER, NGINX):
-        units.ctl("try-reload-or-restart", unit)
-    for name in running:
-        units.ctl("try-restart", *units_of(name, True)[2:])
-    return int(bool(faults))

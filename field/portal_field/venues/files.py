@@ -4,6 +4,7 @@ share. A file that is the same is not written."""
 from __future__ import annotations
 
 import ipaddress
+import json
 import pathlib
 import re
 import secrets
@@ -14,12 +15,16 @@ from portal_field.lib.error_pages import away_page
 from portal_field.radius import radius_files
 from portal_field.settings.maker import POLICY, Maker
 from portal_field.settings.venue import Field
+from portal_field.venues import office, sign_in
 from portal_field.venues.places import Machine, Places
 
 TOKENS = 0o600
 # As /etc/portal/rules.nft has them: who may connect to a desk
 USERS = ("root", "www-data", "portal-counter", "portal-radius", "portal-metrics")
+OFFICE_FILE, OFFICE_MODE = str(office.SETTINGS).lstrip("/"), 0o640
 SOCKET = "/portal-venues-counter/socket"
+SIGN_IN_SOCKET = "/portal-sign-in/socket"
+OFFICE_SOCKET = "/portal-office/socket"     # of what reads the view of all venues for the page of the office
 
 
 class Files(Maker):
@@ -76,12 +81,19 @@ class VenueFiles(Files):
         radius_files.make(field, self.etc, self.kit, run, str(state), self.write)
         return self.written
 
+    def sign_in(self) -> dict[str, str]:
+        """The lines of the counter's page where the chain has a sign-in of its own."""
+        conf = sign_in.settings_in(self.root)
+        if conf is None:
+            return {}
+        return {"sign_in": self.run + SIGN_IN_SOCKET, "sign_in_label": conf.label, "sign_in_mark": conf.mark}
+
     def write_toml(self, name: str, values: dict[str, object], mode: int = 0o644, group: str = "") -> None:
         """Writes settings of a part; those of the counter's page with the paths of this venue."""
         if name == "counter.toml":
             values = values | {
                 "socket": self.run + SOCKET, "notes": str(self.places.notes), "free_days": "",
-                "venue": self.places.name,
+                "venue": self.places.name, "office": self.run + OFFICE_SOCKET, **self.sign_in(),
                 "settings_socket": f"{self.run}/portal-venues-settings/{self.places.name}"}
         super().write_toml(name, values, mode, group)
 
@@ -120,6 +132,19 @@ def rules(ports: Iterable[int], maker: Files) -> str:
         "@USERS@", users)
 
 
+def office_address(machine: Machine) -> str:
+    """How the page of the office reaches the view: as a role of its own, without the password of another."""
+    if machine.office_database or not machine.database:
+        return machine.office_database if machine.database else ""
+    try:
+        from psycopg.conninfo import conninfo_to_dict, make_conninfo
+        parts = conninfo_to_dict(machine.database)
+    except Exception:       # no psycopg, or no such address: collect says so
+        return ""
+    kept = {key: value for key, value in parts.items() if key not in ("password", "user")}
+    return str(make_conninfo(**kept, user=office.ROLE))
+
+
 def make_shared(venues: dict[str, Field], machine: Machine, root: pathlib.Path,
                 kit: str = str(KIT)) -> list[pathlib.Path]:
     """Makes the files that all venues of this machine share; those that are new."""
@@ -137,6 +162,11 @@ def make_shared(venues: dict[str, Field], machine: Machine, root: pathlib.Path,
             maker.write(nginx / "away.html", away_page("en", ""))
     else:
         maker.remove(page)
+    if address := office_address(machine) if venues else "":
+        text = f"database = {json.dumps(address, ensure_ascii=False)}\n"
+        maker.write(root / OFFICE_FILE, text, OFFICE_MODE, office.ROLE)
+    else:
+        maker.remove(root / OFFICE_FILE)
     ports = [field.desk_port for field in venues.values()]
     maker.write(root / "etc/portal/venues/desks.nft", rules(ports, maker))
     return maker.written

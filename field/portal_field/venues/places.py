@@ -92,6 +92,7 @@ class Machine:
     clock: str = "kernel"
     database: str = ""
     machine: str = ""
+    office_database: str = ""
 
     @classmethod
     def read(cls, text: str) -> Machine:
@@ -121,8 +122,8 @@ class Machine:
                 raise BadVenue(f"{key} = {path!r}: the path of a file")
         if self.clock not in CLOCKS:
             raise BadVenue(f"clock = {self.clock!r}: one of {', '.join(CLOCKS)}")
-        if not isinstance(self.database, str) or not isinstance(self.machine, str):
-            raise BadVenue("database and machine are texts")
+        if not all(isinstance(text, str) for text in (self.database, self.machine, self.office_database)):
+            raise BadVenue("database, machine and office_database are texts")
         if self.machine and not NAME.fullmatch(self.machine):
             raise BadVenue(f"machine = {self.machine!r}: a-z, 0-9 and hyphens within, at most 20")
 

@@ -12,30 +12,19 @@ from typing import Any
 
 from portal_field.counter.spreadsheet import amount, written
 from portal_field.venues import chain_plans, view
+from portal_field.venues.office import CHANGED, LATELY, OLDER, SILENT, TAKINGS
 from portal_field.venues.places import Machine
 
 SOON = 21       # days before the end of a certificate
-LATELY = 30     # days for which a change is shown
 CSV_HEAD = ("venue", "house", "currency", "day", "sold", "sales", "refunded", "refunds", "net", "from_copy")
-CSV = """
-SELECT venue, house, currency, day, sold, sales, refunded, refunds, sales - refunds, from_copy
-FROM portal_view.takings JOIN portal_view.venue USING (venue)
-WHERE day BETWEEN %s AND %s AND (sold, refunded) <> (0, 0) ORDER BY venue, day"""
 WEEKS = """
 SELECT venue, house, currency, week, net
 FROM portal_view.venue LEFT JOIN portal_view.week USING (venue)
 WHERE retired IS NULL OR week >= %(first)s ORDER BY venue, week"""
-SILENT = "SELECT venue, machine, seen, fault FROM portal_view.silent ORDER BY venue"
 CERTIFICATES = """
 SELECT machine, min(certificate_ends) FROM portal_view.venue
 WHERE retired IS NULL AND certificate_ends < now() + %s * interval '1 day'
 GROUP BY machine ORDER BY machine"""
-CHANGED = """
-SELECT venue, day, seen, was_sales - was_refunds, sales - refunds FROM portal_view.takings_changed
-WHERE seen > now() - %s * interval '1 day' ORDER BY seen, venue, day"""
-OLDER = """
-SELECT venue, seen, was_as_of, as_of FROM portal_view.older_copy
-WHERE seen > now() - %s * interval '1 day' ORDER BY seen, venue"""
 
 
 def moment(time: datetime.datetime | None) -> str:
@@ -94,7 +83,7 @@ def as_csv(machine: Machine, first: datetime.date, last: datetime.date) -> str:
     lines.writerow(CSV_HEAD)
     with view.opened(machine) as link:
         for venue, house, currency, day, sold, sales, refunded, refunds, net, from_copy in link.execute(
-                CSV, (first, last)):
+                TAKINGS, (first, last)):
             cells = (venue, house, currency, str(day), sold, amount(sales), refunded, amount(refunds),
                      amount(net), int(from_copy))
             lines.writerow([written(cell, ",") for cell in cells])

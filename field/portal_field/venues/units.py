@@ -8,6 +8,9 @@ CLOCK, COUNTER = "portal-venues-clock.service", "portal-venues-counter.service"
 DOOR = "portal-venues-counter.socket"
 RULES, TIMER = "portal-venues-rules.service", "portal-venues-backup.timer"
 COLLECT = "portal-venues-collect.timer"     # where the table of venues is in PostgreSQL
+PLANS = "portal-venues-plans.timer"         # as well
+OFFICE = "portal-office.socket"             # as well
+SIGN_IN = "portal-sign-in.socket"           # where there is a file of it
 NGINX = "portal-counter-nginx.service"
 PATIENCE = 120      # seconds for a command of systemctl
 

@@ -16,7 +16,7 @@ OF_A_GATEWAY: dict[str, Any] = {
     "counter": "10.88.0.1/24", "poll_seconds": 1.0, "grace_seconds": 5, "without_browser": []}
 OF_THE_MACHINE: dict[str, Any] = {
     "cert": "/etc/portal/tls/cert.pem", "key": "/etc/portal/tls/key.pem", "clock": "kernel",
-    "on_failure": [], "metrics": "", "metrics_takings": False}
+    "on_failure": [], "backup_key": "", "metrics": "", "metrics_takings": False}
 # What the guests' page does, which a venue without a gateway leaves to its access points
 OF_THE_GUESTS_PAGE = ("guest_colour", "guest_prices", "terms_version", "terms_days", "free_plan",
                       "free_daily", "daily_report")

@@ -1,9 +1,10 @@
-"""Two venues by name on loopback, each with a server, FreeRADIUS, the agent and an access server of its own; one process
+"""Venues by name on loopback, two or more, each with a server, FreeRADIUS, the agent and an access server of its own; one process
 of counters' pages behind the counter's nginx. All files are made by the kit from each venue's field.toml."""
 
 from __future__ import annotations
 
 import contextlib
+import functools
 import hashlib
 import http.client
 import os
@@ -15,7 +16,8 @@ import socket
 import sqlite3
 import ssl
 import subprocess
-from collections.abc import Iterator
+import time
+from collections.abc import Iterator, Sequence
 
 from at_entrance import ClerksBrowser, quick_hash
 from counter_nginx import certificate
@@ -34,6 +36,7 @@ from portal_field.venues.venue_settings import all_venues, read_venue
 
 NAMES = ("north", "south")
 BOTH, WORD_OF_BOTH = "carla", "the long word of both"    # who has one name and one password in both venues
+TRUST = ssl._create_unverified_context()        # made once, as each reads all certificates of the machine
 PLANS = plan("hour") + plan("both", octets=10_000_000) + plan("sorry").replace("price = 300", "price = 0")
 FIELD = """house = "House {name}"
 name = "wifi.example"
@@ -41,7 +44,8 @@ counter_name = "{name}.example"
 zone = "UTC0"
 desk_port = {port}
 quiet_seconds = 1.0
-[radius]
+"""
+RADIUS = """[radius]
 listen = "{host}"
 auth_port = {auth}
 acct_port = {acct}
@@ -54,24 +58,27 @@ class Door(http.client.HTTPSConnection):
     """A connection to the counter's nginx, which asks by TLS for a name."""
 
     def __init__(self, address: str, name: str) -> None:
-        super().__init__(address, 443, timeout=20)
-        self.name, self.trust = name, ssl._create_unverified_context()
+        super().__init__(address, 443, timeout=20, context=TRUST)
+        self.name = name
 
     def connect(self) -> None:
         """Connects, and names the site (RFC 6066 section 3)."""
-        self.sock = self.trust.wrap_socket(socket.create_connection((self.host, 443), 20), server_hostname=self.name)
+        self.sock = TRUST.wrap_socket(socket.create_connection((self.host, 443), 20), server_hostname=self.name)
 
 
 class Named:
-    """One of both venues: its files, its server, its access server, and what was sold there."""
+    """One of the venues: its files, its server, its access server, and what was sold there."""
+    lines, plans = FIELD + RADIUS, PLANS
 
-    def __init__(self, name: str, root: pathlib.Path, host: str, nas: str, ports: tuple[int, int]) -> None:
-        self.name, self.places, self.host, self.nas_address, self.ports = name, Places(name, root), host, nas, ports
-        self.port, self.batches, self.devices = free_port(), 0, 0
+    def __init__(self, name: str, number: int, root: pathlib.Path, host: str, nas: str, port: int) -> None:
+        self.name, self.number, self.places, self.host, self.nas_address = name, number, Places(name, root), host, nas
+        self.ports = (1810 + 2 * number, 1811 + 2 * number)
+        self.port, self.batches, self.devices = port, 0, 0
         self.word = f"the long word of {name}"
         self.places.settings.mkdir(parents=True)
-        self.places.field.write_text(FIELD.format(name=name, port=self.port, host=host, nas=nas, auth=ports[0], acct=ports[1]))
-        (self.places.settings / "plans.toml").write_text(PLANS)
+        self.places.field.write_text(self.lines.format(name=name, port=self.port, host=host, nas=nas, auth=self.ports[0],
+                                                       acct=self.ports[1]))
+        (self.places.settings / "plans.toml").write_text(self.plans)
         VenueFiles(read_venue(self.places.field.read_text()), self.places, str(KIT)).make()
         accounts = Accounts()
         for clerk, role in (("anna", MANAGER), ("ben", CLERK), (f"only-{name}", MANAGER)):
@@ -82,7 +89,8 @@ class Named:
         self.gateway_token = (self.places.settings / "credentials/gateway_token").read_text().strip()
         self.desk, self.gateway = Desk(self.port, self.desk_token), Desk(self.port, self.gateway_token)
         self.radacct = root / "var/lib/portal-venues-radius" / name / "radacct.db"
-        self.secret = (self.places.settings / "credentials/radius/lobby").read_text().strip()
+        secret = self.places.settings / "credentials/radius/lobby"
+        self.secret = secret.read_text().strip() if secret.exists() else ""
         self.codes: list[str] = []
 
     def new_codes(self, plan_id: str, count: int, sell: bool = True) -> list[str]:
@@ -100,7 +108,7 @@ class Named:
     def device(self) -> str:
         """The MAC address of a device that was not seen before."""
         self.devices += 1
-        return f"02:00:00:00:{NAMES.index(self.name):02x}:{self.devices:02x}"
+        return f"02:00:00:{self.number:02x}:{self.devices >> 8:02x}:{self.devices & 255:02x}"
 
     def sessions(self) -> dict[str, tuple[int, int]]:
         """The open sessions by device: the number, and the bytes that are left, or -1."""
@@ -131,23 +139,46 @@ class Named:
 
 
 class Lab(Programs):
-    """Both venues and what they share."""
+    """The venues and what they share. `clock`: what gives a program another clock in its environment."""
 
-    def __init__(self, portal: str) -> None:
+    def __init__(self, portal: str, names: Sequence[str] = NAMES, clock: dict[str, str] | None = None) -> None:
         super().__init__("portal-named.")
         self.root.chmod(0o755)
-        self.portal, self.network = shlex.split(portal or STAND_IN), free_network()
-        self.host, made = f"{self.network}.1", self.root / "made"
-        self.made = made
-        self.venues = {name: Named(name, made, self.host, f"{self.network}.{10 * number}", (1810 + 2 * number, 1811 + 2 * number))
-                       for number, name in enumerate(NAMES, 1)}
-        self.north, self.south = self.venues["north"], self.venues["south"]
+        self.portal, self.network, self.clock = shlex.split(portal or STAND_IN), free_network(), clock or {}
+        self.host, self.made, self.ports = f"{self.network}.1", self.root / "made", set[int]()
+        self.venues = {name: self.venue(name, number) for number, name in enumerate(names, 1)}
         certificate(self.root, "north.example")
-        machine = Machine(self.host, str(self.root / "cert.pem"), str(self.root / "key.pem"), ["127.0.0.0/8"])
-        make_shared(all_venues(made)[0], machine, made, str(KIT))
+        self.machine = Machine(self.host, str(self.root / "cert.pem"), str(self.root / "key.pem"), ["127.0.0.0/8"])
+        make_shared(all_venues(self.made)[0], self.machine, self.made, str(KIT))
+        self.nas = {name: Nas(venue.nas_address, venue.secret, (self.host, *venue.ports))
+                    for name, venue in self.venues.items() if venue.secret}
+
+    def venue(self, name: str, number: int) -> Named:
+        """Makes a venue, with its files."""
+        return Named(name, number, self.made, self.host, f"{self.network}.{1 + number}", self.new_port())
+
+    def new_port(self) -> int:
+        """A port of loopback that nothing has now, and no other venue of the lab."""
+        while (port := free_port()) in self.ports:
+            pass
+        self.ports.add(port)
+        return port
+
+    @property
+    def north(self) -> Named:
+        """The venue of this name."""
+        return self.venues["north"]
+
+    @property
+    def south(self) -> Named:
+        """The venue of this name."""
+        return self.venues["south"]
+
+    @functools.cached_property
+    def routes(self) -> list[tuple[str, str]]:
+        """The addresses of the counter's pages, with their methods."""
         rules = open_counter(self.south.places, "").app.url_map.iter_rules()        # type: ignore[attr-defined]
-        self.routes = sorted((rule.rule, method) for rule in rules for method in rule.methods & {"GET", "POST"})
-        self.nas = {name: Nas(venue.nas_address, venue.secret, (self.host, *venue.ports)) for name, venue in self.venues.items()}
+        return sorted((rule.rule, method) for rule in rules for method in rule.methods & {"GET", "POST"})
 
     def credentials(self, unit: str, name: str) -> pathlib.Path:
         """Makes the folder that a unit of a venue gets by LoadCredential=: files, and each file of a folder. Its path."""
@@ -168,34 +199,51 @@ class Lab(Programs):
                 "RADIUS_REJECT_DELAY": "0", "CREDENTIALS_DIRECTORY": str(self.credentials(unit, venue.name))}
 
     def start_venue(self, venue: Named) -> None:
-        """Starts the server, FreeRADIUS and the agent of a venue."""
-        name = venue.name
-        venue.places.database.parent.mkdir(parents=True)
-        self.start_program(f"desk-{name}", [*self.portal, "serve", "--db", venue.places.database, "--settings",
-                                            venue.places.settings / "portal.toml", "--port", venue.port])
-        self.until(lambda: accepts_at(venue.port), what=f"the server of {name}")
-        venue.desk.request_json(Routes.PLANS, body=PLANS.encode())
-        env = self.environment("portal-radius@", venue)
-        for folder in (pathlib.Path(env["RADIUS_RUN"]), venue.radacct.parent):
-            folder.mkdir(parents=True)
-        subprocess.run([PYTHON, "-m", "portal_field.radius.prepare", env["RADIUS_RUN"], env["RADIUS_RADACCT"]], check=True, env=env)
-        self.start_program(f"radius-{name}", ["freeradius", "-f", "-l", "stdout", "-d", env["RADIUS_CONFIG"]], env=env)
-        log = self.root / f"radius-{name}.log"
-        self.until(lambda: "Ready to process" in log.read_text(), what=f"FreeRADIUS of {name}")
-        self.start_program(f"agent-{name}", [PYTHON, "-B", "-m", "portal_field.radius.agent"],
-                           env=self.environment("portal-radius-agent@", venue))
+        """Starts the server, FreeRADIUS and the agent of a venue; those of RADIUS where it has access servers."""
+        self.start_desk(venue)
+        venue.desk.request_json(Routes.PLANS, body=venue.plans.encode())
+        if venue.secret:
+            self.start_radius(venue)
+            self.start_agent(venue)
+
+    def start_desk(self, venue: Named) -> None:
+        """Starts the server of a venue, and writes the note that its unit writes."""
+        venue.places.database.parent.mkdir(parents=True, exist_ok=True)
+        self.start_program(f"desk-{venue.name}", [*self.portal, "serve", "--db", venue.places.database, "--settings",
+                                                  venue.places.settings / "portal.toml", "--port", venue.port],
+                           env={**os.environ, **self.clock})
+        self.until(lambda: accepts_at(venue.port), what=f"the server of {venue.name}")
         notes = Notes(str(venue.places.notes))
-        notes.folder.mkdir(parents=True)
-        notes.write("state", **{"is": "serves", "since": 1})
+        notes.folder.mkdir(parents=True, exist_ok=True)
+        notes.write("state", **{"is": "serves", "since": time.time_ns()})
+
+    def start_radius(self, venue: Named) -> None:
+        """Starts FreeRADIUS of a venue, and waits until it is ready."""
+        name, env = venue.name, self.environment("portal-radius@", venue)
+        for folder in (pathlib.Path(env["RADIUS_RUN"]), venue.radacct.parent):
+            folder.mkdir(parents=True, exist_ok=True)
+        subprocess.run([PYTHON, "-m", "portal_field.radius.prepare", env["RADIUS_RUN"], env["RADIUS_RADACCT"]], check=True, env=env)
+        log = self.root / f"radius-{name}.log"
+        log.write_text("")
+        self.start_program(f"radius-{name}", ["freeradius", "-f", "-l", "stdout", "-d", env["RADIUS_CONFIG"]], env=env)
+        self.until(lambda: "Ready to process" in log.read_text(), what=f"FreeRADIUS of {name}")
+
+    def start_agent(self, venue: Named) -> None:
+        """Starts the agent of a venue, which ends sessions at its access server."""
+        self.start_program(f"agent-{venue.name}", [PYTHON, "-B", "-m", "portal_field.radius.agent"],
+                           env=self.environment("portal-radius-agent@", venue))
 
     def start_counters(self) -> None:
-        """Starts the counters' pages in one process, and nginx before them."""
+        """Starts the counters' pages of all venues in one process."""
         path = self.made / f"run{SOCKET}"
-        path.parent.mkdir(parents=True)
-        env = {**os.environ, "CREDENTIALS_DIRECTORY": str(self.credentials("portal-venues-counter", ""))}
+        path.parent.mkdir(parents=True, exist_ok=True)
+        env = {**os.environ, **self.clock, "CREDENTIALS_DIRECTORY": str(self.credentials("portal-venues-counter", ""))}
         self.start_program("counters", [PYTHON, "-B", pathlib.Path(__file__).with_name("counters_process.py"), self.made, path], env=env)
         self.until(lambda: accepts(path), what="the counters' pages")
-        (self.made / "run/portal-counter-nginx").mkdir()
+
+    def start_nginx(self) -> None:
+        """Starts the counters' nginx."""
+        (self.made / "run/portal-counter-nginx").mkdir(exist_ok=True)
         for conf in (self.made / "etc/portal/counter-nginx").glob("*.conf"):
             conf.write_text(conf.read_text().replace("/var/log/portal", str(self.root)).replace("user www-data;", "user root;"))
         conf = self.made / "etc/portal/counter-nginx/nginx.conf"
@@ -238,6 +286,7 @@ def open_lab(portal: str) -> Iterator[Lab]:
         for venue in lab.venues.values():
             lab.start_venue(venue)
         lab.start_counters()
+        lab.start_nginx()
         yield lab
     finally:
         lab.close()

@@ -235,7 +235,7 @@ def _(scene: Scene) -> None:
 @tries("clerk", "looks for sales and sessions of the south in the lists of the north")
 def _(scene: Scene) -> None:
     for path in ("/money", "/takings", "/takings.csv", "/cash-up", "/cash-up.csv", "/receipts", "/receipt?number=1", "/sessions", "/batches",
-                 "/venue", "/settings", "/plans", "/clerks", "/texts"):
+                 f"/session?device={scene.guest}", "/session?number=1", "/venue", "/settings", "/plans", "/clerks", "/texts"):
         text = scene.clerk.ask(path).text
         assert scene.batch not in text and scene.guest not in text and "only-south" not in text and "House south" not in text, path
 

@@ -27,6 +27,7 @@ from typing import Any
 from desk_process import free_port
 from programs import Programs, accepts
 from scripted_nas import MAKERS, PLAIN, Maker, Nas, Reply
+from steady import BUSY, MOST_TIMES, Span
 
 from portal_field.lib.desk_client import Desk, NoAnswer, Routes, new_number
 
@@ -131,6 +132,7 @@ class Page:
 class Venue(Programs):
     def __init__(self, portal: str = "", kit: pathlib.Path = KIT, lines: str = "", reject_delay: int = 0) -> None:
         super().__init__("portal-radius.")
+        self.span = Span()
         self.command, self.kit, self.reject_delay = portal, kit, reject_delay
         self.portal = shlex.split(portal or STAND_IN)
         self.desk_port, self.metrics_port = free_port(), free_port()
@@ -141,6 +143,10 @@ class Venue(Programs):
         self.devices, self.batches = 0, 0
         self.all_codes: list[str] = []
         self.settings(lines)
+
+    def is_no_fault(self, line: str) -> bool:
+        """That requests had to wait is none where the machine was held up."""
+        return WAITED in line and self.span.held_up() >= BUSY / MOST_TIMES
 
     # Files
 
@@ -382,6 +388,7 @@ PLANS = (plan("hour"), plan("three", uses=3), plan("stiff", extend=False), plan(
          plan("gig", seconds=0, octets=6 * 2**30), plan("blink", uses=3, seconds=3), plan("many", uses=20))
 MADE_UP = "2222-2222-223N"          # a code that is well-formed
 FAULTS = ("Traceback", "Segmentation", "ASSERT", "Error: ")     # in a log
+WAITED = "requests have been waiting in the processing queue"   # (FreeRADIUS counts it as an error)
 
 
 @contextlib.contextmanager

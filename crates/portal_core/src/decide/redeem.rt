@@ -230,6 +230,7 @@ fn new_session(head: &Head, plan: Plan, device: Device, t: Moment) -> Result<Ses
     Ok(Session {
         number: head.sessions.saturating_add(1),
         device,
+        plan: plan.id,
         extend: plan.extend,
         opened: t,
         ends: if plan.seconds == 0 { None } else { Some(end) },

@@ -13,10 +13,11 @@ use portal_tables_rows::audits::audit;
 use sqlite::Alter;
 
 impl<S: Alter> Tables<S> {
-    /// Whether the counters agree with the other rows: each count is the number of redemptions with its
-    /// code, each total is what the redemptions and the used bytes of its session give, each voucher has
-    /// its count and each session its total, and the head row has the numbers of redemptions and of
-    /// sessions. It is true in tables that only this product has written.
+    /// Whether the rows agree with each other. No two rows of a table have the same key, and each row that
+    /// another refers to is there. Each count is the number of redemptions with its code, each total is what
+    /// the redemptions and the used bytes of its session give, each voucher has its count and each session
+    /// its total, and the head row has the numbers of redemptions and of sessions. It is true in tables that
+    /// only this product has written.
     pub fn audit(&mut self) -> Result<bool, StoreFault>
         ensures reads { ReadsTables S.Store self.old self.new result (λ L audited. audited ≡ true) }
         ensures exact { IsFaultFree S.Store self.new → IsTrue (state S.Store self.old.conn).is_open

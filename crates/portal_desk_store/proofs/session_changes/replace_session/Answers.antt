@@ -1,12 +1,16 @@
-use Rattle.portal_desk_store.proofs.Common.{ap, arith, set, sym, ◌∙◌, Session, replaced_if_same}
-use Rattle.std.proofs.lemmas.List.Edits.{map_over_more}
+use Rattle.portal_desk_store.proofs.Common.{rules}
+use Rattle.std.proofs.lemmas.List.Sorted.{answers_always}
+use Rattle.portal_desk_store.proofs.AscendingLemmas.{searched-err, searched-ok}
 use Rattle.portal_desk_store.proofs.session_changes.replace_session.Goals as goal
 
-pub loop-session-preserved : goal.loop-session-preserved
-loop-session-preserved c =
-    let now = c.args.now.now in
-    let i = c.loop-session.session-index in
-    ap (λ (s : Session). set c.loop-session.sessions i s)
-    (c.replace_if_same.ensures ∙ ap (replaced_if_same now) (sym c.session-item.is))
-    ∙ map_over_more (replaced_if_same now) c.args.sessions.now c.loop-session.sessions i c.session-item.result
-    (omega arith) c.loop-session.invariant c.session-item.is
+-- the closure gives a session's number, and the search found it at a place
+pub returns-in-Ok : goal.returns-in-Ok
+returns-in-Ok c = λ up.
+    searched-ok c.args.sessions.now up c.args.now.now c.in-Ok.place c.in-Ok.ensures.bound
+    (c.in-Ok.ensures.position (λ s. s.number) (answers_always _ _ _ (λ f a r g called. search rules)))
+
+-- no session of the list has the number
+pub returns-in_default : goal.returns-in_default
+returns-in_default c = λ up.
+    searched-err c.args.sessions.now up c.args.now.now c.in_default.field-0
+    (c.in_default.ensures.position (λ s. s.number) (answers_always _ _ _ (λ f a r g called. search rules)))

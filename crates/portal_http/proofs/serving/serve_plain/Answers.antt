@@ -1,25 +1,27 @@
 use Rattle.std.proofs.Common.{None, ◌∙◌}
-use Rattle.portal_http.proofs.ServeLemmas.{moved_at_error, refused, prepared}
+use Rattle.portal_http.proofs.ServeLemmas.{prepared, refused, refused_by_desk}
+use Rattle.portal_http_request.specs.declared.operation.Operation.TheVariants as operation
 use Rattle.portal_http.proofs.serving.serve_plain.Goals as goal
 
-pub returns-in-Err : goal.returns-in-Err
-returns-in-Err g c =
-    let call = c.in-Err.ensures in
-    let settings = g.D.Desk.settings c.args.desk.now in
-    moved_at_error g.D.Desk _ _ c.in-Err.refusal _ _ call.same_settings call.fault_free call.stops call.step
-    (λ old new fails. refused settings c.args.command None c.args.moment old c.in-Err.refusal
-    c.refusal_or_spare.result.bytes.items new fails c.refusal_or_spare.ensures)
+pub returns-in_err-prepared : goal.returns-in_err-prepared
+returns-in_err-prepared g c =
+    let call = c.in_err-prepared.ensures in
+    let refusal = c.in_err-prepared.field-0.0 in
+    refused_by_desk g.D.Desk _ _ refusal (operation.Act c.args.command None) c.args.moment
+    c.from_residual.result _ call.same_settings call.fault_free call.stops call.step c.from_residual.ensures.1
+    (λ old new fails bytes gives. refused (g.D.Desk.settings c.args.desk.now) c.args.command None
+    c.args.moment old refusal bytes new fails gives)
 
-pub returns-in-Ok : goal.returns-in-Ok
-returns-in-Ok g c = record {
-  same_settings = c.commit_prepared.ensures.same_settings ∙ c.in-Ok.ensures.same_settings;
-  fault_free = λ honest. c.in-Ok.ensures.fault_free (c.commit_prepared.ensures.fault_free honest);
-  stays = λ over. c.commit_prepared.ensures.stays (c.in-Ok.ensures.stops ∙ over);
+pub returns : goal.returns
+returns g c = record {
+  same_settings = c.commit_prepared.ensures.same_settings ∙ c.in_ok-prepared.ensures.same_settings;
+  fault_free = λ honest. c.in_ok-prepared.ensures.fault_free (c.commit_prepared.ensures.fault_free honest);
+  stays = λ over. c.commit_prepared.ensures.stays (c.in_ok-prepared.ensures.stops ∙ over);
   step = λ honest old at.
       prepared (g.D.Desk.settings c.args.desk.now) c.args.command None c.args.moment
       (λ s. g.D.Desk.represents c.prepare.new.self s)
-      (λ s. g.D.Desk.represents c.commit_prepared.new.desk s) c.in-Ok.prepared
-      c.commit_prepared.result.bytes.items
+      (λ s. g.D.Desk.represents c.commit_prepared.new.desk s) c.in_ok-prepared.prepared
+      c.commit_prepared.result
       (λ L mid a fits. c.commit_prepared.ensures.finishes honest L mid a fits) old
-      (c.in-Ok.ensures.step (c.commit_prepared.ensures.fault_free honest) old at);
+      (c.in_ok-prepared.ensures.step (c.commit_prepared.ensures.fault_free honest) old at);
 }

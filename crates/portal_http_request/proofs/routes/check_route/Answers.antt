@@ -49,3 +49,23 @@ pub returns-in-Sessions-clause-checks : goal.returns-in-Sessions-clause-checks
 returns-in-Sessions-clause-checks c =
     at_route c.args.settings.now c.args.seed c.args.asked.now c.args.route route.Sessions
     c.check_sessions.result c.in-Sessions.is (inr (c.check_sessions.ensures.checks c.args.seed))
+
+pub returns-in-Session-clause-checks : goal.returns-in-Session-clause-checks
+returns-in-Session-clause-checks c = at_route c.args.settings.now c.args.seed c.args.asked.now c.args.route
+    route.Session c.check_session.result c.in-Session.is (inr (c.check_session.ensures.checks c.args.seed))
+
+pub returns-in-LastSession-clause-checks : goal.returns-in-LastSession-clause-checks
+returns-in-LastSession-clause-checks c =
+    at_route c.args.settings.now c.args.seed c.args.asked.now c.args.route route.LastSession
+    c.check_last_session.result c.in-LastSession.is (inr (c.check_last_session.ensures.checks c.args.seed))
+
+pub returns-in-OwnSession-clause-checks : goal.returns-in-OwnSession-clause-checks
+returns-in-OwnSession-clause-checks c = at_route c.args.settings.now c.args.seed
+    c.args.asked.now c.args.route route.OwnSession c.check_own_session.result c.in-OwnSession.is
+    (inr (c.check_own_session.ensures.checks c.args.settings.now c.args.seed))
+
+pub returns-in-SessionDetails-clause-checks : goal.returns-in-SessionDetails-clause-checks
+returns-in-SessionDetails-clause-checks c =
+    at_route c.args.settings.now c.args.seed c.args.asked.now c.args.route route.SessionDetails
+    c.check_session_details.result c.in-SessionDetails.is
+    (inr (c.check_session_details.ensures.checks c.args.seed))

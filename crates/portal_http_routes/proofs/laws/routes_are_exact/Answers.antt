@@ -1,12 +1,14 @@
 use Rattle.portal_http_routes.proofs.Common.{◌≡◌, inl, inr, ℕ, ◌<◌, Bool, true, false, cond, List, [], ◌∷◌}
 use Rattle.portal_http_routes.proofs.Common.{◌++◌, Option, Some, None, codes, refl, sym, ap, ◌∙◌, subst}
 use Rattle.portal_http_routes.proofs.Common.{arith, append-nil, All, option_map, RowsOf, RouteOf, Route}
-use Rattle.portal_http_routes.proofs.Common.{IsPlain, IsSegment, IsPathOf, print_path, voucher_path}
+use Rattle.portal_http_routes.proofs.Common.{IsPlain, IsSegment, IsPathOf, print_path, session_path}
+use Rattle.portal_http_routes.proofs.Common.{voucher_path}
 use Rattle.matchit.proofs.OnLiterals.{matchit_on_literals}
 use Rattle.matchit.specs.Seek.{first}
 use Rattle.portal_http_routes.specs.declared.Route.TheVariants.{Captive, Redeem, Plans, Batches, Print, Sales}
 use Rattle.portal_http_routes.specs.declared.Route.TheVariants.{Refunds, Closes, Voucher, Takings, Reports}
-use Rattle.portal_http_routes.specs.declared.Route.TheVariants.{Sessions}
+use Rattle.portal_http_routes.specs.declared.Route.TheVariants.{Sessions, Session, LastSession, OwnSession}
+use Rattle.portal_http_routes.specs.declared.Route.TheVariants.{SessionDetails}
 use Rattle.portal_http_routes.specs.Targets.{has_no_empty_segment, is_path}
 use Rattle.portal_http_routes.specs.Table.{place_route, route_of, route_in, table}
 use Rattle.portal_http_routes.proofs.SeekLemmas.{seek-front, seek-print, seek-last}
@@ -41,6 +43,16 @@ unfolding route_of place_route matchit_on_literals
 of_voucher b rest plain = ap (option_map (λ r. r.value))
     (seek-front (codes "/desk/vouchers/") table (b ∷ rest) _ (seek-last _ b rest plain))
 
+full_session : (b : ℕ) (rest : List ℕ) → IsPlain (b ∷ rest) → is_path (session_path (b ∷ rest)) ≡ true
+unfolding has_no_empty_segment
+full_session b rest plain = ap (λ (word : List ℕ). has_no_empty_segment true (b ∷ word))
+    (sym (append-nil rest)) ∙ full_after b rest [] plain
+
+of_session : (b : ℕ) (rest : List ℕ) → IsPlain (b ∷ rest) → route_of (session_path (b ∷ rest)) ≡ Some Session
+unfolding route_of place_route matchit_on_literals
+of_session b rest plain = ap (option_map (λ r. r.value))
+    (seek-front (codes "/desk/sessions/") table (b ∷ rest) _ (seek-last _ b rest plain))
+
 in_path : (path : List ℕ) (route : Route) → is_path path ≡ true → route_of path ≡ Some route
     → route_in path ≡ Some route
 in_path path route full h = ap (λ (t : Bool). cond t (route_of path) None) full ∙ h
@@ -56,6 +68,12 @@ voucher_routed [] path seg e = absurd seg
 voucher_routed (b ∷ rest) path seg e = ap route_in e
     ∙ in_path (voucher_path (b ∷ rest)) Voucher (full_voucher b rest seg) (of_voucher b rest seg)
 
+session_routed : (number path : List ℕ) → IsSegment number → path ≡ session_path number
+    → route_in path ≡ Some Session
+session_routed [] path seg e = absurd seg
+session_routed (b ∷ rest) path seg e = ap route_in e
+    ∙ in_path (session_path (b ∷ rest)) Session (full_session b rest seg) (of_session b rest seg)
+
 routed : (route : Route) (path : List ℕ) → IsPathOf route path → route_in path ≡ Some route
 unfolding matchit_on_literals place_route route_of has_no_empty_segment
 routed Captive path h = path_of_literal path Captive (codes "/captive") refl h
@@ -70,6 +88,11 @@ routed Voucher path h = voucher_routed h.0 path h.1 h.2
 routed Takings path h = path_of_literal path Takings (codes "/desk/takings") refl h
 routed Reports path h = path_of_literal path Reports (codes "/gateway/reports") refl h
 routed Sessions path h = path_of_literal path Sessions (codes "/gateway/sessions") refl h
+routed Session path h = session_routed h.0 path h.1 h.2
+routed LastSession path h = path_of_literal path LastSession (codes "/desk/sessions") refl h
+routed OwnSession path h = path_of_literal path OwnSession (codes "/portal/session") refl h
+routed SessionDetails path h =
+    path_of_literal path SessionDetails (codes "/gateway/sessions/details") refl h
 
 -- A path that has a route is one of its paths
 
@@ -107,6 +130,15 @@ voucher_said path m =
       left.1 ∙ ap (λ (l : List ℕ). codes "/desk/vouchers/" ++ l) (found.2 ∙ append-nil found.0),
     )
 
+session_said : (path : List ℕ) → Matches (codes "/desk/sessions/" ++ 256 ∷ []) path → IsPathOf Session path
+session_said path m =
+    let left = literal-front (codes "/desk/sessions/") (256 ∷ []) path refl m in
+    let found = path_parameter-then [] left.0 refl left.2 in (
+      found.0,
+      found.1,
+      left.1 ∙ ap (λ (l : List ℕ). codes "/desk/sessions/" ++ l) (found.2 ∙ append-nil found.0),
+    )
+
 all_say : AllSay table
 unfolding place_route matchit_on_literals
 all_say = (
@@ -124,16 +156,28 @@ all_say = (
             (
               λ path m. literal-whole (codes "/desk/sales") path refl m,
               (
-                λ path m. literal-whole (codes "/desk/takings") path refl m,
+                λ path m. session_said path m,
                 (
-                  λ path m. voucher_said path m,
+                  λ path m. literal-whole (codes "/desk/sessions") path refl m,
                   (
-                    λ path m. literal-whole (codes "/gateway/reports") path refl m,
+                    λ path m. literal-whole (codes "/desk/takings") path refl m,
                     (
-                      λ path m. literal-whole (codes "/gateway/sessions") path refl m,
+                      λ path m. voucher_said path m,
                       (
-                        λ path m. literal-whole (codes "/portal/redeem") path refl m,
-                        tt,
+                        λ path m. literal-whole (codes "/gateway/reports") path refl m,
+                        (
+                          λ path m. literal-whole (codes "/gateway/sessions/details") path refl m,
+                          (
+                            λ path m. literal-whole (codes "/gateway/sessions") path refl m,
+                            (
+                              λ path m. literal-whole (codes "/portal/redeem") path refl m,
+                              (
+                                λ path m. literal-whole (codes "/portal/session") path refl m,
+                                tt,
+                              ),
+                            ),
+                          ),
+                        ),
                       ),
                     ),
                   ),

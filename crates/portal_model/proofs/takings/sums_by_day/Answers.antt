@@ -1,4 +1,4 @@
-use Rattle.portal_model.proofs.Common.{◌≡◌, ◌<◌, ◌^◌, ◌+◌, ◌+ℤ◌, pos, length, get_or, take, ap, sym, ◌∙◌}
+use Rattle.portal_model.proofs.Common.{◌≡◌, ◌<◌, ◌^◌, ◌+ℤ◌, pos, length, get_or, take, ap, sym, ◌∙◌}
 use Rattle.portal_model.proofs.Common.{subst, rules, slice_index_or, All, take_all, All-more, Pair, day_sum}
 use Rattle.portal_model.proofs.Common.{zero_sum, with_pair, CanAddPair}
 use Rattle.portal_model.proofs.DaySumLemmas.{day_sum_more, day_sum_room, sums_are, whole}

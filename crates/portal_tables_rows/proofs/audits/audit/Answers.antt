@@ -16,18 +16,26 @@ returns-in_default g c =
 
 pub returns : goal.returns
 returns g c =
-    open_made g.S.Store c.counters_agree.result
+    open_made g.S.Store c.rows_agree.result
     (open_then g.S.Store all_stand (row_opened g.S.Store c.in_ok-head.ensures)
-    (open_then g.S.Store all_stand (open_wider g.S.Store c.in_ok-rows.ensures) (open_then g.S.Store all_stand
-    (row_opened g.S.Store c.in_ok-counts.ensures) (row_opened g.S.Store c.in_ok-totals.ensures))))
-    (λ t held is. IfOk-weaker c.counters_agree.result _ _ (λ agree same.
+    (open_then g.S.Store all_stand (open_wider g.S.Store c.in_ok-rows.ensures)
+    (open_then g.S.Store all_stand (row_opened g.S.Store c.in_ok-batches.ensures)
+    (open_then g.S.Store all_stand (row_opened g.S.Store c.in_ok-counts.ensures)
+    (open_then g.S.Store all_stand (row_opened g.S.Store c.in_ok-totals.ensures)
+    (row_opened g.S.Store c.in_ok-requests.ensures))))))
+    (λ t held is. IfOk-weaker c.rows_agree.result _ _ (λ agree same.
     let head = subst (λ (o : Option HeadValue).
     Finds (λ (x : HeadRow). x.id) 1 t.heads (option_map head_read o)) c.in-Some.is is.0 in
-    let agreement = same t is.1.0 (ap (map count_read) c.deref.ensures.value ∙ is.1.1.0)
-    (ap (map ends_row) c.deref-2.ensures.value ∙ is.1.1.1) in
-    let audit = audited (state g.S.Store c.args.conn.now).now t held (head_read c.in-Some.head) head.0 refl in
-    (λ on. audit.0 (agreement.0 on), λ a. agreement.1 (audit.1 a))) c.counters_agree.ensures.agree)
-    (λ t is own. c.counters_agree.ensures.kept t is.1.0 own.1)
+    let agreement = same t is.1.0 (c.deref.ensures.value ∙ is.1.1.0)
+    (ap (map count_read) c.deref-2.ensures.value ∙ is.1.1.1.0)
+    (ap (map ends_row) c.deref-3.ensures.value ∙ is.1.1.1.1.0) is.1.1.1.1.1 in
+    let db = (state g.S.Store c.args.conn.now).now in
+    let counters = audited db t held (head_read c.in-Some.head) head.0 refl in (
+      λ on. let it = agreement.0 on in
+          record { keys = it.0; references = it.1; counters = counters.0 it.2 },
+      λ a. agreement.1 (a.keys, a.references, counters.1 a.counters),
+    )) c.rows_agree.ensures.agree)
+    (λ t is own. c.rows_agree.ensures.kept t is.1.0 own.1)
 
 pub returns-in_err-head : goal.returns-in_err-head
 returns-in_err-head g c = open_fails g.S.Store c.from_residual.result c.from_residual.ensures.1
@@ -39,18 +47,40 @@ returns-in_err-rows g c =
     (open_own g.S.Store (λ t own. own.0) (open_then g.S.Store all_stand
     (row_opened g.S.Store c.in_ok-head.ensures) (open_wider g.S.Store c.in_err-rows.ensures)))
 
+pub returns-in_err-batches : goal.returns-in_err-batches
+returns-in_err-batches g c =
+    open_fails g.S.Store c.from_residual-in_err-batches.result
+    c.from_residual-in_err-batches.ensures.1 (open_own g.S.Store (λ t own. own.0.batches)
+    (open_then g.S.Store all_stand (row_opened g.S.Store c.in_ok-head.ensures)
+    (open_then g.S.Store all_stand (open_wider g.S.Store c.in_ok-rows.ensures)
+    (row_opened g.S.Store c.in_err-batches.ensures))))
+
 pub returns-in_err-counts : goal.returns-in_err-counts
 returns-in_err-counts g c =
     open_fails g.S.Store c.from_residual-in_err-counts.result
     c.from_residual-in_err-counts.ensures.1 (open_own g.S.Store (λ t own. own.0.counts)
     (open_then g.S.Store all_stand (row_opened g.S.Store c.in_ok-head.ensures)
     (open_then g.S.Store all_stand (open_wider g.S.Store c.in_ok-rows.ensures)
-    (row_opened g.S.Store c.in_err-counts.ensures))))
+    (open_then g.S.Store all_stand (row_opened g.S.Store c.in_ok-batches.ensures)
+    (row_opened g.S.Store c.in_err-counts.ensures)))))
 
 pub returns-in_err-totals : goal.returns-in_err-totals
 returns-in_err-totals g c =
     open_fails g.S.Store c.from_residual-in_err-totals.result
     c.from_residual-in_err-totals.ensures.1 (open_own g.S.Store (λ t own. own.0.totals)
     (open_then g.S.Store all_stand (row_opened g.S.Store c.in_ok-head.ensures)
-    (open_then g.S.Store all_stand (open_wider g.S.Store c.in_ok-rows.ensures) (open_then g.S.Store all_stand
-    (row_opened g.S.Store c.in_ok-counts.ensures) (row_opened g.S.Store c.in_err-totals.ensures)))))
+    (open_then g.S.Store all_stand (open_wider g.S.Store c.in_ok-rows.ensures)
+    (open_then g.S.Store all_stand (row_opened g.S.Store c.in_ok-batches.ensures)
+    (open_then g.S.Store all_stand (row_opened g.S.Store c.in_ok-counts.ensures)
+    (row_opened g.S.Store c.in_err-totals.ensures))))))
+
+pub returns-in_err-requests : goal.returns-in_err-requests
+returns-in_err-requests g c =
+    open_fails g.S.Store c.from_residual-in_err-requests.result
+    c.from_residual-in_err-requests.ensures.1 (open_own g.S.Store (λ t own. tt)
+    (open_then g.S.Store all_stand (row_opened g.S.Store c.in_ok-head.ensures)
+    (open_then g.S.Store all_stand (open_wider g.S.Store c.in_ok-rows.ensures)
+    (open_then g.S.Store all_stand (row_opened g.S.Store c.in_ok-batches.ensures)
+    (open_then g.S.Store all_stand (row_opened g.S.Store c.in_ok-counts.ensures)
+    (open_then g.S.Store all_stand (row_opened g.S.Store c.in_ok-totals.ensures)
+    (row_opened g.S.Store c.in_err-requests.ensures)))))))

@@ -1,47 +1,74 @@
-use Rattle.portal_tables_rows.proofs.Common.{IsTrue, ℕ, true, false, subst, state, Schema, survives_weaker}
-use Rattle.portal_tables_rows.proofs.Common.{TablePlaces, TablesExist, HasFreeNames, version_number}
-use Rattle.portal_tables_rows.proofs.IndexedLemmas.{as_indexed}
+use Rattle.portal_tables_rows.proofs.Common.{arith, subst, sym, ◌∙◌, state, HasCleanDisk}
+use Rattle.portal_tables_rows.proofs.Common.{Has, List, OldSchema}
+use Rattle.portal_tables_rows.proofs.Common.{AreNamesFree, after_migration, version_number}
+use Rattle.portal_tables_rows.proofs.Common.{has_clauses, tables_of}
+use Rattle.portal_tables_rows.proofs.Common.{IsReadFree, CommitsFrom, MayCommitFrom, Survives, [], on_err}
+use Rattle.portal_tables_rows.proofs.Common.{Anything, Database, same_now}
+use Rattle.portal_tables_rows.specs.Copying.{AreRead}
+use Rattle.portal_tables_rows.proofs.FreeLemmas.{free_is}
+use Rattle.portal_tables_rows.proofs.FromVersionLemmas.{read_crash, read_done, read_fails, undone_after}
+use Rattle.portal_tables_rows.proofs.RestoreLemmas.{has_since}
+use Rattle.portal_tables_sql.specs.declared.our_tables.OurTable.{OurTable}
 use Rattle.portal_tables_rows.proofs.from_versions.migrate_with_counters.Goals as goal
 
 pub returns-clause-done : goal.returns-clause-done
-returns-clause-done g c clean =
-    let room = subst HasFreeNames c.schema.ensures.value
-    (c.can_add_later_tables.ensures.room c.if-not-can_add_later_tables.false) in
-    let law = λ (on : IsTrue c.is_indexed-has_index.result).
-    subst (λ (s : Schema). (schema_version : ℕ) (places : TablePlaces)
-    → TablesExist schema_version false s places → TablesExist schema_version true s places)
-    c.schema-2.ensures.value (c.is_indexed-has_index.ensures.index on) in
-    let done = c.in_ok-commit_migration.ensures.done clean in
-    record {
-      holds = λ _ t h. done.holds room t (as_indexed c.is_indexed-has_index.result
-          (version_number c.args.from) (state g.S.Store c.args.conn.now).now t law h);
-      others = λ _ t h. done.others room t (as_indexed c.is_indexed-has_index.result
-          (version_number c.args.from) (state g.S.Store c.args.conn.now).now t law h);
-      committed = done.committed;
-      ended = done.ended;
-      is_open = done.is_open;
-    }
+returns-clause-done g c clean live =
+    let a = state g.S.Store c.args.conn.now in
+    let b = state g.S.Store c.read_tables.new.conn in
+    let free = subst AreNamesFree c.schema.ensures.value
+    (free_is c.schema.result.now (sym c.can_add_tables.ensures ∙ c.if-not-can_add_tables.false)) in
+    read_done c.args.from c.as_slice.result.now (after_migration c.args.from c.args.counts.now
+    c.args.totals.now)
+    a b (state g.S.Store c.commit_migration.new.conn) c.in_ok-read.ensures.looks free
+    (λ late on t h. subst (λ read. AreRead read (tables_of c.args.from) t) (sym c.as_slice.ensures.value)
+    (subst (λ tables. AreRead c.in_ok-read.read.items tables t) c.tables_of.ensures
+    (c.in_ok-read.ensures.read late on (has_clauses (version_number c.args.from)) (version_number c.args.from)
+    [] t
+    h (λ x has. has_since c.args.from x (subst (λ (xs : List OurTable). Has xs x) c.tables_of.ensures has)))))
+    (omega (arith, c.commit_migration.ensures.crash.clean)) live
+    (c.in_ok-commit_migration.ensures.done clean)
 
 pub returns-clause-crash : goal.returns-clause-crash
 returns-clause-crash g c =
-    let room = subst HasFreeNames c.schema.ensures.value
-    (c.can_add_later_tables.ensures.room c.if-not-can_add_later_tables.false) in
-    let law = λ (on : IsTrue c.is_indexed-has_index.result).
-    subst (λ (s : Schema). (schema_version : ℕ) (places : TablePlaces)
-    → TablesExist schema_version false s places → TablesExist schema_version true s places)
-    c.schema-2.ensures.value (c.is_indexed-has_index.ensures.index on) in
-    survives_weaker _ _ _ _ (λ _ db may _ t h. may room t (as_indexed c.is_indexed-has_index.result
-    (version_number c.args.from) (state g.S.Store c.args.conn.now).now t law h))
+    let a = state g.S.Store c.args.conn.now in
+    let b = state g.S.Store c.read_tables.new.conn in
+    let free = subst AreNamesFree c.schema.ensures.value
+    (free_is c.schema.result.now (sym c.can_add_tables.ensures ∙ c.if-not-can_add_tables.false)) in
+    read_crash c.args.from c.as_slice.result.now (after_migration c.args.from c.args.counts.now
+    c.args.totals.now)
+    a b (state g.S.Store c.commit_migration.new.conn) c.in_ok-read.ensures.looks free
+    (λ late on t h. subst (λ read. AreRead read (tables_of c.args.from) t) (sym c.as_slice.ensures.value)
+    (subst (λ tables. AreRead c.in_ok-read.read.items tables t) c.tables_of.ensures
+    (c.in_ok-read.ensures.read late on (has_clauses (version_number c.args.from)) (version_number c.args.from)
+    [] t
+    h (λ x has. has_since c.args.from x (subst (λ (xs : List OurTable). Has xs x) c.tables_of.ensures has)))))
     c.commit_migration.ensures.crash
+
+pub returns-in_err-commit_migration-clause-undone : goal.returns-in_err-commit_migration-clause-undone
+returns-in_err-commit_migration-clause-undone g c clean live outside settled =
+    let a = state g.S.Store c.args.conn.now in
+    let b = state g.S.Store c.read_tables.new.conn in
+    let late : HasCleanDisk b = omega (arith, c.commit_migration.ensures.crash.clean) in
+    let read = c.in_ok-read.ensures.looks in
+    let free = subst AreNamesFree c.schema.ensures.value
+    (free_is c.schema.result.now (sym c.can_add_tables.ensures ∙ c.if-not-can_add_tables.false)) in
+    let still = subst (λ (db : Database). AreNamesFree db.schema)
+    (sym (same_now Anything a b read late live tt)) free in
+    on_err _ (undone_after a b (state g.S.Store c.commit_migration.new.conn) read late live
+    (c.in_err-commit_migration.ensures.undone clean still))
 
 pub returns-in_err-commit_migration-clause-crash : goal.returns-in_err-commit_migration-clause-crash
 returns-in_err-commit_migration-clause-crash g c =
-    let room = subst HasFreeNames c.schema.ensures.value
-    (c.can_add_later_tables.ensures.room c.if-not-can_add_later_tables.false) in
-    let law = λ (on : IsTrue c.is_indexed-has_index.result).
-    subst (λ (s : Schema). (schema_version : ℕ) (places : TablePlaces)
-    → TablesExist schema_version false s places → TablesExist schema_version true s places)
-    c.schema-2.ensures.value (c.is_indexed-has_index.ensures.index on) in
-    survives_weaker _ _ _ _ (λ _ db may _ t h. may room t (as_indexed c.is_indexed-has_index.result
-    (version_number c.args.from) (state g.S.Store c.args.conn.now).now t law h))
+    let a = state g.S.Store c.args.conn.now in
+    let b = state g.S.Store c.read_tables.new.conn in
+    let free = subst AreNamesFree c.schema.ensures.value
+    (free_is c.schema.result.now (sym c.can_add_tables.ensures ∙ c.if-not-can_add_tables.false)) in
+    read_crash c.args.from c.as_slice.result.now (after_migration c.args.from c.args.counts.now
+    c.args.totals.now)
+    a b (state g.S.Store c.commit_migration.new.conn) c.in_ok-read.ensures.looks free
+    (λ late on t h. subst (λ read. AreRead read (tables_of c.args.from) t) (sym c.as_slice.ensures.value)
+    (subst (λ tables. AreRead c.in_ok-read.read.items tables t) c.tables_of.ensures
+    (c.in_ok-read.ensures.read late on (has_clauses (version_number c.args.from)) (version_number c.args.from)
+    [] t
+    h (λ x has. has_since c.args.from x (subst (λ (xs : List OurTable). Has xs x) c.tables_of.ensures has)))))
     c.commit_migration.ensures.crash

@@ -1,7 +1,6 @@
 use Rattle.portal_tables_rows.proofs.Common.{arith, rules, state, HasCleanDisk, Contents, this_schema_version}
-use Rattle.portal_tables_rows.proofs.Common.{with_schema_version, version_number, with_empty_tables}
-use Rattle.portal_tables_rows.proofs.Common.{with_counters}
-use Rattle.portal_tables_rows.proofs.MigrateLemmas.{from_steps}
+use Rattle.portal_tables_rows.proofs.Common.{with_schema_version, with_empty_tables, with_counters}
+use Rattle.portal_tables_rows.proofs.MigrateLemmas.{rebuilt_then}
 use Rattle.portal_tables_rows.proofs.migrations.migrate_inside.Goals as goal
 
 pub returns : goal.returns
@@ -10,16 +9,16 @@ returns g c = record {
   steps = λ clean inside room.
       let c2 : HasCleanDisk (state g.S.Store c.insert_counters.new.tx.conn.now) =
       omega (arith, c.set_schema_version.ensures.survives.clean) in
-      let c1 : HasCleanDisk (state g.S.Store c.add_tables_and_index.new.tx.conn.now) =
+      let c1 : HasCleanDisk (state g.S.Store c.rebuild_tables.new.tx.conn.now) =
       omega (arith, c.insert_counters.ensures.survives.clean) in
       let from = c.args.from in
+      let read = c.args.read.now in
       let add : Contents → Contents = with_counters c.args.kept.now c.args.totals.now in
-      let one = c.in_ok-add_tables_and_index.ensures.steps c1 inside room in
+      let one = c.in_ok-rebuild_tables.ensures.steps c1 inside room in
       let two = c.in_ok-insert_counters.ensures.steps c2 one.mode in
       let three = c.in_ok-set_schema_version.ensures.steps clean two.mode in
-      let both =
-      from_steps (version_number from) c.args.has_index (with_empty_tables from) add _ _ _ one two in
-      from_steps (version_number from) c.args.has_index (λ (t : Contents). add (with_empty_tables from t))
+      let both = rebuilt_then from read (with_empty_tables from) add _ _ _ one two in
+      rebuilt_then from read (λ (t : Contents). add (with_empty_tables from t))
       (with_schema_version this_schema_version) _ _ _ both three;
   kept = search rules;
   survives = search rules;

@@ -26,7 +26,7 @@ pub returns-in-Err-attach_store-clause-fails : goal.returns-in-Err-attach_store-
 returns-in-Err-attach_store-clause-fails g c =
     let it = c.in-Err-attach_store.ensures in (
       it.fails.0,
-      c.plain.ensures.error ∙ it.fails.1,
+      c.unattached-trouble.ensures.error ∙ it.fails.1,
       c.in-Ok.conn,
       λ honest.
           let refused = it.fails.2 honest in
@@ -36,7 +36,7 @@ returns-in-Err-attach_store-clause-fails g c =
             refused.1,
             λ L shown. refused.2 L (c.in-Ok.ensures.opened L shown clean),
             λ other. it.kept honest (open_by c.in-Ok.conn (c.in-Ok.ensures.live clean))
-                (λ is. other (c.plain.ensures.error ∙ is)),
+                (λ is. other (c.unattached-trouble.ensures.error ∙ is)),
           ),
       it.spares,
     )
@@ -46,6 +46,6 @@ returns-in-Err-clause-fails g c = (c.in-Err.error, c.trouble_at.ensures.error �
 
 pub returns-in-Err-attach_store-clause-why : goal.returns-in-Err-attach_store-clause-why
 returns-in-Err-attach_store-clause-why g c = (
-  subst IsDatabaseError (sym c.plain.ensures.error) c.in-Err-attach_store.ensures.why,
-  rw c.plain.ensures.line tt,
+  subst IsDatabaseError (sym c.unattached-trouble.ensures.error) c.in-Err-attach_store.ensures.why,
+  c.unattached-trouble.ensures.at,
 )

@@ -1,7 +1,5 @@
-use Rattle.portal_ledger.specs.Ledger.{history_of}
-use Rattle.portal_tables.proofs.CountersShown.{audit_shown}
+use Rattle.portal_tables.proofs.AuditShown.{audit_shown}
 use Rattle.portal_tables.proofs.Common.{refl}
-use Rattle.portal_tables.proofs.ShownLemmas.{history_shown}
 use Rattle.portal_tables.proofs.StateLemmas.{honest_is, read_stopped, read_found, read_failed}
 use Rattle.portal_tables.proofs.tables.Tables.audit.Goals as goal
 
@@ -11,8 +9,7 @@ returns-then-self-clause-reads g c = read_stopped g.S.Store c.args.self.now c.if
 pub returns-in-Ok-clause-reads : goal.returns-in-Ok-clause-reads
 returns-in-Ok-clause-reads g c =
     read_found g.S.Store c.args.self.now _ c.in-Ok.found c.if-self.false refl c.in-Ok.ensures.looks
-    (λ clean live L shown. let held = history_shown L _ shown in
-    (c.in-Ok.ensures.read clean live _ held.1.1).1 (audit_shown held.1.0 (history_of L) held.0))
+    (λ clean live L shown. (c.in-Ok.ensures.read clean live _ shown.1).1 (audit_shown L shown.0))
 
 pub returns-in-Ok-clause-exact : goal.returns-in-Ok-clause-exact
 returns-in-Ok-clause-exact g c clean live t held =
