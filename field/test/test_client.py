@@ -2,6 +2,7 @@
 
 from __future__ import annotations
 
+import datetime
 import os
 import socket
 import threading
@@ -131,6 +132,17 @@ class Words(unittest.TestCase):
 
 
 class Forms(unittest.TestCase):
+    def test_a_day_is_one_of_the_calendar_between_1970_and_9998(self) -> None:
+        form = Form.read("leap=2028-02-29&none=2026-02-29&month=2026-13-01&early=1969-12-31&late=9999-01-01&word=today&empty=")
+        self.assertEqual(form.day("leap"), datetime.date(2028, 2, 29))
+        for name in ("none", "month", "early", "late", "word", "empty", "missing"):
+            fault: Exception | None = None
+            try:
+                form.day(name)
+            except (BadForm, ValueError) as raised:
+                fault = raised
+            self.assertIsInstance(fault, BadForm, name)
+
     def test_a_form_has_a_limit_by_its_address(self) -> None:
         app = flask.Flask("forms")
         for path, size, fits in (("/sell", 4000, True), ("/sell", 5000, False), ("/text", 60_000, True), ("/text", 70_000, False)):

@@ -2,16 +2,22 @@
 
 from __future__ import annotations
 
+import contextlib
+import itertools
 import json
 import pathlib
+import socket
+import sys
 import tempfile
 import time
 import unittest
 from collections.abc import Callable, Iterable
 from typing import Any, cast
+from unittest import mock
 
 from desk_process import Desk, NoAnswer, Refused, Routes
 
+from portal_field.gateway import agent as agent_program
 from portal_field.gateway.agent import Agent
 from portal_field.gateway.passing import NotReady, Passing, RulesAreGone
 
@@ -442,6 +448,45 @@ class Polls(unittest.TestCase):
             self.agent = self.fresh(str(path))      # which does not know when it was reported
             self.poll()
             self.assertEqual(self.session_in_list(path, None), {"device": A, "session": 1, "used": 77})
+
+
+class Paced(unittest.TestCase):
+    """The agent's program, with an agent that notes when it polls."""
+
+    def polls(self, count: int, knock: bool = False, postponed: bool = False) -> list[float]:
+        """The seconds from each of so many polls to the next one, which is due after one second; with a knock during the
+        first, or with reports that had to wait."""
+        begun: list[float] = []
+
+        def poll(agent: Agent) -> bool:
+            begun.append(time.monotonic())
+            agent.has_postponed = postponed
+            if knock and len(begun) == 1:
+                with socket.socket(socket.AF_UNIX, socket.SOCK_DGRAM) as front:
+                    front.sendto(b"k", path)
+            if len(begun) == count:
+                raise KeyboardInterrupt
+            return True
+
+        with tempfile.TemporaryDirectory() as folder, contextlib.ExitStack() as stack:
+            path = f"{folder}/knock"
+            conf = {"desk_port": 1, "poll_seconds": 1.0, "lan": "lan0", "grace_seconds": 60, "rules": "", "quiet_seconds": 60,
+                    "time_quiet_seconds": 600, "knock": path}
+            stack.enter_context(mock.patch.dict(sys.modules, {"portal_field.gateway.kernel_gate": mock.MagicMock()}))
+            for name, stand_in in (("settings", lambda where: conf), ("credential", lambda name: "t" * 32)):
+                stack.enter_context(mock.patch.object(agent_program, name, stand_in))
+            stack.enter_context(mock.patch.object(Agent, "try_poll", poll))
+            with self.assertRaises(KeyboardInterrupt):
+                agent_program.main()
+        return [later - earlier for earlier, later in itertools.pairwise(begun)]
+
+    def test_it_polls_when_the_time_is_over_and_at_once_after_a_knock(self) -> None:
+        for waited in self.polls(3):
+            self.assertGreater(waited, 0.95)
+        first, second = self.polls(3, knock=True)
+        self.assertGreater(second - first, 0.5)
+        first, second = self.polls(3, postponed=True)
+        self.assertLess(min(first, second), 0.9)
 
 
 if __name__ == "__main__":
