@@ -1,5 +1,6 @@
 -- The list of batches, from what the tables list.
-use Rattle.portal_desk_store.proofs.Common.{◌≡◌, ◌+◌, ◌<◌, ◌≤◌, ◌∙◌, ◌∷◌, ◌++◌, [], List, Option, map, take, length}
+use Rattle.portal_desk_store.proofs.Common.{◌≡◌, ◌+◌, ◌<◌, ◌≤◌, ◌∙◌, ◌∷◌, ◌++◌, [], List, Option, map, take}
+use Rattle.portal_desk_store.proofs.Common.{length}
 use Rattle.portal_desk_store.proofs.Common.{ap, arith, get_or, nat_lt, nat_tests, Ledger, State, running}
 use Rattle.portal_desk_store.proofs.Common.{stopped, ReadsOf}
 use Rattle.std.specs.Prelude.{ℕ, min}

@@ -142,8 +142,9 @@ module _ (settings : SettingsValue) where
       checked refl (last_details_of (history_of L) device a.moment) reply.0 reply.1
   replied L a r (Ok (Batches before limit)) after checked other reply =
       by_found L a r after (Batches before limit) UnknownBatch batch_is_no_stop
-      (λ place. (states : List BatchState) × (more : Bool) × AreStatesAfter (history_of L) place limit states more
-      × AreBatches states more a.moment r) (λ place is. batches_ok is.0 is.1 a.moment r is.3)
+      (λ place. (states : List BatchState) × (more : Bool)
+      × AreStatesAfter (history_of L) place limit states more × AreBatches states more a.moment r)
+      (λ place is. batches_ok is.0 is.1 a.moment r is.3)
       checked refl (before_of (history_of L) before) reply.0 reply.1
   replied L a r (Ok (Batch id)) after checked other reply =
       by_found L a r after (Batch id) UnknownBatch batch_is_no_stop

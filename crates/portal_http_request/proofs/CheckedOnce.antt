@@ -276,8 +276,9 @@ batches_once query x y (n, among, is) (k, among2, also) =
     (sym (limit_once (values_at (codes "limit") query) n k among among2)) also)
 
 vouchers_once : (query : Option (List ℕ)) → Once (AsksForVouchers query)
-vouchers_once query = by_value (IsDenied (Refused BadCode)) (λ start result. result ≡ Ok (wanted.Vouchers start))
-    (denied_once (Refused BadCode)) (λ start x y is also. both x y (Ok (wanted.Vouchers start)) is also)
+vouchers_once query = by_value (IsDenied (Refused BadCode))
+    (λ start result. result ≡ Ok (wanted.Vouchers start)) (denied_once (Refused BadCode))
+    (λ start x y is also. both x y (Ok (wanted.Vouchers start)) is also)
     (option_and_then start_in (only_of (values_at (codes "prefix") query)))
 
 route_once : (settings : SettingsValue) (seed : List ℕ) (m : Message) (route : Route)

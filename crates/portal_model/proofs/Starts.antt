@@ -1,17 +1,17 @@
 -- The first characters of a code, one after another.
-use Rattle.portal_model.proofs.Common.{◌≡◌, ◌+◌, ◌<◌, ◌++◌, ◌∷◌, [], ◌∙◌, ℕ, List, refl, ap, sym, subst, arith}
-use Rattle.portal_model.proofs.Common.{length, map, take, cond, get_or, map-append, All}
-use Rattle.std.specs.Prelude.{◌%◌, ◌≤◌, ◌&&◌, ◌||◌, Bool, true, false, nat_eq, nat_lt, not, filter}
+use Rattle.portal_model.proofs.Common.{◌≡◌, ◌+◌, ◌<◌, ◌++◌, ◌∷◌, [], ◌∙◌, ℕ, List, refl, ap, sym}
+use Rattle.portal_model.proofs.Common.{arith}
+use Rattle.portal_model.proofs.Common.{length, map, take, get_or, map-append}
+use Rattle.std.specs.Prelude.{◌≤◌, ◌&&◌, ◌||◌, Bool, true, false, nat_eq, nat_lt, not, filter}
 use Rattle.std.specs.List.{AllByRecursion, list_all, list_any}
 use Rattle.std.proofs.Common.{lit<}
 use Rattle.std.proofs.lemmas.List.Elements.{All-from_recursion, filter-append}
 use Rattle.portal_codes.specs.Code.{alphabet}
-use Rattle.std.proofs.Common.{suc, zero}
 use Rattle.std.proofs.lemmas.List.{take_more, length-take-le}
 use Rattle.std.proofs.lemmas.Bool.Decides.{nat_tests}
 use Rattle.std.specs.Char.{to_ascii_uppercase}
 use Rattle.portal_codes.specs.Code.{characters_in, in_groups, is_separator}
-use Rattle.portal_model.specs.CodeStart.{in_place, IsPrinted, are_first_signs, is_sign}
+use Rattle.portal_model.specs.CodeStart.{in_place, IsPrinted, is_sign}
 
 pub characters_more : (text : List ℕ) (i : ℕ) → i < length text
     → characters_in (take (i + 1) text) ≡ characters_in (take i text) ++ characters_in (get_or text i 0 ∷ [])
@@ -40,7 +40,8 @@ pub groups_more : (signs : List ℕ) (i : ℕ) → i < length signs
     → in_groups (take (i + 1) signs) ≡ in_groups (take i signs) ++ in_place i (get_or signs i 0)
 groups_more signs i within =
     ap in_groups (take_more signs i 0 within) ∙ groups_push (take i signs) (get_or signs i 0)
-    ∙ ap (λ n. in_groups (take i signs) ++ in_place n (get_or signs i 0)) (length-take-le i signs (omega arith))
+    ∙ ap (λ n. in_groups (take i signs) ++ in_place n (get_or signs i 0))
+    (length-take-le i signs (omega arith))
 
 -- ---- the printed text is ASCII, and not empty
 

@@ -60,7 +60,8 @@ abbrev pub most_found : ℕ
 most_found = 50
 
 -- the first vouchers whose codes begin so, and whether there are more
-pub record AreVouchersLike (H : History) (text : List ℕ) (vouchers : List Voucher) (more : Bool) : Type 0 where
+pub record AreVouchersLike (H : History) (text : List ℕ) (vouchers : List Voucher) (more : Bool)
+    : Type 0 where
   pub codes : List (List ℕ)
   pub like : AreCodesLike H text codes
   pub found : vouchers ≡ vouchers_with H (take most_found codes)

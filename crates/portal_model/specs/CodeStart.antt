@@ -1,5 +1,6 @@
 -- The first characters of a code, by which vouchers are found.
-use Rattle.std.specs.Prelude.{ℕ, ◌<◌, ◌%◌, Bool, cond, ◌&&◌, nat_eq, nat_le, nat_lt, List, [], ◌∷◌, length, All}
+use Rattle.std.specs.Prelude.{ℕ, ◌<◌, ◌%◌, Bool, cond, ◌&&◌, nat_eq, nat_le, nat_lt, List, [], ◌∷◌, length}
+use Rattle.std.specs.Prelude.{All}
 use Rattle.std.specs.Prelude.{Option, Some, None}
 use Rattle.std.specs.List.{list_all, list_any}
 use Rattle.portal_codes.specs.Code.{alphabet, characters_in, in_groups}

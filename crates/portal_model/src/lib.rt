@@ -15,7 +15,6 @@ pub mod name;
 pub mod plan;
 pub mod proof;
 pub mod record;
-pub mod redemptions;
 pub mod refusal;
 pub mod takings;
 pub mod test_vectors;

@@ -8,7 +8,8 @@ use Rattle.portal_tables.proofs.Common.{cons_option, filter_map-append}
 use Rattle.std.specs.Option.{option_to_list}
 use Rattle.portal_tables_rows.proofs.Compose.{more_mapped}
 use Rattle.portal_tables.proofs.Common.{filter, arith, nat_cmp, nat_tests, subst, IsSorted, IsPermutation}
-use Rattle.portal_tables.proofs.Common.{pull_back, places_of, row_of_place, rows_are_typed, All-filter, nat_lt}
+use Rattle.portal_tables.proofs.Common.{pull_back, places_of, row_of_place, rows_are_typed, All-filter}
+use Rattle.portal_tables.proofs.Common.{nat_lt}
 use Rattle.std.specs.Prelude.{nat_le}
 use Rattle.portal_tables.proofs.Common.{take_all, inl, inr, true, false, ◌≤◌}
 use Rattle.std.proofs.lemmas.Bool.{cases_Bool}
@@ -119,7 +120,8 @@ module _ (h : History) (legal : IsLegal h) (text : List ℕ) (some : 0 < length 
         l.all l.lists (λ p has on. has) (voucher_read row) among
 
     -- the rows of the history, in this order
-    back : (back : List VoucherRow) × IsPermutation (filter (λ v. begins_with text v.code) (vouchers_of h)) back
+    back : (back : List VoucherRow)
+        × IsPermutation (filter (λ v. begins_with text v.code) (vouchers_of h)) back
         × (l.all ≡ map voucher_kept back)
     back = pull_back voucher_kept (filter passes (map voucher_kept (vouchers_of h))) l.all l.lists.same
         (filter (λ v. begins_with text v.code) (vouchers_of h))

@@ -8,6 +8,7 @@ use Rattle.portal_http.proofs.responses.batch_response.Goals as goal
 pub returns : goal.returns
 unfolding IsBatch
 returns c =
-    with_body Json c.args.moment c.as_bytes.result.now (batch_body (batch_state c.args.batch.now c.args.vouchers.now) c.args.vouchers.now)
+    with_body Json c.args.moment c.as_bytes.result.now
+    (batch_body (batch_state c.args.batch.now c.args.vouchers.now) c.args.vouchers.now)
     c.ok_response.result (c.as_bytes.ensures.value ∙ c.in_ok-body.ensures.ok
     ∙ ap (λ s. batch_body s c.args.vouchers.now) c.batch_state.ensures) c.ok_response.ensures

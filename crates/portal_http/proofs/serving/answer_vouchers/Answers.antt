@@ -9,7 +9,8 @@ pub returns : goal.returns
 returns g c =
     let call = c.in_ok-vouchers.ensures in
     let made = c.vouchers_response.result in
-    let told = subst (λ (vs : List Voucher). Responds (AreVouchers vs c.in_ok-vouchers.more c.args.moment) made)
+    let told = subst (λ (vs : List Voucher).
+    Responds (AreVouchers vs c.in_ok-vouchers.more c.args.moment) made)
     c.as_slice.ensures.value c.vouchers_response.ensures in
     record {
       same_settings = call.same_settings;

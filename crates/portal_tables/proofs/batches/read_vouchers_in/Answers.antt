@@ -1,4 +1,5 @@
-use Rattle.portal_tables.proofs.Common.{◌≡◌, subst, map, filter_map, All, List, IsCode, voucher_of, VoucherValue}
+use Rattle.portal_tables.proofs.Common.{◌≡◌, subst, map, filter_map, All, List, IsCode, voucher_of}
+use Rattle.portal_tables.proofs.Common.{VoucherValue}
 use Rattle.portal_tables.specs.BatchLists.{AreVouchersOf}
 use Rattle.portal_tables.proofs.ShownLemmas.{next_fails, of_rows, shown_as, shown_then}
 use Rattle.portal_tables.proofs.BatchLemmas.{vouchers_are_in, code_of_row}

@@ -1,5 +1,6 @@
 use Rattle.portal_tables.proofs.Common.{◌≡◌, ◌∙◌, sym, subst, ap, All, List, ℕ, map, take, length, filter_map}
-use Rattle.portal_tables.proofs.Common.{IsCode, VoucherRow, VoucherValue, voucher_of, voucher_read, voucher_kept}
+use Rattle.portal_tables.proofs.Common.{IsCode, VoucherRow, VoucherValue, voucher_of, voucher_read}
+use Rattle.portal_tables.proofs.Common.{voucher_kept}
 use Rattle.portal_tables.proofs.Common.{vouchers_of}
 use Rattle.std.specs.Prelude.{nat_lt}
 use Rattle.portal_tables_rows.specs.Lists.{ListsFirst, by_code, is_between}

@@ -11,8 +11,9 @@ use Rattle.portal_tables.proofs.ShownLemmas.{made_fails, next_fails, shown_after
 use Rattle.portal_tables.proofs.batches.vouchers_of_rows.Goals as goal
 
 pub returns-in_err-terms-clause-reads : goal.returns-in_err-terms-clause-reads
-returns-in_err-terms-clause-reads g c = next_fails g.S.Store _ c.from_residual.result c.from_residual.ensures.1
-    c.loop-row.invariant.looks c.in_err-terms.ensures.reads.looks
+returns-in_err-terms-clause-reads g c =
+    next_fails g.S.Store _ c.from_residual.result c.from_residual.ensures.1 c.loop-row.invariant.looks
+    c.in_err-terms.ensures.reads.looks
 
 pub returns-in_err-voucher-clause-reads : goal.returns-in_err-voucher-clause-reads
 returns-in_err-voucher-clause-reads g c =

@@ -1,4 +1,5 @@
-use Rattle.portal_desk_store.proofs.Common.{◌≡◌, map, take, Ledger, history_of, running, IsFaultFree, KeepsRest}
+use Rattle.portal_desk_store.proofs.Common.{◌≡◌, map, take, Ledger, history_of, running, IsFaultFree}
+use Rattle.portal_desk_store.proofs.Common.{KeepsRest}
 use Rattle.portal_tables.specs.TablesRepresent.{TablesRepresent}
 use Rattle.portal_desk_store.proofs.BatchLemmas.{state_of}
 use Rattle.portal_desk_store.proofs.desks.StoreDesk.states_of.Given as goal

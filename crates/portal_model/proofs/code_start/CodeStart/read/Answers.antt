@@ -1,7 +1,6 @@
 use Rattle.portal_model.proofs.Common.{◌≡◌, ◌≤◌, sym, subst, arith, length}
 use Rattle.std.specs.Prelude.{true}
 use Rattle.std.specs.List.{list_all}
-use Rattle.portal_codes.specs.Code.{in_groups}
 use Rattle.portal_model.specs.CodeStart.{IsPrinted, is_sign}
 use Rattle.portal_model.proofs.Starts.{groups_printed}
 use Rattle.portal_model.proofs.code_start.CodeStart.read.Goals as goal

@@ -1,7 +1,7 @@
 use Rattle.portal_tables_rows.proofs.Common.{bytes_eq, VoucherRow, by_place}
 use Rattle.portal_tables_rows.proofs.ListReading.{batch_rows_are, batch_simple}
 use Rattle.portal_tables_rows.proofs.ManyValues.{lists_vouchers}
-use Rattle.portal_tables_rows.proofs.pages.list_batch_vouchers.Goals as goal
+use Rattle.portal_tables_rows.proofs.lists.list_batch_vouchers.Goals as goal
 
 pub returns : goal.returns
 returns g c =
