@@ -26,7 +26,7 @@ from portal_field.counter.receipt_numbers import Till
 from portal_field.counter.sheet import Sheet, sheet_of, words_of
 from portal_field.counter.shifts import Shifts
 from portal_field.guests import gifts, left
-from portal_field.lib.desk_client import Route, new_number
+from portal_field.lib.desk_client import new_number
 from portal_field.lib.languages import Language
 from portal_field.settings.venue import LANGUAGES
 
@@ -247,16 +247,6 @@ class Shown(unittest.TestCase):
         def issue() -> None:
             browser.open(f"{clerks}close?session=x")
 
-        def codes() -> None:
-            found = [desk.voucher(code) for code in (*fresh[:2], sold)]
-            request_json = self.venue.counter.desk.request_json
-
-            def answer(route: Route, *part: str, **more: Any) -> Any:
-                return {"vouchers": found, "more": True} if route is Routes.VOUCHERS else request_json(route, *part, **more)
-
-            with mock.patch.object(self.venue.counter.desk, "request_json", answer):
-                browser.open(f"{clerks}codes?{self.venue.look('VF3R')}")
-
         def scan() -> None:
             browser.open(f"{clerks}scanner")
             browser.type("httpsÖ--test")
@@ -264,7 +254,6 @@ class Shown(unittest.TestCase):
 
         desk.issue_codes("hour", "fresh-2", 25)
         desk.sell_codes("hour", "sold-2", 25)
-        desk.issue_codes("hour", "abatchofameetingwithalongname-26", 2)
         other, day = "02:00:00:00:00:02", time.strftime("%Y-%m-%d", time.gmtime())
         for act in (Act("issue", new_number(), "done", "abatchofaconferencewithalongname2026", "hour", 2),
                     Act("issue", new_number(), "done", "fresh-1", "hour", 2), Act("sell", new_number() + "-001", "done", "sold-1", "gigabyte", 1, 500)):
@@ -307,7 +296,7 @@ class Shown(unittest.TestCase):
                 ("refund", of(f"{clerks}refund?{self.venue.look(sold)}")), ("close", of(f"{clerks}close?session=1")), ("session", of(f"{clerks}session?number=1")),
                 ("whole batch", of(f"{clerks}sell-batch?batch=fresh-1")), ("wrong number of codes", sell_batch), ("sheet", of(f"{clerks}sheet?batch=fresh-1")),
                 ("takings", of(f"{clerks}takings?from={day}&to={day}")), ("cash up", of(f"{clerks}cash-up")), ("lines of the journal", of(f"{clerks}cash-up?details=1")),
-                ("batches", of(f"{clerks}batches")), ("batch", of(f"{clerks}batch?batch=sold-1")), ("codes", codes), ("list to sell", of(f"{clerks}several?{self.venue.look(f'{fresh[0]} {fresh[1]} {sold}')}")),
+                ("batches", of(f"{clerks}batches")), ("list to sell", of(f"{clerks}several?{self.venue.look(f'{fresh[0]} {fresh[1]} {sold}')}")),
                 ("list and Wi-Fi", add), ("sold several", browser.enter),
                 ("vouchers", of(f"{clerks}vouchers")), ("sessions", of(f"{clerks}sessions")), ("money", of(f"{clerks}money")),
                 ("venue", of(f"{clerks}venue")), ("wrong number", issue), ("unused codes", of(f"{clerks}refund-batch?batch=sold-2")), ("scanner", of(f"{clerks}scanner")), ("scanner, wrong", scan),
@@ -591,7 +580,7 @@ class Shown(unittest.TestCase):
         self.assertEqual(browser.title, f"Sold: {third}. Take €3.00. – Counter")
         browser.type("22A2")
         browser.enter()
-        self.assertIn("No voucher has a code that begins so.", browser.text)
+        self.assertIn("No such code can exist", browser.text)
         browser.type(first)     # beside the code that was kept
         browser.enter()
         self.assertIn("Refund …", browser.text)

@@ -114,7 +114,7 @@ def counter(venue: Venue, camera: Camera, codes: list[str]) -> None:
     for name, page in (("counter", ""), ("vouchers", "vouchers"), ("sessions", "sessions"), ("session", "session?number=2"), ("money", "money"), ("venue", "venue"),
                        ("voucher", f"voucher?{venue.look(fresh[0])}"), ("counter-refused", f"voucher?{venue.look('2222')}"),
                        ("sheet", "sheet?batch=gigabyte-1"), ("refund", f"refund?{venue.look(codes[2])}"), ("cash-up", "cash-up"),
-                       ("batches", "batches"), ("batch", "batch?batch=gigabyte-1"), ("sell-batch", "sell-batch?batch=gigabyte-1"),
+                       ("batches", "batches"), ("sell-batch", "sell-batch?batch=gigabyte-1"),
                        ("several", f"several?{venue.look(' '.join(fresh[5:9] + codes[1:2]))}"), ("refund-batch", "refund-batch?batch=gigabyte-1"),
                        ("scanner", "scanner"), ("drawer", "shift"), ("receipts", "receipts"), ("receipt", "receipt?number=1")):
         venue.gateway_tells()

@@ -26,7 +26,7 @@ class Sections(AtCounter):
         code, = self.desk.issue_codes("hour", "b1")
         day = str(datetime.date.today())
         for path, section in (("/", "Sell"), (f"/voucher?code={code}", "Sell"), ("/vouchers", "Vouchers"), ("/batches", "Vouchers"),
-                              ("/sheet?batch=b1", "Vouchers"), ("/batch?batch=b1", "Vouchers"), ("/sessions", "Sessions"), ("/money", "Money"), ("/cash-up", "Money"),
+                              ("/sheet?batch=b1", "Vouchers"), ("/sessions", "Sessions"), ("/money", "Money"), ("/cash-up", "Money"),
                               (f"/takings?from={day}&to={day}", "Money"), ("/venue", "Venue"), ("/scanner", "Venue")):
             status, text = self.see(path, {"X-User": "anna"})
             nav = re.findall('<nav class="screen sections" aria-label="Sections">(.*?)</nav>', text, re.S)[0]
@@ -42,12 +42,13 @@ class Sections(AtCounter):
         self.assertEqual(forms, {"/": ["voucher", "now"], "/vouchers": ["issue", "sheet", "sell-batch", "refund-batch", "lost"],
                                  "/sessions": ["sessions", "close", "replace-session"], "/money": ["takings", "cash-up"], "/venue": []})
 
-    def test_lines_of_the_journal_lead_to_their_batches(self) -> None:
+    def test_lines_of_the_journal_lead_to_their_sheets(self) -> None:
         self.ask("/issue", batch="b1", plan="hour", count="1", request="i1")
         self.ask("/sell", code="2222", request="s1")
         text = self.ask("/cash-up?details=1")[1]
-        self.assertEqual(re.findall('<td data-label="Batch"><a href="([^"]*)" aria-label="Batch b1">b1</a></td>', text), ["/batch?batch=b1"])
+        self.assertEqual(re.findall('<td data-label="Batch"><a href="([^"]*)" aria-label="Sheet of b1">b1</a></td>', text), ["/sheet?batch=b1"])
         self.assertIn('<td data-label="Batch">–</td>', text)
+        self.assertIn('href="/sheet?batch=b1"', self.ask("/vouchers")[1])
         self.journal.path = str(self.folder / "nowhere/journal.db")
         self.assertEqual(self.ask("/vouchers")[0], 200, "a sheet is printed without a journal, too")
 

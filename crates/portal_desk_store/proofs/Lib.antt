@@ -1,5 +1,4 @@
 pub mod Common
-pub mod BatchLemmas
 pub mod HeadLemmas
 pub mod KeptLemmas
 pub mod ActLemmas

@@ -3,7 +3,6 @@
 
 mod acting;
 mod attaching;
-mod batches;
 mod captives;
 mod desks;
 mod heads;

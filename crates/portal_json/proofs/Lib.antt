@@ -1,4 +1,3 @@
-pub mod BatchesLemmas
 pub mod Common
 pub mod DetailsLemmas
 pub mod ListedLemmas

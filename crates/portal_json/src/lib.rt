@@ -2,7 +2,6 @@
 #![tactic(auto)]
 
 mod answers;
-mod batches;
 mod captives;
 mod details;
 mod listed;
@@ -12,7 +11,6 @@ mod sessions;
 mod vouchers;
 
 pub use answers::{answer_text, error_text};
-pub use batches::{batch_text, batches_text, vouchers_text};
 pub use captives::captive_text;
 pub use details::{details_text, open_details_text, own_details_text};
 pub use orders::{

@@ -1,4 +1,4 @@
-//! The details of a session, be it open or ended.
+//! What is told of a session, be it open or ended.
 
 ghost use Rattle.portal_model.specs.Details.{OpenUntilEnd};
 

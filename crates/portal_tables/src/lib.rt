@@ -4,7 +4,6 @@
 
 mod attach_steps;
 pub mod attaching;
-mod batches;
 pub mod errors;
 pub mod laws;
 mod lists;

@@ -18,7 +18,6 @@ pub mod LooksLemmas
 pub mod Lookup
 pub mod Makes
 pub mod Named
-pub mod PageTexts
 pub mod Queries
 pub mod RepresentsLemmas
 pub mod RequestTexts

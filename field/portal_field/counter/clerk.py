@@ -15,7 +15,7 @@ from typing import Any, NoReturn
 
 from portal_field.counter import takings, troubles
 from portal_field.counter.answers import Answers
-from portal_field.counter.journal import DONE, NO_ANSWER, Act, Journal, Mark, Sums
+from portal_field.counter.journal import DONE, NO_ANSWER, Act, Entry, Journal, Mark, Sums
 from portal_field.counter.labels import paper_of
 from portal_field.counter.looks import Looks
 from portal_field.counter.offers import Offers
@@ -34,6 +34,7 @@ STATE = pathlib.Path(os.environ.get("STATE_DIRECTORY", "/var/lib/portal-counter"
 FOLLOWS = 1.0       # seconds between two looks at what the server does
 OLD_LIST = 15       # seconds after which the gateway's list says that it is old
 LONGEST_BASE = 32   # signs of an idempotency key from which others are made: -001 and so on follow
+MOST_BATCHES = 200  # that are listed
 # errors of codes that a batch is sold without
 PASSED_OVER = ("sold_already", "refunded", "expired", "used_up")
 
@@ -345,6 +346,10 @@ class Counter:
                 "difference": takings.difference(replace(server, sold=server.sold - free), journal,
                                                  self.language, self.money),
                 "acts": self.journal.day(day)}
+
+    def batches(self) -> list[Entry]:
+        """The newest batches of the journal."""
+        return self.journal.batches(MOST_BATCHES)
 
     # The server and its clock
 

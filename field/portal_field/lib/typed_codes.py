@@ -10,7 +10,6 @@ import urllib.parse
 LONGEST_TYPED = 320         # signs that are read: an address with the longest name of a host and a code
 SHORT, LONG = 12, 16        # signs of a code of before, and of now
 WHOLE = re.compile(r"[2-9A-HJKMNP-Z]{12}(?:[2-9A-HJKMNP-Z]{4})?")     # a plain code, of before or of now
-START = re.compile(r"[2-9A-HJKMNP-Z]{4,15}")      # the first signs of a plain code, which find vouchers
 # A device, which at the counter may stand in the field of a code. Its twelve signs could be a code of before.
 DEVICE = re.compile(r"[0-9a-f]{2}([:-])(?:[0-9a-f]{2}\1){4}[0-9a-f]{2}", re.I)
 # One within a text, typed in any way: three or four groups of four signs.

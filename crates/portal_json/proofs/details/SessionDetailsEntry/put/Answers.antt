@@ -5,7 +5,7 @@ use Rattle.portal_json.specs.Listed.{between}
 use Rattle.portal_json.proofs.TextLemmas.{device_ascii}
 use Rattle.portal_json.proofs.ListedLemmas.{appended_joined, ok_along}
 use Rattle.portal_json.proofs.DetailsLemmas.{open_details_parts, open_details_text_is}
-use Rattle.portal_json.proofs.details.SessionDetailsEntryListed.put.Goals as goal
+use Rattle.portal_json.proofs.details.SessionDetailsEntry.put.Goals as goal
 
 pub as_text-requires : goal.as_text-requires
 as_text-requires c = subst IsAscii (sym c.text-device.ensures.value)

@@ -5,7 +5,7 @@ use Rattle.portal_json.specs.Listed.{between}
 use Rattle.portal_json.proofs.TextLemmas.{device_ascii}
 use Rattle.portal_json.proofs.ListedLemmas.{appended_joined, ok_along}
 use Rattle.portal_json.proofs.SessionLemmas.{session_parts, session_text_is}
-use Rattle.portal_json.proofs.sessions.OpenSessionEntryListed.put.Goals as goal
+use Rattle.portal_json.proofs.sessions.OpenSessionEntry.put.Goals as goal
 
 pub as_text-requires : goal.as_text-requires
 as_text-requires c = subst IsAscii (sym c.text-device.ensures.value)
