@@ -28,8 +28,9 @@ import time
 
 from portal_deb import first_look, price_questions, questions
 from portal_field import KIT
-from portal_field.doctor.findings import Machine, State
+from portal_field.doctor.findings import Machine, State, findings_of
 from portal_field.doctor.network import is_on_every_address
+from portal_field.doctor.prices import plans
 from portal_field.settings import accounts, clerk_account
 from portal_field.settings.accounts import fault_of_name
 from portal_field.settings.maker import Maker, examine, print_findings, print_venue_fault
@@ -248,12 +249,13 @@ def start_optional(again: bool) -> None:
     off."""
     if (ETC / "radius.toml").exists():      # Debian's own service would hold the ports
         ctl("disable", "--now", "freeradius.service", check=False)
-    for unit, name in OPTIONAL.items():
-        if (ETC / name).exists():
-            ctl("enable", unit, check=False)
-            ctl("try-restart" if again else "restart", unit, check=False)
-        else:
-            ctl("disable", "--now", unit, check=False)
+    present = [unit for unit, name in OPTIONAL.items() if (ETC / name).exists()]
+    absent = [unit for unit in OPTIONAL if unit not in present]
+    if present:
+        ctl("enable", *present, check=False)
+        ctl("try-restart" if again else "restart", *present, check=False)
+    if absent:
+        ctl("disable", "--now", *absent, check=False)
 
 
 def renew(rules: str, keeper: Keeper) -> None:
@@ -340,20 +342,20 @@ def report(field: Field, rules: str) -> int:
         now = time.strftime("%Y-%m-%d %H:%M %Z")
         print(f"portal-setup: the server waits: {why}. If the time is right ({now}), say so on the counter's "
               f"page, https://{field.counter_name}/; otherwise set the clock.", file=sys.stderr)
-        status = look_at_plans()
+        status = look_at_plans(field)
     elif doctor() != 0:
         return 1
     print(next_steps(field, bool(why)))
     return status
 
 
-def look_at_plans() -> int:
-    """Prints the fault of a plans file that will not be accepted, out of what the doctor says: the server
-    waits, so more is wrong. 1 where there is one."""
-    findings = json.loads(run("/usr/sbin/portal-doctor", "--json", check=False).stdout)["findings"]
-    faults = [row for row in findings if row["check"] == "plans" and row["state"] == "wrong"]
-    for row in faults:
-        print(f"portal-setup: {row['what']}\n    do: {row['do']}", file=sys.stderr)
+def look_at_plans(field: Field) -> int:
+    """Prints the fault of a plans file that will not be accepted, as the doctor's check has it: the server
+    waits, so the others would find more. 1 where there is one."""
+    faults = [finding for _, finding in findings_of((plans,), Machine(field=field))
+              if finding.state is State.WRONG]
+    for finding in faults:
+        print(f"portal-setup: {finding.what}\n    do: {finding.do}", file=sys.stderr)
     return int(bool(faults))
 
 

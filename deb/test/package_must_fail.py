@@ -10,6 +10,7 @@ what its test said. At the end the table. The last line: 'N passed, M failed'.
 from __future__ import annotations
 
 import argparse
+import os
 import pathlib
 import shutil
 import subprocess
@@ -52,7 +53,9 @@ def run_tests(copy: pathlib.Path, command: list[str], tests: list[str],
     script, *words = command
     words += ["--portal", str(args.portal)] if args.portal else []
     words += ["--base", str(args.base)] if script == "deb/test/run" else []
-    done = subprocess.run([str(copy / script), *words, *dict.fromkeys(tests)], capture_output=True, text=True)
+    # the history has the version before, whose package deb/test/run makes
+    done = subprocess.run([str(copy / script), *words, *dict.fromkeys(tests)], capture_output=True, text=True,
+                          env={**os.environ, "GIT_DIR": str(TOP / ".git")})
     if args.logs:
         (args.logs / f"{copy.name}.log").write_text(done.stdout + done.stderr)
     lines = [line.removeprefix("FAIL ").partition(": ") for line in done.stdout.splitlines()

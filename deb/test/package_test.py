@@ -141,8 +141,10 @@ def test_nothing_is_enabled(package: pathlib.Path, root: pathlib.Path) -> None:
     assert not enabled and "enable" not in postinst, (
         "nothing is enabled by the package itself: nothing starts before set-up does it")
     needed, recommended = (run("dpkg-deb", "-f", package, name).stdout for name in ("Depends", "Recommends"))
-    assert "freeradius" not in needed and "prometheus" not in needed and recommended.strip() == "weasyprint, age", (
+    assert "freeradius" not in needed and "prometheus" not in needed and recommended.strip() == "age", (
         "what not every venue uses is suggested: apt brings no server that would begin at once")
+    large = [name for name in ("weasyprint", "postgresql", "psycopg", "authlib", "requests") if name in needed]
+    assert not large, f"nor what a chain alone uses, nor 0.8 GB for PDF  [{large}]"
 
 
 def test_all_is_packed(root: pathlib.Path) -> None:

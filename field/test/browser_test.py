@@ -26,7 +26,9 @@ from portal_field.counter.receipt_numbers import Till
 from portal_field.counter.sheet import Sheet, sheet_of, words_of
 from portal_field.counter.shifts import Shifts
 from portal_field.guests import gifts, left
-from portal_field.lib.desk_client import new_number
+from portal_field.lib.desk_client import Route, new_number
+from portal_field.lib.error_pages import away_page
+from portal_field.lib.language_names import COUNTER as LANGUAGES_OF_CLERKS
 from portal_field.lib.languages import Language
 from portal_field.settings.venue import LANGUAGES
 
@@ -65,6 +67,9 @@ const faults = [], all = (query, from) => [...(from || document).querySelectorAl
 if (!document.documentElement.lang || !document.documentElement.dir) faults.push('no language');
 if (!document.title) faults.push('no title');
 if (all('h1').length !== 1) faults.push('not one h1');
+const levels = all('h1, h2, h3, h4, h5, h6').map(node => Number(node.tagName[1]));
+levels.forEach((level, at) => { if (level > (levels[at - 1] || 0) + 1) faults.push(`h${level} after h${levels[at - 1]}`) });
+if (all('main').length !== 1) faults.push('not one main');
 for (const th of all('th')) if (!th.scope) faults.push(`th without scope: ${th.textContent}`);
 for (const field of all('input:not([type=hidden]), select'))
   if (!field.labels.length || !field.labels[0].getBoundingClientRect().height) faults.push(`no visible label: ${field.name}`);
@@ -147,7 +152,14 @@ PICTURES = ("image", "img", "SvgRoot", "graphics-document")
 USED = ("textbox", "combobox", "button", "link", "spinbutton", "Date")
 REFUSED = ("guest, refused", "guest, refused in Japanese", "refused", "wrong number of codes", "amount, wrong", "wrong number", "list and Wi-Fi", "scanner, wrong")
 BY_KEYBOARD = ("guest, not online", "guest, has to accept", "guest, refused", "guest, online", "guest, another code", "guest, free minutes", "guest, end asked", "counter", "voucher to sell", "repetition", "refund", "takings", "cash up",
-               "list to sell", "unused codes", "scanner", "vouchers", "sessions", "session", "money", "venue")
+               "list to sell", "unused codes", "scanner", "vouchers", "sessions", "session", "money", "venue", "batches", "batch", "codes", "voucher to refund", "voucher used up",
+               "sold", "sold several", "close", "whole batch", "sheet", "drawer", "shift to close", "slip", "receipts", "receipt")
+# Text as who needs more room for it sets it (WCAG 2.2, 1.4.12).
+SPACED = """
+const set = new CSSStyleSheet();
+set.replaceSync('* { line-height: 1.5 !important; letter-spacing: .12em !important; word-spacing: .16em !important } p { margin-bottom: 2em !important }');
+document.adoptedStyleSheets = [set];
+"""
 WIDE = """
 return Math.max(...[document.scrollingElement, ...document.querySelectorAll('main, section, nav, td, p')]
   .filter(n => !n.closest('.vouchers')).map(n => n.scrollWidth - n.clientWidth))
@@ -247,6 +259,16 @@ class Shown(unittest.TestCase):
         def issue() -> None:
             browser.open(f"{clerks}close?session=x")
 
+        def codes() -> None:
+            found = [desk.voucher(code) for code in (*fresh[:2], sold)]
+            request_json = self.venue.counter.desk.request_json
+
+            def answer(route: Route, *part: str, **more: Any) -> Any:
+                return {"vouchers": found, "more": True} if route is Routes.VOUCHERS else request_json(route, *part, **more)
+
+            with mock.patch.object(self.venue.counter.desk, "request_json", answer):
+                browser.open(f"{clerks}codes?{self.venue.look('VF3R')}")
+
         def scan() -> None:
             browser.open(f"{clerks}scanner")
             browser.type("httpsÖ--test")
@@ -254,6 +276,7 @@ class Shown(unittest.TestCase):
 
         desk.issue_codes("hour", "fresh-2", 25)
         desk.sell_codes("hour", "sold-2", 25)
+        desk.issue_codes("hour", "abatchofameetingwithalongname-26", 2)
         other, day = "02:00:00:00:00:02", time.strftime("%Y-%m-%d", time.gmtime())
         for act in (Act("issue", new_number(), "done", "abatchofaconferencewithalongname2026", "hour", 2),
                     Act("issue", new_number(), "done", "fresh-1", "hour", 2), Act("sell", new_number() + "-001", "done", "sold-1", "gigabyte", 1, 500)):
@@ -292,11 +315,11 @@ class Shown(unittest.TestCase):
                 ("guest without a lease", device(None, of(self.guest()))),
                 ("counter", of(clerks)), ("voucher to sell", of(f"{clerks}voucher?{self.venue.look(fresh[0])}")),
                 ("sold", sell), ("repetition", browser.driver.refresh),
-                ("voucher to refund", of(f"{clerks}voucher?{self.venue.look(sold)}")), ("refused", of(f"{clerks}voucher?{self.venue.look('2222')}")),
+                ("voucher to refund", of(f"{clerks}voucher?{self.venue.look(sold)}")), ("voucher used up", of(f"{clerks}voucher?{self.venue.look(timed)}")), ("refused", of(f"{clerks}voucher?{self.venue.look('2222')}")),
                 ("refund", of(f"{clerks}refund?{self.venue.look(sold)}")), ("close", of(f"{clerks}close?session=1")), ("session", of(f"{clerks}session?number=1")),
                 ("whole batch", of(f"{clerks}sell-batch?batch=fresh-1")), ("wrong number of codes", sell_batch), ("sheet", of(f"{clerks}sheet?batch=fresh-1")),
                 ("takings", of(f"{clerks}takings?from={day}&to={day}")), ("cash up", of(f"{clerks}cash-up")), ("lines of the journal", of(f"{clerks}cash-up?details=1")),
-                ("batches", of(f"{clerks}batches")), ("list to sell", of(f"{clerks}several?{self.venue.look(f'{fresh[0]} {fresh[1]} {sold}')}")),
+                ("batches", of(f"{clerks}batches")), ("batch", of(f"{clerks}batch?batch=sold-1")), ("codes", codes), ("list to sell", of(f"{clerks}several?{self.venue.look(f'{fresh[0]} {fresh[1]} {sold}')}")),
                 ("list and Wi-Fi", add), ("sold several", browser.enter),
                 ("vouchers", of(f"{clerks}vouchers")), ("sessions", of(f"{clerks}sessions")), ("money", of(f"{clerks}money")),
                 ("venue", of(f"{clerks}venue")), ("wrong number", issue), ("unused codes", of(f"{clerks}refund-batch?batch=sold-2")), ("scanner", of(f"{clerks}scanner")), ("scanner, wrong", scan),
@@ -320,7 +343,9 @@ class Shown(unittest.TestCase):
             browser.shape(width)
             browser.ask(f"document.documentElement.style.fontSize = '{size}'")
             found.wider[f"{width} points, text of {size}"] = browser.ask(WIDE)
-        browser.shape(1280)
+        browser.ask(SPACED)     # a table may scroll within its part then
+        found.wider["1280 points, spaced text"] = browser.ask(WIDE.replace(", section, nav, td, p", ", nav, p"))
+        browser.ask("document.adoptedStyleSheets = []")
         return found
 
     def walk(self, found: Look) -> None:
@@ -351,6 +376,40 @@ class Shown(unittest.TestCase):
             self.assertLessEqual(max(found.wider.values()), 0, (name, found.wider))
             if found.stops is not None:
                 self.assertEqual((found.stops, found.hidden), (list(range(found.places)), []), name)
+
+    def test_in_german_each_page_of_the_counter_fits_a_narrow_screen(self) -> None:
+        """With three kinds of payment, several drawers, and sums of thousands."""
+        browser, venue = self.browser, self.venue
+        venue.conf.update(language="de", payments=["cash", "card", "room"], drawers=["Empfang", "Bar"])
+        venue.counter.__post_init__()
+        venue.desk.sell_codes("day", "sold-4", 400)
+        act = Act("sell", new_number(), "done", "sold-4", "day", 1, 360000)
+        venue.counter.journal.add("anna", "10.88.0.2", [act], Till(act.request, "cash", "", lambda _: 1900))
+        for name, reach in self.pages():
+            if name.startswith("guest"):
+                continue
+            reach()
+            wider = {}
+            for width, size in ((320, "100%"), (640, "200%"), (1280, "100%")):
+                browser.shape(width)
+                browser.ask(f"document.documentElement.style.fontSize = '{size}'")
+                wider[width] = browser.ask(WIDE)
+            self.assertEqual({width: wide for width, wide in wider.items() if wide > 0}, {}, name)
+
+    def test_what_the_page_needs_that_nginx_shows_while_the_counters_is_away(self) -> None:
+        def answer(environ: dict[str, Any], start: Any) -> list[bytes]:
+            is_style = environ["PATH_INFO"] == "/away.css"
+            start("200 OK", [("Content-Type", "text/css" if is_style else "text/html; charset=utf-8")])
+            return [(FIELD / "guests/style.css").read_bytes() if is_style else shown]
+
+        address = self.venue.serve(answer, "counter/nginx-counter.conf")
+        for tag in LANGUAGES_OF_CLERKS:
+            shown = away_page(tag, "Maria, 030 1234567").encode()
+            self.browser.open(address)
+            found = self.look(True)
+            self.assertEqual((found.contrast, found.structure, found.hidden), ({LIGHT: [], DARK: []}, [], []), tag)
+            self.assertGreater(found.looked, 3)
+            self.assertLessEqual(max(found.wider.values()), 0, (tag, found.wider))
 
     def entrance(self) -> list[tuple[str, Any, bool]]:
         """Each page of log-in, lock and own account, and what a clerk may not see: how it is reached, and whether a field
@@ -390,7 +449,7 @@ class Shown(unittest.TestCase):
                 ("locked", fill_in("Lock", "/vouchers"), False), ("locked, refused", fill_in("Go on", pin="1111"), True),
                 ("logged out", fill_in("Somebody else: log ben out"), False),
                 ("manager", fill_in("Log in", name="anna", password=WORDS["anna"]), False), ("accounts", of("/clerks"), False),
-                ("account, refused", fill_in("Write this account", name="eva", new="short", again="short", password="x"), True)]
+                ("account, refused", fill_in("Save this account", name="eva", new="short", again="short", password="x"), True)]
 
     def test_what_the_pages_of_the_log_in_need(self) -> None:
         for name, reach, is_wrong in self.entrance():
@@ -451,6 +510,24 @@ class Shown(unittest.TestCase):
             self.assertEqual(self.browser.ask(CUT_OFF), [], size)
             self.assertGreaterEqual(len(self.browser.printed()), least)
 
+    def test_a_printed_cash_up_is_one_page_and_whole(self) -> None:
+        """After the sale of a batch of many codes, at three counters, in each language of the counter."""
+        browser, venue = self.browser, self.venue
+        for number, clerk_of_it in enumerate(("anna", "ben", "cleo-of-the-night-shift")):
+            acts = [Act("sell", new_number(), "done", f"batch-{number}", plan, 1, 500) for plan in ("hour", "day", "gigabyte") for _ in range(60)]
+            venue.counter.journal.add(clerk_of_it, "10.88.0.2", acts, Till(new_number(), "cash", "", lambda _: 1900))
+        shifts = Shifts(venue.counter.journal)
+        shifts.write("open", "", 10000, "", ("anna", "10.88.0.2", new_number()))
+        for language in ("en", "de"):
+            venue.conf.update(language=language)
+            venue.counter.__post_init__()
+            browser.shape(int((210 - 2 * 8) / 25.4 * 96), media="print")
+            browser.open(f"{venue.clerks}cash-up")
+            self.assertEqual((browser.printed(), browser.ask(WIDE)), ([(210, 297)], 0), language)
+            browser.open(f"{venue.clerks}cash-up?details=1")
+            self.assertLessEqual(browser.ask(WIDE), 0, language)
+            self.assertGreater(len(browser.printed()), 3)
+
     def test_bars_show_in_forced_colours(self) -> None:
         """As of a screen for high contrast, which paints all in a few colours of the system."""
         day = time.strftime("%Y-%m-%d", time.gmtime())
@@ -504,6 +581,31 @@ class Shown(unittest.TestCase):
         press_enter()
         press_enter()
         self.assertEqual((browser.title, keys), (f"Refunded: {codes[0]}. Give back €3.00. – Counter", 2))
+
+    def test_a_voucher_is_found_by_four_signs_in_two_actions(self) -> None:
+        """Four signs and Enter. Where several begin so, the next signs are typed behind nothing, and Enter."""
+        browser, desk = self.browser, self.venue.desk
+        one, two = desk.issue_codes("hour", "hour-1", 2)
+        browser.shape(1280)
+        browser.open(self.venue.clerks)
+        browser.type(one[:4])
+        browser.enter()
+        self.assertEqual(browser.title, f"{one} – Counter")
+        found, request_json = [desk.voucher(code) for code in (one, two)], self.venue.counter.desk.request_json
+
+        def answer(route: Route, *part: str, **more: Any) -> Any:
+            begins = more.get("query", {}).get("prefix", "")
+            return {"vouchers": found if begins == two[:4] else found[1:], "more": False} if route is Routes.VOUCHERS else request_json(route, *part, **more)
+
+        with mock.patch.object(self.venue.counter.desk, "request_json", answer):
+            browser.open(self.venue.clerks)
+            browser.type(two[:4])
+            browser.enter()
+            self.assertEqual(browser.title, f"Codes that begin with {two[:4]} – Counter")
+            self.assertEqual(browser.ask("const at = document.activeElement; return [at.id, at.value, at.selectionStart]"), ["code", "", 0])
+            browser.type(two[5])
+            browser.enter()
+        self.assertEqual(browser.title, f"{two} – Counter")
 
     def press_twice(self, words: str) -> None:
         """Clicks a button twice, as fast as some people do, and waits for the page that comes."""
@@ -580,7 +682,7 @@ class Shown(unittest.TestCase):
         self.assertEqual(browser.title, f"Sold: {third}. Take €3.00. – Counter")
         browser.type("22A2")
         browser.enter()
-        self.assertIn("No such code can exist", browser.text)
+        self.assertIn("No voucher has a code that begins so.", browser.text)
         browser.type(first)     # beside the code that was kept
         browser.enter()
         self.assertIn("Refund …", browser.text)

@@ -15,6 +15,7 @@ Json = dict[str, Any]
 SIGNS = "23456789ABCDEFGHJKMNPQRSTUVWXYZ"
 GREATEST, MOST_BYTES, MOST_GRANTS = 253_370_764_799, 9_000_000_000_000_000, 9_007_199_254_740_991
 ID = re.compile(r"[a-z0-9-]{1,32}")
+MOST_LISTED, MOST_FOUND = 20, 50        # batches in a list; vouchers found by the start of their codes
 
 
 class No(Exception):
@@ -32,17 +33,33 @@ def need(holds: bool, word: str) -> None:
 def with_check_character(body: list[int]) -> str:
     """The printed code of 11 or 15 body values: the weighted sum with the check character is divisible by 31."""
     values = [*body, -sum(value * weight for weight, value in enumerate(body, 2)) % 31]
-    signs = "".join(SIGNS[value] for value in values)
+    return in_groups("".join(SIGNS[value] for value in values))
+
+
+def in_groups(signs: str) -> str:
+    """Characters as they are printed: in groups of four."""
     return "-".join(signs[i:i + 4] for i in range(0, len(signs), 4))
+
+
+def characters_in(text: str) -> str:
+    """The characters that were typed: in upper case, without spaces and hyphens."""
+    return "".join(s.upper() if s.isascii() else s for s in text if s not in " -")
 
 
 def read_code(text: str) -> str:
     """A code as it is printed, from what was typed. No: it is none."""
-    signs = "".join(s.upper() if s.isascii() else s for s in text if s not in " -")
+    signs = characters_in(text)
     need(len(signs) in (12, 16) and all(s in SIGNS for s in signs), "bad_code")
     code = with_check_character([SIGNS.index(s) for s in signs[:-1]])
     need(code.replace("-", "") == signs, "bad_code")
     return code
+
+
+def read_start(text: str) -> str:
+    """The first characters of a code as they are printed, from what was typed. No: they are none."""
+    signs = characters_in(text)
+    need(4 <= len(signs) <= 15 and all(s in SIGNS for s in signs), "bad_code")
+    return in_groups(signs)
 
 
 # Records
@@ -69,6 +86,19 @@ class Plan:
         need(all(type(row[k]) is int and low <= row[k] <= high for k, (low, high) in cls.LIMITS.items()), "bad_plans")
         need(row["seconds"] + row["bytes"] > 0, "bad_plans")
         return cls(**row)
+
+
+@dataclass
+class Batch:
+    id: str
+    plan: Plan
+    issued: int
+    expires: int
+
+    @property
+    def place(self) -> tuple[int, str]:
+        """By which batches are listed, the greatest first."""
+        return self.issued, self.id
 
 
 @dataclass
@@ -128,7 +158,8 @@ class Model:
     """What the accepted commands say. Each command refuses before it changes anything."""
     last: int = 0
     plans: dict[str, Plan] = field(default_factory=dict)
-    batches: dict[str, list[str]] = field(default_factory=dict)
+    batches: dict[str, list[str]] = field(default_factory=dict)     # the codes of each, in order of issue
+    issues: dict[str, Batch] = field(default_factory=dict)
     vouchers: dict[str, Voucher] = field(default_factory=dict)
     sessions: list[Session] = field(default_factory=list)
     of_device: dict[str, Session] = field(default_factory=dict)
@@ -156,7 +187,7 @@ class Model:
         expires = at + self.plans[plan].shelf_days * 86_400
         need(expires <= GREATEST, "moment_range")
         need(len(set(codes)) == len(codes) and not self.vouchers.keys() & set(codes), "code_taken")
-        self.batches[batch] = codes
+        self.batches[batch], self.issues[batch] = codes, Batch(batch, self.plans[plan], at, expires)
         self.vouchers.update({code: Voucher(batch, self.plans[plan], expires) for code in codes})
         return {"batch": batch, "count": len(codes), "expires": expires}
 
@@ -164,6 +195,44 @@ class Model:
         """The voucher with this code. No: there is none."""
         need(code in self.vouchers, "unknown_code")
         return self.vouchers[code]
+
+    def voucher_details(self, code: str) -> Json:
+        """The voucher with this code, as the desk gets it."""
+        v = self.voucher(code)
+        return {"batch": v.batch, "code": code, "expires": v.expires, "plan": v.plan.id,
+                "redeemed": v.redeemed, "refund": v.refund, "sold": v.sold, "uses": v.plan.uses}
+
+    def vouchers_like(self, start: str) -> Json:
+        """The first vouchers whose printed codes begin so, and whether there are more."""
+        codes = sorted(code for code in self.vouchers if code.startswith(start))
+        vouchers = [self.voucher_details(code) for code in codes[:MOST_FOUND]]
+        return {"vouchers": vouchers, "more": MOST_FOUND < len(codes)}
+
+    def batch(self, name: str) -> Batch:
+        """The batch of this id. No: there is none."""
+        need(name in self.issues, "unknown_batch")
+        return self.issues[name]
+
+    def batch_state(self, batch: Batch) -> Json:
+        """A batch, with how many of its vouchers were ever sold, refunded and used up."""
+        vouchers = [self.vouchers[code] for code in self.batches[batch.id]]
+        return {"batch": batch.id, "plan": batch.plan.id, "issued": batch.issued, "expires": batch.expires,
+                "count": len(vouchers), "sold": sum(v.sold is not None for v in vouchers),
+                "refunded": sum(v.refund is not None for v in vouchers),
+                "used-up": sum(v.plan.uses <= v.redeemed for v in vouchers)}
+
+    def batch_details(self, name: str) -> Json:
+        """The same of the batch of this id, with its vouchers in order of issue."""
+        batch, keys = self.batch(name), ("code", "redeemed", "refund", "sold")
+        vouchers = [self.voucher_details(code) for code in self.batches[batch.id]]
+        entries = [{key: voucher[key] for key in keys} for voucher in vouchers]
+        return {**self.batch_state(batch), "vouchers": entries}
+
+    def batches_after(self, before: Batch | None, limit: int) -> Json:
+        """The newest batches, or those after one of them, at most so many, and whether there are more."""
+        listed = sorted(self.issues.values(), key=lambda batch: batch.place, reverse=True)
+        after = [batch for batch in listed if before is None or batch.place < before.place]
+        return {"batches": [self.batch_state(batch) for batch in after[:limit]], "more": limit < len(after)}
 
     def do_sell(self, at: int, code: str) -> Json:
         """Sells a voucher."""
@@ -239,6 +308,34 @@ class Model:
         need(s.closed is None, "closed_already")
         s.closed = at
         return {"session": session}
+
+
+# Questions with a query, in which nothing is decoded
+
+def values_in(query: str, name: str) -> list[str]:
+    """The values of a key of a query."""
+    return [value for key, _, value in (pair.partition("=") for pair in query.split("&")) if key == name]
+
+
+def read_limit(digits: str) -> int:
+    """How many batches are listed at most. No: it is no number from 1 to 20."""
+    need(re.fullmatch("0*(1?[0-9]|20)", digits) is not None and int(digits[-2:]) > 0, "bad_request")
+    return int(digits[-2:])
+
+
+def listed_batches(model: Model, query: str) -> Json:
+    """The list of batches that a query asks for."""
+    limits, names = values_in(query, "limit"), values_in(query, "before")
+    need(len(limits) <= 1 and len(names) <= 1, "bad_request")
+    limit = read_limit(limits[0]) if limits else MOST_LISTED
+    return model.batches_after(model.batch(names[0]) if names else None, limit)
+
+
+def found_vouchers(model: Model, query: str) -> Json:
+    """The vouchers that a query asks for by the first characters of their codes."""
+    starts = values_in(query, "prefix")
+    need(len(starts) == 1, "bad_code")
+    return model.vouchers_like(read_start(starts[0]))
 
 
 # Texts

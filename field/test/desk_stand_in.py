@@ -26,7 +26,8 @@ import tomllib
 from dataclasses import dataclass
 from typing import Any
 
-from desk_model import ID, Json, Model, No, Plan, with_check_character, need, print_file, read_code, takings
+from desk_model import (ID, Json, Model, No, Plan, found_vouchers, listed_batches, need, print_file,
+                        read_code, takings, values_in, with_check_character)
 
 from portal_field.lib.refusals import BY_WORD
 
@@ -34,15 +35,17 @@ NUMBER = re.compile(r"[A-Za-z0-9-]{1,36}")
 DEVICE = re.compile(r"[0-9a-f]{2}([:-])[0-9a-f]{2}(\1[0-9a-f]{2}){4}", re.I)
 PHRASES = {200: "OK", 400: "Bad Request", 403: "Forbidden", 404: "Not Found", 405: "Method Not Allowed",
            409: "Conflict", 410: "Gone", 413: "Payload Too Large", 501: "Not Implemented", 503: "Service Unavailable"}
-ROUTES = {  # path: method, caller, kind
-    "/captive": ("GET", "guest", ""), "/portal/redeem": ("POST", "guest", "redeem"),
-    "/desk/plans": ("POST", "desk", "plans"), "/desk/batches": ("POST", "desk", "issue"),
-    "/desk/batches/{}/print": ("GET", "desk", ""), "/desk/sales": ("POST", "desk", "sell"),
-    "/desk/refunds": ("POST", "desk", "refund"), "/desk/closes": ("POST", "desk", "close"),
-    "/desk/vouchers/{}": ("GET", "desk", ""), "/desk/takings": ("GET", "desk", ""),
-    "/gateway/reports": ("POST", "gateway", "report"), "/gateway/sessions": ("GET", "gateway", ""),
-    "/desk/sessions": ("GET", "desk", ""), "/desk/sessions/{}": ("GET", "desk", ""),
-    "/portal/session": ("GET", "guest", ""), "/gateway/sessions/details": ("GET", "gateway", ""),
+ROUTES = {  # path: of each method its caller and kind
+    "/captive": {"GET": ("guest", "")}, "/portal/redeem": {"POST": ("guest", "redeem")},
+    "/desk/plans": {"POST": ("desk", "plans")},
+    "/desk/batches": {"GET": ("desk", ""), "POST": ("desk", "issue")},
+    "/desk/batches/{}": {"GET": ("desk", "")}, "/desk/batches/{}/print": {"GET": ("desk", "")},
+    "/desk/sales": {"POST": ("desk", "sell")}, "/desk/refunds": {"POST": ("desk", "refund")},
+    "/desk/closes": {"POST": ("desk", "close")}, "/desk/vouchers": {"GET": ("desk", "")},
+    "/desk/vouchers/{}": {"GET": ("desk", "")}, "/desk/takings": {"GET": ("desk", "")},
+    "/gateway/reports": {"POST": ("gateway", "report")}, "/gateway/sessions": {"GET": ("gateway", "")},
+    "/desk/sessions": {"GET": ("desk", "")}, "/desk/sessions/{}": {"GET": ("desk", "")},
+    "/portal/session": {"GET": ("guest", "")}, "/gateway/sessions/details": {"GET": ("gateway", "")},
 }
 PATHS = {re.compile(path.replace("{}", "([^/]+)")): path for path in ROUTES}
 REQUEST_LINE = re.compile(rb"([!#-'*+.^-`|~0-9A-Za-z-]+) ([!-~\x80-\xff]+) HTTP/1\.([01])")
@@ -82,10 +85,14 @@ class Request:
         """The values of all header fields of this name."""
         return [value for key, value in self.fields if key == name]
 
+    @property
+    def query(self) -> str:
+        """The query, in which nothing is decoded."""
+        return self.target.decode("latin-1").partition("?")[2]
+
     def parameters(self, name: str) -> list[str]:
-        """The values of a key of the query, in which nothing is decoded."""
-        pairs = [pair.partition("=")[::2] for pair in self.target.decode("latin-1").partition("?")[2].split("&")]
-        return [value for key, value in pairs if key == name]
+        """The values of a key of the query."""
+        return values_in(self.query, name)
 
 
 def whole(given: Json, key: str, low: int, high: int) -> int:
@@ -168,13 +175,14 @@ class StandIn:
             path = request.target.partition(b"?")[0].decode("utf-8", "replace")
             found = [(ROUTES[PATHS[p]], PATHS[p], m.groups()) for p in PATHS if (m := p.fullmatch(path))]
             need(bool(found), "no_route")
-            (method, caller, kind), route, part = found[0]
-            allow = method
-            need(request.method == method, "bad_method")
-            allow = ""
+            methods, route, part = found[0]
+            allow = ", ".join(methods)
+            need(request.method in methods, "bad_method")
+            allow, (caller, kind) = "", methods[request.method]
             who, number = self.caller(request, caller, kind)
             if kind:
-                words, mark = command(kind, request.body, who), [number, method, path, request.body.hex()]
+                mark = [number, request.method, path, request.body.hex()]
+                words = command(kind, request.body, who)
                 answer = self.act(kind, words, max(now, self.model.last), who, mark)
                 return response(200, "application/json", compact(answer), now)
             return response(200, *self.answer_to(route, part, request, who, max(now, self.model.last)), now)
@@ -220,11 +228,13 @@ class StandIn:
         if "/session" in route:
             return "application/json", compact(self.answer_of_sessions(route, part, request, who, at))
         if route == "/desk/vouchers/{}":
-            code = read_code(part[0])
-            v = model.voucher(code)
-            result = {"batch": v.batch, "code": code, "expires": v.expires, "plan": v.plan.id, "redeemed": v.redeemed,
-                      "refund": v.refund, "sold": v.sold, "uses": v.plan.uses}
-            return "application/json", compact(result)
+            return "application/json", compact(model.voucher_details(read_code(part[0])))
+        if route == "/desk/vouchers":
+            return "application/json", compact(found_vouchers(model, request.query))
+        if route == "/desk/batches":
+            return "application/json", compact(listed_batches(model, request.query))
+        if route == "/desk/batches/{}":
+            return "application/json", compact(model.batch_details(part[0]))
         if route == "/desk/batches/{}/print":
             return "text/csv; charset=utf-8", print_file(model, part[0]).encode()
         days = [[read_day(value) for value in request.parameters(name)] for name in ("from", "to")]

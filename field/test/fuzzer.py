@@ -36,7 +36,7 @@ PATHS = {"guests": ("/", "/portal", "/portal/redeem", "/portal/session", "/capti
                      "/fonts/DejaVuSansCondensed.ttf", "/fonts/..%2f..%2fcron", "/alive")}
 ACTS = ("/sell", "/refund", "/close", "/issue", "/now", "/sell-batch", "/sell-several", "/refund-batch", "/time", "/shift-open", "/shift-move",
         "/shift-close", "/drawer")
-FIELDS = ("code", "request", "device", "sign", "sent", "lang", "done", "left", "add", "terms", "look", "kept", "next", "batch", "plan", "count", "amount",
+FIELDS = ("code", "request", "device", "sign", "sent", "lang", "done", "left", "add", "terms", "look", "kept", "start", "next", "batch", "plan", "count", "amount",
           "session", "find", "day", "from", "to", "by", "size", "token", "name", "password", "pin", "to", "then", "fields", "shown", "booted", "again", "codes", "out", "refunds", "text",
           "payment", "drawer", "float", "move", "reason", "shift", "counted", "due", "note", "number", "lines", "said", "details", "act", "do", "whole", "seen", "price", "name_de", "place", "tax", "uses", "offered",
           "owner_contact", "payments", "receipt_head", "file", "x", "", "code[]", "__proto__")

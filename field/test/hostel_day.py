@@ -324,6 +324,26 @@ class HostelDay:
         self.press(browser, "shift-move", {**form, "move": way, "amount": f"{amount // 100}.{amount % 100:02}", "reason": "change"})
         self.cash[browser.drawer] += amount if way == "in" else -amount
 
+    def find(self, browser: Browser) -> None:
+        """A voucher of which a part of the code is left: by its first signs, or in the list of its batch."""
+        if not self.sold:
+            return
+        code = self.draw.choice(self.sold)
+        text = self.scan(browser, code[:6])
+        assert code in text, f"{code} is not found: {plain(text)}"
+        text = self.see(browser, f"/batch?batch={self.desk.voucher(code)['batch']}")
+        assert code in text, f"{code} is not in its batch: {plain(text)}"
+
+    def listed(self) -> list[int]:
+        """How many codes were sold and refunded, by the list of batches."""
+        place, counts = "/batches", [0, 0]
+        while place:
+            text = self.see(self.manager, place)
+            for number, name in enumerate(("Sold", "Refunded")):
+                counts[number] += sum(map(int, re.findall(f'<td data-label="{name}">([0-9]+)</td>', text)))
+            place = "".join(re.findall('<a href="([^"]*)">Older batches</a>', text))
+        return counts
+
     # The day
 
     def open_all(self) -> None:
@@ -350,13 +370,14 @@ class HostelDay:
         """The whole day."""
         first_day = datetime.date.today()
         does: list[Callable[[Browser], None]] = [
-            self.sell_now, self.sell_one, self.sell_several, self.sell_batch, self.refund, self.back, self.race, self.move]
+            self.sell_now, self.sell_one, self.sell_several, self.sell_batch, self.refund, self.back, self.race, self.move,
+            self.find]
         self.open_all()
         for action in range(self.actions):
             if action == self.actions // 2:
                 self.close_all()
                 self.open_all()
-            self.draw.choices(does, (4, 6, 3, 1, 4, 4, 1, 1))[0](self.draw.choice(self.browsers))
+            self.draw.choices(does, (4, 6, 3, 1, 4, 4, 1, 1, 1))[0](self.draw.choice(self.browsers))
         self.close_all()
         self.check(first_day)
 
@@ -368,6 +389,7 @@ class HostelDay:
         text = self.desk.desk.request(Routes.TAKINGS, query={"from": str(first_day), "to": str(last_day)}).decode()
         server, sums = takings.added("", takings.days(text)), takings.added("", by_payment(receipts))
         assert server == sums, f"{server} by the server, {sums} by the journal"
+        assert self.listed() == [server.sold, server.refunded], f"{self.listed()} by the list of batches, {server} by the server"
         assert [one.name for one in receipts] == [str(place + 1) for place in range(len(receipts))], "a gap"
         shifts = Shifts(self.journal).newest()
         assert [shift.difference for shift in shifts] == [0] * 4, shifts

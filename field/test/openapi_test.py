@@ -77,8 +77,8 @@ class Described(unittest.TestCase):
 
     def test_the_table_of_routes(self) -> None:
         described = {(method.upper(), path) for path, item in self.api["paths"].items() for method in item}
-        self.assertEqual(len(described), 16)
-        self.assertEqual(len(Routes), 16)
+        self.assertEqual(len(described), 19)
+        self.assertEqual(len(Routes), 19)
         paths = {(method, PARAMETER.sub("{}", path)) for method, path in described}
         self.assertEqual(paths, {(route.method, route.path) for route in Routes})
         names = set()
@@ -162,6 +162,7 @@ class Described(unittest.TestCase):
             self.ask(desk, "desk", Routes.REFUND, body={"code": code})
         for code in (self.one, self.two, UNKNOWN, "x"):
             self.ask(desk, "desk", Routes.VOUCHER, code)
+        self.ask_of_batches(desk)
         for token in ("gateway", "desk"):
             self.ask(desk, token, Routes.SESSIONS)
         for body in ({"session": 1, "bytes": 7}, {"session": 99, "bytes": 7}, {"session": 1}):
@@ -173,6 +174,16 @@ class Described(unittest.TestCase):
         day = time.strftime("%Y-%m-%d", time.gmtime())
         for query in ({"from": day, "to": day}, {"from": day}):
             self.ask(desk, "desk", Routes.TAKINGS, query=query)
+
+    def ask_of_batches(self, desk: DeskProcess) -> None:
+        for query in ({}, {"limit": "1"}, {"before": "b2"}, {"limit": "0"}, {"before": "b9"}):
+            self.ask(desk, "desk", Routes.BATCH_LIST, query=query)
+        for batch in ("b1", "b2", "b9", "B"):
+            self.ask(desk, "desk", Routes.BATCH, batch)
+        for prefix in (self.one[:4], UNKNOWN[:9], "x"):
+            self.ask(desk, "desk", Routes.VOUCHERS, query={"prefix": prefix})
+        for route, part in ((Routes.BATCH_LIST, ()), (Routes.BATCH, ("b1",)), (Routes.VOUCHERS, ())):
+            self.ask(desk, "gateway", route, *part)
 
     def ask_of_sessions(self, desk: DeskProcess) -> None:
         for token in ("gateway", "desk"):

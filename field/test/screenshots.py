@@ -2,9 +2,11 @@
 """Pictures of the pages as a guest's phone and the counter's screen show them, in light and dark. Needs chromium,
 chromium-driver, python3-selenium, fonts-noto-core and fonts-noto-cjk.
 
-    screenshots.py [--demo | --owner | --office] FOLDER
+    screenshots.py [--demo | --owner | --counter | --office] FOLDER
 
---owner: the pages of a manager alone. --office: the page of all venues alone, in each language of the counter. --demo: one picture alone, of the counter's page of the demo while a guest is online. Needs root, as the demo does.
+--owner: the pages of a manager alone. --counter: every page of the counter as a manager sees it, on the narrowest screen and on a wide one, in each
+language. --office: the page of all venues alone, in the same way. --demo: one picture alone, of the counter's page of the demo while a guest is
+online. Needs root, as the demo does.
 """
 
 from __future__ import annotations
@@ -111,10 +113,10 @@ def counter(venue: Venue, camera: Camera, codes: list[str]) -> None:
     browser, clerks = camera.browser, venue.clerks
     venue.desk.desk.request_json(Routes.REDEEM, body={"code": codes[1]}, device=MAC)
     fresh = clerks_work(venue)
-    for name, page in (("counter", ""), ("vouchers", "vouchers"), ("sessions", "sessions"), ("session", "session?number=2"), ("money", "money"), ("venue", "venue"),
-                       ("voucher", f"voucher?{venue.look(fresh[0])}"), ("counter-refused", f"voucher?{venue.look('2222')}"),
+    for name, page in (("counter", ""), ("vouchers", "vouchers"), ("sessions", "sessions"), ("session", "session?number=1"), ("money", "money"), ("venue", "venue"),
+                       ("voucher", f"voucher?{venue.look(fresh[0])}"), ("voucher-used", f"voucher?{venue.look(codes[1])}"), ("counter-refused", f"voucher?{venue.look('2222')}"),
                        ("sheet", "sheet?batch=gigabyte-1"), ("refund", f"refund?{venue.look(codes[2])}"), ("cash-up", "cash-up"),
-                       ("batches", "batches"), ("sell-batch", "sell-batch?batch=gigabyte-1"),
+                       ("batches", "batches"), ("batch", "batch?batch=gigabyte-1"), ("sell-batch", "sell-batch?batch=gigabyte-1"),
                        ("several", f"several?{venue.look(' '.join(fresh[5:9] + codes[1:2]))}"), ("refund-batch", "refund-batch?batch=gigabyte-1"),
                        ("scanner", "scanner"), ("drawer", "shift"), ("receipts", "receipts"), ("receipt", "receipt?number=1")):
         venue.gateway_tells()
@@ -183,6 +185,35 @@ def owner(folder: pathlib.Path) -> None:
         camera.take("text")
 
 
+def every_page(folder: pathlib.Path) -> None:
+    """Each page of the counter behind its log-in, in each language, on the narrowest screen and on a wide one."""
+    for tag in ("en", "de"):
+        with contextlib.ExitStack() as stack:
+            venue, browser = OwnersVenue(language=tag), Browser()
+            stack.callback(venue.close)
+            stack.callback(browser.close)
+            stack.enter_context(contextlib.redirect_stderr(io.StringIO()))
+            camera = Camera(browser, folder / tag, NARROW)
+            browser.open(venue.owner + "/login")
+            camera.take("login")
+            codes = venue.desk.issue_codes("hour", "hour-1", 3)
+            for code in codes:
+                venue.counter.journal.add("anna", "10.88.0.2", sell(venue, code))
+            venue.log_in(browser)
+            venue.clerks = venue.owner + "/"
+            counter(venue, camera, codes)
+            for page in (f"codes?{venue.look(codes[0][:4])}", f"replace?{venue.look(codes[2])}", "lost?batch=gigabyte-1", "close?session=1", "replace-session?session=1",
+                         "shift", "account", "clerks", "plans", "plan?plan=hour", "settings", "texts", "text?text=terms",
+                         "picture", "nowhere"):
+                browser.open(venue.clerks + page)
+                camera.take(page.split("?")[0])
+            venue.desk.job.kill()
+            browser.open(venue.clerks)
+            camera.take("silent")
+            browser.press({"en": "Lock", "de": "Sperren"}[tag])
+            camera.take("lock")
+
+
 def two_weeks(_: str, monday: datetime.date) -> Week:
     """A view of four venues that nobody filled, with one of each thing that may be wrong."""
     now = int(datetime.datetime.combine(monday, datetime.time(), datetime.UTC).timestamp())
@@ -216,6 +247,7 @@ def main() -> None:
     words = argparse.ArgumentParser(description="Pictures of the pages.")
     words.add_argument("--demo", action="store_true", help="the counter's page of the demo alone")
     words.add_argument("--owner", action="store_true", help="the pages of a manager alone")
+    words.add_argument("--counter", action="store_true", help="every page of the counter alone")
     words.add_argument("--office", action="store_true", help="the page of all venues alone")
     words.add_argument("folder", type=pathlib.Path)
     args = words.parse_args()
@@ -223,9 +255,10 @@ def main() -> None:
         with contextlib.closing(Browser()) as browser:
             take_the_demo(browser, args.folder)
         return
-    if args.owner or args.office:
-        (owner if args.owner else office)(args.folder)
-        return
+    for wanted, take in ((args.owner, owner), (args.counter, every_page), (args.office, office)):
+        if wanted:
+            take(args.folder)
+            return
     venue, browser = Venue(), Browser()
     try:
         codes = venue.desk.issue_codes("hour", "hour-1", 3)

@@ -87,6 +87,21 @@ class Answers(unittest.TestCase):
             row, = desk.gateway.request_json(Routes.SESSION_DETAILS)["sessions"]
             self.assertEqual(row, {key: value for key, value in last.items() if key not in ("ended", "used")})
 
+    def test_the_questions_about_batches_and_vouchers(self) -> None:
+        with DeskProcess() as desk:
+            desk.load()
+            codes = {batch: desk.issue_codes("gigabyte", batch, 2) for batch in ("b1", "b2")}
+            one, two = desk.desk.request_json(Routes.BATCH_LIST)["batches"]
+            self.assertEqual((two["count"], two["sold"], two["refunded"], two["used-up"]), (2, 0, 0, 0))
+            rest = desk.desk.request_json(Routes.BATCH_LIST, query={"before": one["batch"], "limit": "1"})
+            self.assertEqual(rest, {"batches": [two], "more": False})
+            vouchers = [{"code": code, "redeemed": 0, "refund": None, "sold": None} for code in codes["b1"]]
+            state = next(batch for batch in (one, two) if batch["batch"] == "b1")
+            self.assertEqual(desk.desk.request_json(Routes.BATCH, "b1"), {**state, "vouchers": vouchers})
+            code = codes["b2"][0]
+            found = desk.desk.request_json(Routes.VOUCHERS, query={"prefix": code[:12].lower()})
+            self.assertEqual(found, {"more": False, "vouchers": [desk.voucher(code)]})
+
     def test_line_ends_never_make_a_field(self) -> None:
         with self.assertRaises(ValueError):
             Desk(1, timeout=0.1).request_json(Routes.SELL, body={}, number="a\r\nPortal-Token: x")

@@ -14,8 +14,8 @@ from unittest import mock
 from desk_process import DeskProcess, NoAnswer, Refused, Routes
 from test_counter import AtCounter
 
-from portal_field.counter import batch_sale, refunds
-from portal_field.counter.batch_sale import unsold
+from portal_field.counter import refunds
+from portal_field.counter.batch_sale import unsold, unused
 from portal_field.counter.takings import hundredths
 from portal_field.lib.desk_client import Route
 
@@ -235,8 +235,8 @@ class Batches(Confirmed):
         request_json, asked = self.counter.desk.request_json, [0]
 
         def cut(route: Route, *part: str, **more: Any) -> Any:
-            asked[0] += route is Routes.VOUCHER
-            if asked[0] == 2:
+            asked[0] += route is Routes.BATCH
+            if asked[0] == 1:
                 raise NoAnswer("cut")
             return request_json(route, *part, **more)
 
@@ -251,11 +251,26 @@ class Batches(Confirmed):
         self.assertEqual(unsold(self.desk.desk, "b1").count, 3)
         self.assertIn("Take 9.00.", self.ask("/sell-batch", **again)[1])
 
-    def test_counting_ends_where_the_server_is_slow(self) -> None:
-        self.desk.issue_codes("hour", "b1", 3)
-        self.enterContext(mock.patch.object(batch_sale, "LONGEST", 0.0))
-        status, text = self.ask("/sell-batch?batch=b1")
-        self.assertEqual((status, "The server did not answer." in text), (504, True))
+    def test_the_codes_of_a_batch_are_counted_by_one_question(self) -> None:
+        """Whatever became of them: unsold, sold, used in part or up, refunded unused or in part."""
+        codes = self.desk.sell_codes("gigabyte", "b1", 6) + self.desk.issue_codes("gigabyte", "b2", 2)
+        for code, uses in ((codes[1], 1), (codes[2], 3), (codes[4], 1)):
+            for _ in range(uses):
+                self.redeem(code)
+        for code in codes[3:5]:
+            self.desk.desk.request_json(Routes.REFUND, body={"code": code})
+        request_json, asked = self.desk.desk.request_json, list[Route]()
+
+        def noted(route: Route, *part: str, **more: Any) -> Any:
+            asked.append(route)
+            return request_json(route, *part, **more)
+
+        with mock.patch.object(self.desk.desk, "request_json", noted):
+            sale, back = unsold(self.desk.desk, "b2"), unused(self.desk.desk, "b1")
+        self.assertEqual(asked, [Routes.BATCH, Routes.BATCH])
+        self.assertEqual((sale.plan, sale.codes, sale.count, sale.sum), ("gigabyte", 2, 2, 1000))
+        self.assertEqual((back.plan, back.listed, back.sum), ("gigabyte", codes[:6], 1000))
+        self.assertEqual((back.unused, back.refundable), ({codes[0], codes[3], codes[5]}, {codes[0], codes[5]}))
 
     def test_codes_past_their_date_are_not_counted(self) -> None:
         self.desk.issue_codes("hour", "b1", 3)

@@ -105,7 +105,7 @@ class Pages(AtCounter):
             for word in words:
                 self.assertIn(word, text)
         for page, words in ((f"/voucher?code={code.replace('-', '+')}", ("gigabyte", "0 of 3", "5.00")),
-                            ("/voucher?code=22A2", ("No such code can exist",)), ("/voucher", ("Scan or type the code again",)),
+                            ("/voucher?code=22A2", ("No voucher has a code that begins so.",)), ("/voucher?code=22A", ("No such code can exist",)), ("/voucher", ("Scan or type the code again",)),
                             (f"/takings?from={day}&to={day}", ('<td data-label="In the drawer"><b>0.00</b></td>', '<td data-label="Money in">5.00</td>')),
                             (f"/takings?from={day}&to=x", ("not understood",))):
             text = self.see(page)[1]
@@ -358,7 +358,7 @@ class Pages(AtCounter):
 
     def test_a_question_without_an_answer_is_no_command_in_doubt(self) -> None:
         self.relay.drops = True
-        status, text = self.see("/voucher?code=2222-2222-2222")
+        status, text = self.see("/voucher?code=2222-2222-2222-2222")
         self.assertEqual((status, "in doubt" in text), (504, False))
 
     # The flow of the counter

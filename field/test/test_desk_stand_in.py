@@ -14,6 +14,8 @@ PLANS = PLAN.format("hour", 300, 1, 3600, 0, "true") + PLAN.format("gig", 500, 3
 GUEST, OTHER = "02:00:00:00:00:01", "02:00:00:00:00:02"
 TOKENS = {"/desk": "desk-token", "/gateway": "gate-token"}
 UNKNOWN = (404, '{"error":"unknown_session"}')
+NO_BATCH = (404, '{"error":"unknown_batch"}')
+BAD_REQUEST, BAD_CODE = (400, '{"error":"bad_request"}'), (400, '{"error":"bad_code"}')
 # Of one use for a minute, for 100 bytes, and for both; and a second plan of both.
 SHORT = "".join(PLAN.format(name, 100, 1, seconds, count, "true")
                 for name, seconds, count in (("minute", 60, 0), ("cup", 0, 100), ("both", 60, 100), ("more", 30, 7)))
@@ -249,6 +251,133 @@ net -3.33
                       "?device=" + GUEST.replace(":", "%3A"), "?device=02:00-00:00:00:01", "?device=020000000001", f"?device={GUEST}?"):
             self.assertEqual(self.ask(1000, "GET", "/desk/sessions" + query), bad_device, query)
         self.assertEqual(self.ask(1000, "GET", "/portal/session", device="x"), bad_device)
+
+    # Batches, and vouchers by the first characters of their codes
+
+    def issue(self, now: int, batch: str, plan: str = "hour", count: int = 1) -> list[str]:
+        """A batch whose vouchers are not sold; its codes."""
+        order = {"batch": batch, "plan": plan, "count": count}
+        self.assertEqual(self.ask(now, "POST", "/desk/batches", order)[0], 200)
+        lines = self.ask(now, "GET", f"/desk/batches/{batch}/print")[1].splitlines()[1:]
+        return [line.partition(",")[0] for line in lines]
+
+    def listed(self, query: str = "") -> tuple[list[str], bool]:
+        """The ids of a list of batches, and whether there are more."""
+        status, text = self.ask(9000, "GET", "/desk/batches" + query)
+        self.assertEqual(status, 200, text)
+        answer = json.loads(text)
+        return [batch["batch"] for batch in answer["batches"]], answer["more"]
+
+    def test_a_batch_with_its_vouchers(self) -> None:
+        unsold, sold, back, half, used = self.issue(1000, "b1", "gig", 5)
+        for code in (sold, back, half, used):
+            self.ask(1100, "POST", "/desk/sales", {"code": code})
+        for code, times in ((half, 1), (used, 3)):
+            for number in range(times):
+                self.assertEqual(self.redeem(1200, code, f"02:00:00:00:{times:02}:{number:02}")[0], 200)
+        for code in (back, half):
+            self.ask(1300, "POST", "/desk/refunds", {"code": code})
+        state = ('"batch":"b1","count":5,"expires":2593000,"issued":1000,"plan":"gig","refunded":2,"sold":4,'
+                 '"used-up":1')
+        rows = ((unsold, 0, "null", "null"), (sold, 0, "null", 1100), (back, 0, 500, 1100),
+                (half, 1, 333, 1100), (used, 3, "null", 1100))
+        vouchers = ",".join(f'{{"code":"{code}","redeemed":{redeemed},"refund":{refund},"sold":{at}}}'
+                            for code, redeemed, refund, at in rows)
+        one, several = f'{{{state},"vouchers":[{vouchers}]}}', f'{{"batches":[{{{state}}}],"more":false}}'
+        self.assertEqual(self.ask(9, "GET", "/desk/batches/b1"), (200, one))
+        self.assertEqual(self.ask(9, "GET", "/desk/batches"), (200, several))
+
+    def test_an_id_of_no_batch(self) -> None:
+        self.issue(1000, "b1")
+        for word in ("b2", "B1", "b1%20", "%62%31", "a" * 33, "\u00e9"):
+            self.assertEqual(self.ask(9, "GET", "/desk/batches/" + word), NO_BATCH, word)
+            self.assertEqual(self.ask(9, "GET", "/desk/batches?before=" + word), NO_BATCH, word)
+        for query in ("?before=", "?before", "?limit=3&before=b2"):
+            self.assertEqual(self.ask(9, "GET", "/desk/batches" + query), NO_BATCH, query)
+        for target in ("/desk/batches/", "/desk/batches/b1/", "/desk/batches/b1/vouchers", "/desk/vouchers/"):
+            self.assertEqual(self.ask(9, "GET", target), (404, '{"error":"no_route"}'), target)
+
+    def test_the_batches_newest_first(self) -> None:
+        self.assertEqual(self.listed(), ([], False))
+        for now, batch in ((1000, "b2"), (1000, "b10"), (1000, "b1"), (2000, "a"), (500, "c"), (3000, "0")):
+            self.issue(now, batch)
+        order = ["0", "c", "a", "b2", "b10", "b1"]      # c has the time of the last command, 2000
+        self.assertEqual(self.listed(), (order, False))
+        for place, batch in enumerate(order):
+            self.assertEqual(self.listed("?before=" + batch), (order[place + 1:], False))
+            for limit in (1, 2, 5, 6, 20):
+                self.assertEqual(self.listed(f"?limit={limit}"), (order[:limit], len(order) > limit))
+                rest = order[place + 1:]
+                answer = self.listed(f"?limit={limit}&x=2&before={batch}&limits=3")
+                self.assertEqual(answer, (rest[:limit], len(rest) > limit))
+
+    def test_a_list_has_twenty_batches_at_most(self) -> None:
+        for number in range(21):
+            self.assertEqual(self.listed(), ([f"b{place:02}" for place in reversed(range(number))], False))
+            self.issue(1000 + number, f"b{number:02}")
+        newest = [f"b{place:02}" for place in reversed(range(1, 21))]
+        for query in ("", "?limit=20", "?limit=020"):
+            self.assertEqual(self.listed(query), (newest, True), query)
+        self.assertEqual(self.listed("?before=b01"), (["b00"], False))
+
+    def test_a_limit_is_a_number_from_1_to_20(self) -> None:
+        self.issue(1000, "b1")
+        for word in ("", "0", "00", "21", "100", "120", "+1", "-1", "1x", "1.0", "%31", "1_0", "9" * 5000,
+                     "\u0661"):
+            self.assertEqual(self.ask(9, "GET", "/desk/batches?limit=" + word), BAD_REQUEST, word)
+        for query in ("limit", "limit=1&limit=1", "limit=1&limit", "before=b1&before=b1", "before=b9&before",
+                      "before=b9&limit=0"):
+            self.assertEqual(self.ask(9, "GET", "/desk/batches?" + query), BAD_REQUEST, query)
+        for query in ("limit=1", "limit=01", "limit=20", "Limit=0", "limit%3D=0", "before=b1", "Before=b9",
+                      "x&&=", ""):
+            self.assertEqual(self.ask(9, "GET", "/desk/batches?" + query)[0], 200, query)
+
+    def test_vouchers_by_the_first_characters_of_their_codes(self) -> None:
+        code, = self.bought(1000, "gig", "b1")
+        self.issue(1000, "b2")
+        shown = (f'{{"batch":"b1","code":"{code}","expires":2593000,"plan":"gig","redeemed":0,"refund":null,'
+                 '"sold":1000,"uses":3}')
+        signs = code.replace("-", "")
+        for length in range(4, 16):
+            start = signs[:length]
+            for text in (start, start.lower(), "-".join(start) + "--", code[:length + (length - 1) // 4]):
+                self.assertEqual(self.ask(9, "GET", "/desk/vouchers?prefix=" + text),
+                                 (200, f'{{"more":false,"vouchers":[{shown}]}}'), text)
+        self.assertEqual(json.loads(self.ask(9, "GET", f"/desk/vouchers/{code}")[1]), json.loads(shown))
+        for text in (signs[1:5] + "2222", "2" * 15):
+            answer = self.ask(9, "GET", f"/desk/vouchers?x=1&prefix={text}&Prefix=2")
+            self.assertEqual(answer, (200, '{"more":false,"vouchers":[]}'), text)
+
+    def test_fifty_vouchers_are_found_by_their_printed_codes(self) -> None:
+        bodies = [[0, 0, 0, 0, *divmod(number, 31), *[0] * 9] for number in range(51)]
+        codes = sorted(with_check_character(body) for body in bodies)
+        short = with_check_character([0, 0, 0, 0, *[30] * 7])       # the last of all
+        for count, more in ((49, False), (50, False), (51, True)):
+            self.setUp()
+            for batch, issued in (("old", [short]), ("new", list(reversed(codes[:count - 1])))):
+                self.desk.model.act("issue", {"batch": batch, "plan": "hour", "codes": issued}, 1000)
+            answer = json.loads(self.ask(9, "GET", "/desk/vouchers?prefix=2222")[1])
+            listed = [voucher["code"] for voucher in answer["vouchers"]]
+            self.assertEqual((listed, answer["more"]), ([*codes[:count - 1], short][:50], more))
+        for text, found in (("2222ZZZZZZZ", [short]), (short[:-1], [short]), (short + "222", [])):
+            answer = json.loads(self.ask(9, "GET", "/desk/vouchers?prefix=" + text)[1])
+            self.assertEqual([voucher["code"] for voucher in answer["vouchers"]], found, text)
+
+    def test_first_characters_are_4_to_15_of_those_of_codes(self) -> None:
+        for query in ("", "?", "?prefix", "?prefix=", "?prefix=222", "?prefix=2-2-2", "?prefix=" + "2" * 16,
+                      "?prefix=2220", "?prefix=222I", "?prefix=2222L", "?prefix=2222%2D2", "?prefix=2222+2",
+                      "?prefix=2222_2", "?Prefix=2222", "?prefix=2222&prefix=2222", "?prefix=2222&prefix",
+                      "?prefix==2222", "?prefix=22\u00b522", "?prefix=22\u017f2"):
+            self.assertEqual(self.ask(9, "GET", "/desk/vouchers" + query), BAD_CODE, query)
+
+    def test_the_order_of_the_checks_of_these_questions(self) -> None:
+        for target, allow in (("/desk/batches?limit=0", "GET, POST"), ("/desk/batches/B", "GET"),
+                              ("/desk/vouchers", "GET")):
+            head, text = self.raw(9, "PUT", target)
+            self.assertEqual(text, '{"error":"bad_method"}', target)
+            self.assertIn(f"\r\nAllow: {allow}\r\n", head, target)
+            for fields in ((), ("Portal-Token: gate-token",), ("Portal-Token: desk-token",) * 2):
+                self.assertEqual(self.raw(9, "GET", target, "", *fields)[1], '{"error":"forbidden"}', target)
 
     def test_a_numbered_request_acts_once(self) -> None:
         one, two, three = self.bought(1000, "hour", "b1", 3)

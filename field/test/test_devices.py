@@ -129,6 +129,23 @@ class Answers(unittest.TestCase):
         done = subprocess.run([sys.executable, "-c", code], check=True, capture_output=True, text=True, env={**os.environ, "PYTHONPATH": str(FIELD)})
         self.assertEqual(done.stdout, "\n")
 
+    def loaded(self, module: str, *names: str) -> list[str]:
+        """Which of these modules a process has that has imported that one."""
+        code = f"import sys, {module}; print(*sorted({set(names)} & sys.modules.keys()))"
+        return subprocess.run([sys.executable, "-c", code], check=True, capture_output=True, text=True,
+                              env={**os.environ, "PYTHONPATH": str(FIELD)}).stdout.split()
+
+    @needs("python3-pyroute2")
+    def test_who_needs_pyroute2_loads_parts_of_it_alone(self) -> None:
+        names = "pyroute2.ndb.main", "pyroute2.iproute.linux", "pyroute2.nftables.main"
+        self.assertEqual(self.loaded("portal_field.lib.neighbours", *names), ["pyroute2.iproute.linux"])
+        self.assertEqual(self.loaded("portal_field.gateway.kernel_elements", *names, "pyroute2.netlink.nfnetlink.nftsocket"),
+                         ["pyroute2.netlink.nfnetlink.nftsocket"])
+
+    @needs("python3-nftables")
+    def test_the_gateways_agent_loads_it_where_it_reads_one_count(self) -> None:
+        self.assertEqual(self.loaded("portal_field.gateway.kernel_gate", "pyroute2", "nftables"), ["nftables"])
+
 
 if __name__ == "__main__":
     unittest.main()

@@ -40,7 +40,7 @@ class Kept(AtCounter):
     """What the pages write."""
 
     def acts(self) -> list[tuple[object, ...]]:
-        self.journal.batches(0)     # there is a file now
+        self.journal.asked("SELECT 1")      # there is a file now
         with contextlib.closing(sqlite3.connect(self.journal.path)) as link:
             return link.execute("SELECT clerk, place, act, batch, plan, codes, price, request, answer FROM acts "
                                 "ORDER BY number").fetchall()
@@ -133,8 +133,7 @@ class Kept(AtCounter):
         for words in ("Take 3.00", "The journal could not be written: unable to open database file."):
             self.assertIn(words, text)
         self.assertIsNotNone(self.desk.voucher(code)["sold"])
-        for page in ("/cash-up", "/batches"):
-            self.assertIn("The journal cannot be read: unable to open database file.", self.ask(page)[1])
+        self.assertIn("The journal cannot be read: unable to open database file.", self.ask("/cash-up")[1])
         self.journal.path = str(self.folder / "journal.db")
         self.assertIn("Take 3.00", self.ask("/sell", code=other, request="s2")[1])
         text = self.cash_up()
@@ -159,16 +158,6 @@ class Kept(AtCounter):
         self.assertIn("Nothing.", text)
         for day in ("x", "2026-13-01", "9999-12-31", "0001-01-01"):
             self.assertEqual(self.ask(f"/cash-up?day={day}")[0], 400, day)
-
-    def test_the_batches_are_listed_the_last_one_first(self) -> None:
-        for number, (batch, count) in enumerate((("b1", 2), ("b2", 5), ("b1", 1))):
-            self.ask("/issue", head=ANNA, batch=batch, plan="hour", count=str(count), request=f"i{number}")
-        self.ask("/now", batch="one-1", plan="day", request="n1")
-        text = self.ask("/batches")[1]
-        self.assertEqual(re.findall('<td data-label="Batch">([^<]*)', text), ["b2", "b1"])
-        self.assertEqual(re.findall('<td data-label="Codes">([^<]*)', text), ["5", "2"])
-        for link in ("/sheet?batch=b2", "/sell-batch?batch=b2"):
-            self.assertIn(f'<a href="{link}"', text)
 
 
 class File(AtCounter):

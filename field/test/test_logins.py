@@ -16,6 +16,7 @@ from typing import Any
 from unittest import mock
 
 from at_entrance import WORDS, Answer, ClerksBrowser, logins_in, put_accounts, quick_hash
+from desk_process import Routes
 from test_counter import AtCounter
 from test_front import UnixLink, serve_during_test
 
@@ -346,7 +347,7 @@ class Tokens(AtEntrance):
         browser = self.browser("anna")
         looks = [browser.send("/voucher", {"code": each, "token": browser.token}).place for each in (code, sold)]
         paths = ["/", "/vouchers", "/sessions", "/money", "/venue", "/scanner", "/account", *looks, looks[1].replace("voucher", "refund"),
-                 "/sell-batch?batch=b1", "/refund-batch?batch=b2", "/lost?batch=b1"]
+                 "/sell-batch?batch=b1", "/refund-batch?batch=b2", "/lost?batch=b1", "/batch?batch=b1"]
         token = f'<input type="hidden" name="token" value="{browser.token}">'
         found = 0
         for path in paths:
@@ -358,6 +359,23 @@ class Tokens(AtEntrance):
                 self.assertTrue(form.startswith(token), (path, form[:120]))
             self.assertEqual(page.text.count(token), len(forms), "and no form that is sent by GET has it")
         self.assertGreater(found, 30)
+        paths = [f"/{name}" for name in sorted(roles.FOR_ALL | roles.FOR_CLERKS | roles.FOR_MANAGERS) if "." not in name]
+        with mock.patch.object(self.counter.desk, "request_json", self.finds(code, sold)):
+            texts = [browser.ask(path).text for path in (*paths, browser.send("/voucher", {"code": code[:6], "token": browser.token}).place)]
+        self.assertIn("Codes that begin with", texts[-1])
+        for path, text in zip((*paths, "codes"), texts):
+            for form in re.findall(r'<form[^>]*method="post"[^>]*>', text):
+                self.assertIn(form + token, text, path)
+        self.assertGreater(sum(text.count(token) for text in texts), 100)
+
+    def finds(self, *codes: str) -> Any:
+        """Questions to the server, of which one for the first characters finds these codes."""
+        request_json, found = self.counter.desk.request_json, [self.desk.voucher(code) for code in codes]
+
+        def answer(route: Any, *part: str, **more: Any) -> Any:
+            return {"vouchers": found, "more": False} if route is Routes.VOUCHERS else request_json(route, *part, **more)
+
+        return answer
 
     def test_a_form_without_it_or_of_another_log_in_does_nothing_until_it_is_pressed(self) -> None:
         code, = self.desk.issue_codes("hour", "b1")
@@ -423,7 +441,7 @@ class Roles(AtEntrance):
                 if answer.status == 403:
                     self.assertIn("Only a manager may do this.", answer.told)
                     self.assertIn("Managers: anna.", answer.told)
-        self.assertEqual(self.journal.batches(9), [])
+        self.assertEqual(self.desk.desk.request_json(Routes.BATCH_LIST)["batches"], [])
         for name in ("", "vouchers", "sessions", "venue", "scanner", "batches", "account"):
             self.assertEqual((browser.ask(f"/{name}").status, boss.ask(f"/{name}").status), (200, 200), name)
         self.assertEqual(boss.ask("/cash-up").status, 200)
@@ -453,9 +471,13 @@ class Roles(AtEntrance):
         self.browser("anna").post("/issue", batch="b7", plan="hour", count="2", request="i1")
         ben, anna = self.browser("ben"), self.browser("anna", "10.88.0.3")
         page, other = ben.ask("/vouchers").text, anna.ask("/vouchers").text
-        for words in ('action="/issue"', 'formaction="/refund-batch"', 'formaction="/lost"', 'href="/refund-batch'):
+        for words in ('action="/issue"', 'formaction="/refund-batch"', 'formaction="/lost"'):
             self.assertEqual((words in page, words in other), (False, True), words)
         self.assertIn("A manager issues batches.", page)
+        page, other = ben.ask("/batch?batch=b7").text, anna.ask("/batch?batch=b7").text
+        for words in ('formaction="/refund-batch"', 'formaction="/lost"'):
+            self.assertEqual((words in page, words in other), (False, True), words)
+        self.assertEqual(page.count('<button name="code"'), 2, "a clerk may look")
         self.assertNotIn("A manager issues batches.", other)
 
 

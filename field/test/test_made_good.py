@@ -253,11 +253,11 @@ class CashUp(Replaced):
             form = self.form(self.used(batch))      # two sales at the server alone
             self.replace(form, f"slow <{batch}>")
         text = self.ask("/cash-up")[1]
-        self.assertIn('<tr><th scope="row">made good</th><td>–</td><td>2: 0.00</td></tr>', text)
+        self.assertIn('<tr><th scope="row">Made good</th><td data-label="Server">–</td><td data-label="Journal">2: 0.00</td></tr>', text)
         self.assertIn("2 vouchers for 0.00. They are among those that were sold.", text)
         self.assertEqual(re.findall('<td data-label="Reason" class="sentence">(.*?)</td>', text), ["slow &lt;b1&gt;", "slow &lt;b2&gt;"])
-        self.assertIn('<tr><th scope="row">Vouchers sold</th><td>5</td><td>3</td></tr>', text)
-        self.assertIn('<tr><th scope="row">Money in</th><td>9.00</td><td>3.00</td></tr>', text)
+        self.assertIn('<tr><th scope="row">Vouchers sold</th><td data-label="Server">5</td><td data-label="Journal">3</td></tr>', text)
+        self.assertIn('<tr><th scope="row">Money in</th><td data-label="Server">9.00</td><td data-label="Journal">3.00</td></tr>', text)
         shown = report.report(self.counter, datetime.date.today())
         self.assertRegex(shown, r"made good +2 +0\.00 +0 +0\.00 +0\.00\n")
 

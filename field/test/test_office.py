@@ -14,6 +14,7 @@ import socket
 import tempfile
 import time
 import unittest
+from collections.abc import Callable
 from typing import Any
 from unittest import mock
 
@@ -23,13 +24,14 @@ from needs import NEEDS, needs
 from own_postgres import OwnPostgres
 from test_logins import AtEntrance
 
-from portal_field.counter import parts_client, roles
+from portal_field.counter import parts_client, roles, silent_reasons
 from portal_field.counter.page import pages
+from portal_field.lib import refusals
 from portal_field.lib.languages import Language
 from portal_field.settings import kinds
 from portal_field.settings.accounts import CLERK, FILE, MANAGER, OFFICE, Account, Accounts
 from portal_field.settings.venue import Field
-from portal_field.venues import files, office, report, table, view
+from portal_field.venues import collect, files, office, report, table, view
 from portal_field.venues.places import Machine
 
 LINES = 'house = "{1}"\nname = "wifi.example"\ncounter_name = "{0}.example"\nzone = "UTC0"\ndesk_port = {2}\ncurrency = "{3}"\n'
@@ -128,6 +130,35 @@ class Reader(Chain):
         self.assertIn("No such file", office.answer(b'{"ask": "week", "monday": "2026-11-16"}', "host=/nowhere")["fault"])
 
 
+class Reasons(unittest.TestCase):
+    """What the collector says of a silent venue, in German."""
+
+    def german(self, silent: str = "", *faults: str) -> str:
+        return silent_reasons.in_words(Language("de", "counter").say, collect.Result("north", silent=silent, faults=list(faults)).fault)
+
+    def test_what_a_server_does_that_is_silent(self) -> None:
+        for silent, words in (
+                ("timed out", "sein Server hat nicht rechtzeitig geantwortet (timed out)"),
+                ("Remote end closed connection without response",
+                 "sein Server endete während der Antwort (Remote end closed connection without response)"),
+                ("an answer that is no JSON", "an seinem Port antwortet ein anderes Programm (an answer that is no JSON)"),
+                ("forbidden", Language("de", "counter").say(refusals.of_word("forbidden").cause).rstrip(".")),
+                ("[Errno 24] Too many open files", "[Errno 24] Too many open files")):
+            self.assertEqual(self.german(silent), f"es ist stumm: {words}")
+
+    def test_what_is_not_read_and_what_nobody_translates(self) -> None:
+        self.assertEqual(self.german("", "its database is not read: SQLite cannot read it: file is not a database"),
+                         "seine Datenbank wird nicht gelesen: SQLite kann sie nicht lesen (SQLite cannot read it: file is not a database)")
+        self.assertEqual(self.german("", "its settings are not on this machine: portal-venues apply"),
+                         "seine Einstellungen sind nicht auf dieser Maschine: portal-venues apply")
+        self.assertEqual((self.german("", "zone is missing"), self.german()), ("zone is missing", ""))
+
+    def test_each_of_these_words_is_one_of_the_collector_or_of_the_view(self) -> None:
+        said = pathlib.Path(collect.__file__).read_text() + (FIELD / "venues/view.sql").read_text()
+        for words in (*silent_reasons.WHOLE, *silent_reasons.WITH_DETAIL):
+            self.assertIn(words, said)
+
+
 class Address(unittest.TestCase):
     """How the page reaches the view, by venues.toml."""
 
@@ -176,10 +207,11 @@ class Page(AtEntrance, Chain):
         self.assertEqual(browser.log_in("olga", WORD).status, 303)
         return browser
 
-    def rows_of(self, page: Answer) -> list[list[str]]:
+    def rows_of(self, page: Answer | str) -> list[list[str]]:
         """The cells of all rows of the page."""
+        text = page if isinstance(page, str) else page.text
         return [[html.unescape(re.sub(r"\s+", " ", re.sub(r"<[^>]*>", "", cell))).strip() for cell in re.findall(r"<td.*?>(.*?)</td>", row, re.S)]
-                for row in re.findall(r"<tr>(.*?)</tr>|<tr class=\"total\">(.*?)</tr>", page.text, re.S) for row in row if row]
+                for row in re.findall(r"<tr>(.*?)</tr>|<tr class=\"total\">(.*?)</tr>", text, re.S) for row in row if row]
 
     def test_an_account_of_the_office_sees_its_page_alone(self) -> None:
         """Every route: each that is no page of the log-in, the own account or the office is refused, and the server is asked for
@@ -284,6 +316,16 @@ class Page(AtEntrance, Chain):
         self.assertIn(["north", "2026-11-20 10:00", "2026-11-19 09:30"], [row[:3] for row in rows])
         self.assertEqual(say.span(5 * 86400 + 3600), "5 days, 1 hour")
 
+    def test_why_a_venue_is_silent_is_in_the_language_of_the_counter(self) -> None:
+        result = collect.Result("south", silent="[Errno 111] Connection refused", faults=["its takings are not read: <x>"])
+        self.change("UPDATE portal_view.venue SET fault = %s WHERE venue = 'south'", result.fault)
+        self.change("UPDATE portal_view.venue SET tried = NULL WHERE venue = 'east'")
+        self.change("UPDATE portal_view.venue SET tried = now() - interval '2 hours' WHERE venue = 'north'")
+        rows = {row[0]: row[3] for row in self.rows_of(self.german()("/office?week=2026-11-16")) if len(row) == 4}
+        self.assertEqual(rows, {
+            "south": "es ist stumm: sein Server läuft nicht ([Errno 111] Connection refused); seine Einnahmen werden nicht gelesen: <x>",
+            "east": "es wurde noch nie gelesen", "north": "seine Maschine hat es seit einer Stunde nicht gelesen"})
+
     def test_without_postgresql_a_page_says_so_and_the_counter_goes_on(self) -> None:
         olga, ben = self.olga(), self.browser("ben", "10.88.0.9")
         code, = self.desk.issue_codes("hour", "b1")
@@ -328,16 +370,20 @@ class Page(AtEntrance, Chain):
             self.assertEqual(olga.ask(f"/office.csv?{query}").status, 400, query)
         self.assertEqual(olga.ask("/office?week=x").status, 400)
 
-    def test_in_the_counters_other_language(self) -> None:
+    def german(self) -> Callable[[str], str]:
+        """Asks for pages of the counter in German, as Olga."""
         self.counter.language = Language("de", "counter")
         self.counter.say = self.counter.language.say
-        app = pages(self.counter, self.logins)
-        client, login = app.test_client(use_cookies=False), self.logins
+        client, login = pages(self.counter, self.logins).test_client(use_cookies=False), self.logins
         cookie = login.begin(login.accounts.now["olga"], "10.88.0.2", "f1")
-        text = client.get("/office?week=2026-11-16", headers={"Cookie": f"__Host-counter={cookie}"}).get_data(as_text=True)
+        return lambda path: str(client.get(path, headers={"Cookie": f"__Host-counter={cookie}"}).get_data(as_text=True))
+
+    def test_in_the_counters_other_language(self) -> None:
+        ask = self.german()
+        text = ask("/office?week=2026-11-16")
         self.assertIn("Alle Häuser: die Woche ab 16.11.2026", text)
         self.assertIn("Nettoeinnahmen in EUR", text)
-        file = client.get("/office.csv?from=2026-11-16&to=2026-11-16", headers={"Cookie": f"__Host-counter={cookie}"}).get_data(as_text=True)
+        file = ask("/office.csv?from=2026-11-16&to=2026-11-16")
         self.assertIn("north;North Hostel;EUR;2026-11-16;3;15,00;0;0,00;15,00;0", file)
 
 

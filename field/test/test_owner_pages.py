@@ -73,6 +73,16 @@ class AtSettings(AtAccounts):
 
 
 class Plans(AtSettings):
+    def test_prices_are_typed_and_shown_as_in_the_counters_language(self) -> None:
+        self.conf.update(language="de", currency="EUR")
+        self.counter.__post_init__()
+        self.counter.venue_lines.folder = self.folder
+        self.counter.load_plans()
+        self.assertIn('value="3,00"', self.anna.ask("/plans").text, "the list of plans")
+        looked = self.anna.post("/plan", **self.fields(self.anna.ask("/plan?plan=hour"), "plan") | {"price": "3,50"})
+        self.assertIn("3,00\xa0€ → 3,50\xa0€", looked.text)
+        self.assertEqual(self.fields(looked, "plan")["price"], "3,50")
+
     def test_a_new_price_is_a_new_plan_and_old_codes_keep_theirs(self) -> None:
         self.anna.post("/issue", plan="hour", batch="b1", count="5", request="i1")
         codes = [row["code"] for row in self.counter.batch(Form(batch="b1"))]

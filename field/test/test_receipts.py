@@ -17,17 +17,19 @@ import sys
 import tempfile
 import time
 import unittest
+from unittest import mock
 
 from desk_process import FIELD, NoAnswer, Routes
 from test_several import ANNA, AtOnce, Killed
 
 from portal_field.counter import report as daily_report
-from portal_field.counter import receipt_text
+from portal_field.counter import receipt_text, roles
 from portal_field.counter.journal import Act, Journal
 from portal_field.counter.receipt_numbers import Till, letter_after
 from portal_field.counter.receipts import Receipts, by_rate, tax_sum
 from portal_field.lib import plans
 from portal_field.lib.plans import BadFile
+from portal_field.settings.accounts import CLERK
 
 SALE = Act("sell", "", "done", "b1", "hour", 1, 300)
 # Sells for ever: each line of its output is a receipt that was written.
@@ -220,6 +222,23 @@ class Printed(AtOnce):
                       "Paid by +Cash", "Tax 19% +€0.96", "Without tax +€5.04", "With tax +€6.00", "Tax 7% +€0.59"):
             self.assertRegex("\n".join(lines), words)
         self.assertNotIn(codes[0], "\n".join(lines))
+
+    def test_it_leads_to_its_lines_in_the_journal_and_to_its_batches(self) -> None:
+        codes = [*self.desk.issue_codes("hour", "b1", 2), *self.desk.issue_codes("day", "b2")]
+        self.sell(self.listed(*codes))
+        text = self.ask("/receipt?number=1", head=ANNA)[1]
+        table = text.partition("<h2>In the journal</h2>")[2]
+        self.assertEqual(re.findall('<td data-label="Batch"><a href="([^"]*)" aria-label="Batch b[12]">(b[12])</a></td>', table),
+                         [("/batch?batch=b1", "b1"), ("/batch?batch=b2", "b2")])
+        rows = [re.findall(f'<td data-label="{name}">([^<]*)</td>', table) for name in ("Clerk", "What", "Plan", "Codes", "Sum")]
+        self.assertEqual(rows, [["anna"] * 2, ["sold"] * 2, ["hour", "day"], ["2", "1"], ["6.00", "9.00"]])
+        self.assertIn(f'href="/cash-up?day={datetime.date.today()}&amp;details=1"', table)
+        self.assertNotIn(codes[0], text)
+        with mock.patch.object(roles, "role", lambda: CLERK):
+            self.assertNotIn("/cash-up", self.ask("/receipt?number=1")[1])
+        self.ask("/refund", head=ANNA, code=codes[2], request="r1", amount="900")
+        table = self.ask("/receipt?number=2")[1].partition("<h2>In the journal</h2>")[2]
+        self.assertEqual(table.count('<td data-label="What">refunded</td>'), 1)
 
     def test_it_is_a_copy_from_the_second_time_on(self) -> None:
         code, = self.desk.issue_codes("hour", "b1")

@@ -26,7 +26,7 @@ class Sections(AtCounter):
         code, = self.desk.issue_codes("hour", "b1")
         day = str(datetime.date.today())
         for path, section in (("/", "Sell"), (f"/voucher?code={code}", "Sell"), ("/vouchers", "Vouchers"), ("/batches", "Vouchers"),
-                              ("/sheet?batch=b1", "Vouchers"), ("/sessions", "Sessions"), ("/money", "Money"), ("/cash-up", "Money"),
+                              ("/sheet?batch=b1", "Vouchers"), ("/batch?batch=b1", "Vouchers"), ("/sessions", "Sessions"), ("/money", "Money"), ("/cash-up", "Money"),
                               (f"/takings?from={day}&to={day}", "Money"), ("/venue", "Venue"), ("/scanner", "Venue")):
             status, text = self.see(path, {"X-User": "anna"})
             nav = re.findall('<nav class="screen sections" aria-label="Sections">(.*?)</nav>', text, re.S)[0]
@@ -37,18 +37,32 @@ class Sections(AtCounter):
         for place in re.findall('href="(/[a-z]*)"', nav):
             self.assertEqual(self.ask(place)[0], 200, place)
 
+    def test_the_words_are_a_clerks(self) -> None:
+        code, = self.desk.sell_codes("gigabyte", "b1")
+        self.desk.desk.request_json(Routes.REDEEM, body={"code": code}, device="02:00:00:00:00:01")
+        rows = [{"device": "02:00:00:00:00:01", "session": 1, "used": 5, "reported": 5, "reported-at": int(time.time())}]
+        (self.folder / "sessions.json").write_text(json.dumps({"at": int(time.time()), "sessions": rows}))
+        pages = [self.ask(path)[1] for path in ("/", "/sessions", "/session?number=1", "/batches", "/batch?batch=b1", "/vouchers", "/money")]
+        for text in (*pages, self.see(f"/voucher?code={code}")[1], self.ask("/close", session="1", request="c1")[1]):
+            for words in ("At the server", "Within a poll", "as the server knows", "idempotency", "redemption key"):
+                self.assertNotIn(words, text)
+        self.assertIn("Its device is offline in a moment.", text)
+        self.assertIn('<td data-label="Counted last">5 bytes, ', pages[1])
+        day = str(datetime.date.today())
+        heads = re.findall('<th scope="col">([^<]*)</th>', self.ask(f"/takings?from={day}&to={day}")[1])
+        self.assertEqual(heads[1:6], ["Vouchers sold", "Money in", "Vouchers taken back", "Money back", "In the drawer"])
+
     def test_each_page_has_one_purpose(self) -> None:
         forms = {path: re.findall('action="/([a-z-]+)"', self.ask(path)[1]) for path in ("/", "/vouchers", "/sessions", "/money", "/venue")}
         self.assertEqual(forms, {"/": ["voucher", "now"], "/vouchers": ["issue", "sheet", "sell-batch", "refund-batch", "lost"],
                                  "/sessions": ["sessions", "close", "replace-session"], "/money": ["takings", "cash-up"], "/venue": []})
 
-    def test_lines_of_the_journal_lead_to_their_sheets(self) -> None:
+    def test_lines_of_the_journal_lead_to_their_batches(self) -> None:
         self.ask("/issue", batch="b1", plan="hour", count="1", request="i1")
         self.ask("/sell", code="2222", request="s1")
         text = self.ask("/cash-up?details=1")[1]
-        self.assertEqual(re.findall('<td data-label="Batch"><a href="([^"]*)" aria-label="Sheet of b1">b1</a></td>', text), ["/sheet?batch=b1"])
+        self.assertEqual(re.findall('<td data-label="Batch"><a href="([^"]*)" aria-label="Batch b1">b1</a></td>', text), ["/batch?batch=b1"])
         self.assertIn('<td data-label="Batch">–</td>', text)
-        self.assertIn('href="/sheet?batch=b1"', self.ask("/vouchers")[1])
         self.journal.path = str(self.folder / "nowhere/journal.db")
         self.assertEqual(self.ask("/vouchers")[0], 200, "a sheet is printed without a journal, too")
 

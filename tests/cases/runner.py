@@ -29,8 +29,8 @@ PHRASES = {
     501: "Not Implemented",
     503: "Service Unavailable",
 }
-GET_PATHS = ("/captive", "/portal/session", "/desk/batches/{}/print", "/desk/vouchers/{}", "/desk/takings", "/desk/sessions", "/desk/sessions/{}",
-             "/gateway/sessions", "/gateway/sessions/details")
+GET_PATHS = ("/captive", "/portal/session", "/desk/batches/{}", "/desk/batches/{}/print", "/desk/vouchers", "/desk/vouchers/{}", "/desk/takings",
+             "/desk/sessions", "/desk/sessions/{}", "/gateway/sessions", "/gateway/sessions/details")
 DAYS = ("Mon", "Tue", "Wed", "Thu", "Fri", "Sat", "Sun")
 MONTHS = ("Jan", "Feb", "Mar", "Apr", "May", "Jun", "Jul", "Aug", "Sep", "Oct", "Nov", "Dec")
 MASKED = b"Date: (the clock's)"
@@ -83,7 +83,9 @@ def response(ask: Ask) -> bytes:
         f"Content-Length: {len(wanted.body)}".encode(),
         b"Cache-Control: no-store",
     ]
-    if wanted.status == 405:
+    if wanted.status == 405 and path == "/desk/batches":
+        lines.append(b"Allow: GET, POST")
+    elif wanted.status == 405:
         lines.append(b"Allow: GET" if any(has_path(path, route) for route in GET_PATHS) else b"Allow: POST")
     return b"\r\n".join([*lines, b"Connection: close", b"", wanted.body])
 

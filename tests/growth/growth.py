@@ -72,6 +72,9 @@ def measure(desk, now, last, codes):
     times["sale"], times["redeem"], times["report"] = best(sell), best(redeem), best(report)
     times["sessions"] = best(request("GET", "/gateway/sessions", GATEWAY))
     times["print"] = best(request("GET", "/desk/batches/b0/print", DESK))
+    times["batches"] = best(request("GET", "/desk/batches", DESK))
+    times["batch"] = best(request("GET", "/desk/batches/b0", DESK))
+    times["first characters"] = best(request("GET", f"/desk/vouchers?prefix={first[:4]}", DESK))
     times["day"] = best(request("GET", f"/desk/takings?from={day(now)}&to={day(now)}", DESK), 5)
     times["year"] = best(request("GET", f"/desk/takings?from={day(now - YEAR)}&to={day(now)}", DESK), 5)
     return times

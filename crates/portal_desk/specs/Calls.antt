@@ -70,6 +70,13 @@ Finds unknown given result old new =
     MatchResult result (λ found. Answers given old (Some found) new)
     (λ r. RefusesUnknown unknown given old r new)
 
+-- the result holds of the record of the history, or an error if there is none
+abbrev pub FindsThat : {A X : Type 0} → Refusal → (History → Option X) → (A → X → History → Type 0)
+    → Result A Refusal → State → State → Type 0
+FindsThat {X = X} unknown given Is result old new =
+    MatchResult result (λ found. ReadsThat old (λ H. (x : X) × (given H ≡ Some x) × Is found x H) new)
+    (λ r. RefusesUnknown unknown given old r new)
+
 -- a command that is not a repetition and that the verdict accepts, with its changes and its fingerprint;
 -- nothing is committed yet
 abbrev pub Prepares : State → Command → ℕ → Option Fingerprint → MarkedChanges → State → Type 0

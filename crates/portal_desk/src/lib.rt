@@ -1,7 +1,14 @@
 //! The trait `Desk`: the service behind HTTP, whatever stores its records.
 #![tactic(auto)]
 
-ghost use Rattle.std.specs.Prelude.{◌≡◌, Bool, true, None, Some, IfOk, MatchResult};
+ghost use Rattle.std.specs.Prelude.{◌≡◌, ◌≤◌, Bool, true, None, Some, IfOk, MatchResult, option_map};
+ghost use Rattle.portal_model.specs.Batches.{
+  before_of,
+  batch_with_vouchers,
+  most_batches,
+  AreStatesAfter,
+  AreVouchersLike,
+};
 ghost use Rattle.portal_model.specs.Verdict.{IsWellFormed};
 ghost use Rattle.portal_model.specs.Captive.{captive_of, open_sessions_of};
 ghost use Rattle.portal_model.specs.Details.{session_details_of, last_details_of, open_details_of};
@@ -15,6 +22,7 @@ ghost use Rattle.portal_desk.specs.Calls.{
   is_stopped_state,
   CannotKeep,
   Finds,
+  FindsThat,
   KeepsStop,
   Moves,
   Prepares,
@@ -29,13 +37,15 @@ pub mod prepared;
 use portal_codes::Code;
 use portal_files::{BatchSheet, Settings};
 use portal_ledger::request::RequestMark;
+use portal_model::batches::BatchState;
 use portal_model::calendar::DayRange;
 use portal_model::captive::{Captive, OpenSession};
+use portal_model::code_start::CodeStart;
 use portal_model::command::Command;
 use portal_model::details::SessionDetails;
 use portal_model::moment::Moment;
 use portal_model::name::{Device, Id};
-use portal_model::record::Voucher;
+use portal_model::record::{Batch, Voucher};
 use portal_model::refusal::Refusal;
 use portal_model::takings::DayTakings;
 pub use prepared::{Marked, Prepared};
@@ -103,6 +113,41 @@ pub trait Desk {
     fn batch(&mut self, alloc: Global, id: &Id) -> Result<BatchSheet, Refusal>
         ensures { Moves settings is_fault_free has_stopped represents self.old self.new result
             (Finds Refusal.UnknownBatch (λ H. sheet_of H id.now) result) };
+
+    /// Returns a batch with its vouchers, in order of issue.
+    ///
+    /// Errors: `NoMemory`, `Stopped`; `UnknownBatch` if no such batch was issued.
+    fn batch_vouchers(&mut self, alloc: Global, id: &Id) -> Result<(Batch, Vec<Voucher>), Refusal>
+        ensures { Moves settings is_fault_free has_stopped represents self.old self.new result
+            (FindsThat Refusal.UnknownBatch (λ H. batch_with_vouchers H id.now)
+            (λ found both _. (found.0, found.1.items) ≡ both) result) };
+
+    /// Lists the batches, newest first, or those after a batch in this list: at most `limit` of them, each
+    /// with how many of its vouchers were sold, refunded and used up; and whether there are more.
+    ///
+    /// Errors: `NoMemory`, `Stopped`; `UnknownBatch` if no batch has the id `before`.
+    fn batches(
+        &mut self,
+        alloc: Global,
+        before: Option<&Id>,
+        limit: usize,
+    ) -> Result<(Vec<BatchState>, bool), Refusal>
+        requires { limit ≤ most_batches }
+        ensures { Moves settings is_fault_free has_stopped represents self.old self.new result
+            (FindsThat Refusal.UnknownBatch (λ H. before_of H (option_map (λ id. id.now) before.entry))
+            (λ found place H. AreStatesAfter H place limit found.0.items found.1) result) };
+
+    /// Returns the first 50 vouchers, by their printed codes, of those that begin so, and whether there are
+    /// more.
+    ///
+    /// Errors: `NoMemory`, `Stopped`.
+    fn vouchers_like(
+        &mut self,
+        alloc: Global,
+        start: &CodeStart,
+    ) -> Result<(Vec<Voucher>, bool), Refusal>
+        ensures { Moves settings is_fault_free has_stopped represents self.old self.new result
+            (Returns result (λ found H. AreVouchersLike H start.now found.0.items found.1)) };
 
     /// Lists the sessions that are open at a time, in the order of their numbers, for the gateway (RFC 8952
     /// section 2.4).

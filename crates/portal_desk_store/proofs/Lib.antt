@@ -1,4 +1,5 @@
 pub mod Common
+pub mod BatchLemmas
 pub mod HeadLemmas
 pub mod KeptLemmas
 pub mod ActLemmas

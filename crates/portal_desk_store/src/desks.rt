@@ -22,18 +22,22 @@ use portal_desk::prepared::{Marked, Prepared};
 use portal_files::{BatchSheet, Settings};
 use portal_ledger::marked::MarkedChanges;
 use portal_ledger::request::{RequestMark, fingerprint_is_typed};
+use portal_model::batches::BatchState;
 use portal_model::calendar::DayRange;
 use portal_model::captive::{Captive, OpenSession};
+use portal_model::code_start::CodeStart;
 use portal_model::command::Command;
 use portal_model::details::SessionDetails;
 use portal_model::lists::Codes;
 use portal_model::moment::Moment;
 use portal_model::name::{Device, Id};
 use portal_model::proof::witness;
-use portal_model::record::{Head, Voucher};
+use portal_model::record::{Batch, Head, Voucher};
 use portal_model::refusal::Refusal;
 use portal_model::takings::DayTakings;
-use portal_tables::questions::{BatchOf, CodesOf, LastSessionOf, PlanOf, SessionOf, VoucherOf};
+use portal_tables::questions::{
+    BatchOf, CodesOf, LastSessionOf, PlanOf, SessionOf, VoucherOf, VouchersLike,
+};
 use portal_tables::tables::Tables;
 use sqlite::Alter;
 use std::alloc::Global;
@@ -107,6 +111,27 @@ impl<S: Alter> Desk for StoreDesk<S> {
         let codes = self.tables.read(CodesOf { alloc, batch: id })?;
         let codes = Codes::from_slice(alloc, codes.as_slice())?;
         Ok(BatchSheet { batch, plan, codes })
+    }
+
+    fn batch_vouchers(&mut self, alloc: Global, id: &Id) -> Result<(Batch, Vec<Voucher>), Refusal> {
+        self.read_batch_vouchers(alloc, id)
+    }
+
+    fn batches(
+        &mut self,
+        alloc: Global,
+        before: Option<&Id>,
+        limit: usize,
+    ) -> Result<(Vec<BatchState>, bool), Refusal> {
+        self.list_batches(alloc, before, limit)
+    }
+
+    fn vouchers_like(
+        &mut self,
+        alloc: Global,
+        start: &CodeStart,
+    ) -> Result<(Vec<Voucher>, bool), Refusal> {
+        Ok(self.tables.read(VouchersLike { alloc, start })?)
     }
 
     fn open_now(&mut self, alloc: Global, moment: Moment) -> Result<Vec<OpenSession>, Refusal> {

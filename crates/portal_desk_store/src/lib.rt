@@ -3,6 +3,7 @@
 
 mod acting;
 mod attaching;
+mod batches;
 mod captives;
 mod desks;
 mod heads;

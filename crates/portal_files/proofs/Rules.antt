@@ -2,7 +2,7 @@
 use Rattle.portal_files.proofs.Common.{◌≡◌, ℕ, ℤ, pos, ◌+ℤ◌, ◌*ℤ◌, Bool, true, false, List, Option, Some}
 use Rattle.portal_files.proofs.Common.{None, refl, ap, sym, ◌∙◌, option_map, unwrap_or, if◌then◌else◌, ◌&&◌}
 use Rattle.portal_files.proofs.Common.{◌||◌, int_lt, ◌-ℤ◌, int_div_euclid, IsPosixZone, read_whole, TzText}
-use Rattle.portal_files.proofs.Common.{DstText, tz_view, dst_view, TimeZone, UTC, Posix, local_day_of}
+use Rattle.portal_files.proofs.Common.{DstText, tz_view, dst_view, TimeZone, Posix, local_day_of}
 use Rattle.portal_files.proofs.Common.{RuleFixesDays}
 use Rattle.jiff_tz.specs.Zone.{offset_at}
 use Rattle.jiff_core.specs.Timestamp.{nanos_of_seconds}

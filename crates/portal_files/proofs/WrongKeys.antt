@@ -1,5 +1,5 @@
 -- The keys of a settings table whose values are wrong.
-use Rattle.portal_files.proofs.Common.{◌≡◌, List, ℕ, Bool, true, false, codes, Option, Some, None, refl, sym}
+use Rattle.portal_files.proofs.Common.{◌≡◌, List, ℕ, true, false, codes, Option, Some, None, refl, sym}
 use Rattle.portal_files.proofs.Common.{is_some, false≢true, IfSome, TimeZone, Members, is_url, IsTextAt}
 use Rattle.portal_files.proofs.Common.{IsVenueAt, IsZoneAt}
 use Rattle.portal_files.specs.SettingsFile.{is_token}

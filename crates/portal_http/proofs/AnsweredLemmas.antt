@@ -21,6 +21,7 @@ use Rattle.portal_http_request.specs.declared.operation.Operation.TheVariants.{S
 use Rattle.portal_http_request.specs.declared.operation.Operation.TheVariants.{Takings, OpenSessions, Act}
 use Rattle.portal_http_request.specs.declared.operation.Operation.TheVariants.{OpenDetails, Session}
 use Rattle.portal_http_request.specs.declared.operation.Operation.TheVariants.{LastSession, OwnSession}
+use Rattle.portal_http_request.specs.declared.operation.Operation.TheVariants.{Batches, Batch, Vouchers}
 use Rattle.portal_http_request.specs.declared.rejection.Rejection.{Rejection}
 use Rattle.portal_http_request.specs.Checks.{IsChecked}
 use Rattle.portal_http_request.proofs.CheckedOnce.{checked_once}
@@ -57,6 +58,9 @@ command_stays L (Ok OpenDetails) moment = λ mark k held. held
 command_stays L (Ok (Session number)) moment = λ mark k held. held
 command_stays L (Ok (LastSession device)) moment = λ mark k held. held
 command_stays L (Ok (OwnSession device)) moment = λ mark k held. held
+command_stays L (Ok (Batches before limit)) moment = λ mark k held. held
+command_stays L (Ok (Batch id)) moment = λ mark k held. held
+command_stays L (Ok (Vouchers start)) moment = λ mark k held. held
 command_stays L (Err denied) moment = λ mark k held. held
 
 -- nothing is held if nothing is answered

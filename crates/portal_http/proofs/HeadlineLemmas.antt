@@ -18,12 +18,17 @@ use Rattle.portal_ledger.proofs.Ledgers.{the_sound_is_legal}
 use Rattle.portal_http_request.specs.declared.operation.Operation.TheVariants.{State as Asks, Voucher}
 use Rattle.portal_http_request.specs.declared.operation.Operation.TheVariants.{OpenDetails, Session}
 use Rattle.portal_http_request.specs.declared.operation.Operation.TheVariants.{LastSession, OwnSession}
+use Rattle.portal_http_request.specs.declared.operation.Operation.TheVariants.{Batches, Batch, Vouchers}
 use Rattle.portal_http_request.specs.Rejection.{error_of, allow_of}
 use Rattle.portal_http.specs.Replies.{IsSheet, IsVoucher, IsAnswer, IsDetails, IsOwnDetails}
 use Rattle.portal_desk.proofs.Verdicts.{verdict_is_no_stop, repeat_is_no_stop}
 use Rattle.portal_http.proofs.Lines.{state_ok, sheet_ok, voucher_ok, takings_ok, sessions_ok, answer_ok}
 use Rattle.portal_http.proofs.Lines.{details_ok, own_details_ok, open_details_ok, refused_off, other_apart}
-use Rattle.portal_http.proofs.Lines.{ok_apart}
+use Rattle.portal_http.proofs.Lines.{ok_apart, batches_ok, batch_ok, vouchers_ok}
+use Rattle.portal_model.specs.Batches.{before_of, batch_with_vouchers, AreStatesAfter}
+use Rattle.portal_model.specs.declared.batches.BatchState.{BatchState}
+use Rattle.portal_http.specs.Replies.{AreBatches, IsBatch}
+use Rattle.std.specs.Prelude.{Bool}
 
 memory_is_no_stop : NoMemory ≢ Stopped
 memory_is_no_stop e = cc
@@ -135,6 +140,19 @@ module _ (settings : SettingsValue) where
       by_found L a r after (OwnSession device) UnknownSession session_is_no_stop
       (λ details. IsOwnDetails details a.moment r) (λ details is. own_details_ok details a.moment r is)
       checked refl (last_details_of (history_of L) device a.moment) reply.0 reply.1
+  replied L a r (Ok (Batches before limit)) after checked other reply =
+      by_found L a r after (Batches before limit) UnknownBatch batch_is_no_stop
+      (λ place. (states : List BatchState) × (more : Bool)
+      × AreStatesAfter (history_of L) place limit states more × AreBatches states more a.moment r)
+      (λ place is. batches_ok is.0 is.1 a.moment r is.3)
+      checked refl (before_of (history_of L) before) reply.0 reply.1
+  replied L a r (Ok (Batch id)) after checked other reply =
+      by_found L a r after (Batch id) UnknownBatch batch_is_no_stop
+      (λ batch. IsBatch batch a.moment r) (λ batch is. batch_ok batch a.moment r is)
+      checked refl (batch_with_vouchers (history_of L) id) reply.0 reply.1
+  replied L a r (Ok (Vouchers start)) after checked other reply =
+      by_told L a r after (Vouchers start) (vouchers_ok reply.0.0 reply.0.1 a.moment r reply.0.3) checked refl
+      reply.1
   replied L a r (Ok (Act command mark)) after checked other reply = go (repeat_in L mark) refl reply
     where
       own : Accepted
@@ -233,6 +251,9 @@ module _ (settings : SettingsValue) where
       go (Ok (Session number)) checked stops = let it = lead None stops in halts L it.1 it.0
       go (Ok (LastSession device)) checked stops = let it = lead None stops in halts L it.1 it.0
       go (Ok (OwnSession device)) checked stops = let it = lead None stops in halts L it.1 it.0
+      go (Ok (Batches before limit)) checked stops = let it = lead None stops in halts L it.1 it.0
+      go (Ok (Batch id)) checked stops = let it = lead None stops in halts L it.1 it.0
+      go (Ok (Vouchers start)) checked stops = let it = lead None stops in halts L it.1 it.0
       go (Ok (Act command mark)) checked (inl is) = let it = lead None is in halts L it.1 it.0
       go (Ok (Act command mark)) checked (inr it) =
           let own = accepted_at L a.moment command mark in

@@ -15,12 +15,14 @@ use Rattle.portal_model.specs.declared.takings.DayTakings.{DayTakings}
 use Rattle.portal_model.specs.declared.captive.Captive.{Captive}
 use Rattle.portal_model.specs.declared.captive.OpenSession.{OpenSession}
 use Rattle.portal_model.specs.declared.details.SessionDetails.{SessionDetails}
+use Rattle.portal_model.specs.declared.batches.BatchState.{BatchState}
+use Rattle.portal_model.specs.declared.record.Batch.{Batch}
 use Rattle.portal_model.specs.declared.record.Voucher.{Voucher}
 use Rattle.portal_files.specs.declared.sheet.BatchSheet.{BatchSheet}
 use Rattle.portal_json.specs.Bodies.{error_body}
 use Rattle.portal_http_message.specs.Bytes.{head_bytes}
 use Rattle.portal_http.specs.Replies.{IsError, IsState, IsSheet, IsVoucher, IsTakings, AreSessions, IsAnswer}
-use Rattle.portal_http.specs.Replies.{IsDetails, IsOwnDetails, AreDetails}
+use Rattle.portal_http.specs.Replies.{IsDetails, IsOwnDetails, AreDetails, AreBatches, IsBatch, AreVouchers}
 
 -- the body of the refusal of a desk that stopped
 abbrev stopped_body : List ℕ
@@ -76,6 +78,21 @@ pub open_details_ok : (sessions : List SessionDetails) (moment : ℕ) (response 
     → AreDetails sessions moment response → is_ok response ≡ true
 unfolding AreDetails
 open_details_ok sessions moment response (date, dated, same) = ap is_ok same ∙ ok_line _ _ _ _ _ _
+
+pub batches_ok : (states : List BatchState) (more : Bool) (moment : ℕ) (response : List ℕ)
+    → AreBatches states more moment response → is_ok response ≡ true
+unfolding AreBatches
+batches_ok states more moment response (date, dated, same) = ap is_ok same ∙ ok_line _ _ _ _ _ _
+
+pub batch_ok : (batch : Batch × List Voucher) (moment : ℕ) (response : List ℕ)
+    → IsBatch batch moment response → is_ok response ≡ true
+unfolding IsBatch
+batch_ok (batch, vouchers) moment response (date, dated, same) = ap is_ok same ∙ ok_line _ _ _ _ _ _
+
+pub vouchers_ok : (vouchers : List Voucher) (more : Bool) (moment : ℕ) (response : List ℕ)
+    → AreVouchers vouchers more moment response → is_ok response ≡ true
+unfolding AreVouchers
+vouchers_ok vouchers more moment response (date, dated, same) = ap is_ok same ∙ ok_line _ _ _ _ _ _
 
 pub answer_ok : (answer : Answer) (moment : ℕ) (response : List ℕ)
     → IsAnswer answer moment response → is_ok response ≡ true

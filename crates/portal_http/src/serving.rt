@@ -1,5 +1,6 @@
 //! Serves one request, from its bytes to its response.
-ghost use Rattle.std.specs.Prelude.{◌≡◌, Some, None, IfErr, MatchResult};
+ghost use Rattle.std.specs.Prelude.{◌≡◌, ◌≤◌, Some, None, IfErr, MatchResult};
+ghost use Rattle.portal_model.specs.Batches.{most_batches};
 ghost use Rattle.portal_model.specs.Verdict.{IsWellFormed};
 ghost use Rattle.portal_http_request.specs.declared.operation.Operation.TheVariants as operation;
 ghost use Rattle.portal_http_request.specs.Checks.{IsInOrder};
@@ -10,9 +11,9 @@ ghost use Rattle.portal_http.specs.Calls.{FinishesAt, MovesState, ServesAt};
 use crate::arrivals::Arrival;
 use crate::reply::Response;
 use crate::responses::{
-    answer_response, captive_response, details_response, open_details_response,
-    own_details_response, refusal_response, rejection_response, sessions_response, sheet_response,
-    takings_response, voucher_response,
+    answer_response, batch_response, batches_response, captive_response, details_response,
+    open_details_response, own_details_response, refusal_response, rejection_response,
+    sessions_response, sheet_response, takings_response, voucher_response, vouchers_response,
 };
 use crate::spares::Spare;
 use portal_codes::Code;
@@ -22,6 +23,7 @@ use portal_http_request::{Operation, check_request};
 use portal_http_routes::Routes;
 use portal_ledger::request::RequestMark;
 use portal_model::calendar::DayRange;
+use portal_model::code_start::CodeStart;
 use portal_model::command::Command;
 use portal_model::moment::Moment;
 use portal_model::name::{Device, Id};
@@ -143,6 +145,47 @@ fn answer_own_session<D: Desk>(
     own_details_response(alloc, moment, &details)
 }
 
+/// Answers with a list of batches. Refusal: that of the desk, or `NoMemory`.
+fn answer_batches<D: Desk>(
+    alloc: Global,
+    desk: &mut D,
+    moment: Moment,
+    before: Option<Id>,
+    limit: usize,
+) -> Result<Response, Refusal>
+    requires { limit ≤ most_batches }
+    ensures { ServesAt D.Desk (operation.Batches before limit) moment result desk.old desk.new }
+{
+    let (states, more) = desk.batches(alloc, before.as_ref(), limit)?;
+    batches_response(alloc, moment, states.as_slice(), more)
+}
+
+/// Answers with a batch and its vouchers. Refusal: that of the desk, or `NoMemory`.
+fn answer_batch<D: Desk>(
+    alloc: Global,
+    desk: &mut D,
+    moment: Moment,
+    id: Id,
+) -> Result<Response, Refusal>
+    ensures { ServesAt D.Desk (operation.Batch id) moment result desk.old desk.new }
+{
+    let (batch, vouchers) = desk.batch_vouchers(alloc, &id)?;
+    batch_response(alloc, moment, &batch, vouchers.as_slice())
+}
+
+/// Answers with the vouchers whose codes begin so. Refusal: that of the desk, or `NoMemory`.
+fn answer_vouchers<D: Desk>(
+    alloc: Global,
+    desk: &mut D,
+    moment: Moment,
+    start: &CodeStart,
+) -> Result<Response, Refusal>
+    ensures { ServesAt D.Desk (operation.Vouchers start.now) moment result desk.old desk.new }
+{
+    let (vouchers, more) = desk.vouchers_like(alloc, start)?;
+    vouchers_response(alloc, moment, vouchers.as_slice(), more)
+}
+
 /// Commits a command that the desk has prepared. Its response of status 200 is made before.
 ///
 /// Refusal: `NoMemory`, and nothing has changed; or `Stopped`, and the command is in doubt.
@@ -214,6 +257,9 @@ fn serve_operation<D: Desk>(
         Operation::Session(number) => answer_session(alloc, desk, moment, number),
         Operation::LastSession(device) => answer_last_session(alloc, desk, moment, device),
         Operation::OwnSession(device) => answer_own_session(alloc, desk, moment, device),
+        Operation::Batches(before, limit) => answer_batches(alloc, desk, moment, before, limit),
+        Operation::Batch(id) => answer_batch(alloc, desk, moment, id),
+        Operation::Vouchers(start) => answer_vouchers(alloc, desk, moment, &start),
         Operation::Act(command, mark) => match mark {
             None => serve_plain(alloc, desk, moment, command),
             Some(mark) => serve_idempotent(alloc, desk, moment, command, &mark),

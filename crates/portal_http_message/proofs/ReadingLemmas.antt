@@ -1,5 +1,5 @@
 -- What pieces read one after the other make.
-use Rattle.portal_http_message.proofs.Common.{◌≡◌, ℕ, ◌+◌, ◌≤◌, Ok, Err, List, [], ◌∷◌, ◌++◌, length, Option}
+use Rattle.portal_http_message.proofs.Common.{◌≡◌, ℕ, ◌+◌, Ok, Err, List, [], ◌∷◌, ◌++◌, length, Option}
 use Rattle.portal_http_message.proofs.Common.{refl, sym, ap, ◌∙◌, subst, inl, inr, arith, lit≤, append-nil}
 use Rattle.portal_http_message.proofs.Common.{codes, rules, length-append, Consumes, lf, RequestHead}
 use Rattle.portal_http_message.proofs.Common.{IsRequestHead, NeverHasRequest, print_blank, print_version}

@@ -31,7 +31,7 @@ media_type_of PlainText = codes "text/plain; charset=utf-8"
 -- the lines of the head after `Cache-Control`, with the empty line at its end
 abbrev pub last_lines : Option (List ℕ) → List ℕ
 last_lines None = codes "Connection: close\r\n\r\n"
-last_lines (Some method) = codes "Allow: " ++ (method ++ codes "\r\nConnection: close\r\n\r\n")
+last_lines (Some methods) = codes "Allow: " ++ (methods ++ codes "\r\nConnection: close\r\n\r\n")
 
 -- the head of a response, from its status line to its empty line
 unfoldable pub head_bytes : ℕ → List ℕ → List ℕ → List ℕ → ℕ → List ℕ → List ℕ
@@ -54,7 +54,7 @@ IsResponse status moment content_type allow body bytes =
     (date : HttpDate) × (unix_secs date ≡ moment)
     × (bytes ≡ response_bytes status (date_text date) content_type allow body)
 
--- status, moment, content type, allowed method and body determine the bytes of a response
+-- status, moment, content type, allowed methods and body determine the bytes of a response
 abbrev pub ResponseIsFixed : Type 0
 ResponseIsFixed =
     (status moment : ℕ) (content_type : ContentType) (allow : Option (List ℕ)) (body one other : List ℕ)

@@ -13,7 +13,7 @@ ghost use Rattle.portal_http_message.specs.Bytes.{
   ResponseIsFixed,
 };
 
-use http::{Method, StatusCode};
+use http::StatusCode;
 use httpdate::HttpDate;
 use std::alloc::{AllocError, Global};
 
@@ -65,18 +65,16 @@ fn phrase(status: u16) -> &'static str
     }
 }
 
-/// Returns the last lines of a head: `Allow` if a method is given, `Connection: close`, and the empty line.
+/// Returns the last lines of a head: `Allow` if methods are given, `Connection: close`, and the empty line.
 ///
 /// The only error is out of memory.
-fn last_head_lines(alloc: Global, allow: Option<Method>) -> Result<String, AllocError>
-    ensures { IfOk result (λ s. string_bytes s ≡ last_lines allow) }
+fn last_head_lines(alloc: Global, allow: Option<&str>) -> Result<String, AllocError>
+    ensures { IfOk result (λ s. string_bytes s
+        ≡ last_lines (option_map (λ methods. methods.now) allow.entry)) }
 {
     match allow {
         None => String::from_str(alloc, "Connection: close\r\n\r\n"),
-        Some(method) => {
-            let method = method.as_str();
-            format!(in alloc; "Allow: {method}\r\nConnection: close\r\n\r\n")
-        }
+        Some(methods) => format!(in alloc; "Allow: {methods}\r\nConnection: close\r\n\r\n"),
     }
 }
 
@@ -102,18 +100,19 @@ fn head(
 /// Encodes a response: status line, fields and body.
 ///
 /// `moment` is the time of `Date`, in whole UTC seconds since 1970 (RFC 9110, section 6.6.1). It is before
-/// the year 10000, as a date has four digits for the year. `allow` is the method that `Allow` names, which
+/// the year 10000, as a date has four digits for the year. `allow` has the methods that `Allow` lists, which
 /// a response of status 405 must have (RFC 9110, section 15.5.6). The only error is out of memory.
 pub fn response(
     alloc: Global,
     status: StatusCode,
     moment: u64,
     content_type: ContentType,
-    allow: Option<Method>,
+    allow: Option<&str>,
     body: &[u8],
 ) -> Result<Vec<u8>, AllocError>
     requires { moment < 253_402_300_800 }
-    ensures { IfOk result (λ bytes. IsResponse status moment content_type allow body.now bytes.items) }
+    ensures { IfOk result (λ bytes. IsResponse status moment content_type
+        (option_map (λ methods. methods.now) allow.entry) body.now bytes.items) }
 {
     let Ok(date) = HttpDate::from_unix_secs(moment) else {
         unreachable!()
@@ -136,7 +135,7 @@ pub fn response(
     Ok(bytes)
 }
 
-/// Law: status, time, content type, allowed method and body determine every byte of a response.
+/// Law: status, time, content type, allowed methods and body determine every byte of a response.
 pub fn response_is_fixed()
     ensures { ResponseIsFixed }
 {}

@@ -1,7 +1,7 @@
 -- The settings, the seed and the bytes of a request settle what the checks make of it.
 use Rattle.portal_http_request.proofs.Common.{◌≡◌, inl, inr, ℕ, List, [], ◌∷◌, Bool, true, false, Option}
 use Rattle.portal_http_request.proofs.Common.{Some, None, refl, sym, ap, subst, ◌∙◌, Result, Ok, Err}
-use Rattle.portal_http_request.proofs.Common.{MatchOption, MatchResult, bytes_eq, codes, MatchBool, Data}
+use Rattle.portal_http_request.proofs.Common.{MatchOption, MatchResult, codes, MatchBool, Data}
 use Rattle.portal_http_request.proofs.Common.{Span, Command, Load, Sell, Report, Refund, Close, Refusal}
 use Rattle.portal_http_request.proofs.Common.{BadRequest, BadCode, BadDevice, BadPlans, Forbidden}
 use Rattle.portal_http_request.proofs.Common.{UnknownBatch, Caller, Desk, Gateway, Guest, IsPlansFile}
@@ -9,8 +9,12 @@ use Rattle.portal_http_request.proofs.Common.{SettingsValue, ReadsJson, text_at,
 use Rattle.portal_http_request.proofs.Common.{IsBatchOrder, IsReportOrder, IsCloseOrder, issue_of, HeadError}
 use Rattle.portal_http_request.proofs.Common.{Message, message_in, Route, Captive, Plans, Batches, Print}
 use Rattle.portal_http_request.proofs.Common.{Sales, Refunds, Closes, Voucher, Takings, Reports, Sessions}
-use Rattle.portal_http_request.proofs.Common.{Session, LastSession, OwnSession, SessionDetails}
-use Rattle.portal_http_request.proofs.Common.{method_of, FindsRoute, path_of, query_of, parameter_of}
+use Rattle.portal_http_request.proofs.Common.{Session, LastSession, OwnSession, SessionDetails, BatchList}
+use Rattle.portal_http_request.proofs.Common.{Batch, Vouchers, AsksForBatches, AsksForVouchers, BeforeAmong}
+use Rattle.portal_http_request.proofs.Common.{LimitAmong, values_at, option_and_then}
+use Rattle.portal_http_routes.specs.Queries.{only_of}
+use Rattle.portal_model.specs.CodeStart.{start_in}
+use Rattle.portal_http_request.proofs.Common.{with_method, FindsRoute, path_of, query_of, parameter_of}
 use Rattle.portal_http_request.proofs.Common.{Operation, Rejection, Method, Refused, IsGuest, holds_token}
 use Rattle.portal_http_request.proofs.Common.{ReadsKey, fingerprint_of, Gives, SaysBody, GivesCommand}
 use Rattle.portal_http_request.proofs.Common.{NamesBatch, NamesCode, IsSessionNumber, AreDays, IsDeviceAt}
@@ -242,6 +246,41 @@ requests_are_idempotent m caller Ordered once x y (n, reads, is) (k, reads2, als
         same ∙ ap (operation_of (fingerprint_of m caller number)) (once o p is also) ∙ sym same2
     go (Err r) is also = is ∙ sym also
 
+-- one of two ways, by a value
+by_value : {A B : Type 0} (Else : A → Type 0) (Is : B → A → Type 0) → Once Else
+    → ((b : B) → Once (Is b)) → (o : Option B) (one other : A)
+    → MatchOption o (Else one) (λ b. Is b one) → MatchOption o (Else other) (λ b. Is b other) → one ≡ other
+by_value Else Is else_once is_once None one other x y = else_once one other x y
+by_value Else Is else_once is_once (Some b) one other x y = is_once b one other x y
+
+limit_once : (values : List (List ℕ)) → Once (LimitAmong values)
+limit_once [] n k is also = is ∙ sym also
+limit_once (text ∷ []) (Some n) (Some k) is also = ap Some (session_once text n k is.0 also.0)
+limit_once (text ∷ []) (Some n) None is also = absurd (also n is)
+limit_once (text ∷ []) None (Some k) is also = absurd (is k also)
+limit_once (text ∷ []) None None is also = refl
+limit_once (text ∷ other ∷ rest) n k is also = is ∙ sym also
+
+before_once : (values : List (List ℕ)) (n : ℕ) → Once (BeforeAmong values n)
+before_once [] n x y is also = both x y (Ok (wanted.Batches None n)) is also
+before_once (text ∷ []) n x y is also = gives_once (NamesBatch text) (λ id. wanted.Batches (Some id) n)
+    (Refused UnknownBatch) (batch_once text) x y is also
+before_once (text ∷ other ∷ rest) n x y is also = denied_once (Refused BadRequest) x y is also
+
+batches_once : (query : Option (List ℕ)) → Once (AsksForBatches query)
+batches_once query x y (n, among, is) (k, among2, also) =
+    let before = values_at (codes "before") query in
+    by_value (IsDenied (Refused BadRequest)) (BeforeAmong before) (denied_once (Refused BadRequest))
+    (before_once before) n x y is
+    (subst (λ (o : Option ℕ). MatchOption o (IsDenied (Refused BadRequest) y) (λ m. BeforeAmong before m y))
+    (sym (limit_once (values_at (codes "limit") query) n k among among2)) also)
+
+vouchers_once : (query : Option (List ℕ)) → Once (AsksForVouchers query)
+vouchers_once query = by_value (IsDenied (Refused BadCode))
+    (λ start result. result ≡ Ok (wanted.Vouchers start)) (denied_once (Refused BadCode))
+    (λ start x y is also. both x y (Ok (wanted.Vouchers start)) is also)
+    (option_and_then start_in (only_of (values_at (codes "prefix") query)))
+
 route_once : (settings : SettingsValue) (seed : List ℕ) (m : Message) (route : Route)
     → Once (AtRoute settings seed m route)
 route_once settings seed m Captive =
@@ -282,13 +321,20 @@ route_once settings seed m OwnSession =
     at_guest_once m _ (λ device x y is also. both x y (Ok (wanted.OwnSession device)) is also)
 route_once settings seed m SessionDetails =
     at_token_once settings.gateway_token m _ (λ x y is also. both x y (Ok wanted.OpenDetails) is also)
+route_once settings seed m BatchList =
+    at_token_once settings.desk_token m _ (batches_once (query_of m.target))
+route_once settings seed m Batch =
+    at_token_once settings.desk_token m _ (gives_once (NamesBatch (parameter_of (path_of m.target)))
+    wanted.Batch (Refused UnknownBatch) (batch_once (parameter_of (path_of m.target))))
+route_once settings seed m Vouchers =
+    at_token_once settings.desk_token m _ (vouchers_once (query_of m.target))
 
 path_once : (settings : SettingsValue) (seed : List ℕ) (m : Message) (route : Option Route)
     → Once (AtPath settings seed m route)
 path_once settings seed m None one other is also = is ∙ sym also
 path_once settings seed m (Some route) one other is also =
-    by_test (AtRoute settings seed m route) (IsDenied (Method route)) (route_once settings seed m route)
-    (denied_once (Method route)) (bytes_eq m.method (method_of route)) one other is also
+    by_value (IsDenied (Method route)) (λ asked. AtRoute settings seed m asked) (denied_once (Method route))
+    (route_once settings seed m) (with_method route m.method) one other is also
 
 -- ---- the whole request
 

@@ -8,10 +8,11 @@ pub use Rattle.std.specs.Prelude.{codes, option_and_then, option_map, ◌≢◌}
 pub use Rattle.portal_http_request.specs.Bodies.{Gives, GivesCommand, SaysBody}
 pub use Rattle.portal_http_request.specs.Callers.{IsGuest, NamesDevice, ReadsKey, holds_token, fingerprint_of}
 pub use Rattle.portal_http_request.specs.Checks.{AsksForCommand, AtGuest, AtMessage, AtPath, AtRoute, AtToken}
+pub use Rattle.portal_http_request.specs.Checks.{AsksForBatches, AsksForVouchers, BeforeAmong}
 pub use Rattle.portal_http_request.specs.Checks.{IsChecked, IsOfRequest, OrMemory, syntax_error, operation_of}
 pub use Rattle.portal_http_request.specs.Issues.{issue_of}
 pub use Rattle.portal_http_request.specs.Queries.{AreDays, IsDayAt, IsDeviceAt, IsSessionNumber, NamesBatch}
-pub use Rattle.portal_http_request.specs.Queries.{NamesCode}
+pub use Rattle.portal_http_request.specs.Queries.{LimitAmong, NamesCode, values_at}
 pub use Rattle.portal_http_request.specs.Seeds.{codes_from_seed, words_at}
 pub use Rattle.portal_http_request.specs.declared.rejection.Rejection.{Rejection}
 pub use Rattle.portal_http_request.specs.declared.rejection.Rejection.TheVariants.{Method, Refused}
@@ -33,13 +34,14 @@ pub use Rattle.portal_model.specs.declared.refusal.Refusal.TheVariants.{BadCode,
 pub use Rattle.portal_model.specs.declared.refusal.Refusal.TheVariants.{BadPlans, BadRequest, Forbidden}
 pub use Rattle.portal_model.specs.declared.refusal.Refusal.TheVariants.{NoMemory, NoRoute, Stopped}
 pub use Rattle.portal_model.specs.declared.refusal.Refusal.TheVariants.{UnknownBatch}
-pub use Rattle.portal_http_routes.specs.Route.{method_of}
+pub use Rattle.portal_http_routes.specs.Route.{kept, method_of, with_method}
 pub use Rattle.portal_http_routes.specs.Table.{FindsRoute}
 pub use Rattle.portal_http_routes.specs.Targets.{parameter_of, path_of, query_of}
 pub use Rattle.portal_http_routes.specs.declared.Route.{Route}
 pub use Rattle.portal_http_routes.specs.declared.Route.TheVariants.{Batches, Captive, Closes, Plans, Print}
 pub use Rattle.portal_http_routes.specs.declared.Route.TheVariants.{LastSession, OwnSession, Refunds, Reports}
 pub use Rattle.portal_http_routes.specs.declared.Route.TheVariants.{Sales, Session, SessionDetails, Sessions}
-pub use Rattle.portal_http_routes.specs.declared.Route.TheVariants.{Takings, Voucher}
+pub use Rattle.portal_http_routes.specs.declared.Route.TheVariants.{Batch, BatchList, Takings, Voucher}
+pub use Rattle.portal_http_routes.specs.declared.Route.TheVariants.{Vouchers}
 pub use Rattle.rand_chacha.specs.ChaCha.{ChaCha, of_seed, word_at}
 pub use Rattle.serde_json.specs.Data.{Data}

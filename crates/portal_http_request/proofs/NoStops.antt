@@ -1,7 +1,7 @@
 -- No check says that the desk has stopped.
 use Rattle.portal_http_request.proofs.Common.{◌≡◌, ◌⊎◌, inl, inr, ℕ, List, Bool, true, false, Option, Some}
 use Rattle.portal_http_request.proofs.Common.{None, refl, ap, sym, subst, ◌∙◌, ◌≢◌, Result, Ok, Err, IfErr}
-use Rattle.portal_http_request.proofs.Common.{MatchOption, MatchResult, bytes_eq, codes, MatchBool, Data}
+use Rattle.portal_http_request.proofs.Common.{MatchOption, MatchResult, codes, MatchBool, Data}
 use Rattle.portal_http_request.proofs.Common.{Command, Load, Sell, Report, Refund, Close, Refusal, BadRequest}
 use Rattle.portal_http_request.proofs.Common.{BadCode, BadDevice, BadPlans, BadMethod, Forbidden, NoRoute}
 use Rattle.portal_http_request.proofs.Common.{UnknownBatch, NoMemory, Stopped, Caller, Desk, Gateway, Guest}
@@ -9,7 +9,12 @@ use Rattle.portal_http_request.proofs.Common.{IsPlansFile, SettingsValue, text_a
 use Rattle.portal_http_request.proofs.Common.{Exactly, IsCloseOrder, IsReportOrder, issue_of, HeadError}
 use Rattle.portal_http_request.proofs.Common.{Message, Route, Captive, Plans, Batches, Print, Sales, Refunds}
 use Rattle.portal_http_request.proofs.Common.{Closes, Voucher, Takings, Reports, Sessions, Session}
-use Rattle.portal_http_request.proofs.Common.{LastSession, OwnSession, SessionDetails, method_of, path_of}
+use Rattle.portal_http_request.proofs.Common.{LastSession, OwnSession, SessionDetails, BatchList, Batch}
+use Rattle.portal_http_request.proofs.Common.{Vouchers, with_method, path_of, [], ◌∷◌, option_and_then}
+use Rattle.portal_http_request.proofs.Common.{values_at}
+use Rattle.portal_http_request.proofs.Common.{AsksForBatches, AsksForVouchers, BeforeAmong}
+use Rattle.portal_http_routes.specs.Queries.{only_of}
+use Rattle.portal_model.specs.CodeStart.{start_in}
 use Rattle.portal_http_request.proofs.Common.{query_of, parameter_of, Operation, Rejection, Method, Refused}
 use Rattle.portal_http_request.proofs.Common.{holds_token, ReadsKey, fingerprint_of, Gives, SaysBody}
 use Rattle.portal_http_request.proofs.Common.{GivesCommand, NamesBatch, NamesCode, IsSessionNumber, AreDays}
@@ -149,6 +154,32 @@ guest_no_stop m Then other result (d, guest, is) = go d is
     go None is = denied_by (Refused BadDevice) (other_than BadDevice refl) result is
     go (Some device) is = other device result is
 
+batches_no_stop : (query : Option (List ℕ)) (result : Result Operation Rejection)
+    → AsksForBatches query result → IsNoStop result
+batches_no_stop query result (limit, among, is) = go limit is
+  where
+    before : (n : ℕ) (values : List (List ℕ)) → BeforeAmong values n result → IsNoStop result
+    before n [] is = wanted_by (wanted.Batches None n) result is
+    before n (text ∷ []) is = gives_wanted (NamesBatch text) (λ id. wanted.Batches (Some id) n) UnknownBatch
+        (other_than UnknownBatch refl) result is
+    before n (text ∷ other ∷ rest) is =
+        denied_by (Refused BadRequest) (other_than BadRequest refl) result is
+
+    go : (limit : Option ℕ) → MatchOption limit (result ≡ Err (Refused BadRequest))
+        (λ n. BeforeAmong (values_at (codes "before") query) n result) → IsNoStop result
+    go None is = denied_by (Refused BadRequest) (other_than BadRequest refl) result is
+    go (Some n) is = before n (values_at (codes "before") query) is
+
+vouchers_no_stop : (query : Option (List ℕ)) (result : Result Operation Rejection)
+    → AsksForVouchers query result → IsNoStop result
+vouchers_no_stop query result is =
+    go (option_and_then start_in (only_of (values_at (codes "prefix") query))) is
+  where
+    go : (start : Option (List ℕ)) → MatchOption start (result ≡ Err (Refused BadCode))
+        (λ start. result ≡ Ok (wanted.Vouchers start)) → IsNoStop result
+    go None is = denied_by (Refused BadCode) (other_than BadCode refl) result is
+    go (Some start) is = wanted_by (wanted.Vouchers start) result is
+
 route_no_stop : (settings : SettingsValue) (seed : List ℕ) (m : Message) (route : Route)
     (result : Result Operation Rejection) → AtRoute settings seed m route result → IsNoStop result
 route_no_stop settings seed m Captive =
@@ -192,6 +223,13 @@ route_no_stop settings seed m OwnSession =
     guest_no_stop m _ (λ device r same. wanted_by (wanted.OwnSession device) r same)
 route_no_stop settings seed m SessionDetails =
     token_no_stop settings.gateway_token m _ (λ r same. wanted_by wanted.OpenDetails r same)
+route_no_stop settings seed m BatchList =
+    token_no_stop settings.desk_token m _ (batches_no_stop (query_of m.target))
+route_no_stop settings seed m Batch =
+    token_no_stop settings.desk_token m _ (gives_wanted (NamesBatch (parameter_of (path_of m.target)))
+    wanted.Batch UnknownBatch (other_than UnknownBatch refl))
+route_no_stop settings seed m Vouchers =
+    token_no_stop settings.desk_token m _ (vouchers_no_stop (query_of m.target))
 
 -- ---- the whole request
 
@@ -201,14 +239,14 @@ message_no_stop settings seed (Err error) result is =
     denied_by (Refused (syntax_error error)) (shape_is_no_stop error) result is
 message_no_stop settings seed (Ok m) result (route, finds, is) = go route is
   where
-    by_method : (route : Route) (b : Bool)
-        → MatchBool b (AtRoute settings seed m route result) (result ≡ Err (Method route)) → IsNoStop result
-    by_method route true is = route_no_stop settings seed m route result is
-    by_method route false is = denied_by (Method route) (other_than BadMethod refl) result is
+    by_method : (route : Route) (asked : Option Route) → MatchOption asked (result ≡ Err (Method route))
+        (λ one. AtRoute settings seed m one result) → IsNoStop result
+    by_method route (Some one) is = route_no_stop settings seed m one result is
+    by_method route None is = denied_by (Method route) (other_than BadMethod refl) result is
 
     go : (route : Option Route) → AtPath settings seed m route result → IsNoStop result
     go None is = denied_by (Refused NoRoute) (other_than NoRoute refl) result is
-    go (Some route) is = by_method route (bytes_eq m.method (method_of route)) is
+    go (Some route) is = by_method route (with_method route m.method) is
 
 -- the result of the checks of a request's path, or out of memory in its place
 pub no_stop : (settings : SettingsValue) (seed : List ℕ) (m : Result Message HeadError)

@@ -2,6 +2,10 @@
 use Rattle.portal_http_request.proofs.Common.{◌≡◌, ◌⊎◌, inl, inr, ℕ, List, Bool, true, Option, Some, ap, sym}
 use Rattle.portal_http_request.proofs.Common.{subst, ◌∙◌, Result, Ok, Err, MatchResult, bytes_eq, MatchBool}
 use Rattle.portal_http_request.proofs.Common.{Command, Refusal, Forbidden, NoMemory, Caller, SettingsValue}
+use Rattle.portal_http_request.proofs.Common.{None, MatchOption, false, refl, kept, with_method}
+use Rattle.portal_http_routes.specs.Route.{reading_at}
+use Rattle.std.specs.Prelude.{cond}
+use Rattle.std.proofs.lemmas.Slice.Eq.{bytes_eq-Decides}
 use Rattle.portal_http_request.proofs.Common.{Message, Route, method_of, FindsRoute, path_of, Operation}
 use Rattle.portal_http_request.proofs.Common.{Rejection, Method, Refused, IsGuest, holds_token, ReadsKey}
 use Rattle.portal_http_request.proofs.Common.{fingerprint_of, OrMemory, AtGuest, AtToken, operation_of}
@@ -68,21 +72,40 @@ pub at_route : (settings : SettingsValue) (seed : List ℕ) (m : Message) (route
 at_route settings seed m route one result is asks =
     subst (λ (r : Route). OrMemory (AtRoute settings seed m r) result) (sym is) asks
 
+-- the route of a method has that method
+pub same_method : (route one : Route) (method : List ℕ) → with_method route method ≡ Some one
+    → method_of one ≡ method
+same_method route one method is = go (bytes_eq method (method_of route)) refl is
+  where
+    behind : (other : Option Route) → kept method other ≡ Some one → method_of one ≡ method
+    behind None is = absurd (cc)
+    behind (Some r) is = by (bytes_eq method (method_of r)) refl is
+      where
+        by : (b : Bool) → bytes_eq method (method_of r) ≡ b → cond b (Some r) None ≡ Some one
+            → method_of one ≡ method
+        by true same is = let e : r ≡ one = cc in ap method_of (sym e) ∙ sym ((bytes_eq-Decides _ _).0 same)
+        by false same is = absurd (cc)
+
+    go : (b : Bool) → bytes_eq method (method_of route) ≡ b
+        → cond b (Some route) (kept method (reading_at route)) ≡ Some one → method_of one ≡ method
+    go true same is = let e : route ≡ one = cc in ap method_of (sym e) ∙ sym ((bytes_eq-Decides _ _).0 same)
+    go false same is = behind (reading_at route) is
+
 -- what the route asks of a request whose path has it, by its method
 pub at_path : (settings : SettingsValue) (seed : List ℕ) (m asked : Message) (path : List ℕ)
-    (found : Option Route) (route : Route) (result : Result Operation Rejection)
+    (found : Option Route) (route one : Route) (result : Result Operation Rejection)
     → path ≡ path_of m.target → FindsRoute path found → found ≡ Some route → asked ≡ m
-    → bytes_eq m.method (method_of route) ≡ true
-    → OrMemory (AtRoute settings seed asked route) result → OrMemory (AtMessage settings seed (Ok m)) result
-at_path settings seed m asked path found route result same finds is_route is by_method (inl memory) =
+    → with_method route m.method ≡ Some one
+    → OrMemory (AtRoute settings seed asked one) result → OrMemory (AtMessage settings seed (Ok m)) result
+at_path settings seed m asked path found route one result same finds is_route is by_method (inl memory) =
     inl memory
-at_path settings seed m asked path found route result same finds is_route is by_method (inr asks) =
+at_path settings seed m asked path found route one result same finds is_route is by_method (inr asks) =
     let there = subst (λ (p : List ℕ). FindsRoute p (Some route)) same
     (subst (λ (o : Option Route). FindsRoute path o) is_route finds) in
-    let asked_there = subst (λ (x : Message). AtRoute settings seed x route result) is asks in
+    let asked_there = subst (λ (x : Message). AtRoute settings seed x one result) is asks in
     inr (
       Some route,
       there,
-      subst (λ (b : Bool). MatchBool b (AtRoute settings seed m route result) (result ≡ Err (Method route)))
-          (sym by_method) asked_there,
+      subst (λ (o : Option Route). MatchOption o (result ≡ Err (Method route))
+          (λ r. AtRoute settings seed m r result)) (sym by_method) asked_there,
     )

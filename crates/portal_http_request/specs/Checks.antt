@@ -1,7 +1,7 @@
 -- The result of the checks before the desk is called, in their order: syntax, path, method, caller,
 -- idempotency key, body or parameter.
-use Rattle.std.specs.Prelude.{◌≡◌, ◌≢◌, ◌⊎◌, ℕ, List, Option, Some, None, MatchOption, Result, Ok, Err}
-use Rattle.std.specs.Prelude.{MatchResult, bytes_eq, ⊤}
+use Rattle.std.specs.Prelude.{◌≡◌, ◌≢◌, ◌≤◌, ◌⊎◌, ℕ, List, [], ◌∷◌, Option, Some, None, MatchOption, Result}
+use Rattle.std.specs.Prelude.{Ok, Err, MatchResult, codes, option_and_then, ⊤}
 use Rattle.std.specs.Bool.{MatchBool}
 use Rattle.httparse.specs.Grammar.{RequestHead}
 use Rattle.portal_model.specs.declared.command.Command.{Command}
@@ -28,8 +28,11 @@ use Rattle.portal_http_routes.specs.declared.Route.{Route}
 use Rattle.portal_http_routes.specs.declared.Route.TheVariants.{Captive, Redeem, Plans, Batches, Print, Sales}
 use Rattle.portal_http_routes.specs.declared.Route.TheVariants.{Refunds, Closes, Voucher, Takings, Reports}
 use Rattle.portal_http_routes.specs.declared.Route.TheVariants.{Sessions, Session, LastSession, OwnSession}
-use Rattle.portal_http_routes.specs.declared.Route.TheVariants.{SessionDetails}
-use Rattle.portal_http_routes.specs.Route.{method_of}
+use Rattle.portal_http_routes.specs.declared.Route.TheVariants.{SessionDetails, BatchList, Batch, Vouchers}
+use Rattle.portal_http_routes.specs.Queries.{only_of}
+use Rattle.portal_http_routes.specs.Route.{with_method}
+use Rattle.portal_model.specs.Batches.{most_batches}
+use Rattle.portal_model.specs.CodeStart.{start_in}
 use Rattle.portal_http_routes.specs.Table.{FindsRoute}
 use Rattle.portal_http_routes.specs.Targets.{path_of, query_of, parameter_of}
 use Rattle.portal_http_request.specs.declared.operation.Operation.{Operation}
@@ -40,6 +43,7 @@ use Rattle.portal_http_request.specs.Rejection.{error_of}
 use Rattle.portal_http_request.specs.Callers.{IsGuest, holds_token, ReadsKey, fingerprint_of}
 use Rattle.portal_http_request.specs.Bodies.{Gives, GivesCommand}
 use Rattle.portal_http_request.specs.Queries.{NamesBatch, NamesCode, IsSessionNumber, AreDays, IsDeviceAt}
+use Rattle.portal_http_request.specs.Queries.{values_at, LimitAmong}
 
 -- the result is so, or out of memory
 abbrev pub OrMemory : (Result Operation Rejection → Type 0) → Result Operation Rejection → Type 0
@@ -76,7 +80,29 @@ AsksForCommand m caller Ordered result =
     × (result ≡ operation_of (fingerprint_of m caller n) ordered))
     (λ r. result ≡ Err (Refused r))
 
--- ---- the sixteen routes
+-- ---- lists of batches, and vouchers by the first characters of their codes
+
+-- a list after the batch that is named, if one is; none, if there are more
+abbrev pub BeforeAmong : List (List ℕ) → ℕ → Result Operation Rejection → Type 0
+BeforeAmong [] limit result = result ≡ Ok (operations.Batches None limit)
+BeforeAmong (text ∷ []) limit result =
+    Gives (NamesBatch text) (λ id. operations.Batches (Some id) limit) (Refused UnknownBatch) result
+BeforeAmong (text ∷ other ∷ rest) limit result = result ≡ Err (Refused BadRequest)
+
+-- the list of batches that a query asks for
+abbrev pub AsksForBatches : Option (List ℕ) → Result Operation Rejection → Type 0
+AsksForBatches query result =
+    (limit : Option ℕ) × LimitAmong (values_at (codes "limit") query) limit
+    × MatchOption limit (result ≡ Err (Refused BadRequest))
+    (λ n. BeforeAmong (values_at (codes "before") query) n result)
+
+-- the vouchers that a query asks for
+abbrev pub AsksForVouchers : Option (List ℕ) → Result Operation Rejection → Type 0
+AsksForVouchers query result =
+    MatchOption (option_and_then start_in (only_of (values_at (codes "prefix") query)))
+    (result ≡ Err (Refused BadCode)) (λ start. result ≡ Ok (operations.Vouchers start))
+
+-- ---- the nineteen routes
 
 -- what each route requires of a request, and the operation that it asks of the desk
 abbrev pub AtRoute : SettingsValue → List ℕ → Message → Route → Result Operation Rejection → Type 0
@@ -112,14 +138,20 @@ AtRoute settings seed m OwnSession =
     AtGuest m (λ device result. result ≡ Ok (operations.OwnSession device))
 AtRoute settings seed m SessionDetails =
     AtToken settings.gateway_token m (λ result. result ≡ Ok operations.OpenDetails)
+AtRoute settings seed m BatchList =
+    AtToken settings.desk_token m (AsksForBatches (query_of m.target))
+AtRoute settings seed m Batch = AtToken settings.desk_token m
+    (Gives (NamesBatch (parameter_of (path_of m.target))) operations.Batch (Refused UnknownBatch))
+AtRoute settings seed m Vouchers =
+    AtToken settings.desk_token m (AsksForVouchers (query_of m.target))
 
 -- ---- the whole request
 
--- no route for the path; or the method of the route, and then what the route requires
+-- no route for the path; or the route of the method among those of the path, and then what it requires
 abbrev pub AtPath : SettingsValue → List ℕ → Message → Option Route → Result Operation Rejection → Type 0
 AtPath settings seed m None result = result ≡ Err (Refused NoRoute)
-AtPath settings seed m (Some route) result = MatchBool (bytes_eq m.method (method_of route))
-    (AtRoute settings seed m route result) (result ≡ Err (Method route))
+AtPath settings seed m (Some route) result = MatchOption (with_method route m.method)
+    (result ≡ Err (Method route)) (λ asked. AtRoute settings seed m asked result)
 
 -- the refusal for an error in the syntax of a request (RFC 9112, sections 2, 3.2 and 6; a body over 65,536
 -- bytes; a transfer coding)
@@ -140,9 +172,10 @@ abbrev pub IsChecked : SettingsValue → List ℕ → List ℕ → Result Operat
 IsChecked settings seed bytes result =
     (head : Option RequestHead) × HeadOf bytes head × AtMessage settings seed (message_in head bytes) result
 
--- if the operation is a command, it is well formed, as the desk requires
+-- a command is well formed, and a list of batches is not too long, as the desk requires
 abbrev pub IsInOrder : Operation → Type 0
 IsInOrder (operations.Act command mark) = IsWellFormed command
+IsInOrder (operations.Batches before limit) = limit ≤ most_batches
 IsInOrder _ = ⊤
 
 -- the rejection is not the refusal of a desk that has stopped

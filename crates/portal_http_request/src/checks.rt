@@ -40,12 +40,12 @@ fn check_path(
     let Ok(path) = str::from_utf8(path) else {
         return Err(Rejection::Refused(Refusal::NoRoute));
     };
-    let Some(route) = routes.find(path) else {
+    let Some(found) = routes.find(path) else {
         return Err(Rejection::Refused(Refusal::NoRoute));
     };
-    if request.method != route.method_text().as_bytes() {
-        return Err(Rejection::Method(route));
-    }
+    let Some(route) = found.with_method(request.method) else {
+        return Err(Rejection::Method(found));
+    };
     let asked = RoutedRequest::new(request, route.method_text(), path);
     check_route(alloc, settings, seed, route, &asked)
 }
@@ -73,7 +73,8 @@ fn syntax_error(error: HeadError) -> Refusal
 ///   1 to 36 letters, digits and hyphens;
 /// - `BadPlans`, `BadCode` or `BadRequest` for its body; `UnknownBatch`, `BadCode` or `BadRequest` for its
 ///   parameter; `BadRequest` for a query without valid days; `BadDevice` for a query without one valid
-///   device.
+///   device; `BadRequest` and `UnknownBatch` for the query of a list of batches; `BadCode` for a query
+///   without the first characters of a code.
 ///
 /// `NoMemory` can come in place of any of these. No check returns `Stopped`.
 pub fn check_request(

@@ -3,6 +3,7 @@
 use portal_codes::Code;
 use portal_ledger::request::RequestMark;
 use portal_model::calendar::DayRange;
+use portal_model::code_start::CodeStart;
 use portal_model::command::Command;
 use portal_model::name::{Device, Id};
 
@@ -27,6 +28,12 @@ pub enum Operation {
     OwnSession(Device),
     /// List the open sessions with their details.
     OpenDetails,
+    /// List the batches, newest first, after the batch with this id if there is one: at most so many.
+    Batches(Option<Id>, usize),
+    /// Read a batch with its vouchers.
+    Batch(Id),
+    /// Find the vouchers whose codes begin so.
+    Vouchers(CodeStart),
     /// Execute a command, idempotently if the request has a fingerprint.
     Act(Command, Option<RequestMark>),
 }

@@ -1,5 +1,6 @@
 //! Reads the values in a path and in a query.
-ghost use Rattle.std.specs.Prelude.{◌≡◌, ℕ, ℤ, List, None, IfSome, option_map};
+ghost use Rattle.std.specs.Prelude.{◌≡◌, ℕ, ℤ, List, None, IfOk, IfErr, IfSome, codes, option_map};
+ghost use Rattle.std.specs.Option.{option_to_list};
 ghost use Rattle.portal_model.specs.Span.{Span};
 ghost use Rattle.portal_http_request.specs.Queries.{
   NamesBatch,
@@ -8,14 +9,21 @@ ghost use Rattle.portal_http_request.specs.Queries.{
   IsDayAt,
   AreDays,
   IsDeviceAt,
+  IsRepeated,
+  LimitAmong,
+  values_at,
 };
 
 use portal_codes::Code;
 use portal_files::read_day;
-use portal_http_routes::only_value;
+use portal_http_routes::{has_key, only_value};
 use portal_model::calendar::{Day, DayRange};
 use portal_model::name::{Device, Id};
+use portal_model::refusal::Refusal;
 use std::str;
+
+/// The most batches that are listed at once.
+const MOST_BATCHES: usize = 20;
 
 /// The greatest number of a session.
 const GREATEST: u64 = 9_223_372_036_854_775_807;
@@ -75,6 +83,43 @@ pub fn days_of_query(query: Option<&[u8]>) -> Option<DayRange>
     let from = day_at(query, b"from")?;
     let to = day_at(query, b"to")?;
     DayRange::new(from, to)
+}
+
+/// Returns the value under a key of a query, or `None` if the key is not in it.
+///
+/// Refusal: `BadRequest` if the key is in it more than once.
+pub fn value_if_any<'q>(query: Option<&'q [u8]>, key: &[u8]) -> Result<Option<&'q [u8]>, Refusal>
+    ensures ok { IfOk result (λ value. values_at key.now (option_map (λ q. q.now) query.entry)
+        ≡ option_to_list (option_map (λ v. v.now) value)) }
+    ensures err { IfErr result (λ r. (r ≡ Refusal.BadRequest)
+        × IsRepeated (values_at key.now (option_map (λ q. q.now) query.entry))) }
+{
+    let Some(query) = query else {
+        return Ok(None);
+    };
+    match only_value(query, key) {
+        Some(value) => Ok(Some(value)),
+        None if has_key(query, key) => Err(Refusal::BadRequest),
+        None => Ok(None),
+    }
+}
+
+/// Reads under `limit` in a query how many batches are listed at most: 20, if the key is not in it.
+///
+/// None if the key is in it more than once, or its value is not a number from 1 to 20 in decimal digits.
+pub fn limit_of_query(query: Option<&[u8]>) -> Option<usize>
+    ensures { LimitAmong (values_at (codes "limit") (option_map (λ q. q.now) query.entry)) result }
+{
+    let value = value_if_any(query, b"limit").ok()?;
+    let Some(text) = value else {
+        return Some(MOST_BATCHES);
+    };
+    let number = number_of_text(text)?;
+    if number >= 1 && number <= MOST_BATCHES as u64 {
+        Some(number as usize)
+    } else {
+        None
+    }
 }
 
 /// Reads the device under `device` in a query, if the key is in the query exactly once.

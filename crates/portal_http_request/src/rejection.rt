@@ -1,9 +1,8 @@
 //! The rejections of requests.
-ghost use Rattle.std.specs.Prelude.{◌≡◌};
+ghost use Rattle.std.specs.Prelude.{◌≡◌, option_map};
 ghost use Rattle.portal_http_request.specs.declared.rejection.Rejection.TheVariants.{Refused};
 ghost use Rattle.portal_http_request.specs.Rejection.{error_of, allow_of};
 
-use http::Method;
 use portal_http_routes::Route;
 use portal_model::refusal::Refusal;
 
@@ -35,13 +34,13 @@ impl Rejection {
         }
     }
 
-    /// Returns the method for the field `Allow`: that of the route, if the request has another method.
-    /// Other responses have no such field.
-    pub fn allow(self) -> Option<Method>
-        ensures { result ≡ allow_of self }
+    /// Returns the methods for the field `Allow`: those of the path's routes, if the request has another
+    /// method. Other responses have no such field.
+    pub fn allow(self) -> Option<&'static str>
+        ensures { option_map (λ methods. methods.now) result ≡ allow_of self }
     {
         match self {
-            Rejection::Method(route) => Some(route.method()),
+            Rejection::Method(route) => Some(route.allowed_methods()),
             Rejection::Refused(_) => None,
         }
     }

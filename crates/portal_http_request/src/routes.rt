@@ -1,12 +1,13 @@
 //! Checks what each route requires of a request: the caller, the idempotency key, and the body or the
 //! parameter.
-ghost use Rattle.std.specs.Prelude.{◌≡◌, ℕ, List, IfOk, MatchResult, true, false};
+ghost use Rattle.std.specs.Prelude.{◌≡◌, ℕ, List, IfOk, MatchResult, option_map, true, false};
 ghost use Rattle.portal_files.specs.SettingsFile.{SettingsValue};
 ghost use Rattle.portal_model.specs.Verdict.{IsWellFormed};
 ghost use Rattle.portal_http_routes.specs.declared.Route.TheVariants as route;
 ghost use Rattle.portal_http_request.specs.declared.rejection.Rejection.TheVariants.{Refused};
 ghost use Rattle.portal_http_request.specs.Callers.{holds_token};
-ghost use Rattle.portal_http_request.specs.Checks.{AsksForCommand, AtRoute, IsInOrder, OrMemory};
+ghost use Rattle.portal_http_request.specs.Checks.{AsksForBatches, AsksForCommand, AsksForVouchers};
+ghost use Rattle.portal_http_request.specs.Checks.{AtRoute, IsInOrder, OrMemory};
 
 use crate::bodies::{
     close_command, load_command, redeem_command, refund_command, report_command, sell_command,
@@ -15,13 +16,15 @@ use crate::callers::{fingerprint_of, guest_device, holds_token};
 use crate::issue::issue_command;
 use crate::operation::Operation;
 use crate::queries::{
-    batch_id_of_text, code_of_text, days_of_query, device_of_query, number_of_text,
+    batch_id_of_text, code_of_text, days_of_query, device_of_query, limit_of_query, number_of_text,
+    value_if_any,
 };
 use crate::rejection::Rejection;
 use crate::routed::RoutedRequest;
 use portal_files::Settings;
-use portal_http_routes::{Route, path_parameter};
+use portal_http_routes::{Route, only_value, path_parameter};
 use portal_ledger::caller::Caller;
+use portal_model::code_start::CodeStart;
 use portal_model::command::Command;
 use portal_model::refusal::Refusal;
 use std::alloc::Global;
@@ -291,6 +294,72 @@ fn check_session_details(
     Ok(Operation::OpenDetails)
 }
 
+/// Makes the operation that lists batches, from a query. Rejections: `BadRequest`; `UnknownBatch`.
+fn batches_operation(query: Option<&[u8]>) -> Result<Operation, Rejection>
+    ensures checks { AsksForBatches (option_map (λ q. q.now) query.entry) result }
+    ensures in_order { IfOk result IsInOrder }
+{
+    let limit = limit_of_query(query).ok_or(Refusal::BadRequest)?;
+    let Some(text) = value_if_any(query, b"before")? else {
+        return Ok(Operation::Batches(None, limit));
+    };
+    let before = batch_id_of_text(text).ok_or(Refusal::UnknownBatch)?;
+    Ok(Operation::Batches(Some(before), limit))
+}
+
+/// Checks `GET /desk/batches`. Rejections: `Forbidden`; `BadRequest`; `UnknownBatch`.
+fn check_batch_list(settings: &Settings, asked: &RoutedRequest<'_>) -> Result<Operation, Rejection>
+    ensures checks { (seed : List ℕ) → AtRoute settings.now seed asked.now route.BatchList result }
+    ensures in_order { IfOk result IsInOrder }
+{
+    require_token(settings.desk_token(), asked)?;
+    batches_operation(asked.query())
+}
+
+/// Checks `GET /desk/batches/{id}`. Rejections: `Forbidden`; `UnknownBatch`.
+fn check_batch(settings: &Settings, asked: &RoutedRequest<'_>) -> Result<Operation, Rejection>
+    ensures checks { (seed : List ℕ) → AtRoute settings.now seed asked.now route.Batch result }
+    ensures in_order { IfOk result IsInOrder }
+{
+    require_token(settings.desk_token(), asked)?;
+    let text = path_parameter(asked.path().as_bytes());
+    let batch = batch_id_of_text(text).ok_or(Refusal::UnknownBatch)?;
+    Ok(Operation::Batch(batch))
+}
+
+/// Makes the operation that finds vouchers, from a query. Rejections: `BadCode`; `NoMemory`.
+fn vouchers_operation(alloc: Global, query: Option<&[u8]>) -> Result<Operation, Rejection>
+    ensures checks { OrMemory (AsksForVouchers (option_map (λ q. q.now) query.entry)) result }
+    ensures in_order { IfOk result IsInOrder }
+{
+    let Some(query) = query else {
+        return Err(Rejection::Refused(Refusal::BadCode));
+    };
+    let Some(text) = only_value(query, b"prefix") else {
+        return Err(Rejection::Refused(Refusal::BadCode));
+    };
+    let Ok(start) = CodeStart::read(alloc, text) else {
+        return Err(Rejection::Refused(Refusal::NoMemory));
+    };
+    match start {
+        Some(start) => Ok(Operation::Vouchers(start)),
+        None => Err(Rejection::Refused(Refusal::BadCode)),
+    }
+}
+
+/// Checks `GET /desk/vouchers`. Rejections: `Forbidden`; `BadCode`; `NoMemory`.
+fn check_vouchers(
+    alloc: Global,
+    settings: &Settings,
+    asked: &RoutedRequest<'_>,
+) -> Result<Operation, Rejection>
+    ensures checks { (seed : List ℕ) → OrMemory (AtRoute settings.now seed asked.now route.Vouchers) result }
+    ensures in_order { IfOk result IsInOrder }
+{
+    require_token(settings.desk_token(), asked)?;
+    vouchers_operation(alloc, asked.query())
+}
+
 /// Checks what a route requires of its request, and returns the operation.
 ///
 /// The caller is checked first, then the idempotency key if the route has a command, then the body or the
@@ -322,5 +391,8 @@ pub fn check_route(
         Route::LastSession => check_last_session(settings, asked),
         Route::OwnSession => check_own_session(asked),
         Route::SessionDetails => check_session_details(settings, asked),
+        Route::BatchList => check_batch_list(settings, asked),
+        Route::Batch => check_batch(settings, asked),
+        Route::Vouchers => check_vouchers(alloc, settings, asked),
     }
 }

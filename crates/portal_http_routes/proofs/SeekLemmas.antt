@@ -1,8 +1,8 @@
 -- A path's route, step by step.
 use Rattle.portal_http_routes.proofs.Common.{◌≡◌, ℕ, zero, suc, ◌-◌, Bool, true, false, cond, eqb, ltb}
 use Rattle.portal_http_routes.proofs.Common.{nat_eq, ◌&&◌, drop, codes, List, [], ◌∷◌, ◌++◌, length, Option}
-use Rattle.portal_http_routes.proofs.Common.{Some, None, refl, ap, ◌∙◌, arith, append-nil, ne_eqb, lt-ltb}
-use Rattle.portal_http_routes.proofs.Common.{length_push, drop_at, ends_with, RowsOf, step, segment}
+use Rattle.portal_http_routes.proofs.Common.{Some, None, refl, sym, ap, ◌∙◌, arith, append-nil, ne_eqb}
+use Rattle.portal_http_routes.proofs.Common.{lt-ltb, length_push, drop_at, ends_with, RowsOf, step, segment}
 use Rattle.portal_http_routes.proofs.Common.{has_slash, or_else, cuts, IsPlain}
 use Rattle.std.specs.Cmp.Lexicographic.{pointwise}
 use Rattle.matchit.specs.Seek.{seek, param_step}
@@ -62,29 +62,80 @@ cut_word b rest =
     ap (λ (x : List ℕ). pointwise nat_eq (47 ∷ []) x) (last_slash (b ∷ rest)) in
     ap (λ (x : Bool). x && ends_with nat_eq (b ∷ rest ++ 47 ∷ []) (47 ∷ [])) long ∙ ends
 
-param_print : {K : Type 0} (r : K) (b : ℕ) (rest : List ℕ) → IsPlain (b ∷ rest)
-    → param_step ((codes "/print", r) ∷ []) (b ∷ rest ++ codes "/print") ≡ (
+-- the rows of a batch's print file and of the batch, behind the bytes that both begin with
+abbrev batch_rows : {K : Type 0} → K → K → RowsOf K
+batch_rows printed batch = (codes "/print", printed) ∷ ([], batch) ∷ []
+
+param_print : {K : Type 0} (printed batch : K) (b : ℕ) (rest : List ℕ) → IsPlain (b ∷ rest)
+    → param_step (batch_rows printed batch) (b ∷ rest ++ codes "/print") ≡ (
       length (b ∷ rest),
-      (codes "/print", r) ∷ [],
+      (codes "/print", printed) ∷ [],
     )
 unfolding param_step
-param_print {K} r b rest plain =
+param_print {K} printed batch b rest plain =
     let shorter : length (b ∷ rest ++ 47 ∷ []) - 1 ≡ length (b ∷ rest) = omega (arith, length_push rest 47) in
     rw (segment_word (b ∷ rest) (codes "print") plain, cut_word b rest, shorter)
 
-pub seek-print : {K : Type 0} (r : K) (b : ℕ) (rest : List ℕ) → IsPlain (b ∷ rest)
-    → seek 0 ((256 ∷ codes "/print", r) ∷ []) (b ∷ rest ++ codes "/print") ≡ Some r
+pub seek-print : {K : Type 0} (printed batch : K) (b : ℕ) (rest : List ℕ) → IsPlain (b ∷ rest)
+    → seek 0 ((256 ∷ codes "/print", printed) ∷ (256 ∷ [], batch) ∷ []) (b ∷ rest ++ codes "/print")
+    ≡ Some printed
 unfolding seek
-seek-print {K} r b rest plain =
+seek-print {K} printed batch b rest plain =
     let other : eqb 256 b ≡ false = ne_eqb 256 b (λ e. omega (arith, plain.0)) in
-    let skipped : seek (length rest) ((codes "/print", r) ∷ []) (rest ++ codes "/print") ≡ Some r =
-    seek-skip ((codes "/print", r) ∷ []) rest (codes "/print") in
+    let left : RowsOf K = (codes "/print", printed) ∷ [] in
+    let skipped : seek (length rest) left (rest ++ codes "/print") ≡ Some printed =
+    seek-skip left rest (codes "/print") in
     let pred : length (b ∷ rest) - 1 ≡ length rest = omega arith in
-    rw (other, seek-nil {K = K} 0 (rest ++ codes "/print"), param_print r b rest plain, pred, skipped)
+    rw (
+      other,
+      seek-nil {K = K} 0 (rest ++ codes "/print"),
+      param_print printed batch b rest plain,
+      pred,
+      skipped,
+    )
 
 no_slash : (word : List ℕ) → IsPlain word → has_slash word ≡ false
 no_slash [] plain = refl
 no_slash (b ∷ rest) plain = rw (ne_eqb b 47 plain.1) (no_slash rest plain.2)
+
+-- a word with no slash is its own segment, and does not end with a slash
+segment_whole : (word : List ℕ) → IsPlain word → segment word ≡ word
+segment_whole [] plain = refl
+segment_whole (b ∷ rest) plain =
+    rw (ne_eqb b 47 plain.1) (ap (λ (w : List ℕ). b ∷ w) (segment_whole rest plain.2))
+
+last_plain : (b : ℕ) (rest : List ℕ) → IsPlain (b ∷ rest)
+    → pointwise nat_eq (47 ∷ []) (drop (length rest) (b ∷ rest)) ≡ false
+last_plain b [] plain = rw (ne_eqb 47 b (λ e. plain.1 (sym e))) refl
+last_plain b (c ∷ rest) plain = last_plain c rest plain.2
+
+no_cut : (b : ℕ) (rest : List ℕ) → IsPlain (b ∷ rest) → cuts (b ∷ rest) (47 ∷ []) ≡ false
+no_cut b rest plain =
+    let pred : length (b ∷ rest) - 1 ≡ length rest = omega arith in
+    let ends : ends_with nat_eq (b ∷ rest) (47 ∷ []) ≡ false =
+    ap (λ (k : ℕ). pointwise nat_eq (47 ∷ []) (drop k (b ∷ rest))) pred ∙ last_plain b rest plain in
+    ap (λ (x : Bool). ltb 1 (length (b ∷ rest)) && x) ends ∙ never (ltb 1 (length (b ∷ rest)))
+  where
+    never : (x : Bool) → (x && false) ≡ false
+    never true = refl
+    never false = refl
+
+param_batch : {K : Type 0} (printed batch : K) (b : ℕ) (rest : List ℕ) → IsPlain (b ∷ rest)
+    → param_step (batch_rows printed batch) (b ∷ rest) ≡ (length (b ∷ rest), batch_rows printed batch)
+unfolding param_step
+param_batch printed batch b rest plain =
+    rw (segment_whole (b ∷ rest) plain, no_cut b rest plain, no_slash (b ∷ rest) plain)
+
+pub seek-batch : {K : Type 0} (printed batch : K) (b : ℕ) (rest : List ℕ) → IsPlain (b ∷ rest)
+    → seek 0 ((256 ∷ codes "/print", printed) ∷ (256 ∷ [], batch) ∷ []) (b ∷ rest) ≡ Some batch
+unfolding seek
+seek-batch {K} printed batch b rest plain =
+    let other : eqb 256 b ≡ false = ne_eqb 256 b (λ e. omega (arith, plain.0)) in
+    let skipped : seek (length rest) (batch_rows printed batch) (rest ++ []) ≡ Some batch =
+    seek-skip (batch_rows printed batch) rest [] in
+    let whole : seek (length rest) (batch_rows printed batch) rest ≡ Some batch = rw append-nil at skipped in
+    let pred : length (b ∷ rest) - 1 ≡ length rest = omega arith in
+    rw (other, seek-nil {K = K} 0 rest, param_batch printed batch b rest plain, pred, whole)
 
 param_last : {K : Type 0} (r : K) (b : ℕ) (rest : List ℕ) → IsPlain (b ∷ rest)
     → param_step (([], r) ∷ []) (b ∷ rest) ≡ (length (b ∷ rest), ([], r) ∷ [])

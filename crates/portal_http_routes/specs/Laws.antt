@@ -4,7 +4,7 @@ use Rattle.portal_http_routes.specs.declared.Route.{Route}
 use Rattle.portal_http_routes.specs.declared.Route.TheVariants.{Captive, Redeem, Plans, Batches, Print, Sales}
 use Rattle.portal_http_routes.specs.declared.Route.TheVariants.{Refunds, Closes, Voucher, Takings, Reports}
 use Rattle.portal_http_routes.specs.declared.Route.TheVariants.{Sessions, Session, LastSession, OwnSession}
-use Rattle.portal_http_routes.specs.declared.Route.TheVariants.{SessionDetails}
+use Rattle.portal_http_routes.specs.declared.Route.TheVariants.{SessionDetails, BatchList, Batch, Vouchers}
 use Rattle.portal_http_routes.specs.Targets.{slash, parameter_of}
 use Rattle.portal_http_routes.specs.Table.{route_in}
 
@@ -18,6 +18,10 @@ abbrev pub IsSegment : List ℕ → Type 0
 IsSegment [] = ⊥
 IsSegment (b ∷ rest) = IsPlain (b ∷ rest)
 
+-- the path of a batch
+abbrev pub batch_path : List ℕ → List ℕ
+batch_path id = codes "/desk/batches/" ++ id
+
 -- the path of a batch's print file
 abbrev pub print_path : List ℕ → List ℕ
 print_path id = codes "/desk/batches/" ++ (id ++ codes "/print")
@@ -30,7 +34,8 @@ voucher_path code = codes "/desk/vouchers/" ++ code
 abbrev pub session_path : List ℕ → List ℕ
 session_path number = codes "/desk/sessions/" ++ number
 
--- the paths of a route
+-- the paths of a route; `BatchList` has none, since the router finds `Batches` for its path, and the method
+-- of a request decides between the two
 abbrev pub IsPathOf : Route → List ℕ → Type 0
 IsPathOf Captive path = path ≡ codes "/captive"
 IsPathOf Redeem path = path ≡ codes "/portal/redeem"
@@ -48,6 +53,9 @@ IsPathOf Session path = (number : List ℕ) × IsSegment number × (path ≡ ses
 IsPathOf LastSession path = path ≡ codes "/desk/sessions"
 IsPathOf OwnSession path = path ≡ codes "/portal/session"
 IsPathOf SessionDetails path = path ≡ codes "/gateway/sessions/details"
+IsPathOf BatchList path = ⊥
+IsPathOf Batch path = (id : List ℕ) × IsSegment id × (path ≡ batch_path id)
+IsPathOf Vouchers path = path ≡ codes "/desk/vouchers"
 
 -- a path has a route exactly if it is one of the route's paths
 abbrev pub RoutesAreExact : Type 0
@@ -55,10 +63,10 @@ RoutesAreExact =
     (route : Route) (path : List ℕ) → All (λ b. b < 256) path
     → (route_in path ≡ Some route) ↔ IsPathOf route path
 
--- the parameter of a print path is its batch, that of a voucher's path its code, and that of a session's
--- path its number
+-- the parameter of a batch's path and of a print path is the batch, that of a voucher's path its code, and
+-- that of a session's path its number
 abbrev pub ParametersAreExact : Type 0
 ParametersAreExact =
     (word : List ℕ) → IsSegment word
     → (parameter_of (print_path word) ≡ word) × (parameter_of (voucher_path word) ≡ word)
-    × (parameter_of (session_path word) ≡ word)
+    × (parameter_of (session_path word) ≡ word) × (parameter_of (batch_path word) ≡ word)

@@ -1,6 +1,6 @@
 -- The query of a target: its fields, each a key and a value.
-use Rattle.std.specs.Prelude.{ℕ, List, [], ◌∷◌, ◌==◌, if◌then◌else◌, filter, map, Option, Some, None}
-use Rattle.std.specs.Prelude.{unwrap_or, bytes_eq}
+use Rattle.std.specs.Prelude.{ℕ, Bool, true, false, List, [], ◌∷◌, ◌==◌, if◌then◌else◌, filter, map, Option}
+use Rattle.std.specs.Prelude.{Some, None, unwrap_or, bytes_eq}
 use Rattle.portal_http_routes.specs.Targets.{before, after}
 
 -- the byte between the fields of a query
@@ -38,3 +38,8 @@ abbrev pub only_of : List (List ℕ) → Option (List ℕ)
 only_of [] = None
 only_of (value ∷ []) = Some value
 only_of (value ∷ other ∷ rest) = None
+
+-- whether there is a value
+abbrev pub is_any : List (List ℕ) → Bool
+is_any [] = false
+is_any (value ∷ rest) = true

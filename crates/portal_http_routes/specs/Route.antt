@@ -1,10 +1,10 @@
--- The method of each route, and the role of its callers.
-use Rattle.std.specs.Prelude.{ℕ, List, codes}
+-- The method of each route, the routes that share a path, and the role of their callers.
+use Rattle.std.specs.Prelude.{ℕ, List, codes, Option, Some, None, cond, bytes_eq}
 use Rattle.portal_http_routes.specs.declared.Route.{Route}
 use Rattle.portal_http_routes.specs.declared.Route.TheVariants.{Captive, Redeem, Plans, Batches, Print, Sales}
 use Rattle.portal_http_routes.specs.declared.Route.TheVariants.{Refunds, Closes, Voucher, Takings, Reports}
 use Rattle.portal_http_routes.specs.declared.Route.TheVariants.{Sessions, Session, LastSession, OwnSession}
-use Rattle.portal_http_routes.specs.declared.Route.TheVariants.{SessionDetails}
+use Rattle.portal_http_routes.specs.declared.Route.TheVariants.{SessionDetails, BatchList, Batch, Vouchers}
 use Rattle.portal_http_routes.specs.declared.Role.{Role}
 use Rattle.portal_http_routes.specs.declared.Role.TheVariants.{Guest, Desk, Gateway}
 
@@ -26,6 +26,29 @@ method_of Session = codes "GET"
 method_of LastSession = codes "GET"
 method_of OwnSession = codes "GET"
 method_of SessionDetails = codes "GET"
+method_of BatchList = codes "GET"
+method_of Batch = codes "GET"
+method_of Vouchers = codes "GET"
+
+-- the other route at the path of that one, which only reads, if there is one
+abbrev pub reading_at : Route → Option Route
+reading_at Batches = Some BatchList
+reading_at _ = None
+
+-- the route, if that is its method
+abbrev pub kept : List ℕ → Option Route → Option Route
+kept method None = None
+kept method (Some route) = cond (bytes_eq method (method_of route)) (Some route) None
+
+-- the route with that method, among those at the path of this route
+abbrev pub with_method : Route → List ℕ → Option Route
+with_method route method =
+    cond (bytes_eq method (method_of route)) (Some route) (kept method (reading_at route))
+
+-- the methods of the routes at the path of this route, as `Allow` lists them (RFC 9110, section 10.2.1)
+abbrev pub allowed_at : Route → List ℕ
+allowed_at Batches = codes "GET, POST"
+allowed_at route = method_of route
 
 -- the role of the callers that may use the route
 abbrev pub role_of : Route → Role
@@ -45,3 +68,6 @@ role_of Session = Desk
 role_of LastSession = Desk
 role_of OwnSession = Guest
 role_of SessionDetails = Gateway
+role_of BatchList = Desk
+role_of Batch = Desk
+role_of Vouchers = Desk

@@ -11,7 +11,7 @@ use Rattle.portal_http_routes.specs.declared.Route.{Route}
 use Rattle.portal_http_routes.specs.declared.Route.TheVariants.{Captive, Redeem, Plans, Batches, Print, Sales}
 use Rattle.portal_http_routes.specs.declared.Route.TheVariants.{Refunds, Closes, Voucher, Takings, Reports}
 use Rattle.portal_http_routes.specs.declared.Route.TheVariants.{Sessions, Session, LastSession, OwnSession}
-use Rattle.portal_http_routes.specs.declared.Route.TheVariants.{SessionDetails}
+use Rattle.portal_http_routes.specs.declared.Route.TheVariants.{SessionDetails, Batch, Vouchers}
 use Rattle.portal_http_routes.specs.Targets.{is_path}
 
 -- a router's rows with one route added, by the result of parsing its pattern
@@ -28,7 +28,8 @@ abbrev pub place_all : List (List ℕ × Route) → RowsOf (RouteOf Route) → R
 place_all [] rows = rows
 place_all ((text, route) ∷ rest) rows = place_all rest (place_route text route rows)
 
--- the sixteen routes
+-- the eighteen routes that are found by their paths; `BatchList` is found by its method, at the path of
+-- `Batches`
 abbrev pub all_routes : List (List ℕ × Route)
 all_routes =
     (codes "/captive", Captive) ∷ (codes "/portal/redeem", Redeem) ∷ (codes "/desk/plans", Plans)
@@ -37,7 +38,8 @@ all_routes =
     ∷ (codes "/desk/vouchers/{code}", Voucher) ∷ (codes "/desk/takings", Takings)
     ∷ (codes "/gateway/reports", Reports) ∷ (codes "/gateway/sessions", Sessions)
     ∷ (codes "/desk/sessions/{number}", Session) ∷ (codes "/desk/sessions", LastSession)
-    ∷ (codes "/portal/session", OwnSession) ∷ (codes "/gateway/sessions/details", SessionDetails) ∷ []
+    ∷ (codes "/portal/session", OwnSession) ∷ (codes "/gateway/sessions/details", SessionDetails)
+    ∷ (codes "/desk/batches/{id}", Batch) ∷ (codes "/desk/vouchers", Vouchers) ∷ []
 
 -- the router's rows
 abbrev pub table : RowsOf (RouteOf Route)

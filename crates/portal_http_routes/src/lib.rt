@@ -3,16 +3,14 @@
 #![tactic(auto)]
 
 ghost use Rattle.std.specs.Prelude.{◌≡◌};
-ghost use Rattle.portal_http_routes.specs.Route.{method_of, role_of};
-
-use http::Method;
+ghost use Rattle.portal_http_routes.specs.Route.{method_of, with_method, allowed_at, role_of};
 
 pub mod laws;
 mod queries;
 mod router;
 mod targets;
 
-pub use queries::only_value;
+pub use queries::{has_key, only_value};
 pub use router::Routes;
 pub use targets::{path_parameter, split_at_byte, split_target};
 
@@ -51,6 +49,12 @@ pub enum Route {
     OwnSession,
     /// `/gateway/sessions/details`: lists the open sessions with their details.
     SessionDetails,
+    /// `/desk/batches`: lists batches, newest first.
+    BatchList,
+    /// `/desk/batches/{id}`: gives the state of a batch and of its vouchers.
+    Batch,
+    /// `/desk/vouchers`: gives the vouchers whose codes begin with some characters.
+    Vouchers,
 }
 
 /// The role of a caller, which decides how the caller is identified.
@@ -65,33 +69,7 @@ pub enum Role {
 }
 
 impl Route {
-    /// Returns the method of the route: `GET` if the route only reads, else `POST`.
-    ///
-    /// A response to another method names it in `Allow` (RFC 9110, section 15.5.6).
-    pub fn method(self) -> Method
-        ensures { result ≡ method_of self }
-    {
-        match self {
-            Route::Captive
-            | Route::Print
-            | Route::Voucher
-            | Route::Takings
-            | Route::Sessions
-            | Route::Session
-            | Route::LastSession
-            | Route::OwnSession
-            | Route::SessionDetails => Method::GET,
-            Route::Redeem
-            | Route::Plans
-            | Route::Batches
-            | Route::Sales
-            | Route::Refunds
-            | Route::Closes
-            | Route::Reports => Method::POST,
-        }
-    }
-
-    /// Returns the method of the route as text.
+    /// Returns the method of the route as text: `GET` if the route only reads, else `POST`.
     pub fn method_text(self) -> &'static str
         ensures { result.now ≡ method_of self }
     {
@@ -104,7 +82,10 @@ impl Route {
             | Route::Session
             | Route::LastSession
             | Route::OwnSession
-            | Route::SessionDetails => "GET",
+            | Route::SessionDetails
+            | Route::BatchList
+            | Route::Batch
+            | Route::Vouchers => "GET",
             Route::Redeem
             | Route::Plans
             | Route::Batches
@@ -112,6 +93,31 @@ impl Route {
             | Route::Refunds
             | Route::Closes
             | Route::Reports => "POST",
+        }
+    }
+
+    /// Returns the route that has this method, among those at the path of this route.
+    pub fn with_method(self, method: &[u8]) -> Option<Route>
+        ensures { result ≡ with_method self method.now }
+    {
+        if method == self.method_text().as_bytes() {
+            return Some(self);
+        }
+        match self {
+            Route::Batches if method == b"GET".as_slice() => Some(Route::BatchList),
+            _ => None,
+        }
+    }
+
+    /// Returns the methods of the routes at the path of this route.
+    ///
+    /// A response to another method lists them in `Allow` (RFC 9110, section 15.5.6).
+    pub fn allowed_methods(self) -> &'static str
+        ensures { result.now ≡ allowed_at self }
+    {
+        match self {
+            Route::Batches => "GET, POST",
+            _ => self.method_text(),
         }
     }
 
@@ -130,7 +136,10 @@ impl Route {
             | Route::Voucher
             | Route::Takings
             | Route::Session
-            | Route::LastSession => Role::Desk,
+            | Route::LastSession
+            | Route::BatchList
+            | Route::Batch
+            | Route::Vouchers => Role::Desk,
             Route::Reports | Route::Sessions | Route::SessionDetails => Role::Gateway,
         }
     }

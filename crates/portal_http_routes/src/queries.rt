@@ -1,6 +1,6 @@
 //! Parses the query of a target, field by field.
 ghost use Rattle.std.specs.Prelude.{◌≡◌, option_map};
-ghost use Rattle.portal_http_routes.specs.Queries.{only_of, values_of};
+ghost use Rattle.portal_http_routes.specs.Queries.{is_any, only_of, values_of};
 
 use crate::targets::split_at_byte;
 
@@ -25,4 +25,20 @@ pub fn only_value<'q>(query: &'q [u8], key: &[u8]) -> Option<&'q [u8]>
         left = more;
     }
     found
+}
+
+/// Returns whether a key is in a query, once or more often.
+pub fn has_key(query: &[u8], key: &[u8]) -> bool
+    ensures { result ≡ is_any (values_of key.now query.now) }
+{
+    let mut left = Some(query);
+    while let Some(fields) = left {
+        let (field, others) = split_at_byte(fields, b'&');
+        let (name, _) = split_at_byte(field, b'=');
+        if name == key {
+            return true;
+        }
+        left = others;
+    }
+    false
 }

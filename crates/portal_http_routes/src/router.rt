@@ -38,7 +38,7 @@ fn add_route(router: &mut Router<Route>, text: &str, route: Route) -> Result<(),
     router.insert(text, route)
 }
 
-/// Makes a router with the sixteen routes. Error: as for `add_route`.
+/// Makes a router with a route for each path. Error: as for `add_route`.
 fn whole_router(alloc: Global) -> Result<Router<Route>, InsertError>
     ensures { IfOk result (λ router. router ≡ table) }
 {
@@ -63,11 +63,13 @@ fn whole_router(alloc: Global) -> Result<Router<Route>, InsertError>
         "/gateway/sessions/details",
         Route::SessionDetails,
     )?;
+    add_route(&mut router, "/desk/batches/{id}", Route::Batch)?;
+    add_route(&mut router, "/desk/vouchers", Route::Vouchers)?;
     Ok(router)
 }
 
 impl Routes {
-    /// Makes the table of the sixteen routes. The only error is out of memory.
+    /// Makes the table of the routes. The only error is out of memory.
     pub fn new(alloc: Global) -> Result<Routes, AllocError>
         ensures { IfOk result (λ routes. routes ≡ table) }
     {

@@ -1,3 +1,4 @@
+pub mod BatchesLemmas
 pub mod Common
 pub mod DetailsLemmas
 pub mod ListedLemmas

@@ -2,12 +2,16 @@
 use Rattle.portal_json.proofs.Common.{◌≡◌, ℕ, ◌<◌, ◌/◌, ◌%◌, Bool, true, false, ◌&&◌, List, [], ◌∷◌}
 use Rattle.portal_json.proofs.Common.{◌++◌, map, arith, refl, sym, ap}
 use Rattle.portal_json.proofs.Common.{◌∙◌, append_assoc, append-nil, Data, compact_text, items_of, All}
-use Rattle.std.specs.Prelude.{◌≤◌, OnOk, Result, Ok, Err, codes}
+use Rattle.std.specs.Prelude.{◌≤◌, OnOk, Result, Ok, Err, codes, nat_le}
 use Rattle.std.specs.List.{join_with_byte, list_all}
+use Rattle.std.proofs.Common.{get_or}
 use Rattle.std.proofs.lemmas.Bool.Decides.{nat_tests}
-use Rattle.std.proofs.lemmas.List.Elements.{All-append, All-cons, All-head, All-nil, All-tail}
+use Rattle.std.proofs.lemmas.List.Elements.{All-append, All-cons, All-head, All-map, All-nil, All-tail}
+use Rattle.std.proofs.lemmas.List.Folds.{list_all_at}
 use Rattle.json.specs.Print.{escape, escape_byte}
 use Rattle.serde_json.specs.Written.{items_text}
+use Rattle.portal_codes.specs.Code.{IsCode, alphabet, character_of, text_of}
+use Rattle.portal_codes.proofs.Spelling.{All-grouped}
 use Rattle.portal_model.specs.Device.{IsDevice, hex_digit, octet_text, text_of_device}
 use Rattle.portal_model.specs.IdText.{IsIdText, is_id_character}
 use Rattle.portal_json.specs.Bodies.{sessions_list}
@@ -71,6 +75,27 @@ ids_plain (x ∷ xs) h =
 pub id_plain : (text : List ℕ) → IsIdText text → escape text ≡ text
 id_plain text h = ids_plain text h.characters
 
+sign_plain : (value : ℕ) → value < 31 → IsPlain (character_of value)
+sign_plain value h = by (is_between (character_of value)) refl
+  where
+    is_between : ℕ → Bool
+    is_between b = nat_le 48 b && nat_le b 90
+
+    by : (b : Bool) → is_between (character_of value) ≡ b → IsPlain (character_of value)
+    by true e = plain_byte (character_of value) (grind (arith, nat_tests)) (λ same. grind (arith, nat_tests))
+    by false e =
+        let all : list_all is_between alphabet ≡ true = refl in
+        let no : list_all is_between alphabet ≡ false =
+        list_all_at is_between alphabet value 0 (omega arith) e in absurd (cc)
+
+hyphen_plain : IsPlain 45
+unfolding escape_byte
+hyphen_plain = refl
+
+pub code_plain : (code : List ℕ) → IsCode code → escape (text_of code) ≡ text_of code
+code_plain code h = escape_all (text_of code) (All-grouped IsPlain (map character_of code) hyphen_plain
+    (All-map IsPlain character_of code (λ k d within. sign_plain (get_or code k d) (h.below k d within))))
+
 -- ---- parts
 
 -- these parts, one behind another
@@ -92,6 +117,12 @@ pub ok_along : {X E : Type 0} {P Q : Type 0} (r : Result X E) → (P → Q) → 
 ok_along (Ok x) f h = f h
 ok_along (Err e) f h = h
 
+-- a part is appended, and the part is equal to another
+pub with_part : {new old before part shown : List ℕ} → new ≡ old ++ part → old ≡ before → part ≡ shown
+    → new ≡ before ++ shown
+with_part {new} {old} {before} {part} {shown} e o p = e ∙ ap (λ (text : List ℕ). text ++ part) o
+    ∙ ap (λ (text : List ℕ). before ++ text) p
+
 -- ---- lists
 
 pub items_are : {A : Type 0} (shown : A → Data) (xs : List A)
@@ -108,9 +139,7 @@ list_is shown (x ∷ xs) = ap (λ (rest : List ℕ). compact_text (shown x) ++ r
     ∙ sym (append_assoc (compact_text (shown x)) (entries_after shown xs) (93 ∷ []))
 
 pub list_text_is : {A : Type 0} (shown : A → Data) (xs : List A)
-    → (codes "{\"sessions\":[" ++ entries_between shown xs) ++ codes "]}"
+    → codes "{\"sessions\":[" ++ (entries_between shown xs ++ codes "]}")
     ≡ compact_text (sessions_list shown xs)
 unfolding escape_byte
-list_text_is shown xs = ap (λ (rest : List ℕ). codes "{\"sessions\":[" ++ rest)
-    (sym (append_assoc (entries_between shown xs) (codes "]") (codes "}"))
-    ∙ ap (λ (items : List ℕ). items ++ codes "}") (sym (list_is shown xs)))
+list_text_is shown xs = simp (append_assoc, list_is shown xs) refl

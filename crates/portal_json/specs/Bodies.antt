@@ -1,9 +1,10 @@
 -- The bodies of responses: JSON without spaces between its tokens, keys in byte order.
-use Rattle.std.specs.Prelude.{ℕ, List, [], ◌∷◌, Option, Some, None, option_map, map, codes}
+use Rattle.std.specs.Prelude.{ℕ, Bool, List, [], ◌∷◌, ◌++◌, Option, Some, None, option_map, map, codes}
 use Rattle.serde_json.specs.Data.{Data, null, boolean, string, array}
 use Rattle.serde_json.specs.View.{items_of}
 use Rattle.serde_json.specs.Written.{compact_text}
 use Rattle.portal_codes.specs.Code.{text_of}
+use Rattle.portal_model.specs.declared.batches.BatchState.{BatchState}
 use Rattle.portal_model.specs.declared.captive.Captive.{Captive}
 use Rattle.portal_model.specs.declared.captive.OpenSession.{OpenSession}
 use Rattle.portal_model.specs.declared.details.End.{End}
@@ -82,10 +83,13 @@ session_keys s =
 abbrev pub session_data : OpenSession → Data
 session_data s = object_of (session_keys s)
 
+-- a list of these entries, in this order
+abbrev pub array_of : {A : Type 0} → (A → Data) → List A → Data
+array_of shown entries = array (items_of (map shown entries))
+
 -- an object with a list of sessions, in this order
 abbrev pub sessions_list : {A : Type 0} → (A → Data) → List A → Data
-sessions_list shown sessions =
-    object_of ((codes "sessions", Some (array (items_of (map shown sessions)))) ∷ [])
+sessions_list shown sessions = object_of ((codes "sessions", Some (array_of shown sessions)) ∷ [])
 
 -- open sessions, in the order listed
 abbrev pub sessions_data : List OpenSession → Data
@@ -141,6 +145,39 @@ open_details_data s = object_of (open_details_keys s)
 abbrev pub details_list_data : List SessionDetails → Data
 details_list_data sessions = sessions_list open_details_data sessions
 
+-- the keys of a batch: its size, times and plan, and how many of its vouchers were refunded, sold and used up
+abbrev pub batch_keys : BatchState → List KeyedValue
+batch_keys s =
+    (codes "batch", Some (string s.batch.id)) ∷ (codes "count", Some (integer s.batch.size))
+    ∷ (codes "expires", Some (integer s.batch.expires)) ∷ (codes "issued", Some (integer s.batch.issued))
+    ∷ (codes "plan", Some (string s.batch.plan)) ∷ (codes "refunded", Some (integer s.refunded))
+    ∷ (codes "sold", Some (integer s.sold)) ∷ (codes "used-up", Some (integer s.used_up)) ∷ []
+
+-- a batch
+abbrev pub batch_state_data : BatchState → Data
+batch_state_data s = object_of (batch_keys s)
+
+-- batches, in the order listed, and whether there are more
+abbrev pub batches_data : List BatchState → Bool → Data
+batches_data states more = object_of (
+    (codes "batches", Some (array_of batch_state_data states)) ∷ (codes "more", Some (boolean more)) ∷ [])
+
+-- a voucher in its batch; null for a time or an amount that it does not have
+abbrev pub batch_voucher_data : Voucher → Data
+batch_voucher_data v = object_of (
+    (codes "code", Some (string (text_of v.code))) ∷ (codes "redeemed", Some (integer v.redeemed))
+    ∷ (codes "refund", Some (integer_or_null v.refund)) ∷ (codes "sold", Some (integer_or_null v.sold)) ∷ [])
+
+-- a batch with its vouchers, in the order listed
+abbrev pub batch_data : BatchState → List Voucher → Data
+batch_data s vouchers =
+    object_of (batch_keys s ++ (codes "vouchers", Some (array_of batch_voucher_data vouchers)) ∷ [])
+
+-- vouchers, in the order listed, and whether there are more
+abbrev pub vouchers_data : List Voucher → Bool → Data
+vouchers_data vouchers more = object_of (
+    (codes "more", Some (boolean more)) ∷ (codes "vouchers", Some (array_of voucher_data vouchers)) ∷ [])
+
 -- the text of a captive state
 unfoldable pub captive_body : Captive → List ℕ → Option (List ℕ) → List ℕ
 captive_body state portal_url venue_url = compact_text (captive_data state portal_url venue_url)
@@ -172,3 +209,15 @@ own_details_body s = compact_text (own_details_data s)
 -- the text of the details of open sessions
 unfoldable pub open_details_body : List SessionDetails → List ℕ
 open_details_body sessions = compact_text (details_list_data sessions)
+
+-- the text of batches, and of whether there are more
+unfoldable pub batches_body : List BatchState → Bool → List ℕ
+batches_body states more = compact_text (batches_data states more)
+
+-- the text of a batch with its vouchers
+unfoldable pub batch_body : BatchState → List Voucher → List ℕ
+batch_body s vouchers = compact_text (batch_data s vouchers)
+
+-- the text of vouchers, and of whether there are more
+unfoldable pub vouchers_body : List Voucher → Bool → List ℕ
+vouchers_body vouchers more = compact_text (vouchers_data vouchers more)

@@ -13,7 +13,7 @@ ghost use Rattle.portal_json.specs.Bodies.{
   open_details_body,
 };
 
-use crate::listed::{Entry, put_integer, put_text, sessions_list};
+use crate::listed::{Entry, Listed, put_integer, put_text, sessions_list};
 use crate::objects::{as_text, integer_if_some, put_some, seconds_of_moment, text, text_of_value};
 use portal_model::details::{End, SessionDetails};
 use portal_model::refusal::Refusal;
@@ -97,7 +97,7 @@ pub fn own_details_text(alloc: Global, details: &SessionDetails) -> Result<Strin
     text_of_value(alloc, &value)
 }
 
-impl Entry for SessionDetails {
+impl Entry<Listed> for SessionDetails {
     ghost shown = { open_details_data };
 
     fn put(&self, text: &mut String) -> Result<(), AllocError> {

@@ -2,6 +2,7 @@
 #![tactic(auto)]
 
 mod answers;
+mod batches;
 mod captives;
 mod details;
 mod listed;
@@ -11,6 +12,7 @@ mod sessions;
 mod vouchers;
 
 pub use answers::{answer_text, error_text};
+pub use batches::{batch_text, batches_text, vouchers_text};
 pub use captives::captive_text;
 pub use details::{details_text, open_details_text, own_details_text};
 pub use orders::{

@@ -3,14 +3,23 @@ ghost use Rattle.std.specs.Prelude.{◌≡◌, ◌++◌, List, OnOk, IfOk, IfErr
 ghost use Rattle.serde_json.specs.Data.{Data};
 ghost use Rattle.serde_json.specs.Written.{compact_text};
 ghost use Rattle.portal_json.specs.Bodies.{sessions_list};
-ghost use Rattle.portal_json.specs.Listed.{between, entries_after, entries_between};
+ghost use Rattle.portal_json.specs.Listed.{
+  between,
+  number_or_null,
+  word_of_flag,
+  entries_after,
+  entries_between,
+};
 
 use itoa::Buffer;
 use portal_model::refusal::Refusal;
 use std::alloc::{AllocError, Global};
 
-/// An entry of a list of sessions.
-pub(crate) trait Entry {
+/// The usual form of an entry.
+pub(crate) struct Listed;
+
+/// An entry of a list, in a form that it has.
+pub(crate) trait Entry<Form> {
     // The entry as a JSON value.
     ghost shown: { Self → Data };
 
@@ -55,8 +64,35 @@ pub(crate) fn put_text(
     text.push_str(behind)
 }
 
+/// Appends a number, or `null` if there is none, with what stands before and behind it. The only error is out
+/// of memory.
+pub(crate) fn put_integer_or_null(
+    text: &mut String,
+    before: &str,
+    number: Option<u64>,
+    behind: &str,
+) -> Result<(), AllocError>
+    ensures { OnOk result (string_bytes text.new
+        ≡ string_bytes text.old ++ (before.now ++ (number_or_null number ++ behind.now))) }
+{
+    match number {
+        None => put_text(text, before, "null", behind),
+        Some(_) => put_integer(text, before, number, behind),
+    }
+}
+
+/// Returns the JSON text of a truth value.
+pub(crate) fn word_of_flag(flag: bool) -> &'static str
+    ensures { result.now ≡ word_of_flag flag }
+{
+    match flag {
+        false => "false",
+        true => "true",
+    }
+}
+
 /// Appends the JSON texts of entries, each behind a comma. The only error is out of memory.
-fn put_entries<T: Entry>(text: &mut String, entries: &[T]) -> Result<(), AllocError>
+fn put_entries<Form, T: Entry<Form>>(text: &mut String, entries: &[T]) -> Result<(), AllocError>
     ensures { OnOk result
         (string_bytes text.new ≡ string_bytes text.old ++ entries_after T.shown entries.now) }
 {
@@ -68,7 +104,7 @@ fn put_entries<T: Entry>(text: &mut String, entries: &[T]) -> Result<(), AllocEr
 }
 
 /// Appends the JSON texts of entries, with commas between them. The only error is out of memory.
-fn put_all_entries<T: Entry>(text: &mut String, entries: &[T]) -> Result<(), AllocError>
+fn put_all_entries<Form, T: Entry<Form>>(text: &mut String, entries: &[T]) -> Result<(), AllocError>
     ensures { OnOk result
         (string_bytes text.new ≡ string_bytes text.old ++ entries_between T.shown entries.now) }
 {
@@ -76,20 +112,38 @@ fn put_all_entries<T: Entry>(text: &mut String, entries: &[T]) -> Result<(), All
         None => Ok(()),
         Some((first, rest)) => {
             first.put(text)?;
-            put_entries(text, rest)
+            put_entries::<Form, T>(text, rest)
         }
     }
+}
+
+/// Appends the JSON texts of entries, with commas between them, and with what stands before and behind them.
+/// The only error is out of memory.
+pub(crate) fn put_list<Form, T: Entry<Form>>(
+    text: &mut String,
+    before: &str,
+    entries: &[T],
+    behind: &str,
+) -> Result<(), AllocError>
+    ensures { OnOk result (string_bytes text.new ≡ string_bytes text.old
+        ++ (before.now ++ (entries_between T.shown entries.now ++ behind.now))) }
+{
+    text.push_str(before)?;
+    put_all_entries::<Form, T>(text, entries)?;
+    text.push_str(behind)
 }
 
 /// Writes the JSON object with the member `sessions`, a list of these entries, in this order.
 ///
 /// Refusal: `NoMemory`, if there is no memory for the text.
-pub(crate) fn sessions_list<T: Entry>(alloc: Global, entries: &[T]) -> Result<String, Refusal>
+pub(crate) fn sessions_list<T: Entry<Listed>>(
+    alloc: Global,
+    entries: &[T],
+) -> Result<String, Refusal>
     ensures ok { IfOk result (λ text. string_bytes text ≡ compact_text (sessions_list T.shown entries.now)) }
     ensures err { IfErr result (λ refusal. refusal ≡ Refusal.NoMemory) }
 {
-    let mut text = String::from_str(alloc, "{\"sessions\":[")?;
-    put_all_entries(&mut text, entries)?;
-    text.push_str("]}")?;
+    let mut text = String::new(alloc);
+    put_list::<Listed, T>(&mut text, "{\"sessions\":[", entries, "]}")?;
     Ok(text)
 }

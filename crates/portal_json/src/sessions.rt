@@ -2,13 +2,13 @@
 ghost use Rattle.std.specs.Prelude.{◌≡◌, IfOk, IfErr, string_bytes};
 ghost use Rattle.portal_json.specs.Bodies.{session_data, sessions_body};
 
-use crate::listed::{Entry, put_integer, put_text, sessions_list};
+use crate::listed::{Entry, Listed, put_integer, put_text, sessions_list};
 use crate::objects::as_text;
 use portal_model::captive::OpenSession;
 use portal_model::refusal::Refusal;
 use std::alloc::{AllocError, Global};
 
-impl Entry for OpenSession {
+impl Entry<Listed> for OpenSession {
     ghost shown = { session_data };
 
     fn put(&self, text: &mut String) -> Result<(), AllocError> {

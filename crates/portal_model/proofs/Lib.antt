@@ -4,4 +4,5 @@ pub mod DaySumLemmas
 pub mod Devices
 pub mod Padding
 pub mod SamePlan
+pub mod Starts
 pub mod Totals

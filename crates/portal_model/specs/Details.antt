@@ -1,4 +1,4 @@
--- What is told of a session, be it open or ended.
+-- The details of a session, be it open or ended.
 use Rattle.std.specs.Prelude.{◌≡◌, ◌↔◌, ℕ, cond, true, is_some, List, map, filter, Option, Some, None}
 use Rattle.std.specs.Prelude.{option_map}
 use Rattle.portal_model.specs.declared.record.Session.{Session}

@@ -1,4 +1,4 @@
--- Test vectors of what is told of a session.
+-- Test vectors of the details of a session.
 use Rattle.std.specs.Prelude.{◌≡◌, ℕ, ◌∷◌, Option, Some, None, option_map, codes}
 use Rattle.portal_model.specs.declared.command.Command.TheVariants.{Redeem, Report, Close}
 use Rattle.portal_model.specs.declared.details.End.{End}
@@ -35,7 +35,7 @@ DetailsOfHour =
     × (session_details_of H 1 5000 ≡ Some (hour_details (Some 2000) (Some Closed) 0))
     × (session_details_of H 0 3000 ≡ None) × (session_details_of H 2 3000 ≡ None)
 
--- the last byte ends a session, and no time is told of it
+-- the last byte ends a session, and its end has no time
 abbrev pub DetailsOfBytes : Type 0
 DetailsOfBytes =
     session_details_of (entry 1000 (Report 1 1073741824) ∷ gig_redeemed) 1 1000 ≡ Some (record {

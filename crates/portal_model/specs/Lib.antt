@@ -9,6 +9,8 @@ pub mod Change
 pub mod Rows
 pub mod Captive
 pub mod Details
+pub mod Batches
+pub mod CodeStart
 pub mod Payments
 pub mod Private
 pub mod Span
@@ -16,3 +18,4 @@ pub mod Takings
 pub mod TestVectors
 pub mod VerdictVectors
 pub mod DetailsVectors
+pub mod BatchVectors

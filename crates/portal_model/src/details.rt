@@ -1,4 +1,4 @@
-//! What is told of a session, be it open or ended.
+//! The details of a session, be it open or ended.
 
 ghost use Rattle.portal_model.specs.Details.{OpenUntilEnd};
 

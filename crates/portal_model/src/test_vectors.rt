@@ -1,5 +1,6 @@
-//! Test vectors of the model: histories with the answers to commands, the captive state of devices and the
-//! details of sessions. The functions do nothing; their contracts state the vectors.
+//! Test vectors of the model: histories with the answers to commands, the captive state of devices, the
+//! details of sessions, and what is told of batches. The functions do nothing; their contracts state the
+//! vectors.
 ghost use Rattle.portal_model.specs.TestVectors.{
   IssueSellRedeem,
   ClockSetBack,
@@ -18,6 +19,11 @@ ghost use Rattle.portal_model.specs.DetailsVectors.{
   DetailsOfBytes,
   DetailsOfBoth,
   DetailsOfLast,
+};
+ghost use Rattle.portal_model.specs.BatchVectors.{
+  StatesOfBatches,
+  BeginningsOfCodes,
+  OrderOfBatches,
 };
 ghost use Rattle.portal_model.specs.VerdictVectors.{
   LoadVerdicts,
@@ -68,4 +74,12 @@ pub fn details_vectors_hold()
     ensures bytes { DetailsOfBytes }
     ensures both { DetailsOfBoth }
     ensures last { DetailsOfLast }
+{}
+
+/// Test vectors of the states of batches, of codes that are found by their first characters, and of the order
+/// of batches.
+pub fn batch_vectors_hold()
+    ensures states { StatesOfBatches }
+    ensures beginnings { BeginningsOfCodes }
+    ensures order { OrderOfBatches }
 {}

@@ -14,6 +14,7 @@ ghost use Rattle.portal_tables.specs.Images.{ImageHoldsLedger};
 
 use crate::closing::close_desk;
 use crate::errors::{error_of_file, error_of_store};
+use crate::machine::Machine;
 use crate::obstacles::unattached;
 use crate::opening::{attach_store, open_memory_desk, open_store};
 use crate::pairs::FilePair;
@@ -30,8 +31,8 @@ use std::fs;
 
 /// The files of the machine: those of settings, and a database file with its log.
 #[derive(Drop)]
-pub struct HostFiles<'h, P: FilePair> {
-    pub host: &'h HostRuntime,
+pub struct HostFiles<M: Machine, P: FilePair> {
+    pub machine: M,
     pub pair: P,
 }
 
@@ -49,7 +50,41 @@ fn trouble_at<T: Display>(alloc: Global, path: &str, error: ProgramError, why: &
     }
 }
 
-impl<'h, P: FilePair> Place for HostFiles<'h, P> {
+/// Opens a desk over the database file at a path and its log, as `Place::open` does.
+fn open_pair<P: FilePair>(
+    alloc: Global,
+    host: &HostRuntime,
+    path: &str,
+    pair: P,
+    settings: Settings,
+    purpose: Purpose,
+) -> Result<StoreDesk<FileStore<P::File>>, (Trouble, Remains<P::File>)>
+    ensures why { IfErr result (λ e. IsDatabaseError e.0.error × NamesPath path.now e.0) }
+    ensures fails { IfErr result (λ e. RefusesFiles P.image purpose e.1 e.0.error) }
+    ensures same_settings { IfOk result (λ desk. settings_of desk ≡ settings) }
+    ensures represents { (L : Ledger) → ImageHoldsLedger P.image L
+        → IfOk result
+        (λ desk. DeskIsFaultFree over_files desk → DeskRepresents over_files desk (running L)) }
+    ensures found { IfOk result (λ desk.
+        DeskIsFaultFree over_files desk → IsFoundFor P.image purpose) }
+    ensures opened { IfOk result (λ desk. OpensTo P.image purpose desk) }
+{
+    match open_store(host, path, pair, purpose) {
+        Ok(conn) => match attach_store(conn, settings) {
+            Ok(desk) => Ok(desk),
+            Err((error, left)) => {
+                let trouble = unattached(alloc, path, error, left.schema());
+                Err((trouble, Remains::Refused(left)))
+            }
+        },
+        Err(error) => Err((
+            trouble_at(alloc, path, error.program_error(), &error),
+            Remains::Nothing,
+        )),
+    }
+}
+
+impl<M: Machine, P: FilePair> Place for HostFiles<M, P> {
     type Stored = StoreDesk<FileStore<P::File>>;
 
     type Fresh = StoreDesk<MemStore>;
@@ -78,7 +113,7 @@ impl<'h, P: FilePair> Place for HostFiles<'h, P> {
     ghost is_fresh_fault_free = { λ desk. memory_desk_is_fault_free desk };
 
     fn read(&self, alloc: Global, path: &str) -> Result<Vec<u8>, Trouble> {
-        match fs::read(self.host, path) {
+        match fs::read(self.machine.runtime(), path) {
             Ok(bytes) => Ok(bytes),
             Err(io_error) => Err(trouble_at(
                 alloc,
@@ -95,41 +130,16 @@ impl<'h, P: FilePair> Place for HostFiles<'h, P> {
         path: &str,
         settings: Settings,
         purpose: Purpose,
-    ) -> Result<StoreDesk<FileStore<P::File>>, (Trouble, Remains<P::File>)>
-        ensures why { IfErr result (λ e. IsDatabaseError e.0.error × NamesPath path.now e.0) }
-        ensures fails { IfErr result (λ e. RefusesFiles P.image purpose e.1 e.0.error) }
-        ensures same_settings { IfOk result (λ desk. settings_of desk ≡ settings) }
-        ensures represents { (L : Ledger) → ImageHoldsLedger P.image L
-            → IfOk result
-            (λ desk. DeskIsFaultFree over_files desk → DeskRepresents over_files desk (running L)) }
-        ensures found { IfOk result (λ desk.
-            DeskIsFaultFree over_files desk → IsFoundFor P.image purpose) }
-        ensures opened { IfOk result (λ desk. OpensTo P.image purpose desk) }
-    {
-        match open_store(self.host, path, self.pair, purpose) {
-            Ok(conn) => match attach_store(conn, settings) {
-                Ok(desk) => Ok(desk),
-                Err((error, left)) => {
-                    let trouble = unattached(alloc, path, error, left.schema());
-                    Err((trouble, Remains::Refused(left)))
-                }
-            },
-            Err(error) => Err((
-                trouble_at(alloc, path, error.program_error(), &error),
-                Remains::Nothing,
-            )),
-        }
+    ) -> Result<StoreDesk<FileStore<P::File>>, (Trouble, Remains<P::File>)> {
+        let HostFiles { machine, pair } = self;
+        open_pair(alloc, machine.runtime(), path, pair, settings, purpose)
     }
 
     fn close(
         alloc: Global,
         path: &str,
         desk: StoreDesk<FileStore<P::File>>,
-    ) -> Result<Remains<P::File>, (Trouble, Remains<P::File>)>
-        ensures why { IfErr result (λ e. IsFileError e.0.error × NamesPath path.now e.0) }
-        ensures fails { IfErr result (λ e. IsUnclosed desk e.1) }
-        ensures closed { IfOk result (λ left. IsClosed desk left) }
-    {
+    ) -> Result<Remains<P::File>, (Trouble, Remains<P::File>)> {
         match close_desk(desk) {
             Ok(files) => Ok(Remains::Closed(files)),
             Err((io_error, store)) => Err((
@@ -142,11 +152,7 @@ impl<'h, P: FilePair> Place for HostFiles<'h, P> {
     fn open_desk_in_memory(
         alloc: Global,
         settings: Settings,
-    ) -> Result<StoreDesk<MemStore>, ProgramError>
-        ensures why { IfErr result IsFileError }
-        ensures same_settings { IfOk result (λ desk. settings_of desk ≡ settings) }
-        ensures fresh { IfOk result (λ desk. DeskRepresents over_memory desk (running [])) }
-    {
+    ) -> Result<StoreDesk<MemStore>, ProgramError> {
         open_memory_desk(alloc, settings)
     }
 

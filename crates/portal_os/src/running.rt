@@ -35,7 +35,10 @@ fn run_over_pair<P: FilePair, T: AsStr, R: Read, W: Write, E: Write>(
         (wire_of R.Read W.Write input.old input.new output.old output.new)
         (E.contents errors.old) (E.contents errors.new) (map T.text words.now) result }
 {
-    let files = HostFiles { host, pair };
+    let files = HostFiles {
+        machine: host,
+        pair,
+    };
     let network = HostNetwork { host, socket: host };
     run_program(host.alloc(), files, network, words, input, output, errors)
 }

@@ -1,5 +1,5 @@
 -- The result of attaching the tables to a database that holds a ledger.
-use Rattle.portal_tables.proofs.Common.{◌≡◌, ◌≢◌, ◌⊎◌, inl, inr, ◌<◌, ◌≤◌, ℕ, true, false, cond, nat_eq}
+use Rattle.portal_tables.proofs.Common.{◌≡◌, ◌≢◌, ◌⊎◌, inl, inr, ◌<◌, ◌≤◌, ℕ, false, cond, nat_eq}
 use Rattle.portal_tables.proofs.Common.{true≢false, IsTrue, [], Option, Some, None, refl, sym, ap, subst, ◌∙◌}
 use Rattle.portal_tables.proofs.Common.{arith, lit≤, Held, state, Trees, Schema, Database, IsDatabase, State}
 use Rattle.portal_tables.proofs.Common.{HasCleanDisk, Survives, survives_weaker, Ledger, all_rows_of, running}

@@ -35,7 +35,7 @@ same_bytes a b = bytes_eq-Decides a b
 same_numbers : (a b : ℕ) → (nat_eq a b ≡ true → a ≡ b) × (a ≡ b → nat_eq a b ≡ true)
 same_numbers a b = Decides-eqb a b
 
-one : {X : Type 0} (P : X → Type 0) (xs : List X) (x : X) → All P xs → Has xs x → P x
+pub one : {X : Type 0} (P : X → Type 0) (xs : List X) (x : X) → All P xs → Has xs x → P x
 one P xs x all has = all_has P xs x (recursion_from_All P xs all) has
 
 -- ---- the head

@@ -2,12 +2,14 @@ pub mod Common
 pub mod AttachLemmas
 pub mod AttachedLemmas
 pub mod AuditShown
+pub mod BatchLemmas
 pub mod CountersShown
 pub mod InOrder
 pub mod Joining
 pub mod KeptLemmas
 pub mod Leading
 pub mod LeftoverLemmas
+pub mod LikeLemmas
 pub mod ListLaws
 pub mod ListSteps
 pub mod Lookups

@@ -18,7 +18,7 @@ use Rattle.portal_tables.proofs.InOrder.{in_order, filter_true}
 
 -- ---- the codes of a batch
 
-same_codes : (xs ys : List (List ℕ)) → All IsCode xs → All IsCode ys
+pub same_codes : (xs ys : List (List ℕ)) → All IsCode xs → All IsCode ys
     → map text_of xs ≡ map text_of ys → xs ≡ ys
 same_codes [] [] p q e = refl
 same_codes [] (y ∷ ys) p q e = absurd (cc)

@@ -1,7 +1,7 @@
 -- A database that a read does not change holds the same history.
 use Rattle.portal_tables.proofs.Common.{false}
 use Rattle.portal_tables_sql.specs.Indexes.{our_indexes}
-use Rattle.portal_tables.proofs.Common.{IsTrue, true, List, map, subst, sym, arith, Result, Ok, Err, IsErrAnd}
+use Rattle.portal_tables.proofs.Common.{IsTrue, List, map, subst, sym, arith, Result, Ok, Err, IsErrAnd}
 use Rattle.portal_tables.proofs.Common.{err_from_is_err_and, IfOk-weaker, Held, state, Database, State}
 use Rattle.portal_tables.proofs.Common.{HasCleanDisk, History, Ledger, history_of, requests_of, rows_of}
 use Rattle.portal_tables.proofs.Common.{IsLegal, RequestRow, row_of_request, the_sound_is_legal, Fails}
@@ -41,6 +41,16 @@ module _ {S : Type 0} (g : Ghosts S) where
       → ReadsHistory g a b (Ok y) Q
   shown_as leads r =
       record { found = λ clean live h shown. leads h shown.0 (r.found clean live h shown); looks = r.looks }
+
+  -- of a result, whatever it is, something else holds
+  pub shown_weaker : {A : Type 0} {a b : Held S} {result : Result A RowError} {P Q : History → A → Type 0}
+      → ((h : History) → IsLegal h → (x : A) → P h x → Q h x) → ReadsHistory g a b result P
+      → ReadsHistory g a b result Q
+  shown_weaker {result = result} leads r = record {
+    found = λ clean live h shown.
+        IfOk-weaker result _ _ (λ x is. leads h shown.0 x is) (r.found clean live h shown);
+    looks = r.looks;
+  }
 
   -- the rows of a table, which hold the history whatever requests are stored
   pub of_rows : {A : Type 0} {a b : Held S} {result : Result A RowError} {Is : Contents → A → Type 0}

@@ -4,6 +4,7 @@ pub mod Images
 pub mod PaymentLists
 pub mod Older
 pub mod Prices
+pub mod BatchLists
 pub mod HoldsLedger
 pub mod StoreHolds
 pub mod TablesRepresent

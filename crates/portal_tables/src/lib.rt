@@ -4,6 +4,7 @@
 
 mod attach_steps;
 pub mod attaching;
+mod batches;
 pub mod errors;
 pub mod laws;
 mod lists;

@@ -1,21 +1,25 @@
 //! What the tables are asked: a type for each question, with what its answer is.
 
-ghost use Rattle.std.specs.Prelude.{◌≡◌, IfOk, filter, is_some};
+ghost use Rattle.std.specs.Prelude.{◌≡◌, IfOk, filter, is_some, option_map};
 ghost use Rattle.sqlite.specs.Held.{state};
 ghost use Rattle.portal_ledger.specs.Ledger.{Ledger, history_of};
+ghost use Rattle.portal_model.specs.Batches.{AreVouchersLike, vouchers_in};
 ghost use Rattle.portal_model.specs.Captive.{all_sessions};
 ghost use Rattle.portal_model.specs.History.{head_of, plan_of, batch_of, issued_of, voucher_of, session_of};
 ghost use Rattle.portal_model.specs.History.{last_session_of, codes_of, is_open_at};
 ghost use Rattle.portal_tables_sql.specs.Looks.{Looks};
 ghost use Rattle.portal_tables_rows.specs.Holds.{HasTables};
+ghost use Rattle.portal_tables.specs.BatchLists.{AreFirstAfter};
 ghost use Rattle.portal_tables.specs.HoldsLedger.{IsHeldUnder, OfLedger};
 ghost use Rattle.portal_tables.specs.PaymentLists.{AreOrderedSales, AreRefunds, AreSales};
 
+use crate::batches::{read_batches_after, read_vouchers_in, read_vouchers_like};
 use crate::lists::{read_open_sessions, read_sales_as_issued, read_sales_by_moment};
 use crate::records::{read_is_held, read_last_session, read_session, read_voucher};
 use portal_codes::Code;
 use portal_ledger::caller::Caller;
 use portal_ledger::request::{KeptRequest, RequestNumber};
+use portal_model::code_start::CodeStart;
 use portal_model::moment::Moment;
 use portal_model::name::{Device, Id};
 use portal_model::plan::Plan;
@@ -192,6 +196,58 @@ impl Question for CodesOf<'_> {
 
     fn ask<S: Alter>(self, conn: &mut Connection<S>) -> Result<Vec<Code>, RowError> {
         list_batch_codes(self.alloc, conn, self.batch)
+    }
+}
+
+/// The vouchers of a batch, in order of issue. The list is empty if there is no such batch.
+#[derive(Clone, Copy)]
+pub struct VouchersIn<'a> {
+    pub alloc: Global,
+    pub batch: &'a Id,
+}
+
+impl Question for VouchersIn<'_> {
+    type Answer = Vec<Voucher>;
+
+    ghost is = { λ asked L found. found.items ≡ vouchers_in (history_of L) asked.batch.now };
+
+    fn ask<S: Alter>(self, conn: &mut Connection<S>) -> Result<Vec<Voucher>, RowError> {
+        read_vouchers_in(self.alloc, conn, self.batch)
+    }
+}
+
+/// The first vouchers, by their printed codes, of those that begin so, and whether there are more.
+#[derive(Clone, Copy)]
+pub struct VouchersLike<'a> {
+    pub alloc: Global,
+    pub start: &'a CodeStart,
+}
+
+impl Question for VouchersLike<'_> {
+    type Answer = (Vec<Voucher>, bool);
+
+    ghost is = { λ asked L found. AreVouchersLike (history_of L) asked.start.now found.0.items found.1 };
+
+    fn ask<S: Alter>(self, conn: &mut Connection<S>) -> Result<(Vec<Voucher>, bool), RowError> {
+        read_vouchers_like(self.alloc, conn, self.start.printed())
+    }
+}
+
+/// The first 21 batches of their list, newest first, or of what comes after a batch in it.
+#[derive(Clone, Copy)]
+pub struct BatchesAfter<'a> {
+    pub alloc: Global,
+    pub before: Option<&'a Batch>,
+}
+
+impl Question for BatchesAfter<'_> {
+    type Answer = Vec<Batch>;
+
+    ghost is = { λ asked L found. AreFirstAfter (history_of L)
+        (option_map (λ batch. batch.now) asked.before) found.items };
+
+    fn ask<S: Alter>(self, conn: &mut Connection<S>) -> Result<Vec<Batch>, RowError> {
+        read_batches_after(self.alloc, conn, self.before)
     }
 }
 

@@ -1,16 +1,14 @@
 -- Rows that are inserted one after another, as they were read.
 use Rattle.portal_tables_rows.proofs.Common.{Err, IfOk, zero, suc, ◌<◌, length, get_or, arith}
-use Rattle.portal_tables_rows.proofs.Common.{◌≡◌, Result, Ok, ℕ, ℤ, pos, List, [], ◌∷◌}
+use Rattle.portal_tables_rows.proofs.Common.{◌≡◌, Result, Ok, ℕ, ℤ, List, [], ◌∷◌}
 use Rattle.portal_tables_rows.proofs.Common.{◌++◌, map, Option, Some}
-use Rattle.portal_tables_rows.proofs.Common.{None, IsTrue, refl, sym, ap, subst, ◌∙◌, Error}
+use Rattle.portal_tables_rows.proofs.Common.{None, refl, sym, ap, subst, ◌∙◌, Error}
 use Rattle.portal_tables_rows.proofs.Common.{Ghosts, Row, State}
-use Rattle.portal_tables_rows.proofs.Common.{number, or_null, Contents, Holds}
-use Rattle.portal_tables_rows.proofs.Common.{KeepsOthers, HeadRow, Plan, VoucherRow, SessionRow, GrantRow}
-use Rattle.portal_tables_rows.proofs.Common.{CountRow, TotalRow, RequestRow, head_cells}
+use Rattle.portal_tables_rows.proofs.Common.{or_null, Contents, Holds}
+use Rattle.portal_tables_rows.proofs.Common.{head_cells}
 use Rattle.portal_tables_rows.proofs.Common.{plan_cells, batch_cells}
 use Rattle.portal_tables_rows.proofs.Common.{voucher_cells, session_cells, grant_cells, count_cells}
 use Rattle.portal_tables_rows.proofs.Common.{total_cells, request_cells, signed_or_null, ExecutesInside}
-use Rattle.portal_model.specs.declared.record.Batch.{Batch}
 use Rattle.sqlite.specs.Values.{bound_value}
 use Rattle.sqlite.specs.State.{Executes}
 use Rattle.sqlite.specs.declared.transaction.Transaction.{Transaction}

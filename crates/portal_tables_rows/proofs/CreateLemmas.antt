@@ -1,21 +1,17 @@
 -- The tables made in one transaction, and what they hold.
-use Rattle.portal_tables_rows.proofs.Common.{◌≡◌, Result, inl, inr, true≢false, true, false, IsTrue, ℕ, List}
-use Rattle.portal_tables_rows.proofs.Common.{[], length, refl, sym, subst, ◌∙◌, arith, AllByRecursion, Ghosts}
+use Rattle.portal_tables_rows.proofs.Common.{◌≡◌, inl, inr, true≢false, true, false, IsTrue, ℕ, List}
+use Rattle.portal_tables_rows.proofs.Common.{[], length, refl, sym, subst, ◌∙◌, arith, Ghosts}
 use Rattle.portal_tables_rows.proofs.Common.{Row, Table, Held, state, Database, HasCleanDisk, Survives, Shows}
 use Rattle.portal_tables_rows.proofs.Common.{KeepsCommit, FailsToCommit, Error, next_tree, survives_then}
-use Rattle.portal_tables_rows.proofs.Common.{survives_begin, Reference, place_has, all_has, Stores}
+use Rattle.portal_tables_rows.proofs.Common.{survives_begin, place_has, all_has, Stores}
 use Rattle.portal_tables_rows.proofs.Common.{TableExists, IsUnacted, IsUnactedBy, IsUndone, HasMade}
-use Rattle.portal_tables_rows.proofs.Common.{inside_by, IsCreate, makes_inside, still_stands, now_stands}
-use Rattle.portal_tables_rows.proofs.Common.{head, plans, batches, vouchers, sessions, grants, counts, totals}
-use Rattle.portal_tables_rows.proofs.Common.{requests, TablePlace, IsTableAt, HoldsIn, Holds}
-use Rattle.portal_tables_rows.proofs.Common.{CrashStateHoldsRows, this_schema_version, KeepsOthers}
-use Rattle.portal_tables_rows.proofs.Common.{CrashStateHasOthers, AreNamesFree, Makes, no_rows, new_store}
+use Rattle.portal_tables_rows.proofs.Common.{still_stands, now_stands}
+use Rattle.portal_tables_rows.proofs.Common.{TablePlace, IsTableAt, Holds}
+use Rattle.portal_tables_rows.proofs.Common.{CrashStateHoldsRows, KeepsOthers}
+use Rattle.portal_tables_rows.proofs.Common.{CrashStateHasOthers, AreNamesFree, new_store}
 use Rattle.portal_tables_rows.proofs.Common.{Builds, IsCreated, MayBuild}
-use Rattle.sqlite.specs.declared.transaction.Transaction.{Transaction}
 use Rattle.sqlite_schema.specs.Names.{same_name}
-use Rattle.sqlite_schema.specs.declared.schema.Action.TheVariants.{NoAction}
 use Rattle.sqlite_catalog.specs.Listing.{IsSound}
-use Rattle.portal_tables_sql.specs.Inside.{Inside, Runs}
 use Rattle.portal_tables_sql.proofs.TableLemmas.{IsIdle}
 use Rattle.portal_tables_sql.proofs.Named.{still_unacted, unacted_by}
 

@@ -1,5 +1,5 @@
 -- How a migration goes from the rows that were read to the tables after it.
-use Rattle.portal_tables_rows.proofs.Common.{◌≡◌, false, IsTrue, ℕ, suc, zero, ◌+◌, ◌<◌, get_or, map, List}
+use Rattle.portal_tables_rows.proofs.Common.{◌≡◌, IsTrue, ℕ, suc, zero, ◌+◌, ◌<◌, get_or, map, List}
 use Rattle.portal_tables_rows.proofs.Common.{[], ◌∷◌, refl, sym, ap, subst, ◌∙◌, arith, Less, All, ◌^◌}
 use Rattle.portal_tables_rows.proofs.Common.{nat_tests, ints, IsStrictlyIncreasing, value_cmp, Database}
 use Rattle.portal_tables_rows.proofs.Common.{State, HasCleanDisk, Survives, survives_then, survives_weaker}

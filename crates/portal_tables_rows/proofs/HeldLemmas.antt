@@ -1,6 +1,6 @@
 -- How calls that read an open connection follow one another: what a read does not change holds the same rows.
 use Rattle.portal_tables_rows.proofs.Common.{◌≡◌, IsTrue, Result, Ok, Err, IfOk, IsErrAnd, ap, subst, sym}
-use Rattle.portal_tables_rows.proofs.Common.{◌∙◌, arith, true, err_from_is_err_and, IfOk-weaker, Schema}
+use Rattle.portal_tables_rows.proofs.Common.{◌∙◌, arith, err_from_is_err_and, IfOk-weaker, Schema}
 use Rattle.portal_tables_rows.proofs.Common.{Database, Held, state, State, HasCleanDisk, Looks, ReadsOnly}
 use Rattle.portal_tables_rows.proofs.Common.{looks_read, looks_then, looks_weaker, same_now, still_open}
 use Rattle.portal_tables_rows.proofs.Common.{Contents, HoldsFirst, HasFirst, NotForeign, Holds, HasTables}

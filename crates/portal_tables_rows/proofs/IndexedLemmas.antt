@@ -1,6 +1,6 @@
 -- What the test of the indexes means.
 use Rattle.portal_tables_rows.proofs.Common.{◌≡◌, ◌||◌, inl, inr, ℕ, Bool, true, false, List, [], ◌∷◌, Some}
-use Rattle.portal_tables_rows.proofs.Common.{IsTrue, refl, sym, ap, ◌∙◌, true≢false, slice_get}
+use Rattle.portal_tables_rows.proofs.Common.{refl, sym, ap, ◌∙◌, true≢false, slice_get}
 use Rattle.portal_tables_rows.proofs.Common.{option_and_then, list_any, cases_Bool, eqb-true, Schema}
 use Rattle.portal_tables_rows.proofs.Common.{Index, table_named, Has, both, subst}
 use Rattle.portal_tables_rows.proofs.Common.{TablePlaces, TablesExist, this_schema_version}

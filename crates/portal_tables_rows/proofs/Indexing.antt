@@ -1,11 +1,11 @@
 -- CREATE INDEX keeps all that the tables hold, and the index exists after it.
-use Rattle.portal_tables_rows.proofs.Common.{◌≡◌, ◌≤◌, ◌⊎◌, inl, inr, lit≤, ℕ, false, List, [], ◌∷◌, ◌++◌, Ok}
-use Rattle.portal_tables_rows.proofs.Common.{Result, Error, Ghosts, IsTrue, refl, sym, ap, subst, ◌∙◌, Schema}
-use Rattle.portal_tables_rows.proofs.Common.{Table, Database, State, Index, Order, next_tree, Has, all_has}
+use Rattle.portal_tables_rows.proofs.Common.{◌≡◌, ◌≤◌, inl, inr, lit≤, ℕ, false, List, [], ◌∷◌, ◌++◌, Ok}
+use Rattle.portal_tables_rows.proofs.Common.{Result, Error, Ghosts, refl, sym, ap, subst, ◌∙◌, Schema}
+use Rattle.portal_tables_rows.proofs.Common.{Table, Database, State, Index, next_tree, Has, all_has}
 use Rattle.portal_tables_rows.proofs.Common.{Contents, TablePlace, IsTableAt, HoldsIn, KeepsOthers}
 use Rattle.portal_tables_rows.proofs.Common.{this_schema_version}
 use Rattle.sqlite.specs.declared.transaction.Transaction.{Transaction}
-use Rattle.sqlite_catalog.specs.Change.{with_index, indexed}
+use Rattle.sqlite_catalog.specs.Change.{with_index}
 use Rattle.portal_tables_sql.specs.Indexes.{described_index, HasOurIndex}
 use Rattle.portal_tables_sql.specs.Inside.{Inside, Runs}
 use Rattle.portal_tables_sql.specs.Tables.{since, table_of}

@@ -1,9 +1,9 @@
 -- From tests of sets of keys to keys that differ, and to references to rows that are there.
-use Rattle.portal_tables_rows.proofs.Common.{◌≡◌, ◌↔◌, inl, inr, ℕ, Bool, true, false, IsTrue, List, [], ◌∷◌}
+use Rattle.portal_tables_rows.proofs.Common.{◌≡◌, ◌↔◌, inl, inr, ℕ, Bool, false, IsTrue, List, [], ◌∷◌}
 use Rattle.portal_tables_rows.proofs.Common.{map}
 use Rattle.portal_tables_rows.proofs.Common.{All, true≢false, refl, sym, ap, map-map, subst, ◌∙◌, bytes_eq}
-use Rattle.portal_tables_rows.proofs.Common.{list_all, list_any}
-use Rattle.portal_tables_rows.proofs.Common.{bytes_eq-Decides, Has, all_from, all_has, has_image, has_mapped}
+use Rattle.portal_tables_rows.proofs.Common.{list_all}
+use Rattle.portal_tables_rows.proofs.Common.{Has, all_from, all_has, has_image, has_mapped}
 use Rattle.portal_tables_rows.proofs.Common.{IfOk, IfOk-weaker, IsCode, Result, text_of}
 use Rattle.portal_tables_rows.proofs.AuditLemmas.{all_true, any_true, true_all, true_any}
 use Rattle.portal_tables_rows.proofs.SameCode.{code_test, same_code}

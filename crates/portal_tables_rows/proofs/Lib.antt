@@ -29,6 +29,7 @@ pub mod NewTables
 pub mod OthersLemmas
 pub mod OthersMade
 pub mod OwnRows
+pub mod PageReading
 pub mod Pairs
 pub mod Printed
 pub mod Reading

@@ -8,7 +8,9 @@ use Rattle.portal_tables_rows.proofs.Common.{Le, Binary, value_cmp-Int, value_cm
 use Rattle.portal_tables_rows.proofs.Common.{map-map, filter-map, pull_back, number, or_null, IsSelection}
 use Rattle.portal_tables_rows.proofs.Common.{columns, TotalRow, Total, ends_row, Lists, ListsAs, is_within}
 use Rattle.portal_tables_rows.proofs.Common.{may_be_open, numbers_open, sale_cells}
+use Rattle.portal_tables_rows.specs.Lists.{ListsFirst}
 use Rattle.portal_tables_rows.proofs.Compose.{more_mapped}
+use Rattle.std.proofs.lemmas.List.{take-map}
 use Rattle.std.specs.Option.{option_cmp}
 use Rattle.sqlite.specs.declared.types.Value.{Value}
 use Rattle.sqlite.specs.Ops.{binary, is_true, from_truth}
@@ -118,6 +120,18 @@ module _ {P : Type 0} (cells : P → Row) (passes : P → Bool) (cmp : P → P �
       → (kept : List P) → map cells kept ≡ map (columns count) rows → Lists passes cmp values kept
   read_listed count all exact rows l kept are =
       subst (Lists passes cmp values) (sym (read_values count all exact rows l kept are)) l.lists
+
+  -- the first of them
+  pub read_first : (count : ℕ) → ((p : P) → columns count (cells p) ≡ cells p)
+      → ((a b : P) → cells a ≡ cells b → a ≡ b) → (limit : ℕ) (all_rows rows : List Row)
+      → ListsAs cells passes cmp values all_rows → rows ≡ take limit all_rows
+      → (kept : List P) → map cells kept ≡ map (columns count) rows → ListsFirst limit passes cmp values kept
+  read_first count all exact limit all_rows rows l first kept are =
+      let firsts = take limit l.listed in
+      let shown : map (columns count) rows ≡ map cells firsts =
+      ap (map (columns count)) (first ∙ ap (take limit) l.shows ∙ take-map cells limit l.listed)
+      ∙ map-map (columns count) cells firsts ∙ (λ i. map (λ p. all p i) firsts) in
+      record { all = l.listed; lists = l.lists; first = exact_list exact kept firsts (are ∙ shown) }
 
 -- ---- the numbers of the sessions that may be open, one total after another
 

@@ -1,12 +1,12 @@
 -- Tables that are created one after another, beside others.
-use Rattle.portal_tables_rows.proofs.Common.{◌≡◌, inl, inr, Result, Ok, IsTrue, ℕ, Bool, List, [], ◌∷◌, ◌++◌}
+use Rattle.portal_tables_rows.proofs.Common.{◌≡◌, inl, inr, Result, Ok, ℕ, List, [], ◌∷◌, ◌++◌}
 use Rattle.portal_tables_rows.proofs.Common.{refl, sym, subst, ◌∙◌, Error, Ghosts, State, Database, Has}
 use Rattle.portal_tables_rows.proofs.Common.{HasMade, IsUnactedBy, TablePlace, KeepsOthers, makes_inside}
 use Rattle.portal_tables_rows.proofs.Common.{false}
 use Rattle.sqlite.specs.declared.transaction.Transaction.{Transaction}
 use Rattle.portal_tables_sql.specs.Inside.{Inside, Runs}
 use Rattle.portal_tables_sql.proofs.InsideLemmas.{inside_none, inside_then}
-use Rattle.portal_tables_sql.proofs.TableLemmas.{IsIdle, creates, counts_none, placed, tree_is, name_is}
+use Rattle.portal_tables_sql.proofs.TableLemmas.{creates, counts_none, placed, tree_is, name_is}
 use Rattle.portal_tables_sql.proofs.TableLemmas.{names_itself, idle}
 use Rattle.portal_tables_sql.specs.Tables.{table_of, name_of, create_of}
 use Rattle.portal_tables_sql.specs.declared.our_tables.OurTable.{OurTable}

@@ -1,5 +1,6 @@
 -- From what a text means to the values that are read of its rows, and to what is made of them.
-use Rattle.portal_tables_rows.proofs.Common.{◌≡◌, ℕ, List, map, Bool, Result, Ok, Err, IfOk, IsErrAnd, Vec}
+use Rattle.portal_tables_rows.proofs.Common.{◌≡◌, ℕ, List, map, take, Bool, Result, Ok, Err, IfOk, IsErrAnd}
+use Rattle.portal_tables_rows.proofs.Common.{Vec}
 use Rattle.portal_tables_rows.proofs.Common.{Global, refl, sym, ap, subst, ◌∙◌, IfOk-weaker}
 use Rattle.portal_tables_rows.proofs.Common.{err_from_is_err_and, Ordering, map-map, Schema, Database, Row}
 use Rattle.portal_tables_rows.proofs.Common.{Held, state, HasCleanDisk, Shown, understood, looks_read}
@@ -11,8 +12,9 @@ use Rattle.portal_tables_rows.proofs.Common.{RowError, ReadsMany, ReadsRow, List
 use Rattle.portal_tables_rows.proofs.Cells.{exact_voucher}
 use Rattle.sqlite.specs.Store.{Ghosts}
 use Rattle.portal_tables_rows.specs.Selects.{ReadsFirst}
-use Rattle.portal_tables_rows.proofs.Listing.{read_listed}
-use Rattle.portal_tables_rows.proofs.OwnRows.{own_rows, own_listed}
+use Rattle.portal_tables_rows.specs.Lists.{ListsFirst}
+use Rattle.portal_tables_rows.proofs.Listing.{read_listed, read_first}
+use Rattle.portal_tables_rows.proofs.OwnRows.{own_rows, own_listed, own_first}
 use Rattle.portal_tables_rows.proofs.SumLemmas.{rows_exact}
 
 -- what the rows of a result tell, if values with their cells are read
@@ -42,6 +44,18 @@ module _ {P : Type 0} (cells : P → Row) (n : ℕ) (all : (p : P) → columns n
     is = λ vs cut. read_listed cells passes cmp ps n all exact rows listed (map read vs.items)
         (map-map cells read vs.items ∙ cut);
     owns = λ own. own_listed cells n all IsOwn passes cmp ps rows listed (λ p has on. own p has);
+  }
+
+  -- the first of those
+  pub tells_first : {V : Type 0} (read : V → P) (passes : P → Bool) (cmp : P → P → Ordering) (limit : ℕ)
+      (ps : List P) (all_rows rows : List Row) → ListsAs cells passes cmp ps all_rows
+      → rows ≡ take limit all_rows → TellsAll (λ (v : V). cells (read v)) n (IsOfOwn cells IsOwn) rows
+      (λ vs. ListsFirst limit passes cmp ps (map read vs.items)) (AreOwn IsOwn ps)
+  tells_first read passes cmp limit ps all_rows rows listed first = record {
+    is = λ vs cut. read_first cells passes cmp ps n all exact limit all_rows rows listed first
+        (map read vs.items) (map-map cells read vs.items ∙ cut);
+    owns = λ own. own_first cells n all IsOwn passes cmp ps limit all_rows rows listed first
+        (λ p has on. own p has);
   }
 
 module _ {S T : Type 0} (g : Ghosts S) {old new : Held S} {cells : T → Row} {width : ℕ}

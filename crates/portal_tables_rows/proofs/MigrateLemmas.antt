@@ -1,6 +1,6 @@
 -- How the steps of a migration compose, and what they come to.
 use Rattle.std.proofs.lemmas.List.Sums.{fold-append}
-use Rattle.portal_tables_rows.proofs.Common.{nat_tests, ints, ◌≡◌, Bool, true, IsTrue, ℕ, suc, ◌+◌, ◌<◌, ◌≤◌}
+use Rattle.portal_tables_rows.proofs.Common.{nat_tests, ints, ◌≡◌, IsTrue, ℕ, suc, ◌+◌, ◌<◌, ◌≤◌}
 use Rattle.portal_tables_rows.proofs.Common.{map, fold, get_or, List, [], ◌∷◌, ◌++◌, refl, sym, ap, subst}
 use Rattle.portal_tables_rows.proofs.Common.{◌∙◌, arith, append_assoc, append-nil, Less, AllByRecursion}
 use Rattle.portal_tables_rows.proofs.Common.{IsStrictlyIncreasing, State, value_cmp, value_cmp-Int, number}

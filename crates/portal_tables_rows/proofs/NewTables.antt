@@ -1,15 +1,14 @@
 -- What a database holds in which the product's tables were created.
-use Rattle.portal_tables_rows.proofs.Common.{◌≡◌, ◌⊎◌, inl, inr, false, ℕ, ◌≤◌, Bool, List, [], ◌∷◌, refl}
-use Rattle.portal_tables_rows.proofs.Common.{sym, subst, lit≤, true≢false, Row, Database, Has, Contents}
-use Rattle.portal_tables_rows.proofs.Common.{TablePlace, IsTableAt, HoldsIn}
+use Rattle.portal_tables_rows.proofs.Common.{◌≡◌, false, List, [], ◌∷◌, refl}
+use Rattle.portal_tables_rows.proofs.Common.{sym, subst, Row, Database, Has, Contents}
+use Rattle.portal_tables_rows.proofs.Common.{IsTableAt, HoldsIn}
 use Rattle.portal_tables_rows.proofs.Common.{this_schema_version, AreNamesFree, no_rows}
 use Rattle.sqlite.specs.Effect.{IsDatabase}
-use Rattle.portal_tables_sql.specs.Stored.{Keeps}
-use Rattle.portal_tables_sql.specs.Tables.{our_tables, table_of, since}
+use Rattle.portal_tables_sql.specs.Tables.{our_tables, table_of}
 use Rattle.portal_tables_sql.proofs.TableLemmas.{for_each, listed, tree_is}
 use Rattle.portal_tables_sql.specs.declared.our_tables.OurTable.{OurTable}
 use Rattle.portal_tables_sql.specs.declared.our_tables.OurTable.TheVariants as our
-use Rattle.portal_tables_rows.specs.Holds.{StoresIn, shown, cut_of}
+use Rattle.portal_tables_rows.specs.Holds.{StoresIn, shown}
 use Rattle.portal_tables_rows.specs.Creation.{HaveMade}
 use Rattle.portal_tables_rows.proofs.CreateLemmas.{ready_at}
 use Rattle.portal_tables_rows.proofs.MakeLemmas.{IsNew, all_new}

@@ -1,9 +1,16 @@
 -- If this product writes the rows of a table, it writes the rows of a result.
-use Rattle.portal_tables_rows.proofs.Common.{◌≡◌, ℕ, List, map, filter, Bool, true, Option, Some, None}
+use Rattle.portal_tables_rows.proofs.Common.{◌≡◌, ℕ, zero, suc, List, [], ◌∷◌, map, filter, take, Bool, true}
+use Rattle.portal_tables_rows.proofs.Common.{inl, inr, Option, Some, None}
 use Rattle.portal_tables_rows.proofs.Common.{IsSome, refl, sym, ap, subst, ◌∙◌, Ordering, IsPermutation-sym}
 use Rattle.portal_tables_rows.proofs.Common.{Row, Has, has_filtered, columns, has_image, has_along}
 use Rattle.portal_tables_rows.proofs.Common.{VoucherRow, AreOwn, AreOfOwn, IsOwnVoucher, IsOwnSale, Lists}
 use Rattle.portal_tables_rows.proofs.Common.{ListsAs, is_within, sale_columns}
+
+pub has_taken : {X : Type 0} (n : ℕ) (xs : List X) (x : X) → Has (take n xs) x → Has xs x
+has_taken zero xs x h = absurd h
+has_taken (suc n) [] x h = absurd h
+has_taken (suc n) (y ∷ xs) x (inl e) = inl e
+has_taken (suc n) (y ∷ xs) x (inr h) = inr (has_taken n xs x h)
 
 module _ {P : Type 0} (cells : P → Row) (n : ℕ) (all : (p : P) → columns n (cells p) ≡ cells p)
     (IsOwn : P → Type 0) where
@@ -23,6 +30,14 @@ module _ {P : Type 0} (cells : P → Row) (n : ℕ) (all : (p : P) → columns n
       let kept = has_filtered passes ps it.0
       (has_along it.0 l.listed (filter passes ps) (IsPermutation-sym _ _ l.lists.same) it.1) in
       (it.0, own it.0 kept.0 kept.1, sym (all it.0) ∙ ap (columns n) (sym it.2))
+
+  -- the first of them
+  pub own_first : (passes : P → Bool) (cmp : P → P → Ordering) (ps : List P) (limit : ℕ)
+      (all_rows rows : List Row) → ListsAs cells passes cmp ps all_rows → rows ≡ take limit all_rows
+      → ((p : P) → Has ps p → passes p ≡ true → IsOwn p) → AreOfOwn cells n IsOwn rows
+  own_first passes cmp ps limit all_rows rows l first own row has =
+      own_listed passes cmp ps all_rows l own row
+      (has_taken limit all_rows row (subst (λ rs. Has rs row) first has))
 
 -- so do the values that are listed
 pub listed_own : {P : Type 0} (IsOwn : P → Type 0) (passes : P → Bool)

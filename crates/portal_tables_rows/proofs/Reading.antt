@@ -143,7 +143,7 @@ last_session_rows_are old new device rows shown t h =
     let table = sessions place.tree in
     let it = first_selected texts.last_session_text table _ _ (Text device ∷ []) old new texts.session_columns
     (has_key 1 (Text device)) (key_tests table 1 (Text device) [] (lit< tt) refl) (λ a b. by_column 0 b a)
-    (orders_down table 0 (Text device ∷ []) (lit< tt)) (texts.last_session_means old.now.schema place.at
+    (orders_down table 0 (Text device ∷ []) (lit< tt)) 1 (texts.last_session_means old.now.schema place.at
     place.tree (h.tables_exist.tables our.Sessions (always _)).exists) rows shown in (
       it.0,
       subst (λ xs. IsSelection (has_key 1 (Text device)) (λ a b. by_column 0 b a) xs it.0)

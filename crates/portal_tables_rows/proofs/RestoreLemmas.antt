@@ -1,11 +1,11 @@
 -- The tables are made anew with the rows that were read of them.
-use Rattle.portal_tables_rows.proofs.Common.{◌≡◌, ◌≤◌, ◌<◌, inl, inr, lit≤, ℕ, suc, zero}
-use Rattle.portal_tables_rows.proofs.Common.{◌+◌, Bool, true, List}
+use Rattle.portal_tables_rows.proofs.Common.{◌≡◌, ◌≤◌, ◌<◌, lit≤, ℕ}
+use Rattle.portal_tables_rows.proofs.Common.{◌+◌, List}
 use Rattle.portal_tables_rows.proofs.Common.{[], ◌∷◌, ◌++◌, map, refl, sym, ap, subst, ◌∙◌, arith, ints}
 use Rattle.portal_tables_rows.proofs.Common.{nat_tests, append-nil, append_assoc, Less, AllByRecursion}
 use Rattle.portal_tables_rows.proofs.Common.{Row, Has, State, Database, value_cmp, value_cmp-Int}
 use Rattle.portal_tables_rows.proofs.Common.{number, put_by}
-use Rattle.portal_tables_rows.proofs.Common.{Contents, no_rows, HoldsIn, HoldsTables, has_clauses, StoresRows}
+use Rattle.portal_tables_rows.proofs.Common.{Contents, no_rows, HoldsIn, has_clauses, StoresRows}
 use Rattle.portal_tables_rows.proofs.Common.{AreNamesFree, OldSchema, Rebuilds, version_number}
 use Rattle.portal_tables_rows.proofs.Common.{with_empty_tables, First, Second, Third, Fourth, HeadRow}
 use Rattle.portal_tables_rows.specs.declared.schema_versions.OldSchema.TheVariants.{Fifth}
@@ -13,7 +13,7 @@ use Rattle.portal_tables_rows.proofs.Common.{SessionRow, GrantRow, CountRow, Tot
 use Rattle.portal_tables_rows.proofs.Common.{plan_cells, batch_cells, voucher_cells, session_cells}
 use Rattle.portal_tables_rows.proofs.Common.{grant_cells}
 use Rattle.portal_tables_rows.proofs.Common.{count_cells, total_cells, request_cells, head_stored}
-use Rattle.portal_tables_rows.proofs.Common.{session_stored, grant_stored, total_stored, Plan, VoucherRow}
+use Rattle.portal_tables_rows.proofs.Common.{session_stored, grant_stored, total_stored}
 use Rattle.portal_tables_rows.proofs.Common.{tables_of, whole_row, TablePlaces, Trees}
 use Rattle.sqlite.specs.Tree.{IsTable, rowid}
 use Rattle.portal_tables_sql.specs.Stored.{Keeps}
@@ -21,7 +21,7 @@ use Rattle.portal_tables_sql.specs.Tables.{since}
 use Rattle.portal_tables_sql.specs.declared.our_tables.OurTable.{OurTable}
 use Rattle.portal_tables_sql.specs.declared.our_tables.OurTable.TheVariants as our
 use Rattle.portal_tables_sql.proofs.TableLemmas.{always}
-use Rattle.portal_tables_rows.specs.Copying.{Adds, AddsRow, AddsRows, AddsTables, AreRead, Chain, cells_of}
+use Rattle.portal_tables_rows.specs.Copying.{Adds, AddsRow, AddsRows, AddsTables, AreRead, cells_of}
 use Rattle.portal_tables_rows.specs.Copying.{table_read}
 use Rattle.portal_tables_rows.specs.Creation.{AreDistinct, AreStanding, CreatesEmpty, DropsTables}
 use Rattle.portal_tables_rows.specs.Migrations.{first_tables, second_tables, all_tables}

@@ -1,5 +1,5 @@
 -- The result of each SELECT of a whole table, by the rows that the tables hold.
-use Rattle.portal_tables_rows.proofs.Common.{◌≡◌, ℕ, ◌<◌, ◌≤◌, Bool, false, List, [], map, sym, ◌∙◌, arith}
+use Rattle.portal_tables_rows.proofs.Common.{◌≡◌, ℕ, ◌<◌, ◌≤◌, Bool, false, List, [], map, ◌∙◌, arith}
 use Rattle.portal_tables_rows.proofs.Common.{lit<, lit≤, Row, Schema, Database, State, Shown, understood}
 use Rattle.portal_tables_rows.proofs.Common.{IsSimple, means_simple, TableExists, Contents, plan_cells}
 use Rattle.portal_tables_rows.proofs.Common.{batch_cells, voucher_cells, session_cells, grant_cells}

@@ -17,7 +17,7 @@ use Rattle.portal_model.specs.Change.{sessions_after, with_report, answer_of}
 use Rattle.portal_model.specs.Rows.{TotalRow, total_row, new_vouchers, new_counts}
 use Rattle.portal_ledger.specs.Fingerprint.{Fingerprint}
 use Rattle.portal_ledger.specs.Ledger.{kept_with}
-use Rattle.portal_ledger.specs.RequestRow.{cells_of, row_of_request}
+use Rattle.portal_ledger.specs.RequestRow.{row_of_request}
 use Rattle.portal_ledger.specs.declared.marked.MarkedChanges.{MarkedChanges}
 use Rattle.portal_tables_rows.specs.Contents.{Contents}
 use Rattle.portal_tables_rows.specs.Steps.{with_plans, with_batch, with_vouchers, with_counts, with_session}

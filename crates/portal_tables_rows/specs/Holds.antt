@@ -1,6 +1,6 @@
 -- When a database holds rows in the product's tables of a schema version, wherever those tables are among
 -- others.
-use Rattle.std.specs.Prelude.{◌≡◌, ℕ, ◌≤◌, nat_le, Bool, false, List, map}
+use Rattle.std.specs.Prelude.{ℕ, ◌≤◌, nat_le, Bool, false, List, map}
 use Rattle.sqlite.specs.Schema.{Schema}
 use Rattle.sqlite.specs.Table.{Table}
 use Rattle.sqlite_rules.specs.Lists.{Has}

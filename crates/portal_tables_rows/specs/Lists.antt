@@ -1,9 +1,9 @@
 -- Lists of the values of a table that pass a test, in an order.
-use Rattle.std.specs.Prelude.{◌≡◌, ℕ, ℤ, pos, Bool, true, false, ◌&&◌, nat_le, int_lt, List, [], ◌∷◌, map}
-use Rattle.std.specs.Prelude.{filter, Option, Some, None, IsSome, IsPermutation}
+use Rattle.std.specs.Prelude.{◌≡◌, ℕ, ℤ, pos, Bool, true, false, ◌&&◌, ◌||◌, nat_le, nat_lt, int_lt, List, []}
+use Rattle.std.specs.Prelude.{◌∷◌, map, take, filter, Option, Some, None, IsSome, IsPermutation}
 use Rattle.std.specs.List.Sorted.{IsSorted}
 use Rattle.std.specs.Option.{option_cmp}
-use Rattle.std.specs.Ordering.{ordering_then, nat_cmp}
+use Rattle.std.specs.Ordering.{ordering_then, nat_cmp, is_ge, is_lt}
 use Rattle.std.specs.Cmp.Lexicographic.{slice_cmp}
 use Rattle.std.specs.declared.cmp.Ordering.{Ordering}
 use Rattle.sqlite.specs.declared.types.Value.TheVariants.{Text}
@@ -11,6 +11,7 @@ use Rattle.sqlite.specs.Order.{Row}
 use Rattle.portal_tables_sql.specs.Stored.{or_null}
 use Rattle.portal_model.specs.History.{is_below}
 use Rattle.portal_model.specs.IdText.{IsIdText}
+use Rattle.portal_model.specs.declared.record.Batch.{Batch}
 use Rattle.portal_model.specs.Rows.{VoucherRow, TotalRow}
 use Rattle.portal_tables_rows.specs.Foreign.{IsMomentIfSome}
 use Rattle.portal_tables_rows.specs.declared.lists.SaleValue.{SaleValue}
@@ -30,12 +31,27 @@ pub record ListsAs {P X : Type 0} (shown : P → X) (passes : P → Bool) (cmp :
   pub lists : Lists passes cmp values listed
   pub shows : answer ≡ map shown listed
 
+-- the first values of such a list
+pub record ListsFirst {P : Type 0} (count : ℕ) (passes : P → Bool) (cmp : P → P → Ordering)
+    (values listed : List P) : Type 0 where
+  pub all : List P
+  pub lists : Lists passes cmp values all
+  pub first : listed ≡ take count all
+
 -- ---- tests
 
 -- there is a time, and it is between the two, both included
 abbrev pub is_within : ℕ → ℕ → Option ℕ → Bool
 is_within from to None = false
 is_within from to (Some at) = nat_le from at && nat_le at to
+
+-- the text is one from the first on and below the second
+abbrev pub is_between : List ℕ → List ℕ → List ℕ → Bool
+is_between low high text = is_ge (slice_cmp nat_cmp text low) && is_lt (slice_cmp nat_cmp text high)
+
+-- the batch was issued before the time, or then and has an id below that one
+abbrev pub is_behind : ℕ → List ℕ → Batch → Bool
+is_behind at id b = nat_le b.issued at && (nat_lt b.issued at || is_lt (slice_cmp nat_cmp b.id id))
 
 -- something remains, or there is no limit
 abbrev pub is_left : Option ℤ → Bool
@@ -63,6 +79,10 @@ by_sale a b = ordering_then (option_cmp nat_cmp a.sold b.sold) (slice_cmp nat_cm
 -- the earlier refund first, and of two at one time the lesser code
 abbrev pub by_refund : VoucherRow → VoucherRow → Ordering
 by_refund a b = ordering_then (option_cmp nat_cmp a.refunded b.refunded) (slice_cmp nat_cmp a.code b.code)
+
+-- by the codes of the vouchers
+abbrev pub by_code : VoucherRow → VoucherRow → Ordering
+by_code a b = slice_cmp nat_cmp a.code b.code
 
 -- by the numbers of the sessions
 abbrev pub by_number : TotalRow → TotalRow → Ordering

@@ -1,5 +1,5 @@
 -- The migration of a database of an older schema version to this one, in one transaction.
-use Rattle.std.specs.Prelude.{◌≡◌, ◌<◌, ◌^◌, ℕ, Bool, false, true, IsTrue, List, [], ◌∷◌, map, fold, All}
+use Rattle.std.specs.Prelude.{◌≡◌, ◌<◌, ◌^◌, ℕ, false, true, IsTrue, List, [], ◌∷◌, map, fold, All}
 use Rattle.std.specs.List.Sorted.{IsStrictlyIncreasing}
 use Rattle.sqlite.specs.Tree.{Trees}
 use Rattle.sqlite.specs.State.{State}

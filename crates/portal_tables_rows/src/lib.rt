@@ -19,6 +19,7 @@ pub mod inserts;
 mod keys;
 pub mod lists;
 pub mod migrations;
+pub mod pages;
 pub mod queries;
 pub mod requests;
 pub mod rows;

@@ -164,6 +164,20 @@ fn refunds_of_vouchers(
     Ok(refunds)
 }
 
+/// Lists the vouchers of a batch, ordered by place.
+pub fn list_batch_vouchers<S: Alter>(
+    alloc: Global,
+    conn: &mut Connection<S>,
+    batch: &Id,
+) -> Result<Vec<VoucherValue>, RowError>
+    ensures { ReadsRow S.Store conn.old conn.new result
+        (λ t vouchers. Lists (λ v. bytes_eq batch.now v.batch) by_place t.vouchers
+        (map voucher_read vouchers.items))
+        (λ t. AreOwn IsOwnVoucher t.vouchers) }
+{
+    read_many(alloc, conn, SELECT_BATCH_VOUCHERS, params![batch.text()])
+}
+
 /// Lists the codes of a batch, ordered by place.
 pub fn list_batch_codes<S: Alter>(
     alloc: Global,
@@ -176,12 +190,7 @@ pub fn list_batch_codes<S: Alter>(
         (map text_of codes.items))
         (λ t. AreOwn IsOwnVoucher t.vouchers) }
 {
-    let vouchers: Vec<VoucherValue> = read_many(
-        alloc,
-        conn,
-        SELECT_BATCH_VOUCHERS,
-        params![batch.text()],
-    )?;
+    let vouchers = list_batch_vouchers(alloc, conn, batch)?;
     Ok(codes_of_vouchers(alloc, &vouchers)?)
 }
 

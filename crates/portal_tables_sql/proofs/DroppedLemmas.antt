@@ -1,12 +1,12 @@
 -- A table still exists after another one is dropped.
-use Rattle.portal_tables_sql.proofs.Common.{◌≡◌, ◌⊎◌, inl, inr, ℕ, zero, suc, ◌+◌, ◌==◌}
+use Rattle.portal_tables_sql.proofs.Common.{◌≡◌, inl, inr, ℕ, suc, ◌+◌, ◌==◌}
 use Rattle.portal_tables_sql.proofs.Common.{List, [], ◌∷◌, Option}
-use Rattle.portal_tables_sql.proofs.Common.{Some, None, is_some, slice_get, find, filter}
+use Rattle.portal_tables_sql.proofs.Common.{Some, is_some, slice_get, find, filter}
 use Rattle.portal_tables_sql.proofs.Common.{refl, true, false, Bool}
-use Rattle.portal_tables_sql.proofs.Common.{not, ◌&&◌, ap, sym, ◌∙◌, arith, true≢false, position_from}
+use Rattle.portal_tables_sql.proofs.Common.{not, ap, sym, ◌∙◌, arith, true≢false, position_from}
 use Rattle.portal_tables_sql.proofs.Common.{cases_Bool}
 use Rattle.portal_tables_sql.proofs.Common.{list_any, codes, Schema, Table, same_name, table_named, Has}
-use Rattle.portal_tables_sql.proofs.Common.{has_filtered, has_kept, place_has, option_and_then, TableExists}
+use Rattle.portal_tables_sql.proofs.Common.{has_filtered, place_has, TableExists}
 use Rattle.portal_tables_sql.proofs.Common.{IsUnactedBy}
 use Rattle.sqlite_catalog.specs.Change.{without_table}
 use Rattle.sqlite.specs.Rows.{sequence}

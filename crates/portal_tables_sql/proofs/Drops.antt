@@ -1,7 +1,7 @@
 -- What a DROP TABLE means, wherever the table is in the schema.
 use Rattle.portal_tables_sql.proofs.Common.{◌≡◌, inl, inr, ℕ, ◌+◌, List, [], ◌∷◌, None}
 use Rattle.portal_tables_sql.proofs.Common.{Some, is_some, Ok, Err}
-use Rattle.portal_tables_sql.proofs.Common.{Bool, true, false, if◌then◌else◌, ◌&&◌, ◌||◌}
+use Rattle.portal_tables_sql.proofs.Common.{Bool, true, false, if◌then◌else◌, ◌&&◌}
 use Rattle.portal_tables_sql.proofs.Common.{refl, sym, ap, subst}
 use Rattle.portal_tables_sql.proofs.Common.{◌∙◌, ◌⊎◌, list_any, Schema, Table, Reference, Has, NoAction}
 use Rattle.portal_tables_sql.proofs.Common.{Off, Enforced, Deferred, mode_of}
@@ -9,7 +9,7 @@ use Rattle.sqlite_schema.specs.declared.schema.Keys.{Keys}
 use Rattle.portal_tables_sql.proofs.Common.{table_named, view_named, same_name, Statement, Compiled, Checked}
 use Rattle.portal_tables_sql.proofs.Common.{returning, timed, small, Command, Tally, Database}
 use Rattle.portal_tables_sql.proofs.Common.{State, Executes}
-use Rattle.portal_tables_sql.proofs.Common.{Writes, runs_as, TableExists, IsUnactedBy}
+use Rattle.portal_tables_sql.proofs.Common.{runs_as, TableExists, IsUnactedBy}
 use Rattle.sqlite_schema.specs.declared.command.Command.TheVariants.{DropTable}
 use Rattle.sqlite_resolve.specs.declared.error.CompileError.TheVariants.{Misuse}
 use Rattle.sqlite_resolve.specs.Compile.{command}

@@ -1,5 +1,5 @@
 -- The texts that create the indexes, under any schema that has their tables.
-use Rattle.portal_tables_sql.proofs.Common.{◌≡◌, Ok, ℕ, List, false, true, refl, Index, index_defined_by}
+use Rattle.portal_tables_sql.proofs.Common.{◌≡◌, Ok, ℕ, false, true, refl, Index, index_defined_by}
 use Rattle.portal_tables_sql.proofs.Common.{Table}
 use Rattle.sqlite_schema.specs.Names.{same_name}
 use Rattle.sqlite_value.specs.declared.keys.Order.{Order}

@@ -18,6 +18,7 @@ pub mod LooksLemmas
 pub mod Lookup
 pub mod Makes
 pub mod Named
+pub mod PageTexts
 pub mod Queries
 pub mod RepresentsLemmas
 pub mod RequestTexts

@@ -88,16 +88,16 @@ module _ (sql : List ℕ) (table : Table) (terms : List Term) (order : List (Ter
       selection rows
       (scan_all table.tree terms (all_columns table) order (overlay old.now.trees []) params rows a)
 
-  -- with LIMIT 1
-  pub first_selected : IsSelect old.now.schema sql table terms order (pos 1) names
+  -- with LIMIT
+  pub first_selected : (count : ℕ) → IsSelect old.now.schema sql table terms order (pos count) names
       → (rows : List Row) → Shown sql params old new rows
-      → (all : List Row) × IsSelection p cmp (rows_in table old.now.trees) all × (rows ≡ take 1 all)
-  first_selected s rows h =
+      → (all : List Row) × IsSelection p cmp (rows_in table old.now.trees) all × (rows ≡ take count all)
+  first_selected count s rows h =
       let read = reads_as sql params old new old.now.schema refl _ s.is s.plain s.unlisted rows h in
-      let a : IsAnswer (select_from table terms order (pos 1)) (overlay old.now.trees []) params rows =
+      let a : IsAnswer (select_from table terms order (pos count)) (overlay old.now.trees []) params rows =
       read.answer Null in
       let it =
-      scan_first table.tree terms (all_columns table) order (overlay old.now.trees []) params rows a in
+      scan_first table.tree terms (all_columns table) order (overlay old.now.trees []) params count rows a in
       (it.0, selection it.0 it.1, it.2)
 
 -- WHERE column = ?1

@@ -85,6 +85,8 @@ module _ (t : ℕ) (terms shows : List Term) (order : List (Term × Key)) (db : 
       let before = scan_before unlimited out a in
       subst IsScanOf (sym before.2) before.1
 
-  pub scan_first : (out : List Row) → IsAnswer (simple (inner t end) terms shows order (pos 1)) db params out
-      → (all : List Row) × IsScanOf all × (out ≡ take 1 all)
-  scan_first = scan_before (pos 1)
+  -- with LIMIT
+  pub scan_first : (count : ℕ) (out : List Row)
+      → IsAnswer (simple (inner t end) terms shows order (pos count)) db params out
+      → (all : List Row) × IsScanOf all × (out ≡ take count all)
+  scan_first count = scan_before (pos count)

@@ -1,6 +1,6 @@
 //! The text of each SQL statement on the product's tables, table by table. What a text means, under any
 //! schema that has its table, is proved in proofs/CreateTexts, InsertTexts, UpdateTexts, SelectTexts,
-//! WholeTexts, ListTexts and RequestTexts. specs/Tables.antt describes the tables.
+//! WholeTexts, ListTexts, PageTexts and RequestTexts. specs/Tables.antt describes the tables.
 
 // ---- portal_head
 
@@ -81,6 +81,12 @@ pub const INSERT_BATCH: &str =
 pub const SELECT_BATCH: &str =
     "SELECT id, plan_id, issued, expires, size FROM portal_batches WHERE id = ?1";
 
+/// The first 21 batches behind a place in their list, which has the later issue first, and of two at one
+/// time the greater id: those that were issued before a time, or then with an id below that one.
+pub const SELECT_BATCHES_BEHIND: &str =
+    "SELECT id, plan_id, issued, expires, size FROM portal_batches \
+     WHERE issued <= ?1 AND (issued < ?1 OR id < ?2) ORDER BY issued DESC, id DESC LIMIT 21";
+
 /// All batches.
 pub const SELECT_ALL_BATCHES: &str =
     "SELECT id, plan_id, issued, expires, size FROM portal_batches ORDER BY rowid";
@@ -117,6 +123,11 @@ pub const SELECT_VOUCHER: &str =
 pub const SELECT_BATCH_VOUCHERS: &str =
     "SELECT code, batch_id, place, sold, refunded, amount FROM portal_vouchers \
      WHERE batch_id = ?1 ORDER BY place";
+
+/// The first 51 vouchers, by their codes, from one text on and below another one.
+pub const SELECT_VOUCHERS_BETWEEN: &str =
+    "SELECT code, batch_id, place, sold, refunded, amount FROM portal_vouchers \
+     WHERE code >= ?1 AND code < ?2 ORDER BY code LIMIT 51";
 
 /// The batch and the time of the sales between two times, in the order of issue.
 pub const SELECT_SALES_AS_ISSUED: &str =

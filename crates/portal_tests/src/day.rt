@@ -174,6 +174,38 @@ pub const QUESTIONS: &[Question] = &[
         AXU5-SDWY-DBCH-DQCK,hour,3600,,3.00,1970-01-31 00:16\n",
     ),
     (
+        "GET /desk/batches",
+        DESK,
+        "{\"batches\":[{\"batch\":\"b1\",\"count\":3,\"expires\":2593000,\"issued\":1000,\
+        \"plan\":\"hour\",\"refunded\":1,\"sold\":3,\"used-up\":2}],\"more\":false}",
+    ),
+    (
+        "GET /desk/batches?before=b1&limit=1",
+        DESK,
+        "{\"batches\":[],\"more\":false}",
+    ),
+    (
+        "GET /desk/batches?before=b2",
+        DESK,
+        "{\"error\":\"unknown_batch\"}",
+    ),
+    (
+        "GET /desk/batches/b1",
+        DESK,
+        "{\"batch\":\"b1\",\"count\":3,\"expires\":2593000,\"issued\":1000,\"plan\":\"hour\",\
+        \"refunded\":1,\"sold\":3,\"used-up\":2,\"vouchers\":[\
+        {\"code\":\"3N55-WA4S-KH5V-JR49\",\"redeemed\":1,\"refund\":null,\"sold\":1000},\
+        {\"code\":\"VX9P-KPN3-9M27-5E2M\",\"redeemed\":1,\"refund\":null,\"sold\":2000},\
+        {\"code\":\"AXU5-SDWY-DBCH-DQCK\",\"redeemed\":0,\"refund\":300,\"sold\":3000}]}",
+    ),
+    (
+        "GET /desk/vouchers?prefix=vx9p-k",
+        DESK,
+        "{\"more\":false,\"vouchers\":[{\"batch\":\"b1\",\"code\":\"VX9P-KPN3-9M27-5E2M\",\
+        \"expires\":2593000,\"plan\":\"hour\",\"redeemed\":1,\"refund\":null,\"sold\":2000,\
+        \"uses\":1}]}",
+    ),
+    (
         "GET /desk/takings?from=1970-01-01&to=1970-01-01",
         DESK,
         "day            sold             sales refunded           refunds\n\

@@ -82,7 +82,7 @@ impl Place for InMemory {
         alloc: Global,
         settings: Settings,
     ) -> Result<StoreDesk<MemStore>, ProgramError> {
-        HostFiles::<'static, Unknown>::open_desk_in_memory(alloc, settings)
+        HostFiles::<&'static HostRuntime, Unknown>::open_desk_in_memory(alloc, settings)
     }
 
     fn close_desk_in_memory(desk: StoreDesk<MemStore>) {

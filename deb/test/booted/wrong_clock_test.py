@@ -104,10 +104,11 @@ def test_clock_is_set_while_it_runs(right_clock: None) -> None:
     took = until(lambda: not passes(), 10)
     set_clock(RIGHT)
     again = goes_on(20)
-    assert (took is not None and again is not None and last_entry() == before
+    entered = last_entry() - before     # seconds: the gateway may have reported bytes at a right time
+    assert (took is not None and again is not None and 0 <= entered < 3600
             and show("portal", "MainPID") == pid), (
-        f"the gateway shuts, and all goes on once the clock is set back  [shut after {took} s, on after "
-        f"{again} s]")
+        f"the gateway shuts, and all goes on once the clock is set back, without an entry of the wrong time  "
+        f"[shut after {took} s, on after {again} s, {entered} s]")
 
 
 @contextlib.contextmanager

@@ -3,15 +3,11 @@
 from __future__ import annotations
 
 import time
-from collections.abc import Iterator
 from dataclasses import dataclass
-from typing import Any
 
 from portal_field.counter.sheet import rows
 from portal_field.counter.takings import hundredths
-from portal_field.lib.desk_client import Desk, NoAnswer, Routes
-
-LONGEST = 10.0      # seconds that counting may take; 500 codes take less than one
+from portal_field.lib.desk_client import Desk, Routes
 
 
 @dataclass(frozen=True)
@@ -47,33 +43,25 @@ class Unused:
         return len(self.refundable) * self.price
 
 
-def states(desk: Desk, listed: list[dict[str, str]]) -> Iterator[dict[str, Any]]:
-    """What the server says of each code, one after another: it has no question about a batch."""
-    end = time.monotonic() + LONGEST
-    for row in listed:
-        yield desk.request_json(Routes.VOUCHER, row["code"])
-        if time.monotonic() > end:
-            raise NoAnswer("the codes of a batch were not counted in time")
+def price_of(desk: Desk, batch: str) -> int:
+    """What each voucher of a batch costs, in hundredths: the print file has it."""
+    return hundredths(rows(desk.request(Routes.PRINT, batch).decode())[0]["price"])
 
 
 def unsold(desk: Desk, batch: str) -> Unsold:
     """Counts the codes of a batch that can be sold, and adds up their prices. All codes of a batch have one
     date."""
-    listed, count = rows(desk.request(Routes.PRINT, batch).decode()), 0
-    plan, price = listed[0]["plan"], hundredths(listed[0]["price"])
-    for voucher in states(desk, listed):
-        if voucher["expires"] <= time.time():
-            return Unsold(batch, plan, len(listed), 0, price, is_late=True)
-        count += voucher["sold"] is None
-    return Unsold(batch, plan, len(listed), count, price)
+    state, price = desk.request_json(Routes.BATCH, batch), price_of(desk, batch)
+    is_late = bool(state["expires"] <= time.time())
+    count = sum(voucher["sold"] is None for voucher in state["vouchers"])
+    return Unsold(batch, state["plan"], state["count"], 0 if is_late else count, price, is_late)
 
 
 def unused(desk: Desk, batch: str) -> Unused:
-    """Codes past their date can be refunded, too."""
-    listed = rows(desk.request(Routes.PRINT, batch).decode())
-    found = [voucher for voucher in states(desk, listed)
+    """Codes past their date can be refunded, too. The codes are in the order of the print file."""
+    state, price = desk.request_json(Routes.BATCH, batch), price_of(desk, batch)
+    found = [voucher for voucher in state["vouchers"]
              if voucher["sold"] is not None and voucher["redeemed"] == 0]
-    return Unused(batch, listed[0]["plan"], [row["code"] for row in listed],
+    return Unused(batch, state["plan"], [voucher["code"] for voucher in state["vouchers"]],
                   {voucher["code"] for voucher in found},
-                  {voucher["code"] for voucher in found if voucher["refund"] is None},
-                  hundredths(listed[0]["price"]))
+                  {voucher["code"] for voucher in found if voucher["refund"] is None}, price)

@@ -13,9 +13,9 @@ from collections.abc import Callable, Sequence
 from dataclasses import dataclass, field, replace
 from typing import Any, NoReturn
 
-from portal_field.counter import takings, troubles
+from portal_field.counter import spreadsheet, takings, troubles
 from portal_field.counter.answers import Answers
-from portal_field.counter.journal import DONE, NO_ANSWER, Act, Entry, Journal, Mark, Sums
+from portal_field.counter.journal import DONE, NO_ANSWER, Act, Journal, Mark, Sums
 from portal_field.counter.labels import paper_of
 from portal_field.counter.looks import Looks
 from portal_field.counter.offers import Offers
@@ -34,7 +34,6 @@ STATE = pathlib.Path(os.environ.get("STATE_DIRECTORY", "/var/lib/portal-counter"
 FOLLOWS = 1.0       # seconds between two looks at what the server does
 OLD_LIST = 15       # seconds after which the gateway's list says that it is old
 LONGEST_BASE = 32   # signs of an idempotency key from which others are made: -001 and so on follow
-MOST_BATCHES = 200  # that are listed
 # errors of codes that a batch is sold without
 PASSED_OVER = ("sold_already", "refunded", "expired", "used_up")
 
@@ -105,6 +104,10 @@ class Counter:
     def money(self, hundredths: int) -> str:
         """An amount in the venue's currency and the counter's language."""
         return self.language.money(hundredths, self.conf.get("currency", ""))
+
+    def typed_money(self, hundredths: int) -> str:
+        """An amount as a clerk types it in the counter's language."""
+        return spreadsheet.written(spreadsheet.amount(hundredths), spreadsheet.separator_of(self.language))
 
     def plan_name(self, plan: str) -> str:
         """A plan as a clerk reads it: its name, or its id where the venue names none."""
@@ -213,7 +216,7 @@ class Counter:
         """Closes a session by its number."""
         reply = self.command(acts, "close", Routes.CLOSE, {"session": form.whole("session")}, number)
         return Notice(True, (self.say("Session %(number)s is closed.", number=reply["session"]),
-                             self.say("Within a poll nothing of it passes any more.")))
+                             self.say("Its device is offline in a moment.")))
 
     def issue(self, form: Form, number: str, acts: Acts) -> Notice:
         """Issues a batch of vouchers of one plan."""
@@ -346,10 +349,6 @@ class Counter:
                 "difference": takings.difference(replace(server, sold=server.sold - free), journal,
                                                  self.language, self.money),
                 "acts": self.journal.day(day)}
-
-    def batches(self) -> list[Entry]:
-        """The newest batches of the journal."""
-        return self.journal.batches(MOST_BATCHES)
 
     # The server and its clock
 

@@ -40,7 +40,7 @@ class Clerks:
                 for one in self.own.logins.accounts.now.values()]
         return self.page.show("clerks.html", answer.status if answer else 200,
                               Notice(good, lines) if answer else None, rows=rows, quiet=True,
-                              roles={"": self.say("As before; of a new one: sales clerk")} | {
+                              roles={"": self.say("As before (new: sales clerk)")} | {
                                   role: self.say(ROLES[role]) for role in AT_A_COUNTER},
                               typed=Form() if good else typed, wrong=answer.field if answer else "",
                               least=passwords.LEAST_SIGNS)

@@ -62,7 +62,7 @@ RULES = {
     "counted": Rule(clerk_words("Counted in the drawer"), AN_AMOUNT,
                     lambda text: hundredths(text) is not None)}
 FORMS = {"lost": ("batch",), "replace-session": ("session",), "issue": ("batch", "count"),
-         "sheet": ("batch",), "sheet.pdf": ("batch",), "sell-batch": ("batch",),
+         "batch": ("batch",), "sheet": ("batch",), "sheet.pdf": ("batch",), "sell-batch": ("batch",),
          "refund-batch": ("batch",), "close": ("session",), "cash-up": ("day",), "takings": ("from", "to"),
          "takings.csv": ("from", "to")}
 # Which field the server speaks of.

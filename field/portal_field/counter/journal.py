@@ -84,7 +84,6 @@ SELECT {{group}}, sum(act = 'sell'), sum(iif(act = 'sell', price, 0)),
 FROM acts WHERE moment >= ? AND moment < ? AND act IN ('sell', 'refund') AND {FIRST}
     GROUP BY {{group}} ORDER BY {{group}}"""
 ACTS = "SELECT moment, clerk, act, batch, plan, codes, price, request, answer FROM acts"
-BATCHES = f"{ACTS} WHERE act = 'issue' AND {FIRST} ORDER BY number DESC LIMIT ?"
 CARRIED_OUT = f"{ACTS} WHERE request = ? AND act = ? AND {FIRST}"
 STEPS = f"{ACTS} WHERE act = ?2 AND request BETWEEN ?1 || '-000' AND ?1 || '-999'" \
         " AND request GLOB ?1 || '-[0-9][0-9][0-9]' ORDER BY number"
@@ -223,10 +222,6 @@ class Journal:
     def day(self, day: datetime.date) -> list[Entry]:
         """All lines of a local day, in their order."""
         return self.entries(f"{ACTS} WHERE moment >= ? AND moment < ? ORDER BY number", *span_of(day))
-
-    def batches(self, most: int) -> list[Entry]:
-        """The batches that were issued, the last one first."""
-        return self.entries(BATCHES, most)
 
     def carried_out(self, act: str, request: str) -> Entry | None:
         """The first entry of a command that was carried out, by its idempotency key."""

@@ -10,7 +10,7 @@ from typing import TYPE_CHECKING
 
 import flask
 
-from portal_field.counter import office_client, spreadsheet
+from portal_field.counter import office_client, silent_reasons, spreadsheet
 from portal_field.counter.charts import Chart, Group, chart
 from portal_field.counter.clerk import Notice
 from portal_field.counter.office_client import Takings, Week
@@ -170,7 +170,8 @@ class OfficePages:
         say, language, now = self.say, self.language, time.time()
         money, code = language.money, {venue.name: venue.currency for venue in week.venues}
         return {
-            "silent": [(venue, machine, language.moment(seen) if seen else say("never"), why)
+            "silent": [(venue, machine, language.moment(seen) if seen else say("never"),
+                        silent_reasons.in_words(say, why))
                        for venue, machine, seen, why in week.silent],
             "certificates": [(machine, language.day(local_time.local(ends).date()),
                               language.span(int(ends - now)) if ends > now else say("it has ended"),

@@ -24,6 +24,7 @@ from portal_field.counter import (
     clerks, confirmation, entrance, fields, figures, finding, form_token, office_pages, own_account,
     payment_sums, payments, plan_pages, printing, reasons, repetition, roles, scans, sign_in_pages,
     spreadsheet, takings, venue_pages)
+from portal_field.counter.batch_pages import BatchPages
 from portal_field.counter.clerk import STATE, Acts, Counter, Notice
 from portal_field.counter.journal import Act, Entry
 from portal_field.counter.labels import PAPERS
@@ -69,12 +70,12 @@ DEEDS = {"issue": clerk_words("issued"), "one": clerk_words("issued for one sale
          "wrong_word": clerk_words("wrong password or PIN"),
          "done": clerk_words("done"), "no_answer": clerk_words("no answer")}
 
-SECTIONS = {"issue": "vouchers", "sheet": "vouchers", "sheet.pdf": "vouchers", "sell-batch": "vouchers",
-            "refund-batch": "vouchers",
+SECTIONS = {"issue": "vouchers", "batches": "vouchers", "batch": "vouchers", "sheet": "vouchers",
+            "sheet.pdf": "vouchers", "sell-batch": "vouchers", "refund-batch": "vouchers",
             "lost": "vouchers",
             "close": "sessions", "replace-session": "sessions", "takings": "money", "takings.csv": "money",
             "cash-up": "money", "cash-up.csv": "money"}
-NEWEST, MOST_ROWS = 10, 100     # batches and sessions that a page shows
+MOST_ROWS = 100     # sessions that a page shows
 NOTHING = Form()
 
 
@@ -113,6 +114,7 @@ class Pages:
         self.counter, self.several, self.made_good = counter, Several(counter), MadeGood(counter)
         lost, self.money_pages = LostBatches(counter), MoneyPages(counter, self.show)
         self.receipts = self.money_pages.receipts.receipts
+        batch_pages = self.batch_pages = BatchPages(counter, self.show, self.home, self.keep)
         session_pages = SessionPages(counter, self.receipts, self.show, self.sessions)
         self.actions: dict[str, Callable[[Form, str, Acts], Notice]] = {
             "sell": counter.sell, "refund": counter.refund, "close": counter.close, "issue": counter.issue,
@@ -127,7 +129,9 @@ class Pages:
             "voucher": self.voucher, "sheet": self.sheet, "sheet.pdf": self.sheet_file,
             "takings": self.takings,
             "takings.csv": self.takings_file,
-            "cash-up": self.cash_up, "cash-up.csv": self.cash_up_file, "batches": self.batches,
+            "cash-up": self.cash_up, "cash-up.csv": self.cash_up_file, "batches": batch_pages.batches,
+            "batch": batch_pages.batch,
+            "codes": lambda form: batch_pages.codes(form) if "code" in form else self.scan_again(),
             "venue": self.venue,
             "vouchers": lambda _: self.vouchers(), "money": lambda _: self.money(),
             "sessions": lambda form: self.sessions(form=form), "session": session_pages.one,
@@ -175,15 +179,9 @@ class Pages:
     def vouchers(self, status: int = 200, notice: Notice | None = None, wrong: str = "",
                  form: Form = NOTHING) -> Reply:
         """Batches: to issue one, to print one, to sell or refund one as a whole."""
-        counter = self.counter
-        try:
-            batches = counter.journal.batches(NEWEST)
-        except sqlite3.Error:
-            batches = []        # a sheet is printed without a journal, too
-        return self.show("vouchers.html", status, notice, plans=counter.offers.offered_prices,
+        return self.show("vouchers.html", status, notice, plans=self.counter.offers.offered_prices,
                          typed=typed(form), wrong=wrong, number=new_number(),
-                         batch=f"{local_time.local():b-%Y%m%d-%H%M%S}", batches=batches,
-                         marks=counter.marks())
+                         batch=f"{local_time.local():b-%Y%m%d-%H%M%S}", **self.batch_pages.newest())
 
     def sessions(self, status: int = 200, notice: Notice | None = None, wrong: str = "",
                  form: Form = NOTHING) -> Reply:
@@ -225,8 +223,10 @@ class Pages:
     # Questions
 
     def look_up(self, form: Form) -> Reply:
-        """What was typed or scanned: to its page, which Back and reload show again."""
-        return self.leads_to(scans.code_in(form.word("code"), form.get("kept", "")))
+        """What was typed or scanned: to its page, which Back and reload show again. Beside the first signs of
+        a code, `start`, its next signs are enough."""
+        typed = finding.after(form["start"], form.word("code")) if form.get("start") else form.word("code")
+        return self.leads_to(scans.code_in(typed, form.get("kept", "")))
 
     def voucher(self, form: Form) -> Reply:
         """The page of one voucher, by its code or the number of a look-up."""
@@ -389,10 +389,6 @@ class Pages:
         """The cash-up of a day as a CSV file."""
         day = form.day("day") if form.get("day") else local_time.today()
         return self.money_pages.cash_up_file(day, self.counter.cash_up(day))
-
-    def batches(self, _: Form) -> Reply:
-        """The list of the newest batches."""
-        return self.show("batches.html", batches=self.counter.batches(), marks=self.counter.marks())
 
     def answered(self, word: str) -> str:
         """An answer of the journal, in words."""

@@ -92,12 +92,12 @@ def rate(text: str) -> int | float | None:
     return value if value is None or value != int(value) else int(value)
 
 
-def typed_of(plan: Plan, offer: Offer, languages: list[str]) -> Form:
-    """A plan as the fields of its form."""
+def typed_of(plan: Plan, offer: Offer, languages: list[str], price: str) -> Form:
+    """A plan as the fields of its form, with its price as it is typed."""
     spans, sizes = in_units(plan["seconds"], TIMES), in_units(plan["bytes"], SIZES)
     seconds = spans if plan["seconds"] else (0, "h")
     size = sizes if plan["bytes"] else (0, "GB")
-    return Form({"price": f"{plan['price'] // 100}.{plan['price'] % 100:02}", "uses": str(plan["uses"]),
+    return Form({"price": price, "uses": str(plan["uses"]),
                  "time": str(seconds[0]), "time_unit": seconds[1], "data": str(size[0]), "data_unit": size[1],
                  "shelf_days": str(plan["shelf_days"]), "extend": "1" if plan["extend"] else "",
                  "offered": "" if offer.offered is False else "1", "name": offer.name,
@@ -164,9 +164,9 @@ class PlanPages:
             old = plan_changes.old_codes(journal, files.plans, offers, name, time.time())
         except sqlite3.Error:
             old = {}
-        typed = typed_of(plan, offers.of(name), [])
         return {"id": name, "name": offers.of(name).name_in(self.counter.language.tag) or name,
-                "gives": worth(plan, self.counter.language), "price": typed["price"], "money": plan["price"],
+                "gives": worth(plan, self.counter.language), "money": plan["price"],
+                "price": self.counter.typed_money(plan["price"]),
                 "is_goodwill": name == offers.goodwill, "old": list(self.old_lines(old, files))}
 
     def old_lines(self, old: dict[str, int], files: Files) -> list[str]:
@@ -209,7 +209,8 @@ class PlanPages:
         """The fields of a plan as it is. BadForm: there is none."""
         if name and name not in files.plans:
             raise BadForm("plan")
-        return typed_of(files.plans[name] if name else NEW, files.offers.of(name), self.languages)
+        plan = files.plans[name] if name else NEW
+        return typed_of(plan, files.offers.of(name), self.languages, self.counter.typed_money(plan["price"]))
 
     def plan_page(self, name: str, typed: Form, files: Files, answer: Answer | None = None,
                   preview: list[tuple[str, str]] | None = None, seen: str = "") -> Reply:

@@ -11,6 +11,7 @@ import flask
 from portal_field.counter import payments, receipt_text
 from portal_field.counter.clerk import Counter
 from portal_field.counter.receipts import Receipt, Receipts
+from portal_field.lib import local_time
 from portal_field.lib.forms import BadForm, Form
 
 Reply = flask.Response
@@ -71,7 +72,11 @@ class ReceiptPages:
         if looks:
             copied = self.counter.language.moment(time.time())
         lines = receipt_text.text_of(self.counter, receipt, size, copied)
-        return self.show("receipt.html", receipt=receipt, lines=lines, size=size, copied=copied)
+        say = self.counter.say
+        return self.show("receipt.html", receipt=receipt, lines=lines, size=size, copied=copied,
+                         what=say("sold") if receipt.sign > 0 else say("refunded"),
+                         batches=self.receipts.of_batches(receipt.number),
+                         day=local_time.local(receipt.moment).date())
 
     def style(self, form: Form) -> Reply:
         """The style sheet of a receipt of so many lines."""

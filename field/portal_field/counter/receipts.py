@@ -22,6 +22,10 @@ SELECT receipts.number, series, receipts.place, receipts.moment, receipts.clerk,
 FROM receipts JOIN receipt_lines ON receipt_lines.receipt = receipts.number
     JOIN acts ON acts.number = receipt_lines.entry WHERE {} ORDER BY receipts.number, acts.number"""
 
+OF_BATCHES = """
+SELECT min(acts.moment), acts.batch, acts.plan, count(*), sum(acts.price)
+FROM receipt_lines JOIN acts ON acts.number = receipt_lines.entry
+WHERE receipt_lines.receipt = ? GROUP BY acts.batch, acts.plan ORDER BY min(acts.number)"""
 LOOKS = "SELECT count(*) FROM receipt_looks WHERE receipt = ?"
 
 
@@ -32,6 +36,17 @@ class Line:
     plan: str
     price: int
     tax: int | None
+
+
+@dataclass(frozen=True)
+class OfBatch:
+    """What the journal has of a receipt and a batch: when its first voucher was sold or refunded, how many
+    they are, and their sum in hundredths."""
+    moment: int
+    batch: str
+    plan: str
+    codes: int
+    sum: int
 
 
 @dataclass(frozen=True)
@@ -146,6 +161,11 @@ class Receipts:
     def named(self, series: str, place: int) -> Receipt | None:
         """The receipt of a series and a place there."""
         return next(iter(self.where("series = ? AND receipts.place = ?", series, place)), None)
+
+    def of_batches(self, number: int) -> list[OfBatch]:
+        """The lines of the journal behind a receipt, those of one batch and plan together."""
+        rows = self.journal.asked(OF_BATCHES, number)
+        return [OfBatch(*row) for row in rows]      # type: ignore[arg-type]
 
     def newest(self) -> list[Receipt]:
         """The last ones, the newest first."""

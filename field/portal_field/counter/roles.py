@@ -14,7 +14,8 @@ FOR_ALL = {"logo", "lock", "unlock", "logout", "account", "password", "pin"}
 # What a clerk sells, looks up, or refunds up to the venue's limit, with receipts, the drawer and its shift;
 # also the word that the time is right, without which nothing is sold.
 FOR_CLERKS = {"", "shown", "voucher", "next", "sell", "now", "several", "sell-several", "sell-batch",
-              "refund", "vouchers", "batches", "sheet", "sheet.pdf", "sessions", "session", "venue",
+              "refund", "vouchers", "batches", "batch", "codes", "sheet", "sheet.pdf",
+              "sessions", "session", "venue",
               "scanner", "time",
               "money", "drawer", "shift", "shift-open", "shift-move", "shift-close", "slip", "receipt",
               "receipt.css", "receipts"}

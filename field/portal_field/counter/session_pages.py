@@ -68,7 +68,7 @@ class SessionPages:
             rows.append((say("Time left"), language.span(seconds)))
         if count is not None:
             rows.append((say("Data left"), language.volume(count)))
-        return [*rows, (say("Used, as the server knows it"), language.volume(details["used"]))]
+        return [*rows, (say("Used, by the last count"), language.volume(details["used"]))]
 
     def state(self, details: dict[str, Any]) -> str:
         """Whether the session is open, or why it has ended, and when where that is known."""

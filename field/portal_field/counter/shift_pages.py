@@ -12,7 +12,7 @@ from typing import Any
 
 import flask
 
-from portal_field.counter import fields, payments, reasons, receipt_text, spreadsheet
+from portal_field.counter import fields, payments, reasons, receipt_text
 from portal_field.counter.clerk import Counter, Notice
 from portal_field.counter.journal import Sums
 from portal_field.counter.receipts import Receipts, by_payment, by_rate
@@ -98,7 +98,7 @@ class ShiftPages:
             drawers=listed if len(listed) > 1 else [],
             is_chosen=is_chosen, shift=shift, facts=self.facts(shift) if shift else [], number=new_number(),
             sums=self.by_kind(shift) if shift else [], newest=self.shifts.newest(), quiet=True,
-            last=self.amount(self.shifts.last_counted(drawer)), most=reasons.MOST_SIGNS)
+            last=self.counter.typed_money(self.shifts.last_counted(drawer)), most=reasons.MOST_SIGNS)
 
     def by_kind(self, shift: Shift) -> list[Sums]:
         """What a shift took by each kind of payment."""
@@ -187,15 +187,10 @@ class ShiftPages:
         say, money, due = self.counter.say, self.counter.money, shift.drawer.due
         facts = [*self.facts(shift), (say("Counted in the drawer"), money(counted)),
                  (say("Difference"), self.difference(counted - due))]
-        hidden = {"shift": str(shift.number), "counted": self.amount(counted), "due": str(due)}
+        hidden = {"shift": str(shift.number), "counted": self.counter.typed_money(counted), "due": str(due)}
         return self.show("shift_close.html", status, notice, facts=facts, most=reasons.MOST_SIGNS,
                          hidden=hidden, number=form.get("request") or new_number(),
                          typed=form.get("note", ""))
-
-    def amount(self, hundredths: int) -> str:
-        """An amount as a clerk types it in the counter's language."""
-        amount = spreadsheet.amount(hundredths)
-        return spreadsheet.written(amount, spreadsheet.separator_of(self.counter.language))
 
     def difference(self, amount: int) -> str:
         """A difference in words: who reads a sign alone may take it for the other one."""

@@ -2,6 +2,7 @@
 
 from __future__ import annotations
 
+import functools
 import os
 import pathlib
 import re
@@ -9,13 +10,16 @@ import socket
 import sys
 import time
 from collections.abc import Iterable
+from typing import TYPE_CHECKING
 
 import nftables
 
-from portal_field.gateway.kernel_elements import KernelElements
 from portal_field.gateway.kernel_sets import (
     ALIVE, BARRED, DOWN, LISTED, READY, UP, KernelSets, element, flush)
 from portal_field.gateway.passing import NotReady, Passing, RulesAreGone
+
+if TYPE_CHECKING:
+    from portal_field.gateway.kernel_elements import KernelElements
 
 # a count at the egress of an Ethernet device holds the frame's head, one in `forward` does not
 ETHERNET = 14
@@ -47,7 +51,12 @@ class KernelGate(KernelSets):
         self.lan, self.grace, self.rules = lan, grace, rules
         self.is_barred, self.has_guard, self.index = False, False, 0
         self.mark = f"{os.getpid()} {time.time_ns()}"       # comment of the switch that this process renewed
-        self.elements_alone = KernelElements()
+
+    @functools.cached_property
+    def elements_alone(self) -> KernelElements:
+        """What reads one element. The agent of a small venue reads all each time, and never loads it."""
+        from portal_field.gateway.kernel_elements import KernelElements
+        return KernelElements()
 
     def passing(self) -> dict[str, Passing]:
         """The devices let through, with the IP-layer bytes of both directions. What others put there is left

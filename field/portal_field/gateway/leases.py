@@ -24,6 +24,7 @@ from dataclasses import dataclass, field
 from typing import Any, Protocol
 
 from portal_field.gateway.bound import POLL, Bound, Pair
+from portal_field.lib import pyroute2_parts     # noqa: F401 (before pyroute2)
 from portal_field.lib.desk_client import settings
 from portal_field.lib.notify import notify_systemd
 

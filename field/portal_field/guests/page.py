@@ -413,8 +413,6 @@ def main() -> None:
     """Serves the guests' page."""
     conf = settings("/etc/portal/front.toml")
     door = web.listening(conf["socket"])    # requests wait here from now on
-    for tag in GUESTS:
-        Language(tag)       # the catalogues are read once
     front = Front(Desk(conf["desk_port"]), conf, Devices(conf["lan"]).holder, credential("form_key"),
                   counts=Counts(conf.get("refusals")))
     web.serve(pages(front), door, threads=32)

@@ -49,6 +49,7 @@ SOURCES = {
                 ("portal_field/counter/scans.py", {"clerk_words": None}),
                 ("portal_field/counter/several.py", SAYS),
                 ("portal_field/counter/troubles.py", SAYS),
+                ("portal_field/counter/silent_reasons.py", {"clerk_words": None}),
                 ("portal_field/counter/fields.py", SAYS | {"clerk_words": None}),
                 ("portal_field/lib/error_pages.py", {"clerk_words": None}),
                 ("portal_field/counter/made_good.py", SAYS),

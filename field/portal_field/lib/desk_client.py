@@ -25,16 +25,19 @@ class Route:
 
 
 class Routes(Route, Enum):
-    """All routes of the desk. `{}` stands for the one parameter of a path."""
+    """All routes of the desk. `{}` stands for the one parameter of a path. One path has two methods."""
     CAPTIVE = "GET", "/captive", "guest"
     REDEEM = "POST", "/portal/redeem", "guest", True
     OWN_SESSION = "GET", "/portal/session", "guest"
     PLANS = "POST", "/desk/plans", "desk", True
     ISSUE = "POST", "/desk/batches", "desk", True
+    BATCH_LIST = "GET", "/desk/batches", "desk"
+    BATCH = "GET", "/desk/batches/{}", "desk"
     PRINT = "GET", "/desk/batches/{}/print", "desk"
     SELL = "POST", "/desk/sales", "desk", True
     REFUND = "POST", "/desk/refunds", "desk", True
     CLOSE = "POST", "/desk/closes", "desk", True
+    VOUCHERS = "GET", "/desk/vouchers", "desk"
     VOUCHER = "GET", "/desk/vouchers/{}", "desk"
     LAST_SESSION = "GET", "/desk/sessions", "desk"
     SESSION = "GET", "/desk/sessions/{}", "desk"

@@ -2,8 +2,8 @@
 (CLDR).
 
 A catalogue is a file of gettext, languages/DOMAIN/TAG.po; the messages in the sources are the English ones.
-It is compiled in memory at the start; a package has the compiled files, TAG.mo. Domains: `guests` (the portal
-page, nginx's answers, vouchers), and `counter`.
+It is compiled in memory once it is needed; a package has the compiled files, TAG.mo. Domains: `guests` (the
+portal page, nginx's answers, vouchers), and `counter`.
 """
 
 from __future__ import annotations

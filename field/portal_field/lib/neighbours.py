@@ -11,7 +11,8 @@ from collections.abc import Iterator, Mapping
 from dataclasses import dataclass
 from typing import Any
 
-from pyroute2 import IPRoute
+from portal_field.lib import pyroute2_parts     # noqa: F401 (before pyroute2)
+from pyroute2.iproute.linux import IPRoute
 from pyroute2.netlink.exceptions import NetlinkError
 from pyroute2.netlink.rtnl import RTMGRP_LINK, RTMGRP_NEIGH
 from pyroute2.netlink.rtnl.ndmsg import NTF_EXT_LEARNED, NUD_FAILED, NUD_PERMANENT, NUD_PROBE

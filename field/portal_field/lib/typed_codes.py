@@ -10,6 +10,7 @@ import urllib.parse
 LONGEST_TYPED = 320         # signs that are read: an address with the longest name of a host and a code
 SHORT, LONG = 12, 16        # signs of a code of before, and of now
 WHOLE = re.compile(r"[2-9A-HJKMNP-Z]{12}(?:[2-9A-HJKMNP-Z]{4})?")     # a plain code, of before or of now
+START = re.compile(r"[2-9A-HJKMNP-Z]{4,15}")      # the first signs of a plain code, which find vouchers
 # A device, which at the counter may stand in the field of a code. Its twelve signs could be a code of before.
 DEVICE = re.compile(r"[0-9a-f]{2}([:-])(?:[0-9a-f]{2}\1){4}[0-9a-f]{2}", re.I)
 # One within a text, typed in any way: three or four groups of four signs.
@@ -68,11 +69,14 @@ def scanned_code(text: str) -> str:
 
 def piece_beside(text: str, kept: str) -> str:
     """What a scanner wrote into a field which still held a refused code, `kept`: before or behind it. What
-    completes or corrects the kept code is no whole code by itself."""
+    completes or corrects the kept code is no whole code by itself. First signs of which no code begins are
+    not completed: what is typed before them, where a browser puts the cursor, is something else."""
     for rest in (text.removesuffix(kept), text.removeprefix(kept)):
         if rest != text and WHOLE.fullmatch(plain_code(rest)):
             return rest
-    return text
+    rest, signs = text.removesuffix(kept), plain_code(kept)
+    is_start = START.fullmatch(signs) and not WHOLE.fullmatch(signs) and not WHOLE.fullmatch(plain_code(text))
+    return rest if rest != text and is_start and START.fullmatch(plain_code(rest)) else text
 
 
 def scanned_code_beside(text: str, kept: str) -> str:

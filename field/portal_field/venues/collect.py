@@ -2,9 +2,10 @@
 of all venues in PostgreSQL.
 
 The takings are each server's own answers; where a server is silent, the program adds them up over a copy of
-its database. Plans, batches, vouchers and sessions come from such a copy, as no server lists them: it is made
-while the server is held still, as portal-backup does, and only where the files were written since. It can be
-repeated: what is the same is not written. Once a day all of it is read, else what may have changed.
+its database. Plans, batches, vouchers and sessions come from such a copy: a server lists batches, but no
+loaded plans, no ended sessions, and of a refund no time. It is made while the server is held still, as
+portal-backup does, and only where the files were written since. It can be repeated: what is the same is not
+written. Once a day all of it is read, else what may have changed.
 
     python3 -m portal_field.venues.collect
 """

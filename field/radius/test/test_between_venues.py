@@ -211,7 +211,7 @@ def _(scene: Scene) -> None:
 
 @tries("clerk", "prints, sells, refunds and marks as lost a batch of the south at the north")
 def _(scene: Scene) -> None:
-    for path in ("/sheet", "/sheet.pdf", "/vouchers", "/sell-batch", "/lost"):
+    for path in ("/batch", "/sheet", "/sheet.pdf", "/vouchers", "/sell-batch", "/lost"):
         text = scene.clerk.ask(f"{path}?batch={scene.batch}").text
         assert scene.unsold not in text and scene.sold not in text, f"{path} shows no code"
     for path in ("/sell-batch", "/refund-batch", "/lost", "/found"):

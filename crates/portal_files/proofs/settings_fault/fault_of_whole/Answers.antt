@@ -1,4 +1,4 @@
-use Rattle.portal_files.proofs.Common.{arith, ap, option_map, key_count}
+use Rattle.portal_files.proofs.Common.{arith}
 use Rattle.portal_files.proofs.Tables.{member_count-view}
 use Rattle.portal_files.proofs.settings_fault.fault_of_whole.Goals as goal
 

@@ -1,4 +1,5 @@
-use Rattle.portal_http_request.proofs.Common.{inr, refl, sym, None, subst, ℕ, List, IsUtf8}
+use Rattle.portal_http_request.proofs.Common.{inr, refl, sym, ◌∙◌, None, subst, ℕ, List, IsUtf8}
+use Rattle.portal_http_request.proofs.RouteLemmas.{same_method}
 use Rattle.portal_http_request.proofs.checks.check_path.Goals as goal
 
 pub returns-in_default-clause-checks : goal.returns-in_default-clause-checks
@@ -12,3 +13,8 @@ returns-in_default-clause-checks c =
       ),
       refl,
     )
+
+pub new-asked-requires-clause-method : goal.new-asked-requires-clause-method
+new-asked-requires-clause-method c = c.method_text.ensures
+    ∙ same_method c.in-Some.found c.in-Some-with_method.route c.args.request.method.now
+    (sym c.with_method.ensures ∙ c.in-Some-with_method.is)

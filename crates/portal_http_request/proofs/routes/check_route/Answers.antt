@@ -69,3 +69,17 @@ returns-in-SessionDetails-clause-checks c =
     at_route c.args.settings.now c.args.seed c.args.asked.now c.args.route route.SessionDetails
     c.check_session_details.result c.in-SessionDetails.is
     (inr (c.check_session_details.ensures.checks c.args.seed))
+
+pub returns-in-BatchList-clause-checks : goal.returns-in-BatchList-clause-checks
+returns-in-BatchList-clause-checks c =
+    at_route c.args.settings.now c.args.seed c.args.asked.now c.args.route route.BatchList
+    c.check_batch_list.result c.in-BatchList.is (inr (c.check_batch_list.ensures.checks c.args.seed))
+
+pub returns-in-Batch-clause-checks : goal.returns-in-Batch-clause-checks
+returns-in-Batch-clause-checks c = at_route c.args.settings.now c.args.seed c.args.asked.now c.args.route
+    route.Batch c.check_batch.result c.in-Batch.is (inr (c.check_batch.ensures.checks c.args.seed))
+
+pub returns-in-Vouchers-clause-checks : goal.returns-in-Vouchers-clause-checks
+returns-in-Vouchers-clause-checks c =
+    at_route c.args.settings.now c.args.seed c.args.asked.now c.args.route route.Vouchers
+    c.check_vouchers.result c.in-Vouchers.is (c.check_vouchers.ensures.checks c.args.seed)

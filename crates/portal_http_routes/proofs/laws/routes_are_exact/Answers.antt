@@ -1,17 +1,17 @@
 use Rattle.portal_http_routes.proofs.Common.{◌≡◌, inl, inr, ℕ, ◌<◌, Bool, true, false, cond, List, [], ◌∷◌}
 use Rattle.portal_http_routes.proofs.Common.{◌++◌, Option, Some, None, codes, refl, sym, ap, ◌∙◌, subst}
 use Rattle.portal_http_routes.proofs.Common.{arith, append-nil, All, option_map, RowsOf, RouteOf, Route}
-use Rattle.portal_http_routes.proofs.Common.{IsPlain, IsSegment, IsPathOf, print_path, session_path}
-use Rattle.portal_http_routes.proofs.Common.{voucher_path}
+use Rattle.portal_http_routes.proofs.Common.{IsPlain, IsSegment, IsPathOf, batch_path, print_path}
+use Rattle.portal_http_routes.proofs.Common.{session_path, voucher_path}
 use Rattle.matchit.proofs.OnLiterals.{matchit_on_literals}
 use Rattle.matchit.specs.Seek.{first}
 use Rattle.portal_http_routes.specs.declared.Route.TheVariants.{Captive, Redeem, Plans, Batches, Print, Sales}
 use Rattle.portal_http_routes.specs.declared.Route.TheVariants.{Refunds, Closes, Voucher, Takings, Reports}
 use Rattle.portal_http_routes.specs.declared.Route.TheVariants.{Sessions, Session, LastSession, OwnSession}
-use Rattle.portal_http_routes.specs.declared.Route.TheVariants.{SessionDetails}
+use Rattle.portal_http_routes.specs.declared.Route.TheVariants.{SessionDetails, BatchList, Batch, Vouchers}
 use Rattle.portal_http_routes.specs.Targets.{has_no_empty_segment, is_path}
 use Rattle.portal_http_routes.specs.Table.{place_route, route_of, route_in, table}
-use Rattle.portal_http_routes.proofs.SeekLemmas.{seek-front, seek-print, seek-last}
+use Rattle.portal_http_routes.proofs.SeekLemmas.{seek-front, seek-print, seek-batch, seek-last}
 use Rattle.portal_http_routes.proofs.SoundLemmas.{Found, Matches, seek-sound, literal-whole, literal-front}
 use Rattle.portal_http_routes.proofs.SoundLemmas.{path_parameter-then}
 use Rattle.portal_http_routes.proofs.TargetLemmas.{full_after}
@@ -31,7 +31,17 @@ of_print : (b : ℕ) (rest : List ℕ) → IsPlain (b ∷ rest) → route_of (pr
 unfolding route_of place_route matchit_on_literals
 of_print b rest plain =
     ap (option_map (λ r. r.value))
-    (seek-front (codes "/desk/batches/") table (b ∷ rest ++ codes "/print") _ (seek-print _ b rest plain))
+    (seek-front (codes "/desk/batches/") table (b ∷ rest ++ codes "/print") _ (seek-print _ _ b rest plain))
+
+full_batch : (b : ℕ) (rest : List ℕ) → IsPlain (b ∷ rest) → is_path (batch_path (b ∷ rest)) ≡ true
+unfolding has_no_empty_segment
+full_batch b rest plain = ap (λ (word : List ℕ). has_no_empty_segment true (b ∷ word))
+    (sym (append-nil rest)) ∙ full_after b rest [] plain
+
+of_batch : (b : ℕ) (rest : List ℕ) → IsPlain (b ∷ rest) → route_of (batch_path (b ∷ rest)) ≡ Some Batch
+unfolding route_of place_route matchit_on_literals
+of_batch b rest plain = ap (option_map (λ r. r.value))
+    (seek-front (codes "/desk/batches/") table (b ∷ rest) _ (seek-batch _ _ b rest plain))
 
 full_voucher : (b : ℕ) (rest : List ℕ) → IsPlain (b ∷ rest) → is_path (voucher_path (b ∷ rest)) ≡ true
 unfolding has_no_empty_segment
@@ -61,6 +71,11 @@ print_routed : (id path : List ℕ) → IsSegment id → path ≡ print_path id 
 print_routed [] path seg e = absurd seg
 print_routed (b ∷ rest) path seg e =
     ap route_in e ∙ in_path (print_path (b ∷ rest)) Print (full_print b rest seg) (of_print b rest seg)
+
+batch_routed : (id path : List ℕ) → IsSegment id → path ≡ batch_path id → route_in path ≡ Some Batch
+batch_routed [] path seg e = absurd seg
+batch_routed (b ∷ rest) path seg e =
+    ap route_in e ∙ in_path (batch_path (b ∷ rest)) Batch (full_batch b rest seg) (of_batch b rest seg)
 
 voucher_routed : (code path : List ℕ) → IsSegment code → path ≡ voucher_path code
     → route_in path ≡ Some Voucher
@@ -93,6 +108,9 @@ routed LastSession path h = path_of_literal path LastSession (codes "/desk/sessi
 routed OwnSession path h = path_of_literal path OwnSession (codes "/portal/session") refl h
 routed SessionDetails path h =
     path_of_literal path SessionDetails (codes "/gateway/sessions/details") refl h
+routed BatchList path h = absurd h
+routed Batch path h = batch_routed h.0 path h.1 h.2
+routed Vouchers path h = path_of_literal path Vouchers (codes "/desk/vouchers") refl h
 
 -- A path that has a route is one of its paths
 
@@ -121,6 +139,15 @@ print_said path m =
     let found = path_parameter-then (codes "/print") left.0 refl left.2 in
     (found.0, found.1, left.1 ∙ ap (λ (l : List ℕ). codes "/desk/batches/" ++ l) found.2)
 
+batch_said : (path : List ℕ) → Matches (codes "/desk/batches/" ++ 256 ∷ []) path → IsPathOf Batch path
+batch_said path m =
+    let left = literal-front (codes "/desk/batches/") (256 ∷ []) path refl m in
+    let found = path_parameter-then [] left.0 refl left.2 in (
+      found.0,
+      found.1,
+      left.1 ∙ ap (λ (l : List ℕ). codes "/desk/batches/" ++ l) (found.2 ∙ append-nil found.0),
+    )
+
 voucher_said : (path : List ℕ) → Matches (codes "/desk/vouchers/" ++ 256 ∷ []) path → IsPathOf Voucher path
 voucher_said path m =
     let left = literal-front (codes "/desk/vouchers/") (256 ∷ []) path refl m in
@@ -146,34 +173,40 @@ all_say = (
   (
     λ path m. print_said path m,
     (
-      λ path m. literal-whole (codes "/desk/batches") path refl m,
+      λ path m. batch_said path m,
       (
-        λ path m. literal-whole (codes "/desk/closes") path refl m,
+        λ path m. literal-whole (codes "/desk/batches") path refl m,
         (
-          λ path m. literal-whole (codes "/desk/plans") path refl m,
+          λ path m. literal-whole (codes "/desk/closes") path refl m,
           (
-            λ path m. literal-whole (codes "/desk/refunds") path refl m,
+            λ path m. literal-whole (codes "/desk/plans") path refl m,
             (
-              λ path m. literal-whole (codes "/desk/sales") path refl m,
+              λ path m. literal-whole (codes "/desk/refunds") path refl m,
               (
-                λ path m. session_said path m,
+                λ path m. literal-whole (codes "/desk/sales") path refl m,
                 (
-                  λ path m. literal-whole (codes "/desk/sessions") path refl m,
+                  λ path m. session_said path m,
                   (
-                    λ path m. literal-whole (codes "/desk/takings") path refl m,
+                    λ path m. literal-whole (codes "/desk/sessions") path refl m,
                     (
-                      λ path m. voucher_said path m,
+                      λ path m. literal-whole (codes "/desk/takings") path refl m,
                       (
-                        λ path m. literal-whole (codes "/gateway/reports") path refl m,
+                        λ path m. voucher_said path m,
                         (
-                          λ path m. literal-whole (codes "/gateway/sessions/details") path refl m,
+                          λ path m. literal-whole (codes "/desk/vouchers") path refl m,
                           (
-                            λ path m. literal-whole (codes "/gateway/sessions") path refl m,
+                            λ path m. literal-whole (codes "/gateway/reports") path refl m,
                             (
-                              λ path m. literal-whole (codes "/portal/redeem") path refl m,
+                              λ path m. literal-whole (codes "/gateway/sessions/details") path refl m,
                               (
-                                λ path m. literal-whole (codes "/portal/session") path refl m,
-                                tt,
+                                λ path m. literal-whole (codes "/gateway/sessions") path refl m,
+                                (
+                                  λ path m. literal-whole (codes "/portal/redeem") path refl m,
+                                  (
+                                    λ path m. literal-whole (codes "/portal/session") path refl m,
+                                    tt,
+                                  ),
+                                ),
                               ),
                             ),
                           ),

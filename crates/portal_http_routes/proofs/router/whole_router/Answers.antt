@@ -3,6 +3,8 @@ use Rattle.portal_http_routes.proofs.router.whole_router.Goals as goal
 pub returns : goal.returns
 returns c =
     rw (
+      c.in_ok-add_route-18.ensures,
+      c.in_ok-add_route-17.ensures,
       c.in_ok-add_route-16.ensures,
       c.in_ok-add_route-15.ensures,
       c.in_ok-add_route-14.ensures,

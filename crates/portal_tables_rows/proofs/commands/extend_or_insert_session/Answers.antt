@@ -1,4 +1,4 @@
-use Rattle.portal_tables_rows.proofs.Common.{subst, TotalRow, Writes, with_ends, with_total}
+use Rattle.portal_tables_rows.proofs.Common.{subst, TotalRow, Writes, with_total}
 use Rattle.portal_tables_rows.proofs.WritesLemmas.{writes_then}
 use Rattle.portal_tables_rows.proofs.commands.extend_or_insert_session.Goals as goal
 

@@ -1,4 +1,4 @@
-use Rattle.portal_tables_rows.proofs.Common.{◌≡◌, ap, sym, subst, ◌∙◌, ◌++◌, ◌∷◌, [], refl, map, take}
+use Rattle.portal_tables_rows.proofs.Common.{ap, sym, ◌∙◌, ◌++◌, ◌∷◌, [], refl, map, take}
 use Rattle.portal_tables_rows.proofs.Common.{take_all, take_more, ◌<◌, length, arith}
 use Rattle.portal_tables_rows.proofs.Common.{map-append, Null}
 use Rattle.sqlite.specs.Values.{bound, bound_value}

@@ -1,4 +1,4 @@
-use Rattle.portal_tables_rows.proofs.Common.{Ok, List, Row, ap, sym, subst, take, take_all, map}
+use Rattle.portal_tables_rows.proofs.Common.{Ok, List, Row, sym, subst, take, take_all, map}
 use Rattle.portal_tables_sql.specs.Inside.{Inside}
 use Rattle.portal_tables_sql.specs.declared.our_tables.OurTable.{OurTable}
 use Rattle.portal_tables_rows.specs.Copying.{Adds, AddsRows, AddsTables, table_read}

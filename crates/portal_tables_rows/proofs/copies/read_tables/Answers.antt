@@ -1,6 +1,6 @@
-use Rattle.portal_tables_rows.proofs.Common.{◌≡◌, ap, sym, subst, ◌∙◌, refl, arith, map, state}
+use Rattle.portal_tables_rows.proofs.Common.{ap, sym, subst, ◌∙◌, arith, map, state}
 use Rattle.portal_tables_rows.proofs.Common.{Anything, HasCleanDisk}
-use Rattle.portal_tables_rows.proofs.Common.{reads_then, fails_then, take_all, same_now, still_open}
+use Rattle.portal_tables_rows.proofs.Common.{reads_then, fails_then, take_all, same_now}
 use Rattle.portal_tables_rows.proofs.Common.{err_from_is_err_and}
 use Rattle.portal_tables_rows.proofs.Common.{reads_fails, get_or, Has, Database, HoldsTables}
 use Rattle.sqlite_rules.proofs.ListLemmas.{has_at}

@@ -1,7 +1,5 @@
-use Rattle.portal_tables_rows.proofs.Common.{◌≡◌, [], List, ℕ, sym, subst, state, Schema, looks_weaker, Shown}
-use Rattle.sqlite.specs.Order.{Row}
+use Rattle.portal_tables_rows.proofs.Common.{[], sym, subst, state, Schema, looks_weaker, Shown}
 use Rattle.portal_tables_sql.proofs.AskLemmas.{asks_looks}
-use Rattle.portal_tables_sql.proofs.TableLemmas.{always}
 use Rattle.portal_tables_sql.specs.Asks.{Anything, Asks}
 use Rattle.portal_tables_rows.proofs.CopySteps.{ok_weaker}
 use Rattle.portal_tables_rows.proofs.WholeAsks.{whole_asked}

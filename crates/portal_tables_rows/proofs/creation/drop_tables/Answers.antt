@@ -1,4 +1,4 @@
-use Rattle.portal_tables_rows.proofs.Common.{Ok, [], sym, subst, get_or, drop}
+use Rattle.portal_tables_rows.proofs.Common.{Ok, subst, get_or}
 use Rattle.std.proofs.lemmas.List.{drop_more, at_drop_all}
 use Rattle.portal_tables_sql.specs.declared.our_tables.OurTable.TheVariants as our
 use Rattle.portal_tables_rows.proofs.DropSteps.{DropsInside, all_dropped, none_dropped, one_more_dropped}

@@ -1,12 +1,12 @@
 use Rattle.portal_tables_rows.proofs.Common.{arith, subst, sym, ◌∙◌, state, HasCleanDisk}
-use Rattle.portal_tables_rows.proofs.Common.{Has, List, OldSchema}
+use Rattle.portal_tables_rows.proofs.Common.{Has, List}
 use Rattle.portal_tables_rows.proofs.Common.{AreNamesFree, after_migration, version_number}
 use Rattle.portal_tables_rows.proofs.Common.{has_clauses, tables_of}
-use Rattle.portal_tables_rows.proofs.Common.{IsReadFree, CommitsFrom, MayCommitFrom, Survives, [], on_err}
+use Rattle.portal_tables_rows.proofs.Common.{[], on_err}
 use Rattle.portal_tables_rows.proofs.Common.{Anything, Database, same_now}
 use Rattle.portal_tables_rows.specs.Copying.{AreRead}
 use Rattle.portal_tables_rows.proofs.FreeLemmas.{free_is}
-use Rattle.portal_tables_rows.proofs.FromVersionLemmas.{read_crash, read_done, read_fails, undone_after}
+use Rattle.portal_tables_rows.proofs.FromVersionLemmas.{read_crash, read_done, undone_after}
 use Rattle.portal_tables_rows.proofs.RestoreLemmas.{has_since}
 use Rattle.portal_tables_sql.specs.declared.our_tables.OurTable.{OurTable}
 use Rattle.portal_tables_rows.proofs.from_versions.migrate_with_counters.Goals as goal

@@ -1,4 +1,4 @@
-use Rattle.portal_tables_rows.proofs.Common.{IfOk-weaker, IsTrue, Bool, subst, sym, ◌∙◌, bytes_eq}
+use Rattle.portal_tables_rows.proofs.Common.{IfOk-weaker, sym, ◌∙◌, bytes_eq}
 use Rattle.portal_tables_rows.proofs.Common.{bytes_eq-Decides}
 use Rattle.portal_tables_rows.proofs.KeyLemmas.{among, texts_among}
 use Rattle.portal_tables_rows.proofs.keys.are_codes_among.Goals as goal

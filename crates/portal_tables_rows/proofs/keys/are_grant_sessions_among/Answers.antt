@@ -1,4 +1,4 @@
-use Rattle.portal_tables_rows.proofs.Common.{◌≡◌, rules, map, ◌∙◌, nat_eq, Decides-eqb}
+use Rattle.portal_tables_rows.proofs.Common.{◌≡◌, rules, map, nat_eq, Decides-eqb}
 use Rattle.portal_tables_rows.proofs.KeyLemmas.{among_is}
 use Rattle.portal_tables_rows.specs.declared.grants.GrantValue.{GrantValue}
 use Rattle.portal_tables_rows.proofs.keys.are_grant_sessions_among.Goals as goal

@@ -1,9 +1,9 @@
-use Rattle.portal_tables_rows.proofs.Common.{◌≡◌, ◌↔◌, ℕ, Bool, false, true, IsTrue, List, All, ap, subst}
+use Rattle.portal_tables_rows.proofs.Common.{◌≡◌, ◌↔◌, Bool, false, true, IsTrue, List, All, ap, subst}
 use Rattle.portal_tables_rows.proofs.Common.{subst₂, sym}
-use Rattle.portal_tables_rows.proofs.Common.{◌∙◌, map, rules, IfOk-weaker, bytes_eq, IsCode, text_of, Plan}
+use Rattle.portal_tables_rows.proofs.Common.{◌∙◌, map, rules, IfOk-weaker, IsCode, text_of, Plan}
 use Rattle.portal_tables_rows.proofs.Common.{SessionRow, GrantRow, CountRow, VoucherRow, VoucherValue}
 use Rattle.portal_tables_rows.proofs.Common.{GrantValue}
-use Rattle.portal_tables_rows.proofs.Common.{CountValue, voucher_read, session_read, grant_read, count_read}
+use Rattle.portal_tables_rows.proofs.Common.{voucher_read, session_read, grant_read, count_read}
 use Rattle.portal_tables_rows.proofs.KeyLemmas.{refused, through}
 use Rattle.portal_model.specs.declared.record.Batch.{Batch}
 use Rattle.portal_tables_rows.specs.Audit.{AreAmong}

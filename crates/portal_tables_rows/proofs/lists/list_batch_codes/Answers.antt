@@ -1,15 +1,12 @@
-use Rattle.portal_tables_rows.proofs.Common.{map, ap, sym, ◌∙◌, bytes_eq, err_from_is_err_and, map-map}
-use Rattle.portal_tables_rows.proofs.Common.{VoucherRow, VoucherValue, voucher_read, by_place}
-use Rattle.portal_tables_rows.proofs.ListReading.{batch_rows_are, batch_simple}
-use Rattle.portal_tables_rows.proofs.ManyValues.{lists_vouchers, row_fails, row_made}
+use Rattle.portal_tables_rows.proofs.Common.{map, ap, sym, ◌∙◌, err_from_is_err_and, map-map, VoucherRow}
+use Rattle.portal_tables_rows.proofs.Common.{VoucherValue, voucher_read}
+use Rattle.portal_tables_rows.proofs.ManyValues.{row_fails, row_made}
 use Rattle.portal_tables_rows.proofs.lists.list_batch_codes.Goals as goal
 
 pub returns-clause-reads : goal.returns-clause-reads
 returns-clause-reads g c =
     let vouchers = c.in_ok-vouchers.vouchers.items in
-    row_made g.S.Store _ (lists_vouchers g.S.Store _ _ (λ (v : VoucherRow). bytes_eq c.args.batch.now v.batch)
-    by_place batch_simple (λ rows shown t h. batch_rows_are _ _ c.args.batch.now rows shown t h)
-    (rw (c.params-to_sql.ensures, c.text.ensures.value) at c.in_ok-vouchers.ensures))
+    row_made g.S.Store _ c.in_ok-vouchers.ensures
     (λ t lists. record {
       listed = map voucher_read vouchers;
       lists = lists;
@@ -20,18 +17,12 @@ returns-clause-reads g c =
 
 pub returns-in_err-vouchers-clause-reads : goal.returns-in_err-vouchers-clause-reads
 returns-in_err-vouchers-clause-reads g c =
-    row_fails g.S.Store c.from_residual.result c.from_residual.ensures.1
-    (lists_vouchers g.S.Store _ _ (λ (v : VoucherRow). bytes_eq c.args.batch.now v.batch) by_place
-    batch_simple (λ rows shown t h. batch_rows_are _ _ c.args.batch.now rows shown t h)
-    (rw (c.params-to_sql.ensures, c.text.ensures.value) at c.in_err-vouchers.ensures))
+    row_fails g.S.Store c.from_residual.result c.from_residual.ensures.1 c.in_err-vouchers.ensures
 
 pub returns-in_err-codes_of_vouchers-clause-reads : goal.returns-in_err-codes_of_vouchers-clause-reads
 returns-in_err-codes_of_vouchers-clause-reads g c =
     let told = err_from_is_err_and c.from_residual-in_err-codes_of_vouchers.result
     c.from_residual-in_err-codes_of_vouchers.ensures.1 in
-    row_made g.S.Store c.from_residual-in_err-codes_of_vouchers.result
-    (lists_vouchers g.S.Store _ _ (λ (v : VoucherRow). bytes_eq c.args.batch.now v.batch) by_place
-    batch_simple (λ rows shown t h. batch_rows_are _ _ c.args.batch.now rows shown t h)
-    (rw (c.params-to_sql.ensures, c.text.ensures.value) at c.in_ok-vouchers.ensures))
+    row_made g.S.Store c.from_residual-in_err-codes_of_vouchers.result c.in_ok-vouchers.ensures
     (λ t lists. rw told.1 tt)
     (λ t lists own. rw (told.1, told.2) c.in_err-codes_of_vouchers.ensures.memory)

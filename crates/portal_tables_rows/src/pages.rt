@@ -1,0 +1,58 @@
+//! The first rows of long lists: batches by the time of issue, and vouchers by code.
+
+ghost use Rattle.std.specs.Prelude.{◌<◌, ◌^◌, map};
+ghost use Rattle.portal_model.specs.Batches.{by_issue};
+ghost use Rattle.portal_tables_rows.specs.Foreign.{AreOwn, IsOwnBatch, IsOwnVoucher};
+ghost use Rattle.portal_tables_rows.specs.Lists.{ListsFirst, by_code, is_behind, is_between};
+ghost use Rattle.portal_tables_rows.specs.Read.{voucher_read};
+ghost use Rattle.portal_tables_rows.specs.Selects.{ReadsRow};
+
+use crate::column_values::PrintedText;
+use crate::queries::read_many;
+use crate::rows::{RowError, VoucherValue};
+use portal_model::record::Batch;
+use portal_tables_sql::statements::{SELECT_BATCHES_BEHIND, SELECT_VOUCHERS_BETWEEN};
+use sqlite::{Alter, Connection, params};
+use std::alloc::Global;
+
+/// Lists the first 51 vouchers, by code, whose printed codes are `from` or after it, and before
+/// `below`.
+pub fn list_vouchers_between<S: Alter>(
+    alloc: Global,
+    conn: &mut Connection<S>,
+    from: &[u8],
+    below: &[u8],
+) -> Result<Vec<VoucherValue>, RowError>
+    ensures { ReadsRow S.Store conn.old conn.new result
+        (λ t vouchers. ListsFirst 51 (λ v. is_between from.now below.now v.code) by_code t.vouchers
+        (map voucher_read vouchers.items))
+        (λ t. AreOwn IsOwnVoucher t.vouchers) }
+{
+    read_many(
+        alloc,
+        conn,
+        SELECT_VOUCHERS_BETWEEN,
+        params![PrintedText { bytes: from }, PrintedText { bytes: below }],
+    )
+}
+
+/// Lists the first 21 batches, the later issue first and of two at one time the greater id, that
+/// were issued before the time `issued`, or then and have an id below `id`.
+pub fn list_batches_behind<S: Alter>(
+    alloc: Global,
+    conn: &mut Connection<S>,
+    issued: u64,
+    id: &str,
+) -> Result<Vec<Batch>, RowError>
+    requires { issued < 2 ^ 63 }
+    ensures { ReadsRow S.Store conn.old conn.new result
+        (λ t batches. ListsFirst 21 (is_behind issued id.now) by_issue t.batches batches.items)
+        (λ t. AreOwn IsOwnBatch t.batches) }
+{
+    read_many(
+        alloc,
+        conn,
+        SELECT_BATCHES_BEHIND,
+        params![issued as i64, id],
+    )
+}
