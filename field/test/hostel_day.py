@@ -45,7 +45,7 @@ PATIENCE = 60.0         # seconds for the counter's page to answer after a start
 MOST_TRIES = 60         # of one form
 CLEOS_WORD = "cleos-long-word"
 TROUBLES = ("", "double", "no page", "cut", "drop", "kill counter", "kill server")
-LIKELY = (70, 10, 6, 6, 4, 2, 2)
+LIKELY = (70, 10, 6, 6, 4, 2, 2)        # of a hundred requests
 MONEY = re.compile(r"\b([Tt]ake|[Gg]ive back) ([0-9,]+\.[0-9]{2})\.")
 
 
@@ -132,6 +132,7 @@ class HostelDay:
         self.unsold: list[str] = []
         self.sold: list[str] = []
         self.happened: Counter[str] = Counter()
+        self.ahead: list[str] = []                      # the troubles that come next, the last one first
         self.journal, self.batches, self.devices = Journal(folder / "journal.db"), 0, 0
 
     def close(self) -> None:
@@ -197,6 +198,13 @@ class HostelDay:
         _, place = self.counter.ask("POST", "/voucher", browser.head, {"code": code, "token": browser.token})
         return self.see(browser, place)
 
+    def next_trouble(self) -> str:
+        """What goes wrong with the next request: of a hundred requests each trouble befalls as many as `LIKELY` says."""
+        if not self.ahead:
+            self.ahead = [trouble for trouble, count in zip(TROUBLES, LIKELY) for _ in range(count)]
+            self.draw.shuffle(self.ahead)
+        return self.ahead.pop()
+
     def press(self, browser: Browser, action: str, form: dict[str, str]) -> str:
         """Presses a button, and goes on until a page says what came of it."""
         if "payment" not in form and action not in ("shift-move", "shift-open", "shift-close"):
@@ -204,7 +212,7 @@ class HostelDay:
         assert "request" in form, f"there is no form {action}"
         browser.forms.append((action, form))
         for tries in range(MOST_TRIES):
-            trouble = self.draw.choices(TROUBLES, LIKELY)[0] if tries < 4 else ""
+            trouble = self.next_trouble() if tries < 4 else ""
             self.happened[trouble] += 1
             text = self.post(browser, action, form, trouble)
             if text is None:
