@@ -5,6 +5,7 @@ from __future__ import annotations
 import contextlib
 import os
 import pathlib
+import secrets
 import shlex
 import socket
 import subprocess
@@ -22,12 +23,15 @@ PORTAL = os.environ.get("FIELD_PORTAL") or f"{sys.executable} {FIELD / 'test/des
 SETTINGS = ('zone = "UTC0"\nportal_url = "https://wifi.example/portal"\n'
             'desk_token = "desk-token"\ngateway_token = "gate-token"\n')
 PLANS = (FIELD / "settings/plans.toml").read_bytes()
+PORTS = range(20_000, 32_768)       # below those that the kernel gives to connections
 
 
 def free_port() -> int:
-    """A port of loopback that nothing has now."""
-    with socket.create_server(("127.0.0.1", 0)) as door:
-        return int(door.getsockname()[1])
+    """A port of loopback that nothing has now. Neither a connection nor, but by chance, another test takes it meanwhile."""
+    while True:
+        port = secrets.choice(PORTS)
+        with contextlib.suppress(OSError), socket.create_server(("127.0.0.1", port)):
+            return port
 
 
 class DeskProcess:
