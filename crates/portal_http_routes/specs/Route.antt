@@ -5,6 +5,7 @@ use Rattle.portal_http_routes.specs.declared.Route.TheVariants.{Captive, Redeem,
 use Rattle.portal_http_routes.specs.declared.Route.TheVariants.{Refunds, Closes, Voucher, Takings, Reports}
 use Rattle.portal_http_routes.specs.declared.Route.TheVariants.{Sessions, Session, LastSession, OwnSession}
 use Rattle.portal_http_routes.specs.declared.Route.TheVariants.{SessionDetails, BatchList, Batch, Vouchers}
+use Rattle.portal_http_routes.specs.declared.Route.TheVariants.{Redemptions}
 use Rattle.portal_http_routes.specs.declared.Role.{Role}
 use Rattle.portal_http_routes.specs.declared.Role.TheVariants.{Guest, Desk, Gateway}
 
@@ -29,6 +30,7 @@ method_of SessionDetails = codes "GET"
 method_of BatchList = codes "GET"
 method_of Batch = codes "GET"
 method_of Vouchers = codes "GET"
+method_of Redemptions = codes "GET"
 
 -- the other route at the path of that one, which only reads, if there is one
 abbrev pub reading_at : Route → Option Route
@@ -71,3 +73,4 @@ role_of SessionDetails = Gateway
 role_of BatchList = Desk
 role_of Batch = Desk
 role_of Vouchers = Desk
+role_of Redemptions = Desk

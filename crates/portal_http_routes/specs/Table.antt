@@ -12,6 +12,7 @@ use Rattle.portal_http_routes.specs.declared.Route.TheVariants.{Captive, Redeem,
 use Rattle.portal_http_routes.specs.declared.Route.TheVariants.{Refunds, Closes, Voucher, Takings, Reports}
 use Rattle.portal_http_routes.specs.declared.Route.TheVariants.{Sessions, Session, LastSession, OwnSession}
 use Rattle.portal_http_routes.specs.declared.Route.TheVariants.{SessionDetails, Batch, Vouchers}
+use Rattle.portal_http_routes.specs.declared.Route.TheVariants.{Redemptions}
 use Rattle.portal_http_routes.specs.Targets.{is_path}
 
 -- a router's rows with one route added, by the result of parsing its pattern
@@ -28,7 +29,7 @@ abbrev pub place_all : List (List ℕ × Route) → RowsOf (RouteOf Route) → R
 place_all [] rows = rows
 place_all ((text, route) ∷ rest) rows = place_all rest (place_route text route rows)
 
--- the eighteen routes that are found by their paths; `BatchList` is found by its method, at the path of
+-- the nineteen routes that are found by their paths; `BatchList` is found by its method, at the path of
 -- `Batches`
 abbrev pub all_routes : List (List ℕ × Route)
 all_routes =
@@ -39,7 +40,8 @@ all_routes =
     ∷ (codes "/gateway/reports", Reports) ∷ (codes "/gateway/sessions", Sessions)
     ∷ (codes "/desk/sessions/{number}", Session) ∷ (codes "/desk/sessions", LastSession)
     ∷ (codes "/portal/session", OwnSession) ∷ (codes "/gateway/sessions/details", SessionDetails)
-    ∷ (codes "/desk/batches/{id}", Batch) ∷ (codes "/desk/vouchers", Vouchers) ∷ []
+    ∷ (codes "/desk/batches/{id}", Batch) ∷ (codes "/desk/vouchers", Vouchers)
+    ∷ (codes "/desk/vouchers/{code}/redemptions", Redemptions) ∷ []
 
 -- the router's rows
 abbrev pub table : RowsOf (RouteOf Route)

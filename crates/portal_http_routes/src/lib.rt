@@ -55,6 +55,8 @@ pub enum Route {
     Batch,
     /// `/desk/vouchers`: gives the vouchers whose codes begin with some characters.
     Vouchers,
+    /// `/desk/vouchers/{code}/redemptions`: lists the last redemptions of a voucher.
+    Redemptions,
 }
 
 /// The role of a caller, which decides how the caller is identified.
@@ -85,7 +87,8 @@ impl Route {
             | Route::SessionDetails
             | Route::BatchList
             | Route::Batch
-            | Route::Vouchers => "GET",
+            | Route::Vouchers
+            | Route::Redemptions => "GET",
             Route::Redeem
             | Route::Plans
             | Route::Batches
@@ -139,7 +142,8 @@ impl Route {
             | Route::LastSession
             | Route::BatchList
             | Route::Batch
-            | Route::Vouchers => Role::Desk,
+            | Route::Vouchers
+            | Route::Redemptions => Role::Desk,
             Route::Reports | Route::Sessions | Route::SessionDetails => Role::Gateway,
         }
     }

@@ -65,6 +65,11 @@ fn whole_router(alloc: Global) -> Result<Router<Route>, InsertError>
     )?;
     add_route(&mut router, "/desk/batches/{id}", Route::Batch)?;
     add_route(&mut router, "/desk/vouchers", Route::Vouchers)?;
+    add_route(
+        &mut router,
+        "/desk/vouchers/{code}/redemptions",
+        Route::Redemptions,
+    )?;
     Ok(router)
 }
 

@@ -207,6 +207,15 @@ pub const INSERT_GRANT: &str =
     "INSERT INTO portal_grants (number, code, session, moment, seconds, bytes) VALUES (?1, \
      ?2, ?3, ?4, ?5, ?6)";
 
+/// The redemption with a number.
+pub const SELECT_GRANT: &str =
+    "SELECT number, code, session, moment, seconds, bytes FROM portal_grants WHERE number = ?1";
+
+/// The last 101 redemptions of the voucher with a code, the newest first.
+pub const SELECT_LAST_GRANTS: &str =
+    "SELECT number, code, session, moment, seconds, bytes FROM portal_grants WHERE code = ?1 \
+     ORDER BY number DESC LIMIT 101";
+
 /// All redemptions.
 pub const SELECT_ALL_GRANTS: &str =
     "SELECT number, code, session, moment, seconds, bytes FROM portal_grants ORDER BY number";
