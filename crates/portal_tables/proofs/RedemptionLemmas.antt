@@ -58,33 +58,70 @@ ends_length : (gs tail : List Grant) → Ends gs tail → length tail ≤ length
 ends_length [] tail e =
     let same : length tail ≡ 0 = ap (λ (l : List Grant). length l) e in omega (arith, same)
 ends_length (x ∷ gs) tail (inl same) =
-    let long : length tail ≡ length gs + 1 = ap (λ (l : List Grant). length l) same in omega (arith, long)
+    let long : length tail ≡ length (x ∷ gs) = ap (λ (l : List Grant). length l) same in omega (arith, long)
 ends_length (x ∷ gs) tail (inr e) = let low = ends_length gs tail e in omega (arith, low)
 
 numbered : (gs : List Grant) (g : Grant) (before : List Grant) → Ends gs (g ∷ before)
     → grant_numbered gs (length before + 1) ≡ Some (g, before)
 numbered [] g before e = absurd (cc)
-numbered (x ∷ gs) g before (inl same) =
-    let head : g ≡ x = cc in
-    let rest : before ≡ gs = cc in
-    rw (head, rest, nat_eq-refl (length gs + 1)) refl
-numbered (x ∷ gs) g before (inr e) =
-    let low = ends_length gs (g ∷ before) e in
-    rw (nat_eq-other (length before + 1) (length gs + 1) (λ same. omega (arith, low, same)))
-    (numbered gs g before e)
+numbered (x ∷ gs) g before (inl same) = go (nat_eq (length before + 1) (length gs + 1)) refl
+  where
+    head : g ≡ x
+    head = cc
+
+    rest : before ≡ gs
+    rest = cc
+
+    long : length before ≡ length gs
+    long = ap (λ (l : List Grant). length l) rest
+
+    go : (b : Bool) → nat_eq (length before + 1) (length gs + 1) ≡ b
+        → cond b (Some (x, gs)) (grant_numbered gs (length before + 1)) ≡ Some (g, before)
+    go true e = ap₂ (λ (a : Grant) (l : List Grant). Some (a, l)) (sym head) (sym rest)
+    go false e = absurd (not_both (nat_eq (length before + 1) (length gs + 1))
+        (ap (λ (n : ℕ). nat_eq (n + 1) (length gs + 1)) long ∙ nat_eq-refl (length gs + 1)) e)
+numbered (x ∷ gs) g before (inr e) = go (nat_eq (length before + 1) (length gs + 1)) refl
+  where
+    low : length (g ∷ before) ≤ length gs
+    low = ends_length gs (g ∷ before) e
+
+    go : (b : Bool) → nat_eq (length before + 1) (length gs + 1) ≡ b
+        → cond b (Some (x, gs)) (grant_numbered gs (length before + 1)) ≡ Some (g, before)
+    go true same =
+        let long = nat_eq-same (length before + 1) (length gs + 1) same in absurd (omega (arith, low, long))
+    go false other = numbered gs g before e
 
 below_is : (gs tail : List Grant) → Ends gs tail → grants_below gs (length tail + 1) ≡ tail
 below_is [] tail e = sym e
-below_is (x ∷ gs) tail (inl same) =
-    let long : length tail ≡ length gs + 1 = ap (λ (l : List Grant). length l) same in
-    rw (less_test (length gs + 1) (length tail + 1) (omega (arith, long))) (sym same)
-below_is (x ∷ gs) tail (inr e) =
-    let low = ends_length gs tail e in
-    rw (not_less_test (length gs + 1) (length tail + 1) (omega (arith, low))) (below_is gs tail e)
+below_is (x ∷ gs) tail (inl same) = go (nat_lt (length gs + 1) (length tail + 1)) refl
+  where
+    long : length tail ≡ length (x ∷ gs)
+    long = ap (λ (l : List Grant). length l) same
+
+    go : (b : Bool) → nat_lt (length gs + 1) (length tail + 1) ≡ b
+        → cond b (x ∷ gs) (grants_below gs (length tail + 1)) ≡ tail
+    go true e = sym same
+    go false e = absurd (not_both (nat_lt (length gs + 1) (length tail + 1))
+        (less_test (length gs + 1) (length tail + 1) (omega (arith, long))) e)
+below_is (x ∷ gs) tail (inr ends) = go (nat_lt (length gs + 1) (length tail + 1)) refl
+  where
+    low : length tail ≤ length gs
+    low = ends_length gs tail ends
+
+    go : (b : Bool) → nat_lt (length gs + 1) (length tail + 1) ≡ b
+        → cond b (x ∷ gs) (grants_below gs (length tail + 1)) ≡ tail
+    go true e = absurd (not_both (nat_lt (length gs + 1) (length tail + 1)) e
+        (not_less_test (length gs + 1) (length tail + 1) (omega (arith, low))))
+    go false e = below_is gs tail ends
 
 below_low : (gs : List Grant) (n : ℕ) → n ≤ 1 → grants_below gs n ≡ []
 below_low [] n h = refl
-below_low (g ∷ gs) n h = rw (not_less_test (length gs + 1) n (omega (arith, h))) (below_low gs n h)
+below_low (g ∷ gs) n h = go (nat_lt (length gs + 1) n) refl
+  where
+    go : (b : Bool) → nat_lt (length gs + 1) n ≡ b → cond b (g ∷ gs) (grants_below gs n) ≡ []
+    go true e = absurd (not_both (nat_lt (length gs + 1) n) e
+        (not_less_test (length gs + 1) n (omega (arith, h))))
+    go false e = below_low gs n h
 
 -- ---- a row
 
@@ -163,7 +200,7 @@ none_earlier n t first [] all timed early = refl
 none_earlier n t first (g ∷ gs) all timed early = go (nat_eq g.session n) refl
   where
     go : (b : Bool) → nat_eq g.session n ≡ b → (b || is_in_session n gs) ≡ false
-    go true on = let of = all.0 on in absurd (omega (arith, early, timed.0, of.1))
+    go true on = let is = all.0 on in absurd (omega (arith, early, timed.0, is.1))
     go false off = none_earlier n g.at first gs all.1 timed.1 (omega (arith, early, timed.0))
 
 none_members : (n : ℕ) (gs : List Grant) → is_in_session n gs ≡ false → members gs n ≡ []
@@ -324,5 +361,5 @@ module _ (h : History) (t : ℕ) (code : List ℕ) where
           → length (cond b (length gs + 1 ∷ numbers_of code gs) (numbers_of code gs))
           ≡ length (cond b (redemption_after h t gs g ∷ redemptions_among h t code gs)
           (redemptions_among h t code gs))
-      go true rest = ap suc rest
+      go true rest = omega (arith, rest)
       go false rest = rest

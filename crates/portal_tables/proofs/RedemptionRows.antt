@@ -42,7 +42,7 @@ numbers_within : (gs : List Grant) → AllByRecursion (λ (r : GrantRow). r.numb
 numbers_within [] = tt
 numbers_within (g ∷ gs) = (
   omega arith,
-  all_weaker (λ (r : GrantRow). r.number ≤ length gs) (λ (r : GrantRow). r.number ≤ length gs + 1)
+  all_weaker (λ (r : GrantRow). r.number ≤ length gs) (λ (r : GrantRow). r.number ≤ length (g ∷ gs))
       (λ r h. omega (arith, h)) (newest_rows gs) (numbers_within gs),
 )
 
