@@ -31,14 +31,16 @@ impl<S: Alter> StoreDesk<S> {
         code: &Code,
     ) -> Result<(Vec<Redemption>, bool), Refusal>
         ensures { MovesTables S.Store self.old self.new result (FindsThat Refusal.UnknownCode
-            (λ H. option_map (λ v. first_redemptions (redemptions_among H at code.now (grants_of H)))
-            (issued_of H code.now))
+            (λ H. option_map first_redemptions
+            (option_map (λ v. redemptions_among H at code.now (grants_of H)) (issued_of H code.now)))
             (λ found listed _. (found.0.items, found.1) ≡ listed) result) }
     {
-        if !self.tables.read(IsHeld { code })? {
+        let is_held = self.tables.read(IsHeld { code })?;
+        if !is_held {
             return Err(Refusal::UnknownCode);
         }
-        Ok(self.tables.read(LastRedemptions { alloc, code, at })?)
+        let listed = self.tables.read(LastRedemptions { alloc, code, at })?;
+        Ok(listed)
     }
 
     /// Reads the last redemptions of the voucher of a code, as they are at a time, and whether there are more.

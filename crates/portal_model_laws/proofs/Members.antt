@@ -60,19 +60,19 @@ oldest_low : (t : ℕ) (gs : List Grant) → AreTimed t gs → (n : ℕ) (first 
     → oldest (members gs n) ≡ Some first → first.at ≤ t
 oldest_low t [] timed n first e = absurd (cc)
 oldest_low t (g ∷ gs) timed n first e = elim (cases_Bool (nat_eq g.session n)) [
-  | inl same ↦ go (oldest (members gs n)) refl (oldest_in g gs n (Some first) same e)
+  | inl same ↦ go (λ x is. oldest_low g.at gs timed.1 n x is) (oldest (members gs n)) refl
+      (oldest_in g gs n (Some first) same e)
   | inr other ↦
       let low = oldest_low g.at gs timed.1 n first (oldest_off g gs n (Some first) other e) in
       omega (arith, low, timed.0)
 ]
   where
-    go : (o : Option Grant) → oldest (members gs n) ≡ o → option_or o (Some g) ≡ Some first → first.at ≤ t
-    go None none e =
+    go : ((x : Grant) → oldest (members gs n) ≡ Some x → x.at ≤ g.at) → (o : Option Grant)
+        → oldest (members gs n) ≡ o → option_or o (Some g) ≡ Some first → first.at ≤ t
+    go older None none e =
         let same : g.at ≡ first.at = ap (λ (x : Grant). x.at) (some-same g first e) in
         omega (arith, same, timed.0)
-    go (Some x) is e =
-        let low = oldest_low g.at gs timed.1 n first (is ∙ e) in
-        omega (arith, low, timed.0)
+    go older (Some x) is e = let low = older first (is ∙ e) in omega (arith, low, timed.0)
 
 -- ---- devices
 
@@ -123,12 +123,13 @@ AreOf n first (g ∷ gs) = (nat_eq g.session n ≡ true → IsOf first g) × Are
 
 none_of : (n : ℕ) (first : Grant) (gs : List Grant) → members gs n ≡ [] → AreOf n first gs
 none_of n first [] none = tt
-none_of n first (g ∷ gs) none = go (nat_eq g.session n) refl none
+none_of n first (g ∷ gs) none = go (λ e. none_of n first gs e) (nat_eq g.session n) refl none
   where
-    go : (b : Bool) → nat_eq g.session n ≡ b → cond b (g ∷ members gs n) (members gs n) ≡ []
+    go : (members gs n ≡ [] → AreOf n first gs) → (b : Bool) → nat_eq g.session n ≡ b
+        → cond b (g ∷ members gs n) (members gs n) ≡ []
         → (nat_eq g.session n ≡ true → IsOf first g) × AreOf n first gs
-    go true same e = absurd (cc)
-    go false other e = (λ on. absurd (not_both (nat_eq g.session n) on other), none_of n first gs e)
+    go rest true same e = absurd (cc)
+    go rest false other e = (λ on. absurd (not_both (nat_eq g.session n) on other), rest e)
 
 are_of : (t : ℕ) (gs : List Grant) → ArePlaced gs → AreTimed t gs → (n : ℕ) (first : Grant)
     → oldest (members gs n) ≡ Some first → AreOf n first gs

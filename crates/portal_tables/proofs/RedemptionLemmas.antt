@@ -80,16 +80,18 @@ numbered (x ∷ gs) g before (inl same) = go (nat_eq (length before + 1) (length
     go true e = ap₂ (λ (a : Grant) (l : List Grant). Some (a, l)) (sym head) (sym rest)
     go false e = absurd (not_both (nat_eq (length before + 1) (length gs + 1))
         (ap (λ (n : ℕ). nat_eq (n + 1) (length gs + 1)) long ∙ nat_eq-refl (length gs + 1)) e)
-numbered (x ∷ gs) g before (inr e) = go (nat_eq (length before + 1) (length gs + 1)) refl
+numbered (x ∷ gs) g before (inr e) =
+    go (λ ends. numbered gs g before ends) (nat_eq (length before + 1) (length gs + 1)) refl
   where
     low : length (g ∷ before) ≤ length gs
     low = ends_length gs (g ∷ before) e
 
-    go : (b : Bool) → nat_eq (length before + 1) (length gs + 1) ≡ b
+    go : (Ends gs (g ∷ before) → grant_numbered gs (length before + 1) ≡ Some (g, before)) → (b : Bool)
+        → nat_eq (length before + 1) (length gs + 1) ≡ b
         → cond b (Some (x, gs)) (grant_numbered gs (length before + 1)) ≡ Some (g, before)
-    go true same =
+    go rest true same =
         let long = nat_eq-same (length before + 1) (length gs + 1) same in absurd (omega (arith, low, long))
-    go false other = numbered gs g before e
+    go rest false other = rest e
 
 below_is : (gs tail : List Grant) → Ends gs tail → grants_below gs (length tail + 1) ≡ tail
 below_is [] tail e = sym e
@@ -103,25 +105,28 @@ below_is (x ∷ gs) tail (inl same) = go (nat_lt (length gs + 1) (length tail + 
     go true e = sym same
     go false e = absurd (not_both (nat_lt (length gs + 1) (length tail + 1))
         (less_test (length gs + 1) (length tail + 1) (omega (arith, long))) e)
-below_is (x ∷ gs) tail (inr ends) = go (nat_lt (length gs + 1) (length tail + 1)) refl
+below_is (x ∷ gs) tail (inr ends) =
+    go (λ e. below_is gs tail e) (nat_lt (length gs + 1) (length tail + 1)) refl
   where
     low : length tail ≤ length gs
     low = ends_length gs tail ends
 
-    go : (b : Bool) → nat_lt (length gs + 1) (length tail + 1) ≡ b
+    go : (Ends gs tail → grants_below gs (length tail + 1) ≡ tail) → (b : Bool)
+        → nat_lt (length gs + 1) (length tail + 1) ≡ b
         → cond b (x ∷ gs) (grants_below gs (length tail + 1)) ≡ tail
-    go true e = absurd (not_both (nat_lt (length gs + 1) (length tail + 1)) e
+    go rest true e = absurd (not_both (nat_lt (length gs + 1) (length tail + 1)) e
         (not_less_test (length gs + 1) (length tail + 1) (omega (arith, low))))
-    go false e = below_is gs tail ends
+    go rest false e = rest ends
 
 below_low : (gs : List Grant) (n : ℕ) → n ≤ 1 → grants_below gs n ≡ []
 below_low [] n h = refl
-below_low (g ∷ gs) n h = go (nat_lt (length gs + 1) n) refl
+below_low (g ∷ gs) n h = go (below_low gs n h) (nat_lt (length gs + 1) n) refl
   where
-    go : (b : Bool) → nat_lt (length gs + 1) n ≡ b → cond b (g ∷ gs) (grants_below gs n) ≡ []
-    go true e = absurd (not_both (nat_lt (length gs + 1) n) e
+    go : grants_below gs n ≡ [] → (b : Bool) → nat_lt (length gs + 1) n ≡ b
+        → cond b (g ∷ gs) (grants_below gs n) ≡ []
+    go rest true e = absurd (not_both (nat_lt (length gs + 1) n) e
         (not_less_test (length gs + 1) n (omega (arith, h))))
-    go false e = below_low gs n h
+    go rest false e = rest
 
 -- ---- a row
 
@@ -197,19 +202,22 @@ opened_by h n s e =
 none_earlier : (n t : ℕ) (first : Grant) (gs : List Grant) → AreOf n first gs → AreTimed t gs → t < first.at
     → is_in_session n gs ≡ false
 none_earlier n t first [] all timed early = refl
-none_earlier n t first (g ∷ gs) all timed early = go (nat_eq g.session n) refl
+none_earlier n t first (g ∷ gs) all timed early =
+    go (none_earlier n g.at first gs all.1 timed.1 (omega (arith, early, timed.0))) (nat_eq g.session n) refl
   where
-    go : (b : Bool) → nat_eq g.session n ≡ b → (b || is_in_session n gs) ≡ false
-    go true on = let is = all.0 on in absurd (omega (arith, early, timed.0, is.1))
-    go false off = none_earlier n g.at first gs all.1 timed.1 (omega (arith, early, timed.0))
+    go : is_in_session n gs ≡ false → (b : Bool) → nat_eq g.session n ≡ b
+        → (b || is_in_session n gs) ≡ false
+    go rest true on = let is = all.0 on in absurd (omega (arith, early, timed.0, is.1))
+    go rest false off = rest
 
 none_members : (n : ℕ) (gs : List Grant) → is_in_session n gs ≡ false → members gs n ≡ []
 none_members n [] none = refl
-none_members n (g ∷ gs) none = go (nat_eq g.session n) none
+none_members n (g ∷ gs) none = go (λ e. none_members n gs e) (nat_eq g.session n) none
   where
-    go : (b : Bool) → (b || is_in_session n gs) ≡ false → cond b (g ∷ members gs n) (members gs n) ≡ []
-    go true e = absurd (cc)
-    go false e = none_members n gs e
+    go : (is_in_session n gs ≡ false → members gs n ≡ []) → (b : Bool) → (b || is_in_session n gs) ≡ false
+        → cond b (g ∷ members gs n) (members gs n) ≡ []
+    go rest true e = absurd (cc)
+    go rest false e = rest e
 
 -- a redemption of a session without older ones is its first
 first_at : (gs : List Grant) (g : Grant) (before : List Grant) → Ends gs (g ∷ before)
