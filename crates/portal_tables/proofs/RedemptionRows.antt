@@ -6,7 +6,9 @@ use Rattle.portal_tables.proofs.Common.{text_of, History, Grant, IsLegal, grants
 use Rattle.portal_tables.proofs.Common.{IsPermutation, IsSorted, AllByRecursion, IsAscending}
 use Rattle.portal_tables.proofs.Common.{ascending-filter, all_weaker, IsPermutation-filter, rows_are_typed}
 use Rattle.portal_tables.proofs.Common.{code_test, recursion_from_All, is_lt, has_mapped, get_or}
+use Rattle.portal_tables.proofs.Common.{Option, Some, None, cons_option, filter_map-append}
 use Rattle.std.specs.Prelude.{min}
+use Rattle.std.specs.Option.{option_to_list}
 use Rattle.std.proofs.lemmas.List.{length-map, length-take, take-map, take-take}
 use Rattle.std.proofs.lemmas.List.Sorted.{All-permutation, IsPermutation-cons, IsPermutation-map}
 use Rattle.std.proofs.lemmas.List.Sorted.{IsPermutation-refl, IsPermutation-sym, IsPermutation-to_front}
@@ -22,7 +24,28 @@ use Rattle.portal_tables.specs.RedemptionLists.{AreGrantsOf, redemption_numbered
 use Rattle.portal_tables_rows.specs.Lists.{ListsFirst, by_newest}
 use Rattle.portal_tables_rows.specs.Sums.{grant_read}
 use Rattle.portal_tables_rows.specs.declared.grants.GrantValue.{GrantValue}
+use Rattle.portal_tables_rows.proofs.Compose.{more_mapped}
 use Rattle.portal_tables_rows.proofs.OwnRows.{has_taken, listed_own}
+
+-- the number of a row
+abbrev pub row_number : GrantValue → ℕ
+row_number row = row.number
+
+-- one redemption more
+pub redemptions_more : (h : History) (t : ℕ) (rows : List GrantValue) (i : ℕ) (row : GrantValue)
+    → i < length rows → row ≡ get_or rows i row
+    → filter_map (redemption_numbered h t) (map row_number (take (i + 1) rows))
+    ≡ filter_map (redemption_numbered h t) (map row_number (take i rows))
+    ++ option_to_list (redemption_numbered h t row.number)
+redemptions_more h t rows i row within is =
+    ap (filter_map (redemption_numbered h t)) (more_mapped row_number rows i row within is)
+    ∙ filter_map-append (redemption_numbered h t) (map row_number (take i rows)) (row.number ∷ [])
+    ∙ ap (λ (rs : List Redemption). filter_map (redemption_numbered h t) (map row_number (take i rows)) ++ rs)
+    (one_kept (redemption_numbered h t row.number))
+  where
+    one_kept : (o : Option Redemption) → cons_option o [] ≡ option_to_list o
+    one_kept None = refl
+    one_kept (Some r) = refl
 
 -- the rows, the newest first
 abbrev newest_rows : List Grant → List GrantRow
@@ -125,9 +148,6 @@ module _ (h : History) (legal : IsLegal h) (t : ℕ) (code : List ℕ) (is : IsC
     first_numbers : map number_of (map grant_read rows) ≡ take 101 (numbers_of code gs)
     first_numbers = ap (map number_of) (l.first ∙ ap (take 101) all_is) ∙ sym (take-map number_of 101 expected)
         ∙ ap (take 101) (numbers_listed gs typed)
-
-    abbrev row_number : GrantValue → ℕ
-    row_number row = row.number
 
     numbers_are : map row_number rows ≡ take 101 (numbers_of code gs)
     numbers_are = sym (map-map grant_read number_of rows) ∙ first_numbers
