@@ -23,9 +23,15 @@ pub unknown_told : (code : List ℕ) (at : ℕ) (is_held : Bool) → is_held ≡
     → ReadsOf before (λ L. is_held ≡ is_some (issued_of (history_of L) code)) after
     → RefusesUnknown refusal.UnknownCode (listed_at code at) before refusal.UnknownCode after
 unknown_told code at is_held off (running L) after (is, same) =
-    inl (refl, (ap (λ (o : Option IssuedVoucher). option_map first_redemptions
-    (option_map (λ v. redemptions_among (history_of L) at code (grants_of (history_of L))) o))
-    (sym (is_some-none (issued_of (history_of L) code) (sym is ∙ off))), same))
+    inl (
+      refl,
+      (
+        ap (λ (o : Option IssuedVoucher). option_map first_redemptions
+            (option_map (λ v. redemptions_among (history_of L) at code (grants_of (history_of L))) o))
+            (sym (is_some-none (issued_of (history_of L) code) (sym is ∙ off))),
+        same,
+      ),
+    )
 unknown_told code at is_held off (stopped L doubt) after never = absurd never
 
 -- a code that was issued

@@ -156,8 +156,7 @@ are_of t (g ∷ gs) (inr joins, placed) timed n first e = elim (cases_Bool (nat_
       first_stays g first joins.first (oldest (members gs n)) found (oldest_in g gs n (Some first) same e) in
       let own : first.device ≡ g.device =
       own_last gs placed g.device first
-      (subst (λ (k : ℕ). oldest (members gs k) ≡ Some first) (sym number ∙ joins.last) before) in
-      (
+      (subst (λ (k : ℕ). oldest (members gs k) ≡ Some first) (sym number ∙ joins.last) before) in (
         λ on. (sym own, oldest_low g.at gs timed.1 n first before),
         are_of g.at gs placed timed.1 n first before,
       )
