@@ -1,5 +1,6 @@
 -- The redemptions of a voucher, from what the tables say.
-use Rattle.portal_desk_store.proofs.Common.{◌≡◌, inl, inr, ℕ, Bool, true, false, List, Option, Some, None, refl}
+use Rattle.portal_desk_store.proofs.Common.{◌≡◌, inl, inr, ℕ, Bool, true, false, List, Option, Some, None}
+use Rattle.portal_desk_store.proofs.Common.{refl}
 use Rattle.portal_desk_store.proofs.Common.{sym, ap, subst, ◌∙◌, option_map, Result, Ok, Err, Refusal, Ledger}
 use Rattle.portal_desk_store.proofs.Common.{history_of, State, running, stopped, ReadsOf, History, grants_of}
 use Rattle.portal_desk_store.proofs.Common.{issued_of}

@@ -43,7 +43,8 @@ impl<S: Alter> StoreDesk<S> {
         Ok(listed)
     }
 
-    /// Reads the last redemptions of the voucher of a code, as they are at a time, and whether there are more.
+    /// Reads the last redemptions of the voucher of a code, as they are at a time, and whether there are
+    /// more.
     ///
     /// Errors: `NoMemory`, `Stopped`; `UnknownCode` if the code was never issued.
     pub(crate) fn read_redemptions(

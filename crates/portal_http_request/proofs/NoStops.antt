@@ -10,7 +10,8 @@ use Rattle.portal_http_request.proofs.Common.{Exactly, IsCloseOrder, IsReportOrd
 use Rattle.portal_http_request.proofs.Common.{Message, Route, Captive, Plans, Batches, Print, Sales, Refunds}
 use Rattle.portal_http_request.proofs.Common.{Closes, Voucher, Takings, Reports, Sessions, Session}
 use Rattle.portal_http_request.proofs.Common.{LastSession, OwnSession, SessionDetails, BatchList, Batch}
-use Rattle.portal_http_request.proofs.Common.{Redemptions, Vouchers, with_method, path_of, [], ◌∷◌, option_and_then}
+use Rattle.portal_http_request.proofs.Common.{Redemptions, Vouchers, with_method, path_of, [], ◌∷◌}
+use Rattle.portal_http_request.proofs.Common.{option_and_then}
 use Rattle.portal_http_request.proofs.Common.{values_at}
 use Rattle.portal_http_request.proofs.Common.{AsksForBatches, AsksForVouchers, BeforeAmong}
 use Rattle.portal_http_routes.specs.Queries.{only_of}

@@ -1,11 +1,14 @@
 -- From the rows of redemptions to the redemptions of a voucher.
 use Rattle.portal_tables.proofs.Common.{◌≡◌, inl, inr, ℕ, ◌+◌, ◌-◌, ◌<◌, ◌≤◌, Bool, true, false, cond, ◌||◌}
-use Rattle.portal_tables.proofs.Common.{List, [], ◌∷◌, ◌++◌, map, filter, length, take, All, Option, Some, None}
+use Rattle.portal_tables.proofs.Common.{List, [], ◌∷◌, ◌++◌, map, filter, length, take, All, Option, Some}
+use Rattle.portal_tables.proofs.Common.{None}
 use Rattle.portal_tables.proofs.Common.{option_map, filter_map, cons_option, refl, sym, ap, ap₂, subst, ◌∙◌}
 use Rattle.portal_tables.proofs.Common.{arith, bytes_eq, nat_eq, nat_lt, nat_cmp, nat_tests, zero, suc, Has}
-use Rattle.portal_tables.proofs.Common.{has_image, IsCode, text_of, History, Grant, Session, IsLegal, grants_of}
+use Rattle.portal_tables.proofs.Common.{has_image, IsCode, text_of, History, Grant, Session, IsLegal}
+use Rattle.portal_tables.proofs.Common.{grants_of}
 use Rattle.portal_tables.proofs.Common.{members, oldest, session_of, session_row, GrantRow, grant_kept}
-use Rattle.portal_tables.proofs.Common.{IsPermutation, IsSorted, AllByRecursion, IsAscending, ascending-filter}
+use Rattle.portal_tables.proofs.Common.{IsPermutation, IsSorted, AllByRecursion, IsAscending}
+use Rattle.portal_tables.proofs.Common.{ascending-filter}
 use Rattle.portal_tables.proofs.Common.{IsPermutation-filter, rows_are_typed, same_code, recursion_from_All}
 use Rattle.portal_tables.proofs.Common.{is_lt, get_or}
 use Rattle.std.specs.Prelude.{min}
@@ -246,7 +249,8 @@ module _ (h : History) (legal : IsLegal h) where
     where
       go : (b : Bool) → (it : IsRowAt all row) → is_in_session it.grant.session it.before ≡ b
           → (by : (first : Grant) × (oldest (members all row.session) ≡ Some first)
-          × (s.device ≡ first.device) × (s.opened ≡ first.at)) → is_in_session it.grant.session it.before ≡ true
+          × (s.device ≡ first.device) × (s.opened ≡ first.at))
+          → is_in_session it.grant.session it.before ≡ true
       go true it on by = on
       go false it off by =
           let first = first_at all it.grant it.before it.ends (none_members it.grant.session it.before off) in

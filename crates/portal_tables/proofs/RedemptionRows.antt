@@ -146,8 +146,8 @@ module _ (h : History) (legal : IsLegal h) (t : ℕ) (code : List ℕ) (is : IsC
         (turned n l.all l.lists.sorted)
 
     first_numbers : map number_of (map grant_read rows) ≡ take 101 (numbers_of code gs)
-    first_numbers = ap (map number_of) (l.first ∙ ap (take 101) all_is) ∙ sym (take-map number_of 101 expected)
-        ∙ ap (take 101) (numbers_listed gs typed)
+    first_numbers = ap (map number_of) (l.first ∙ ap (take 101) all_is)
+        ∙ sym (take-map number_of 101 expected) ∙ ap (take 101) (numbers_listed gs typed)
 
     numbers_are : map row_number rows ≡ take 101 (numbers_of code gs)
     numbers_are = sym (map-map grant_read number_of rows) ∙ first_numbers
@@ -155,7 +155,8 @@ module _ (h : History) (legal : IsLegal h) (t : ℕ) (code : List ℕ) (is : IsC
     rows_of_history : AreGrantsOf h rows
     rows_of_history row has =
         let among : Has l.all (grant_read row) = has_taken 101 l.all (grant_read row)
-        (subst (λ (rs : List GrantRow). Has rs (grant_read row)) l.first (has_mapped grant_read rows row has)) in
+        (subst (λ (rs : List GrantRow). Has rs (grant_read row)) l.first
+        (has_mapped grant_read rows row has)) in
         listed_own (Has values) passes by_newest values l.all l.lists (λ p has on. has) (grant_read row) among
 
     how_many : length rows ≡ min 101 (length (redemptions_among h t code gs))

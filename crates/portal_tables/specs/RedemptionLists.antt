@@ -1,5 +1,6 @@
 -- The redemptions of a history by their numbers, which begin with 1 for the oldest.
-use Rattle.std.specs.Prelude.{◌≡◌, ◌+◌, ℕ, cond, nat_eq, nat_lt, List, [], ◌∷◌, length, map, Option, Some, None}
+use Rattle.std.specs.Prelude.{◌≡◌, ◌+◌, ℕ, cond, nat_eq, nat_lt, List, [], ◌∷◌, length, map, Option, Some}
+use Rattle.std.specs.Prelude.{None}
 use Rattle.std.specs.Prelude.{option_map}
 use Rattle.sqlite_rules.specs.Lists.{Has}
 use Rattle.portal_model.specs.History.{History, Grant, grants_of, session_of}

@@ -109,8 +109,8 @@ fn redemption_of_row<S: Alter>(
     })
 }
 
-/// Makes the redemptions of rows, in this order, as they are at the time `t`. Fails with `ForeignRow` if a row
-/// is missing.
+/// Makes the redemptions of rows, in this order, as they are at the time `t`. Fails with `ForeignRow` if a
+/// row is missing.
 fn redemptions_of_rows<S: Alter>(
     alloc: Global,
     conn: &mut Connection<S>,
@@ -131,8 +131,8 @@ fn redemptions_of_rows<S: Alter>(
 /// The most redemptions that are listed at once.
 const MOST_LISTED: usize = 100;
 
-/// Reads the last redemptions with this code, the newest first, as they are at the time `t`, and whether there
-/// are more.
+/// Reads the last redemptions with this code, the newest first, as they are at the time `t`, and whether
+/// there are more.
 pub(crate) fn read_last_redemptions<S: Alter>(
     alloc: Global,
     conn: &mut Connection<S>,

@@ -1,5 +1,6 @@
 -- The result of each SELECT with a LIMIT, and of that of one redemption, by the rows that the tables hold.
-use Rattle.portal_tables_rows.proofs.Common.{◌≡◌, ◌<◌, ℕ, List, [], ◌∷◌, ◌++◌, Bool, map, filter, length, take}
+use Rattle.portal_tables_rows.proofs.Common.{◌≡◌, ◌<◌, ℕ, List, [], ◌∷◌, ◌++◌, Bool, map, filter, length}
+use Rattle.portal_tables_rows.proofs.Common.{take}
 use Rattle.portal_tables_rows.proofs.Common.{true, false, ◌&&◌, ◌||◌, refl, sym, ap, ap₂, subst, ◌∙◌, lit<}
 use Rattle.portal_tables_rows.proofs.Common.{bytes_eq, nat_le, nat_cmp, is_ge, is_le, Equal, IsPermutation}
 use Rattle.portal_tables_rows.proofs.Common.{Some, arith}
@@ -180,8 +181,8 @@ grant_rows_are old new id rows shown t h =
     let table = grants place.tree in
     let it = selected texts.grant_text table _ [] (number id ∷ []) old new texts.grant_columns
     (has_key 0 (number id)) (key_tests table 0 (number id) [] (lit< tt) refl) (λ _ _. Equal) (λ _ _. refl)
-    (texts.grant_means old.now.schema place.at place.tree (h.tables_exist.tables our.Grants (always _)).exists)
-    rows shown in
+    (texts.grant_means old.now.schema place.at place.tree
+    (h.tables_exist.tables our.Grants (always _)).exists) rows shown in
     subst (λ xs. IsPermutation (filter (has_key 0 (number id)) xs) rows)
     (grants_in old.now.trees place.tree t.grants (h.store our.Grants (always _))) it.same
 

@@ -6,7 +6,8 @@ use Rattle.portal_tables_sql.proofs.Common.{place_of, Ge, Le, Binary, TableExist
 use Rattle.portal_tables_sql.proofs.Queries.{drafted, unlimited}
 use Rattle.portal_tables_sql.proofs.Lookup.{IsSelect, all_columns, by, column_is}
 use Rattle.portal_tables_sql.proofs.Selects.{select_means, up, down, where_is}
-use Rattle.portal_tables_sql.specs.Tables.{vouchers, vouchers_name, batches, batches_name, grants, grants_name}
+use Rattle.portal_tables_sql.specs.Tables.{vouchers, vouchers_name, batches, batches_name, grants}
+use Rattle.portal_tables_sql.specs.Tables.{grants_name}
 use Rattle.portal_tables_sql.proofs.SelectTexts.{voucher_columns, batch_columns}
 use Rattle.sqlite_tied.specs.Compute.{everything}
 use Rattle.sqlite_ast.specs.declared.Expr.{Expr}

@@ -1,5 +1,6 @@
 use Rattle.portal_tables.proofs.Common.{◌≡◌, ◌++◌, ◌∙◌, ◌<◌, List, Option, Some, ap, ap₂, sym, arith, map}
-use Rattle.portal_tables.proofs.Common.{length, filter_map, take_all, state, HasCleanDisk, reads_then, HasTables}
+use Rattle.portal_tables.proofs.Common.{length, filter_map, take_all, state, HasCleanDisk, reads_then}
+use Rattle.portal_tables.proofs.Common.{HasTables}
 use Rattle.sqlite_rules.proofs.ListLemmas.{has_at}
 use Rattle.std.specs.Option.{option_to_list}
 use Rattle.portal_model.specs.declared.redemptions.Redemption.{Redemption}

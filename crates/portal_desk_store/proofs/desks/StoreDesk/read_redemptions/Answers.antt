@@ -12,7 +12,8 @@ returns g c =
     let result = c.read_redemptions_at.result in
     go_on_by_head c.in_ok-head.ensures (from_ledger c.read_redemptions_at.ensures)
     (λ L legal is x step. (
-      listed_stays (listed_at code c.effective.result) (λ found listed _. (found.0.items, found.1) ≡ listed) result L x step,
-      at_effective (λ found listed _. (found.0.items, found.1) ≡ listed) code moment c.effective.result result L x
-          (c.effective.ensures ∙ ap (λ (h : Head). max moment h.last) is) step,
+      listed_stays (listed_at code c.effective.result) (λ found listed _. (found.0.items, found.1) ≡ listed)
+          result L x step,
+      at_effective (λ found listed _. (found.0.items, found.1) ≡ listed) code moment c.effective.result
+          result L x (c.effective.ensures ∙ ap (λ (h : Head). max moment h.last) is) step,
     ))

@@ -21,7 +21,7 @@ returns g c =
     let listed = c.in_ok-listed.listed in
     go_on (answered c.in_ok-is_held.ensures) (from_ledger (answered c.in_ok-listed.ensures))
     (λ L legal is x read. (
-      listed_told (history_of L) c.args.code.now c.args.at c.in_ok-is_held.is_held (listed.0.items, listed.1) c.if-not.false is
-          read.0,
+      listed_told (history_of L) c.args.code.now c.args.at c.in_ok-is_held.is_held
+          (listed.0.items, listed.1) c.if-not.false is read.0,
       read.1,
     ))

@@ -1,4 +1,5 @@
-use Rattle.portal_json.proofs.Common.{List, [], ℕ, ◌++◌, ◌∙◌, ap, refl, subst, sym, Some, IsAscii, string_bytes}
+use Rattle.portal_json.proofs.Common.{List, [], ℕ, ◌++◌, ◌∙◌, ap, refl, subst, sym, Some, IsAscii}
+use Rattle.portal_json.proofs.Common.{string_bytes}
 use Rattle.std.specs.Prelude.{codes}
 use Rattle.portal_json.specs.Listed.{between}
 use Rattle.portal_json.proofs.TextLemmas.{device_ascii}
