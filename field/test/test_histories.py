@@ -170,6 +170,7 @@ class Histories:
             self.ask(("number", str(words["session"])))
         if "code" in words and "batches" in QUESTIONS:
             self.ask(("batch", self.models[0].voucher(words["code"]).batch))
+            self.ask(("redemptions", words["code"]))
 
     def now(self) -> int:
         """The time before a request, where it may be sent again."""

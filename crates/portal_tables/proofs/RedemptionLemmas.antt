@@ -10,7 +10,7 @@ use Rattle.portal_tables.proofs.Common.{members, oldest, session_of, session_row
 use Rattle.portal_tables.proofs.Common.{IsPermutation, IsSorted, AllByRecursion, IsAscending}
 use Rattle.portal_tables.proofs.Common.{ascending-filter}
 use Rattle.portal_tables.proofs.Common.{IsPermutation-filter, rows_are_typed, same_code, recursion_from_All}
-use Rattle.portal_tables.proofs.Common.{is_lt, get_or}
+use Rattle.portal_tables.proofs.Common.{is_lt, get_or, ◌≢◌}
 use Rattle.std.specs.Prelude.{min}
 use Rattle.std.proofs.lemmas.Bool.{cases_Bool}
 use Rattle.std.proofs.lemmas.List.{length-map, length-take, map-append, take-map, take-take}
@@ -287,6 +287,33 @@ module _ (h : History) (legal : IsLegal h) where
       (timed_at (last_moment h) all it.grant it.before it.ends (are_timed h legal))
       (omega (arith, early, at, opens, moment))
 
+  -- the same, by the number of that redemption
+  step_before : (older : GrantValue) (session next : ℕ) → 1 < next → IsGrantOf h older
+      → older.number ≡ next - 1 → is_in_session session (grants_below all next)
+      ≡ (nat_eq older.session session || is_in_session session (grants_below all (next - 1)))
+  step_before older session next more has number =
+      let up : next ≡ older.number + 1 = omega (arith, more, number) in
+      ap (λ (n : ℕ). is_in_session session (grants_below all n)) up ∙ one_older older session has
+      ∙ ap (λ (n : ℕ). nat_eq older.session session || is_in_session session (grants_below all n)) number
+
+  -- it is in the session
+  pub found_before : (older : GrantValue) (session next : ℕ) → 1 < next → IsGrantOf h older
+      → older.number ≡ next - 1 → older.session ≡ session
+      → is_in_session session (grants_below all next) ≡ true
+  found_before older session next more has number same =
+      step_before older session next more has number
+      ∙ ap (λ (b : Bool). b || is_in_session session (grants_below all (next - 1)))
+      (ap (λ (n : ℕ). nat_eq n session) same ∙ nat_eq-refl session)
+
+  -- it is not
+  pub none_before : (older : GrantValue) (session next : ℕ) → 1 < next → IsGrantOf h older
+      → older.number ≡ next - 1 → older.session ≢ session
+      → is_in_session session (grants_below all next) ≡ is_in_session session (grants_below all (next - 1))
+  none_before older session next more has number other =
+      step_before older session next more has number
+      ∙ ap (λ (b : Bool). b || is_in_session session (grants_below all (next - 1)))
+      (nat_eq-other older.session session other)
+
   -- a redemption with the device of its session
   pub row_shown : (row : GrantValue) (s : Session) (t : ℕ) (extended is_open : Bool) → IsGrantOf h row
       → session_of h row.session ≡ Some s
@@ -303,7 +330,8 @@ module _ (h : History) (legal : IsLegal h) where
       let it = row_at h row has in
       let g = it.grant in
       let by = opened_by h row.session s found in
-      let whole = of_at row.session by.0 all g it.before it.ends (members_are h legal row.session by.0 by.1) in
+      let whole =
+      of_at row.session by.0 all g it.before it.ends (members_are h legal row.session by.0 by.1) in
       let number : row.session ≡ g.session = session_is all row it in
       let own = whole.0 (subst (λ (n : ℕ). nat_eq g.session n ≡ true) (sym number) (nat_eq-refl g.session)) in
       let device : s.device ≡ g.device = by.2 ∙ sym own.0 in
