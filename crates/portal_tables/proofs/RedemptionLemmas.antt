@@ -10,7 +10,7 @@ use Rattle.portal_tables.proofs.Common.{members, oldest, session_of, session_row
 use Rattle.portal_tables.proofs.Common.{IsPermutation, IsSorted, AllByRecursion, IsAscending}
 use Rattle.portal_tables.proofs.Common.{ascending-filter}
 use Rattle.portal_tables.proofs.Common.{IsPermutation-filter, rows_are_typed, same_code, recursion_from_All}
-use Rattle.portal_tables.proofs.Common.{is_lt, get_or, ◌≢◌}
+use Rattle.portal_tables.proofs.Common.{is_lt, get_or, ◌≢◌, ◌⊎◌}
 use Rattle.std.specs.Prelude.{min}
 use Rattle.std.proofs.lemmas.Bool.{cases_Bool}
 use Rattle.std.proofs.lemmas.List.{length-map, length-take, map-append, take-map, take-take}
@@ -121,7 +121,7 @@ below_is (x ∷ gs) tail (inr ends) =
         (not_less_test (length gs + 1) (length tail + 1) (omega (arith, low))))
     go rest false e = rest ends
 
-below_low : (gs : List Grant) (n : ℕ) → n ≤ 1 → grants_below gs n ≡ []
+pub below_low : (gs : List Grant) (n : ℕ) → n ≤ 1 → grants_below gs n ≡ []
 below_low [] n h = refl
 below_low (g ∷ gs) n h = go (below_low gs n h) (nat_lt (length gs + 1) n) refl
   where
@@ -363,7 +363,7 @@ module _ (h : History) (legal : IsLegal h) where
 abbrev pub numbers_of : List ℕ → List Grant → List ℕ
 numbers_of code [] = []
 numbers_of code (g ∷ gs) =
-    let older = numbers_of code gs in cond (bytes_eq g.code code) (length gs + 1 ∷ older) older
+    let older = numbers_of code gs in cond (bytes_eq g.code code) ((length gs + 1) ∷ older) older
 
 module _ (h : History) (t : ℕ) (code : List ℕ) where
   -- the first so many of them, as they are shown
@@ -386,7 +386,7 @@ module _ (h : History) (t : ℕ) (code : List ℕ) where
           → ((m : ℕ) → filter_map (redemption_numbered h t) (take m (numbers_of code gs))
           ≡ take m (redemptions_among h t code gs))
           → filter_map (redemption_numbered h t)
-          (take n (cond b (length gs + 1 ∷ numbers_of code gs) (numbers_of code gs)))
+          (take n (cond b ((length gs + 1) ∷ numbers_of code gs) (numbers_of code gs)))
           ≡ take n (cond b (redemption_after h t gs g ∷ redemptions_among h t code gs)
           (redemptions_among h t code gs))
       go true zero rest = refl
@@ -398,7 +398,7 @@ module _ (h : History) (t : ℕ) (code : List ℕ) where
   same_count (g ∷ gs) = go (bytes_eq g.code code) (same_count gs)
     where
       go : (b : Bool) → length (numbers_of code gs) ≡ length (redemptions_among h t code gs)
-          → length (cond b (length gs + 1 ∷ numbers_of code gs) (numbers_of code gs))
+          → length (cond b ((length gs + 1) ∷ numbers_of code gs) (numbers_of code gs))
           ≡ length (cond b (redemption_after h t gs g ∷ redemptions_among h t code gs)
           (redemptions_among h t code gs))
       go true rest = omega (arith, rest)

@@ -126,8 +126,8 @@ module _ (h : History) (legal : IsLegal h) (t : ℕ) (code : List ℕ) (is : IsC
           → map number_of (cond a (grant_kept (row_of_grant (length rest + 1) g)
           ∷ filter passes (map grant_kept (newest_rows rest)))
           (filter passes (map grant_kept (newest_rows rest))))
-          ≡ cond b (length rest + 1 ∷ numbers_of code rest) (numbers_of code rest)
-      go true true same more = ap (λ (ns : List ℕ). length rest + 1 ∷ ns) more
+          ≡ cond b ((length rest + 1) ∷ numbers_of code rest) (numbers_of code rest)
+      go true true same more = ap (λ (ns : List ℕ). (length rest + 1) ∷ ns) more
       go false false same more = more
       go true false same more = absurd (cc)
       go false true same more = absurd (cc)
