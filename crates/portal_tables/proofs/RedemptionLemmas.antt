@@ -12,6 +12,7 @@ use Rattle.portal_tables.proofs.Common.{ascending-filter}
 use Rattle.portal_tables.proofs.Common.{IsPermutation-filter, rows_are_typed, same_code, recursion_from_All}
 use Rattle.portal_tables.proofs.Common.{is_lt, get_or, ◌≢◌, ◌⊎◌}
 use Rattle.std.specs.Prelude.{min}
+use Rattle.std.specs.Ordering.{is_gt}
 use Rattle.std.proofs.lemmas.Bool.{cases_Bool}
 use Rattle.std.proofs.lemmas.List.{length-map, length-take, map-append, take-map, take-take}
 use Rattle.std.proofs.lemmas.List.Sorted.{IsPermutation-cons, IsPermutation-map, IsPermutation-refl}
@@ -39,6 +40,12 @@ less_test a b h = grind (arith, nat_tests)
 
 not_less_test : (a b : ℕ) → b ≤ a → nat_lt a b ≡ false
 not_less_test a b h = grind (arith, nat_tests)
+
+pub less_cmp : (a b : ℕ) → true ≡ is_lt (nat_cmp a b) → a < b
+less_cmp a b h = grind (arith, nat_tests)
+
+pub more_cmp : (a b : ℕ) → true ≡ is_gt (nat_cmp a b) → b < a
+more_cmp a b h = grind (arith, nat_tests)
 
 -- ---- the oldest of the redemptions
 
@@ -172,7 +179,9 @@ module _ (gs : List Grant) (row : GrantValue) (it : IsRowAt gs row) where
   before_is = ap (grants_below gs) number_is ∙ below_is gs it.before (ends_rest gs it.grant it.before it.ends)
 
   more_is : grants_below gs (row.number + 1) ≡ it.grant ∷ it.before
-  more_is = ap (λ (n : ℕ). grants_below gs (n + 1)) number_is ∙ below_is gs (it.grant ∷ it.before) it.ends
+  more_is =
+      let up : row.number + 1 ≡ length (it.grant ∷ it.before) + 1 = omega (arith, number_is) in
+      ap (grants_below gs) up ∙ below_is gs (it.grant ∷ it.before) it.ends
 
 -- ---- the session of a redemption
 
@@ -245,7 +254,7 @@ module _ (h : History) (legal : IsLegal h) where
       let g = it.grant in
       subst (λ (n : ℕ). is_in_session n (grants_below all row.number) ≡ true) (sym (session_is all row it))
       (ap (is_in_session g.session) (before_is all row it)
-      ∙ go (is_in_session g.session it.before) refl it by)
+      ∙ go (is_in_session g.session it.before) it refl by)
     where
       go : (b : Bool) → (it : IsRowAt all row) → is_in_session it.grant.session it.before ≡ b
           → (by : (first : Grant) × (oldest (members all row.session) ≡ Some first)

@@ -2,7 +2,8 @@ use Rattle.portal_tables.proofs.Common.{◌≡◌, ◌≢◌, ◌<◌, ◌-◌, 
 use Rattle.portal_tables.proofs.Common.{reads_then, HasTables, grants_of}
 use Rattle.portal_model.specs.Redemptions.{is_in_session}
 use Rattle.portal_tables.specs.RedemptionLists.{grants_below}
-use Rattle.portal_tables.proofs.RedemptionLemmas.{below_low, found_before, none_before, none_older}
+use Rattle.portal_tables.proofs.RedemptionLemmas.{below_low, found_before, less_cmp, none_before}
+use Rattle.portal_tables.proofs.RedemptionLemmas.{none_older}
 use Rattle.portal_tables.proofs.ShownLemmas.{next_fails, shown_after, open_after}
 use Rattle.portal_tables.proofs.redemptions.is_in_older.Goals as goal
 
@@ -40,7 +41,8 @@ returns-then-lt g c =
     let next = c.loop-next.next in
     let more : 1 < next = c.loop-next-test.true in
     let other : older.session ≢ session = c.if-older-session.false in
-    let early : older.moment < c.args.opened = c.if-lt.ensures in
+    let early : older.moment < c.args.opened =
+    less_cmp older.moment c.args.opened c.if-lt.ensures in
     record {
       found = λ clean live h shown opened.
           let clean1 : HasCleanDisk b = omega (arith, one.looks.crash.clean) in

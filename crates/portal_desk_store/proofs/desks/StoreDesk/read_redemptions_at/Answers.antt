@@ -12,7 +12,7 @@ returns-then-not-is_held g c = record {
       let it = c.in_ok-is_held.ensures.found honest before at in (
         it.0,
         it.1,
-        unknown_told c.args.code.now c.args.at c.in_ok-is_held.is_held c.if-not.true before it.0 it.3,
+        unknown_told c.args.code.now c.args.at c.in_ok-is_held.is_held c.if-not-is_held.true before it.0 it.3,
       );
 }
 
@@ -22,6 +22,6 @@ returns g c =
     go_on (answered c.in_ok-is_held.ensures) (from_ledger (answered c.in_ok-listed.ensures))
     (λ L legal is x read. (
       listed_told (history_of L) c.args.code.now c.args.at c.in_ok-is_held.is_held
-          (listed.0.items, listed.1) c.if-not.false is read.0,
+          (listed.0.items, listed.1) c.if-not-is_held.false is read.0,
       read.1,
     ))
