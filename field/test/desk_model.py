@@ -15,8 +15,8 @@ Json = dict[str, Any]
 SIGNS = "23456789ABCDEFGHJKMNPQRSTUVWXYZ"
 GREATEST, MOST_BYTES, MOST_GRANTS = 253_370_764_799, 9_000_000_000_000_000, 9_007_199_254_740_991
 ID = re.compile(r"[a-z0-9-]{1,32}")
-MOST_LISTED, MOST_FOUND, MOST_REDEMPTIONS = 20, 50, 100    # batches in a list; vouchers found by the start of
-                                                            # their codes; redemptions of a voucher
+# Batches in a list; vouchers found by the start of their codes; redemptions of a voucher.
+MOST_LISTED, MOST_FOUND, MOST_REDEMPTIONS = 20, 50, 100
 
 
 class No(Exception):
