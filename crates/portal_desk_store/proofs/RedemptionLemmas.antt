@@ -5,7 +5,7 @@ use Rattle.portal_desk_store.proofs.Common.{sym, ap, subst, ◌∙◌, option_ma
 use Rattle.portal_desk_store.proofs.Common.{history_of, State, running, stopped, ReadsOf, History, grants_of}
 use Rattle.portal_desk_store.proofs.Common.{issued_of}
 use Rattle.std.specs.Prelude.{is_some}
-use Rattle.portal_desk.specs.Calls.{FindsThat, RefusesUnknown}
+use Rattle.portal_desk.specs.Calls.{FindsThat, RefusesUnknown, Returns}
 use Rattle.portal_ledger.specs.Calls.{ReadsThat}
 use Rattle.portal_model.specs.History.{IssuedVoucher, effective_moment}
 use Rattle.portal_model.specs.Redemptions.{first_redemptions, last_redemptions_of, redemptions_among}
@@ -51,6 +51,18 @@ listed_told H code at is_held found on is told = go (issued_of H code) (sym is �
         ≡ Some listed) × (found ≡ listed)
     go None some = absurd (cc)
     go (Some v) some = (listed, refl, told)
+
+-- the same of a call that lists them, or fails
+pub listed_found : {A : Type 0} (shown : A → List Redemption × Bool) (L : Ledger) (code : List ℕ) (at : ℕ)
+    (is_held : Bool) (result : Result A Refusal) (x : State)
+    → is_held ≡ true → is_held ≡ is_some (issued_of (history_of L) code)
+    → Returns result (λ found H. shown found ≡ first_redemptions (redemptions_among H at code (grants_of H)))
+    (running L) x
+    → FindsThat refusal.UnknownCode (listed_at code at) (λ found listed _. shown found ≡ listed) result
+    (running L) x
+listed_found shown L code at is_held (Ok found) x on is step =
+    (listed_told (history_of L) code at is_held (shown found) on is step.0, step.1)
+listed_found shown L code at is_held (Err r) x on is step = inr step
 
 -- ---- by the head row
 

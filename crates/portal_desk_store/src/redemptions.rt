@@ -8,7 +8,7 @@ ghost use Rattle.portal_model.specs.Redemptions.{
 };
 ghost use Rattle.portal_desk.specs.Calls.{FindsThat};
 ghost use Rattle.portal_desk_store.specs.DeskRepresents.{MovesDesk};
-ghost use Rattle.portal_desk_store.specs.Steps.{MovesTables};
+ghost use Rattle.portal_desk_store.specs.Steps.{MovesTables, Reads};
 
 use crate::desks::StoreDesk;
 use portal_codes::Code;
@@ -21,6 +21,22 @@ use sqlite::Alter;
 use std::alloc::Global;
 
 impl<S: Alter> StoreDesk<S> {
+    /// Reads the last redemptions with a code, as they are at the effective time `at`, and whether there are
+    /// more.
+    ///
+    /// Errors: `NoMemory`, `Stopped`.
+    fn list_redemptions(
+        &mut self,
+        alloc: Global,
+        at: Moment,
+        code: &Code,
+    ) -> Result<(Vec<Redemption>, bool), Refusal>
+        ensures { Reads S.Store self.old self.new result (λ found H. (found.0.items, found.1)
+            ≡ first_redemptions (redemptions_among H at code.now (grants_of H))) }
+    {
+        Ok(self.tables.read(LastRedemptions { alloc, code, at })?)
+    }
+
     /// Reads the last redemptions of the voucher of a code, as they are at the effective time `at`.
     ///
     /// Errors: `NoMemory`, `Stopped`; `UnknownCode` if the code was never issued.
@@ -39,8 +55,7 @@ impl<S: Alter> StoreDesk<S> {
         if !is_held {
             return Err(Refusal::UnknownCode);
         }
-        let listed = self.tables.read(LastRedemptions { alloc, code, at })?;
-        Ok(listed)
+        self.list_redemptions(alloc, at, code)
     }
 
     /// Reads the last redemptions of the voucher of a code, as they are at a time, and whether there are

@@ -1,4 +1,4 @@
-use Rattle.portal_desk_store.proofs.Common.{ap, ◌∙◌, max}
+use Rattle.portal_desk_store.proofs.Common.{◌≡◌, ap, ◌∙◌, max}
 use Rattle.portal_model.specs.declared.record.Head.{Head}
 use Rattle.portal_desk_store.proofs.HeadLemmas.{go_on_by_head}
 use Rattle.portal_desk_store.proofs.RedemptionLemmas.{at_effective, listed_at, listed_stays}

@@ -1,5 +1,5 @@
-use Rattle.portal_desk_store.proofs.Common.{inr, refl, history_of}
-use Rattle.portal_desk_store.proofs.RedemptionLemmas.{listed_told, unknown_told}
+use Rattle.portal_desk_store.proofs.Common.{inr, refl}
+use Rattle.portal_desk_store.proofs.RedemptionLemmas.{listed_found, unknown_told}
 use Rattle.portal_desk_store.proofs.StepLemmas.{answered, from_ledger, go_on}
 use Rattle.portal_desk_store.proofs.desks.StoreDesk.read_redemptions_at.Goals as goal
 
@@ -17,11 +17,6 @@ returns-then-not-is_held g c = record {
 }
 
 pub returns : goal.returns
-returns g c =
-    let listed = c.in_ok-listed.listed in
-    go_on (answered c.in_ok-is_held.ensures) (from_ledger (answered c.in_ok-listed.ensures))
-    (λ L legal is x read. (
-      listed_told (history_of L) c.args.code.now c.args.at c.in_ok-is_held.is_held
-          (listed.0.items, listed.1) c.if-not-is_held.false is read.0,
-      read.1,
-    ))
+returns g c = go_on (answered c.in_ok-is_held.ensures) (from_ledger c.list_redemptions.ensures)
+    (λ L legal is x step. listed_found (λ found. (found.0.items, found.1)) L c.args.code.now c.args.at
+    c.in_ok-is_held.is_held c.list_redemptions.result x c.if-not-is_held.false is step)
