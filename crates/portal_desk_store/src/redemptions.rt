@@ -34,7 +34,7 @@ impl<S: Alter> StoreDesk<S> {
         ensures { Reads S.Store self.old self.new result (λ found H. (found.0.items, found.1)
             ≡ first_redemptions (redemptions_among H at code.now (grants_of H))) }
     {
-        Ok(self.tables.read(LastRedemptions { alloc, code, at })?)
+        Ok(self.tables.read(LastRedemptions { alloc, code, at: &at })?)
     }
 
     /// Reads the last redemptions of the voucher of a code, as they are at the effective time `at`.

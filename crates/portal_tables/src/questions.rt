@@ -242,17 +242,17 @@ impl Question for VouchersLike<'_> {
 pub struct LastRedemptions<'a> {
     pub alloc: Global,
     pub code: &'a Code,
-    pub at: Moment,
+    pub at: &'a Moment,
 }
 
 impl Question for LastRedemptions<'_> {
     type Answer = (Vec<Redemption>, bool);
 
     ghost is = { λ asked L found. (found.0.items, found.1) ≡ first_redemptions
-        (redemptions_among (history_of L) asked.at asked.code.now (grants_of (history_of L))) };
+        (redemptions_among (history_of L) asked.at.now asked.code.now (grants_of (history_of L))) };
 
     fn ask<S: Alter>(self, conn: &mut Connection<S>) -> Result<(Vec<Redemption>, bool), RowError> {
-        read_last_redemptions(self.alloc, conn, self.at, self.code)
+        read_last_redemptions(self.alloc, conn, *self.at, self.code)
     }
 }
 
