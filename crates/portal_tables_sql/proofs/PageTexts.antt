@@ -18,7 +18,7 @@ use Rattle.sqlite_sql.specs.declared.ops.CompareOp.TheVariants.{Lt}
 
 abbrev pub between_text : List ℕ
 between_text =
-    codes "SELECT code, batch_id, place, sold, refunded, amount FROM portal_vouchers"
+    codes "SELECT code, batch_id, place, sold, refunded, amount, redeemed FROM portal_vouchers"
     ++ codes " WHERE code >= ?1 AND code < ?2 ORDER BY code LIMIT 51"
 
 -- WHERE code >= ?1 AND code < ?2
@@ -41,7 +41,7 @@ between_means schema at tree exists =
     (Some (expr.Integer (codes "51"))) 2 (lit (Int (pos 51)), lit (Int (pos 0)))
     (drafted tree (between_terms (vouchers tree)) (all_columns (vouchers tree)) (by (vouchers tree) 0 false)
     (pos 51))
-    (Some Binary ∷ Some Binary ∷ Some Binary ∷ Some Binary ∷ Some Binary ∷ Some Binary ∷ [])
+    (Some Binary ∷ Some Binary ∷ Some Binary ∷ Some Binary ∷ Some Binary ∷ Some Binary ∷ Some Binary ∷ [])
     (record { parsed = _; read = refl; is = refl; timeless = refl; counted = refl }) refl refl
     (simp (exists.named, exists.there) refl) (simp (exists.low, exists.typed) refl) refl (λ base. refl)
 

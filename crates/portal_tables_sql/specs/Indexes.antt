@@ -1,4 +1,4 @@
--- The indexes of this schema version.
+-- The product's indexes, of all schema versions, and those of this one.
 use Rattle.std.specs.Prelude.{◌≡◌, true, [], ◌∷◌, codes, List, ℕ}
 use Rattle.sqlite.specs.Schema.{Schema}
 use Rattle.sqlite_schema.specs.declared.schema.Index.{Index}
@@ -76,6 +76,11 @@ described_index by.RequestsByKey = record {
 abbrev pub our_indexes : List OurIndex
 our_indexes = by.PlansById ∷ by.BatchesById ∷ by.BatchesByIssue ∷ by.VouchersByCode ∷ by.VouchersByBatch
     ∷ by.SessionsByDevice ∷ by.GrantsByCode ∷ by.CountsByCode ∷ by.RequestsByKey ∷ []
+
+-- those of this schema version
+abbrev pub current_indexes : List OurIndex
+current_indexes = by.PlansById ∷ by.BatchesById ∷ by.BatchesByIssue ∷ by.VouchersByCode ∷ by.VouchersByBatch
+    ∷ by.SessionsByDevice ∷ by.GrantsByCode ∷ by.RequestsByKey ∷ []
 
 -- the index is this one, on the table with the tree
 pub record IsOurIndex (x : OurIndex) (index : Index) (tree : ℕ) : Type 0 where

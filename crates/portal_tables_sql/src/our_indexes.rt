@@ -1,5 +1,5 @@
-//! The indexes of this schema version: the name of each, its table and columns, and the statement that creates
-//! it. No clause of a table finds a row: these do.
+//! The product's indexes, of the schema versions since 5: the name of each, its table and columns, and the
+//! statement that creates it. No clause of a table finds a row: these do.
 
 ghost use Rattle.std.specs.Prelude.{◌≡◌};
 ghost use Rattle.portal_tables_sql.specs.Indexes.{described_index};
@@ -11,7 +11,7 @@ use crate::statements::{
     INDEX_VOUCHERS_BY_CODE,
 };
 
-/// An index of the product.
+/// An index of the product. `CountsByCode` is of schema version 5.
 #[derive(Clone, Copy, Debug, PartialEq, Eq)]
 pub enum OurIndex {
     PlansById,
@@ -25,7 +25,7 @@ pub enum OurIndex {
     RequestsByKey,
 }
 
-/// The product's indexes.
+/// The product's indexes, of all schema versions.
 pub const OUR_INDEXES: [OurIndex; 9] = [
     OurIndex::PlansById,
     OurIndex::BatchesById,
@@ -35,6 +35,18 @@ pub const OUR_INDEXES: [OurIndex; 9] = [
     OurIndex::SessionsByDevice,
     OurIndex::GrantsByCode,
     OurIndex::CountsByCode,
+    OurIndex::RequestsByKey,
+];
+
+/// The indexes of this schema version.
+pub const CURRENT_INDEXES: [OurIndex; 8] = [
+    OurIndex::PlansById,
+    OurIndex::BatchesById,
+    OurIndex::BatchesByIssue,
+    OurIndex::VouchersByCode,
+    OurIndex::VouchersByBatch,
+    OurIndex::SessionsByDevice,
+    OurIndex::GrantsByCode,
     OurIndex::RequestsByKey,
 ];
 
