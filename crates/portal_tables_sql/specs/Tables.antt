@@ -2,7 +2,7 @@
 -- Up to version 4 their ids and codes are PRIMARY KEYs, and REFERENCES and UNIQUE clauses keep them; since
 -- version 5 only numbers are keys, and indexes find the rest. Up to version 5 the counters are in tables of
 -- their own; since version 6 they are columns.
-use Rattle.std.specs.Prelude.{◌≡◌, ◌≤◌, ◌++◌, Bool, true, false, if◌then◌else◌, [], ◌∷◌, Some, None, codes}
+use Rattle.std.specs.Prelude.{◌≤◌, ◌++◌, Bool, true, false, if◌then◌else◌, [], ◌∷◌, Some, None, codes}
 use Rattle.std.specs.Prelude.{List, ℕ}
 use Rattle.sqlite.specs.Collation.TheVariants.{Binary}
 use Rattle.sqlite.specs.declared.types.Value.TheVariants.{Null}
@@ -59,6 +59,10 @@ pub data Layout : Type 0 where
   Apart : Bool → Layout
   -- the counters as columns, and no clauses
   Together : Layout
+
+abbrev pub keeps_clauses : Layout → Bool
+keeps_clauses (Apart keyed) = keyed
+keeps_clauses Together = false
 
 -- what stands in the schema only where the table has its clauses
 abbrev pub clauses : {X : Type 0} → Bool → List X → List X
@@ -285,36 +289,37 @@ create_requests =
 
 -- ---- the description of each table
 
--- a table with its counters apart, with its clauses or without, by the number of its tree; the statement that
--- creates it; and the schema version that added it (0: each version has it)
+-- a table in each layout, by the number of its tree; the statement that creates it; and the schema version that
+-- added it (0: each version has it)
 pub record Description : Type 0 where
-  pub table : Bool → ℕ → Table
+  pub table : Layout → ℕ → Table
   pub create : List ℕ
   pub since : ℕ
 
-abbrev pub described : OurTable → Description
-described our.Head = record { table = head_in; create = create_head; since = 0 }
-described our.Plans = record { table = plans_in; create = create_plans; since = 0 }
-described our.Batches = record { table = batches_in; create = create_batches; since = 0 }
-described our.Vouchers = record { table = vouchers_in; create = create_vouchers; since = 0 }
-described our.Sessions = record { table = sessions_in; create = create_sessions; since = 0 }
-described our.Grants = record { table = grants_in; create = create_grants; since = 0 }
-described our.Counts = record { table = counts_in; create = create_counts; since = 2 }
-described our.Totals = record { table = totals_in; create = create_totals; since = 2 }
-described our.Requests = record { table = requests_in; create = create_requests; since = 3 }
+-- where the counters are apart, the vouchers and the sessions have no columns for them
+abbrev pub vouchers_by : Layout → ℕ → Table
+vouchers_by (Apart keyed) = vouchers_in keyed
+vouchers_by Together = vouchers
 
--- in a layout
+abbrev pub sessions_by : Layout → ℕ → Table
+sessions_by (Apart keyed) = sessions_in keyed
+sessions_by Together = sessions
+
+abbrev pub described : OurTable → Description
+described our.Head = record { table = λ l. head_in (keeps_clauses l); create = create_head; since = 0 }
+described our.Plans = record { table = λ l. plans_in (keeps_clauses l); create = create_plans; since = 0 }
+described our.Batches =
+    record { table = λ l. batches_in (keeps_clauses l); create = create_batches; since = 0 }
+described our.Vouchers = record { table = vouchers_by; create = create_vouchers; since = 0 }
+described our.Sessions = record { table = sessions_by; create = create_sessions; since = 0 }
+described our.Grants = record { table = λ l. grants_in (keeps_clauses l); create = create_grants; since = 0 }
+described our.Counts = record { table = λ l. counts_in (keeps_clauses l); create = create_counts; since = 2 }
+described our.Totals = record { table = λ l. totals_in (keeps_clauses l); create = create_totals; since = 2 }
+described our.Requests =
+    record { table = λ l. requests_in (keeps_clauses l); create = create_requests; since = 3 }
+
 abbrev pub table_in : Layout → OurTable → ℕ → Table
-table_in (Apart keyed) x = (described x).table keyed
-table_in Together our.Head = head
-table_in Together our.Plans = plans
-table_in Together our.Batches = batches
-table_in Together our.Vouchers = vouchers
-table_in Together our.Sessions = sessions
-table_in Together our.Grants = grants
-table_in Together our.Counts = counts
-table_in Together our.Totals = totals
-table_in Together our.Requests = requests
+table_in layout x = (described x).table layout
 
 -- in this schema version
 abbrev pub table_of : OurTable → ℕ → Table
@@ -326,16 +331,27 @@ name_of x = (table_of x 0).name
 abbrev pub since : OurTable → ℕ
 since x = (described x).since
 
--- the counters are in this table of their own
-abbrev pub has_counters_apart : OurTable → Bool
-has_counters_apart our.Counts = true
-has_counters_apart our.Totals = true
-has_counters_apart x = false
+-- the table is there for counters that are kept apart
+abbrev pub is_for_counters : OurTable → Bool
+is_for_counters our.Head = false
+is_for_counters our.Plans = false
+is_for_counters our.Batches = false
+is_for_counters our.Vouchers = false
+is_for_counters our.Sessions = false
+is_for_counters our.Grants = false
+is_for_counters our.Counts = true
+is_for_counters our.Totals = true
+is_for_counters our.Requests = false
 
--- the table is one of a schema version with this layout
+-- such a table is in no layout but those that keep the counters apart
+abbrev pub IsLaidOut : Bool → Layout → Type 0
+IsLaidOut false layout = Unit {0}
+IsLaidOut true (Apart keyed) = Unit {0}
+IsLaidOut true Together = ⊥
+
+-- a schema version with this layout has the table
 abbrev pub IsTableIn : Layout → ℕ → OurTable → Type 0
-IsTableIn (Apart keyed) schema_version x = since x ≤ schema_version
-IsTableIn Together schema_version x = (since x ≤ schema_version) × (has_counters_apart x ≡ false)
+IsTableIn layout schema_version x = (since x ≤ schema_version) × IsLaidOut (is_for_counters x) layout
 
 abbrev pub create_of : OurTable → List ℕ
 create_of x = (described x).create
