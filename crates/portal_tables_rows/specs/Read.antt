@@ -3,6 +3,7 @@ use Rattle.portal_codes.specs.Code.{text_of}
 use Rattle.portal_model.specs.Device.{text_of_device}
 use Rattle.portal_model.specs.Rows.{VoucherRow, SessionRow, CountRow, TotalRow}
 use Rattle.portal_tables_rows.specs.declared.rows.HeadValue.{HeadValue}
+use Rattle.portal_tables_rows.specs.declared.column_values.Total.{Total}
 use Rattle.portal_tables_rows.specs.declared.rows.OldSession.{OldSession}
 use Rattle.portal_tables_rows.specs.declared.rows.OldVoucher.{OldVoucher}
 use Rattle.portal_tables_rows.specs.declared.rows.VoucherValue.{VoucherValue}
@@ -57,9 +58,28 @@ session_read s = record {
   closed = s.closed;
 }
 
+-- the same as a row of a table of its own
+abbrev pub count_part : VoucherValue → CountValue
+count_part v = record { code = v.code; redeemed = v.redeemed }
+
 -- the total of the session
 abbrev pub session_total : SessionValue → TotalRow
 session_total s = record { number = s.number; ends = s.ends; remaining = s.remaining }
+
+-- the same as a row of a table of its own
+abbrev pub total_part : SessionValue → Total
+total_part s = record { number = s.number; ends = s.ends; remaining = s.remaining }
+
+-- the session without its total
+abbrev pub session_part : SessionValue → OldSession
+session_part s = record {
+  number = s.number;
+  device = s.device;
+  plan = s.plan;
+  opened = s.opened;
+  used = s.used;
+  closed = s.closed;
+}
 
 abbrev pub whole_session_read : SessionValue → WholeSession
 whole_session_read s = record { row = session_read s; ends = s.ends; remaining = s.remaining }

@@ -23,7 +23,8 @@ ghost use Rattle.portal_tables_rows.specs.Lists.{
   sale_read,
 };
 ghost use Rattle.portal_tables_rows.specs.Lists.{refund_columns, refund_read};
-ghost use Rattle.portal_tables_rows.specs.Read.{voucher_read};
+ghost use Rattle.portal_tables_rows.specs.Audit.{AreAmong};
+ghost use Rattle.portal_tables_rows.specs.Read.{voucher_read, voucher_count};
 ghost use Rattle.portal_tables_rows.specs.Steps.{ends_row};
 
 use crate::column_values::Total;
@@ -164,7 +165,7 @@ fn refunds_of_vouchers(
     Ok(refunds)
 }
 
-/// Lists the vouchers of a batch, ordered by place.
+/// Lists the vouchers of a batch, ordered by place, each with how often it was redeemed.
 pub fn list_batch_vouchers<S: Alter>(
     alloc: Global,
     conn: &mut Connection<S>,
@@ -172,7 +173,7 @@ pub fn list_batch_vouchers<S: Alter>(
 ) -> Result<Vec<VoucherValue>, RowError>
     ensures { ReadsRow S.Store conn.old conn.new result
         (λ t vouchers. Lists (λ v. bytes_eq batch.now v.batch) by_place t.vouchers
-        (map voucher_read vouchers.items))
+        (map voucher_read vouchers.items) × AreAmong (map voucher_count vouchers.items) t.counts)
         (λ t. AreOwn IsOwnVoucher t.vouchers) }
 {
     read_many(alloc, conn, SELECT_BATCH_VOUCHERS, params![batch.text()])

@@ -4,7 +4,8 @@ ghost use Rattle.std.specs.Prelude.{◌<◌, ◌^◌, map};
 ghost use Rattle.portal_model.specs.Batches.{by_issue};
 ghost use Rattle.portal_tables_rows.specs.Foreign.{AreOwn, IsOwnBatch, IsOwnVoucher};
 ghost use Rattle.portal_tables_rows.specs.Lists.{ListsFirst, by_code, is_behind, is_between};
-ghost use Rattle.portal_tables_rows.specs.Read.{voucher_read};
+ghost use Rattle.portal_tables_rows.specs.Audit.{AreAmong};
+ghost use Rattle.portal_tables_rows.specs.Read.{voucher_read, voucher_count};
 ghost use Rattle.portal_tables_rows.specs.Selects.{ReadsRow};
 
 use crate::column_values::PrintedText;
@@ -15,8 +16,8 @@ use portal_tables_sql::statements::{SELECT_BATCHES_BEHIND, SELECT_VOUCHERS_BETWE
 use sqlite::{Alter, Connection, params};
 use std::alloc::Global;
 
-/// Lists the first 51 vouchers, by code, whose printed codes are `from` or after it, and before
-/// `below`.
+/// Lists the first 51 vouchers, by code, whose printed codes are `from` or after it, and before `below`, each
+/// with how often it was redeemed.
 pub fn list_vouchers_between<S: Alter>(
     alloc: Global,
     conn: &mut Connection<S>,
@@ -25,7 +26,7 @@ pub fn list_vouchers_between<S: Alter>(
 ) -> Result<Vec<VoucherValue>, RowError>
     ensures { ReadsRow S.Store conn.old conn.new result
         (λ t vouchers. ListsFirst 51 (λ v. is_between from.now below.now v.code) by_code t.vouchers
-        (map voucher_read vouchers.items))
+        (map voucher_read vouchers.items) × AreAmong (map voucher_count vouchers.items) t.counts)
         (λ t. AreOwn IsOwnVoucher t.vouchers) }
 {
     read_many(
