@@ -153,7 +153,7 @@ module _ (db : Database) (t : Contents) (held : Holds db t) (head : HeadRow) (ha
   same_totals : HasCounters t → t.totals ≡ map (total_in t) t.sessions
   same_totals a =
       let by_number : IsTable (map session_stored t.sessions) = table_of session_stored
-      (db.trees (held.places our.Sessions).tree) t.sessions (held.store our.Sessions (always _)) in
+      (db.trees (held.places our.Sessions).tree) t.sessions (held.store our.Sessions (always _, tt)) in
       let up : IsTable (map total_stored t.totals) = table_of total_stored
       (db.trees (held.places our.Totals).tree) t.totals (held.store our.Totals (lit≤ tt)) in
       let also : IsTable (map total_stored (map (total_in t) t.sessions)) =
@@ -183,7 +183,7 @@ module _ (db : Database) (t : Contents) (held : Holds db t) (head : HeadRow) (ha
   to_agree a =
       let one : a.head.0 ≡ head =
       head_exact a.head.0 head (one_of_number head_stored t.heads
-      (table_of head_stored (db.trees (held.places our.Head).tree) t.heads (held.store our.Head (always _)))
+      (table_of head_stored (db.trees (held.places our.Head).tree) t.heads (held.store our.Head (always _, tt)))
       a.head.0 head a.head.1 has (ap number_cell (a.head.2 ∙ sym first))) in
       record {
         grants = subst (λ (h : HeadRow). h.grants ≡ length t.grants) one a.head.3;

@@ -67,7 +67,7 @@ numbers_read (m ∷ ms) = ap (λ l. m.number ∷ l) (numbers_read ms)
 pub summed_rise : (db : Database) (t : Contents) (totals : List Total) → HoldsFirst db t
     → totals_read totals ≡ totals_summed t → Rise totals
 summed_rise db t totals first is =
-    let stored = (first.1.store our.Sessions (always _)) in
+    let stored = (first.1.store our.Sessions (always _, tt)) in
     let table = subst IsTable (sym (map_whole _) ∙ stored.is) stored.are.rise in
     let numbers = sym (numbers_summed t t.sessions) ∙ ap (map (λ (m : TotalRow). m.number)) (sym is)
     ∙ numbers_read totals in

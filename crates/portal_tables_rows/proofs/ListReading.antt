@@ -58,9 +58,9 @@ batch_rows_are old new batch rows shown t h =
     (has_key 1 (Text batch)) (key_tests table 1 (Text batch) [] (lit< tt) refl) (by_column 2)
     (orders_by table 2 (Text batch ∷ []) (lit< tt))
     (texts.batch_vouchers_means old.now.schema place.at place.tree
-    (h.tables_exist.tables our.Vouchers (always _)).exists) rows shown in
+    (h.tables_exist.tables our.Vouchers (always _, tt)).exists) rows shown in
     let all = subst (λ xs. IsSelection (has_key 1 (Text batch)) (by_column 2) xs rows)
-    (vouchers_in old.now.trees place.tree t.vouchers (h.store our.Vouchers (always _))) it in
+    (vouchers_in old.now.trees place.tree t.vouchers (h.store our.Vouchers (always _, tt))) it in
     cells_listed voucher_cells (λ (v : VoucherRow). bytes_eq batch v.batch) by_place
     t.vouchers (has_key 1 (Text batch)) (by_column 2) (λ v. text_test v.batch batch)
     (λ a b. number_order a.place b.place) rows all
@@ -69,7 +69,7 @@ pub batch_simple : (schema : Schema) → HasTables schema
     → IsSimple (understood schema texts.batch_vouchers_text)
 batch_simple schema h = let place = (h.0 our.Vouchers) in
     means_simple schema texts.batch_vouchers_text _ _
-    (texts.batch_vouchers_means schema place.at place.tree (h.1.tables our.Vouchers (always _)).exists)
+    (texts.batch_vouchers_means schema place.at place.tree (h.1.tables our.Vouchers (always _, tt)).exists)
 
 -- ---- the ends of all sessions
 
@@ -104,9 +104,9 @@ module _ (old new : State) (from to : ℕ) (rows : List Row) (t : Contents) (h :
       texts.sold_columns old new sold (within_tests table 3 from to (lit< tt)) two
       (λ r. ap₂ (λ a b. a ∷ b ∷ []) (sym (field_at table 1 r (lit< tt))) (sym (field_at table 3 r (lit< tt))))
       (texts.sold_means old.now.schema place.at place.tree (h.tables_exist.tables our.Vouchers
-      (always _)).exists) (h.store our.Vouchers (always _)).are.rise rows shown
+      (always _, tt)).exists) (h.store our.Vouchers (always _, tt)).are.rise rows shown
       ∙ ap (λ xs. map two (filter sold xs))
-      (vouchers_in old.now.trees place.tree t.vouchers (h.store our.Vouchers (always _)))
+      (vouchers_in old.now.trees place.tree t.vouchers (h.store our.Vouchers (always _, tt)))
       ∙ ap (map two) (filter-map sold voucher_cells t.vouchers
       ∙ (λ i. map voucher_cells (filter (λ (v : VoucherRow). within_is v.sold from to i) t.vouchers)))
       ∙ map-map two voucher_cells listed
@@ -121,10 +121,10 @@ module _ (old new : State) (from to : ℕ) (rows : List Row) (t : Contents) (h :
       old new voucher_columns (λ r. sql_within (column r 3) (number from) (number to))
       (within_tests table 3 from to (lit< tt)) (by_columns 3 0)
       (orders_by_two table 3 0 params (lit< tt) (lit< tt)) (texts.ordered_means old.now.schema place.at
-      place.tree (h.tables_exist.tables our.Vouchers (always _)).exists) rows shown in
+      place.tree (h.tables_exist.tables our.Vouchers (always _, tt)).exists) rows shown in
       let all = subst (λ xs.
       IsSelection (λ r. sql_within (column r 3) (number from) (number to)) (by_columns 3 0) xs rows)
-      (vouchers_in old.now.trees place.tree t.vouchers (h.store our.Vouchers (always _))) it in
+      (vouchers_in old.now.trees place.tree t.vouchers (h.store our.Vouchers (always _, tt))) it in
       cells_listed voucher_cells (λ (v : VoucherRow). is_within from to v.sold) by_sale
       t.vouchers (λ r. sql_within (column r 3) (number from) (number to)) (by_columns 3 0)
       (λ v. within_is v.sold from to)
@@ -139,10 +139,10 @@ module _ (old new : State) (from to : ℕ) (rows : List Row) (t : Contents) (h :
       old new voucher_columns (λ r. sql_within (column r 4) (number from) (number to))
       (within_tests table 4 from to (lit< tt)) (by_columns 4 0)
       (orders_by_two table 4 0 params (lit< tt) (lit< tt)) (texts.refunded_means old.now.schema place.at
-      place.tree (h.tables_exist.tables our.Vouchers (always _)).exists) rows shown in
+      place.tree (h.tables_exist.tables our.Vouchers (always _, tt)).exists) rows shown in
       let all = subst (λ xs.
       IsSelection (λ r. sql_within (column r 4) (number from) (number to)) (by_columns 4 0) xs rows)
-      (vouchers_in old.now.trees place.tree t.vouchers (h.store our.Vouchers (always _))) it in
+      (vouchers_in old.now.trees place.tree t.vouchers (h.store our.Vouchers (always _, tt))) it in
       cells_listed voucher_cells (λ (v : VoucherRow). is_within from to v.refunded) by_refund
       t.vouchers (λ r. sql_within (column r 4) (number from) (number to)) (by_columns 4 0)
       (λ v. within_is v.refunded from to)
@@ -151,14 +151,14 @@ module _ (old new : State) (from to : ℕ) (rows : List Row) (t : Contents) (h :
 pub sold_simple : (schema : Schema) → HasTables schema → IsSimple (understood schema texts.sold_text)
 sold_simple schema h = let place = (h.0 our.Vouchers) in
     means_simple schema texts.sold_text _ _
-    (texts.sold_means schema place.at place.tree (h.1.tables our.Vouchers (always _)).exists)
+    (texts.sold_means schema place.at place.tree (h.1.tables our.Vouchers (always _, tt)).exists)
 
 pub ordered_simple : (schema : Schema) → HasTables schema → IsSimple (understood schema texts.ordered_text)
 ordered_simple schema h = let place = (h.0 our.Vouchers) in
     means_simple schema texts.ordered_text _ _
-    (texts.ordered_means schema place.at place.tree (h.1.tables our.Vouchers (always _)).exists)
+    (texts.ordered_means schema place.at place.tree (h.1.tables our.Vouchers (always _, tt)).exists)
 
 pub refunded_simple : (schema : Schema) → HasTables schema → IsSimple (understood schema texts.refunded_text)
 refunded_simple schema h = let place = (h.0 our.Vouchers) in
     means_simple schema texts.refunded_text _ _
-    (texts.refunded_means schema place.at place.tree (h.1.tables our.Vouchers (always _)).exists)
+    (texts.refunded_means schema place.at place.tree (h.1.tables our.Vouchers (always _, tt)).exists)

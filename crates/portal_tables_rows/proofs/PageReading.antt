@@ -98,9 +98,9 @@ between_rows_are old new low high rows shown t h =
     let it = first_selected texts.between_text table (texts.between_terms table) _ params old new
     voucher_columns test (between_tests table low high (lit< tt)) (by_column 0)
     (orders_by table 0 params (lit< tt)) 51 (texts.between_means old.now.schema place.at place.tree
-    (h.tables_exist.tables our.Vouchers (always _)).exists) rows shown in
+    (h.tables_exist.tables our.Vouchers (always _, tt)).exists) rows shown in
     let all = subst (λ xs. IsSelection test (by_column 0) xs it.0)
-    (vouchers_in old.now.trees place.tree t.vouchers (h.store our.Vouchers (always _))) it.1 in (
+    (vouchers_in old.now.trees place.tree t.vouchers (h.store our.Vouchers (always _, tt))) it.1 in (
       it.0,
       cells_listed voucher_cells (λ (v : VoucherRow). is_between low high v.code) by_code t.vouchers test
           (by_column 0) (λ v. between_is v.code low high) (λ a b. value_cmp-Text a.code b.code) it.0 all,
@@ -110,7 +110,7 @@ between_rows_are old new low high rows shown t h =
 pub between_simple : (schema : Schema) → HasTables schema → IsSimple (understood schema texts.between_text)
 between_simple schema h = let place = (h.0 our.Vouchers) in
     means_simple schema texts.between_text _ _
-    (texts.between_means schema place.at place.tree (h.1.tables our.Vouchers (always _)).exists)
+    (texts.between_means schema place.at place.tree (h.1.tables our.Vouchers (always _, tt)).exists)
 
 -- ---- batches behind a place in their list
 
@@ -149,9 +149,9 @@ behind_rows_are old new at id rows shown t h =
     let it = first_selected texts.behind_text table (texts.behind_terms table) _ params old new
     batch_columns test (behind_tests table at id (lit< tt)) (down_columns 2 0)
     (orders_down_two table 2 0 params (lit< tt) (lit< tt)) 21 (texts.behind_means old.now.schema place.at
-    place.tree (h.tables_exist.tables our.Batches (always _)).exists) rows shown in
+    place.tree (h.tables_exist.tables our.Batches (always _, tt)).exists) rows shown in
     let all = subst (λ xs. IsSelection test (down_columns 2 0) xs it.0)
-    (batches_in old.now.trees place.tree t.batches (h.store our.Batches (always _))) it.1 in (
+    (batches_in old.now.trees place.tree t.batches (h.store our.Batches (always _, tt))) it.1 in (
       it.0,
       cells_listed batch_cells (is_behind at id) by_issue t.batches test (down_columns 2 0)
           (λ b. behind_is b at id) (λ a b. ap₂ ordering_then (number_order b.issued a.issued)
@@ -162,4 +162,4 @@ behind_rows_are old new at id rows shown t h =
 pub behind_simple : (schema : Schema) → HasTables schema → IsSimple (understood schema texts.behind_text)
 behind_simple schema h = let place = (h.0 our.Batches) in
     means_simple schema texts.behind_text _ _
-    (texts.behind_means schema place.at place.tree (h.1.tables our.Batches (always _)).exists)
+    (texts.behind_means schema place.at place.tree (h.1.tables our.Batches (always _, tt)).exists)

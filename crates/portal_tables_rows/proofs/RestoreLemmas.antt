@@ -130,11 +130,11 @@ module _ (v : ℕ) (places : TablePlaces) (trees : Trees) (t : Contents) (store 
         let b4 : Contents = record b3 { batches = t.batches } in
         let b5 : Contents = record b4 { plans = t.plans } in
         let grants = stored_rise (λ (x : GrantRow). x.number) grant_stored (λ x. refl) _ t.grants
-        (store our.Grants (always v)) in
+        (store our.Grants (always v, tt)) in
         let sessions = stored_rise (λ (x : SessionRow). x.number) session_stored (λ x. refl) _ t.sessions
-        (store our.Sessions (always v)) in
+        (store our.Sessions (always v, tt)) in
         let heads = stored_rise (λ (x : HeadRow). x.id) head_stored (λ x. refl) _ t.heads
-        (store our.Head (always v)) in (
+        (store our.Head (always v, tt)) in (
           b1,
           rows_put (λ (x : GrantRow). x.number) our.Grants grant_cells (λ l. record b { grants = l })
               (λ p qs. (p, refl, refl)) 0 t.grants [] grants tt,

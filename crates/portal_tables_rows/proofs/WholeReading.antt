@@ -124,57 +124,57 @@ whole_rows our.Requests keyed old new rows shown place exists t stored =
 
 pub all_plans_simple : (schema : Schema) → HasFirst schema → IsSimple (understood schema texts.all_plans_text)
 all_plans_simple schema h =
-    whole_simple our.Plans schema h.0 (h.1.0 our.Plans) (h.1.1.tables our.Plans (always _)).exists
+    whole_simple our.Plans schema h.0 (h.1.0 our.Plans) (h.1.1.tables our.Plans (always _, tt)).exists
 
 pub all_plans_are : (old new : State) (rows : List Row) → Shown texts.all_plans_text [] old new rows
     → (t : Contents) → HoldsFirst old.now t → rows ≡ map plan_cells t.plans
 all_plans_are old new rows shown t h =
     whole_rows our.Plans h.0 old new rows shown (h.1.places our.Plans)
-    (h.1.tables_exist.tables our.Plans (always _)).exists t (h.1.store our.Plans (always _))
+    (h.1.tables_exist.tables our.Plans (always _, tt)).exists t (h.1.store our.Plans (always _, tt))
 
 pub all_batches_simple : (schema : Schema) → HasTables schema →
     IsSimple (understood schema texts.all_batches_text)
 all_batches_simple schema h = whole_simple our.Batches schema false (h.0 our.Batches)
-    (h.1.tables our.Batches (always _)).exists
+    (h.1.tables our.Batches (always _, tt)).exists
 
 pub all_batches_are : (old new : State) (rows : List Row) → Shown texts.all_batches_text [] old new rows
     → (t : Contents) → Holds old.now t → rows ≡ map batch_cells t.batches
 all_batches_are old new rows shown t h =
     whole_rows our.Batches false old new rows shown (h.places our.Batches)
-    (h.tables_exist.tables our.Batches (always _)).exists t (h.store our.Batches (always _))
+    (h.tables_exist.tables our.Batches (always _, tt)).exists t (h.store our.Batches (always _, tt))
 
 pub all_vouchers_simple : (schema : Schema) → HasFirst schema →
     IsSimple (understood schema texts.all_vouchers_text)
 all_vouchers_simple schema h =
-    whole_simple our.Vouchers schema h.0 (h.1.0 our.Vouchers) (h.1.1.tables our.Vouchers (always _)).exists
+    whole_simple our.Vouchers schema h.0 (h.1.0 our.Vouchers) (h.1.1.tables our.Vouchers (always _, tt)).exists
 
 pub all_vouchers_are : (old new : State) (rows : List Row) → Shown texts.all_vouchers_text [] old new rows
     → (t : Contents) → HoldsFirst old.now t → rows ≡ map voucher_cells t.vouchers
 all_vouchers_are old new rows shown t h =
     whole_rows our.Vouchers h.0 old new rows shown (h.1.places our.Vouchers)
-    (h.1.tables_exist.tables our.Vouchers (always _)).exists t (h.1.store our.Vouchers (always _))
+    (h.1.tables_exist.tables our.Vouchers (always _, tt)).exists t (h.1.store our.Vouchers (always _, tt))
 
 pub all_sessions_simple : (schema : Schema) → HasFirst schema →
     IsSimple (understood schema texts.all_sessions_text)
 all_sessions_simple schema h =
-    whole_simple our.Sessions schema h.0 (h.1.0 our.Sessions) (h.1.1.tables our.Sessions (always _)).exists
+    whole_simple our.Sessions schema h.0 (h.1.0 our.Sessions) (h.1.1.tables our.Sessions (always _, tt)).exists
 
 pub all_sessions_are : (old new : State) (rows : List Row) → Shown texts.all_sessions_text [] old new rows
     → (t : Contents) → HoldsFirst old.now t → rows ≡ map session_cells t.sessions
 all_sessions_are old new rows shown t h =
     whole_rows our.Sessions h.0 old new rows shown (h.1.places our.Sessions)
-    (h.1.tables_exist.tables our.Sessions (always _)).exists t (h.1.store our.Sessions (always _))
+    (h.1.tables_exist.tables our.Sessions (always _, tt)).exists t (h.1.store our.Sessions (always _, tt))
 
 pub all_grants_simple : (schema : Schema) → HasFirst schema →
     IsSimple (understood schema texts.all_grants_text)
 all_grants_simple schema h =
-    whole_simple our.Grants schema h.0 (h.1.0 our.Grants) (h.1.1.tables our.Grants (always _)).exists
+    whole_simple our.Grants schema h.0 (h.1.0 our.Grants) (h.1.1.tables our.Grants (always _, tt)).exists
 
 pub all_grants_are : (old new : State) (rows : List Row) → Shown texts.all_grants_text [] old new rows
     → (t : Contents) → HoldsFirst old.now t → rows ≡ map grant_cells t.grants
 all_grants_are old new rows shown t h =
     whole_rows our.Grants h.0 old new rows shown (h.1.places our.Grants)
-    (h.1.tables_exist.tables our.Grants (always _)).exists t (h.1.store our.Grants (always _))
+    (h.1.tables_exist.tables our.Grants (always _, tt)).exists t (h.1.store our.Grants (always _, tt))
 
 pub all_counts_simple : (schema : Schema) → HasTables schema →
     IsSimple (understood schema texts.all_counts_text)

@@ -10,8 +10,9 @@ use Rattle.sqlite.specs.Effect.{Database, IsDatabase}
 use Rattle.portal_tables_sql.specs.TableExists.{TableExists, IsUnacted}
 use Rattle.portal_tables_sql.specs.Represents.{CrashStateHolds}
 use Rattle.portal_tables_sql.specs.Stored.{Keeps, Stores, whole_row, less_rowid}
-use Rattle.portal_tables_sql.specs.Indexes.{described_index, current_indexes, HasOurIndex}
+use Rattle.portal_tables_sql.specs.Indexes.{described_index, our_indexes, HasOurIndex}
 use Rattle.portal_tables_sql.specs.Tables.{Layout, Apart, Together, IsTableIn, table_in}
+use Rattle.portal_model.specs.Rows.{VoucherRow, SessionRow, CountRow, TotalRow}
 use Rattle.portal_tables_sql.specs.declared.our_indexes.OurIndex.{OurIndex}
 use Rattle.portal_tables_sql.specs.declared.our_tables.OurTable.{OurTable}
 use Rattle.portal_tables_sql.specs.declared.our_tables.OurTable.TheVariants as our
@@ -55,26 +56,26 @@ shown our.Totals t = map total_stored t.totals
 shown our.Requests t = map request_cells t.requests
 
 -- the rows of portal_vouchers are the vouchers, each with its count
-pub record AreVouchers (rows : List Row) (t : Contents) : Type 0 where
+pub record AreVouchers (rows : List Row) (vouchers : List VoucherRow) (counts : List CountRow) : Type 0 where
   pub whole : List WholeVoucher
   pub stored : Stores less_rowid whole_voucher_cells rows whole
-  pub vouchers : map (λ w. w.row) whole ≡ t.vouchers
-  pub counts : map count_of whole ≡ t.counts
+  pub their_rows : map (λ w. w.row) whole ≡ vouchers
+  pub their_counts : map count_of whole ≡ counts
 
 -- the rows of portal_sessions are the sessions, each with its total
-pub record AreSessions (rows : List Row) (t : Contents) : Type 0 where
+pub record AreSessions (rows : List Row) (sessions : List SessionRow) (totals : List TotalRow) : Type 0 where
   pub whole : List WholeSession
   pub stored : Stores whole_row whole_session_stored rows whole
-  pub sessions : map (λ w. w.row) whole ≡ t.sessions
-  pub totals : map total_of whole ≡ t.totals
+  pub their_rows : map (λ w. w.row) whole ≡ sessions
+  pub their_totals : map total_of whole ≡ totals
 
 abbrev pub VouchersIn : Layout → List Row → Contents → Type 0
 VouchersIn (Apart keyed) rows t = Keeps less_rowid rows (shown our.Vouchers t)
-VouchersIn Together rows t = AreVouchers rows t
+VouchersIn Together rows t = AreVouchers rows t.vouchers t.counts
 
 abbrev pub SessionsIn : Layout → List Row → Contents → Type 0
 SessionsIn (Apart keyed) rows t = Keeps whole_row rows (shown our.Sessions t)
-SessionsIn Together rows t = AreSessions rows t
+SessionsIn Together rows t = AreSessions rows t.sessions t.totals
 
 -- the rows of a tree are those of the table
 abbrev pub StoresIn : Layout → OurTable → List Row → Contents → Type 0
@@ -115,7 +116,7 @@ this_schema_version = 6
 
 -- the database holds just these rows in the tables of this schema version, with its indexes
 abbrev pub Holds : Database → Contents → Type 0
-Holds db t = HoldsIn this_schema_version current_indexes db t
+Holds db t = HoldsIn this_schema_version our_indexes db t
 
 -- the schema has the tables of the schema version and these indexes, whatever rows they hold
 abbrev pub HasTablesIn : Layout → ℕ → List OurIndex → Schema → Type 0
@@ -124,7 +125,7 @@ HasTablesIn layout schema_version indexes schema =
 
 -- the schema has the tables of this schema version and its indexes, whatever rows they hold
 abbrev pub HasTables : Schema → Type 0
-HasTables schema = HasTablesIn Together this_schema_version current_indexes schema
+HasTables schema = HasTablesIn Together this_schema_version our_indexes schema
 
 -- the trees of a crash state hold the rows, under the schema that they list
 abbrev pub CrashStateHoldsRows : Trees → Contents → Type 0

@@ -14,7 +14,7 @@ use Rattle.sqlite_resolve.specs.declared.compiled.Compiled.{Compiled}
 use Rattle.sqlite_resolve.specs.declared.error.CompileError.{CompileError}
 use Rattle.portal_tables_sql.specs.Harmless.{are_harmless}
 use Rattle.portal_tables_sql.specs.Stored.{number}
-use Rattle.portal_tables_sql.specs.Indexes.{described_index, our_indexes, current_indexes}
+use Rattle.portal_tables_sql.specs.Indexes.{described_index, our_indexes, old_index_name}
 use Rattle.portal_tables_sql.specs.Tables.{name_of, our_tables, current_tables}
 use Rattle.portal_tables_sql.specs.declared.our_indexes.OurIndex.{OurIndex}
 
@@ -61,7 +61,7 @@ has_our_index schema x = has_index_on x schema.indexes
 
 -- the product's tables have all indexes of this schema version
 abbrev pub is_indexed : Schema → Bool
-is_indexed schema = list_all (has_our_index schema) current_indexes
+is_indexed schema = list_all (has_our_index schema) our_indexes
 
 -- ---- what of others hangs on the product's tables
 
@@ -77,9 +77,10 @@ refers_to_ours t = list_any (λ (ref : Reference). names_ours ref.parent) t.refe
 abbrev pub hangs_on_ours : Table → Bool
 hangs_on_ours t = not (names_ours t.name) && refers_to_ours t
 
--- one of the product's indexes has the name, as SQL compares names
+-- one of the product's indexes, of all schema versions, has the name, as SQL compares names
 abbrev pub names_our_index : List ℕ → Bool
-names_our_index name = list_any (λ x. same_name name (described_index x).name) our_indexes
+names_our_index name =
+    list_any (λ x. same_name name (described_index x).name) our_indexes || same_name name old_index_name
 
 -- the index is one of the product's, or was made by a clause
 abbrev pub is_own_index : Index → Bool

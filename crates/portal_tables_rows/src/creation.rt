@@ -18,7 +18,7 @@ ghost use Rattle.portal_tables_rows.specs.Creation.{
 
 use crate::inserts::insert_head;
 use crate::schema_versions::has_no_action_on_ours;
-use portal_tables_sql::our_indexes::{CURRENT_INDEXES, OurIndex};
+use portal_tables_sql::our_indexes::{OUR_INDEXES, OurIndex};
 use portal_tables_sql::our_tables::{CURRENT_TABLES, OurTable};
 use portal_tables_sql::query::write;
 use portal_tables_sql::room::{has_autoincrement, has_sequence};
@@ -53,7 +53,7 @@ pub(crate) fn create_empty_tables<S: Alter>(tx: &mut Transaction<'_, S>) -> Resu
     ensures { Inside S.Store CreatesEmpty tx.old tx.new result }
 {
     create_tables(tx, &CURRENT_TABLES)?;
-    create_indexes(tx, &CURRENT_INDEXES)?;
+    create_indexes(tx, &OUR_INDEXES)?;
     Ok(())
 }
 

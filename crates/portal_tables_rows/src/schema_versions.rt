@@ -7,7 +7,7 @@ ghost use Rattle.sqlite.specs.State.{HasCleanDisk, IsUnchanged, Survives};
 ghost use Rattle.sqlite.specs.declared.error.Error.TheVariants.{SqlInputError};
 ghost use Rattle.sqlite_resolve.specs.declared.error.CompileError.{CompileError};
 ghost use Rattle.portal_tables_sql.specs.States.{IsUndone};
-ghost use Rattle.portal_tables_sql.specs.Indexes.{current_indexes};
+ghost use Rattle.portal_tables_sql.specs.Indexes.{our_indexes};
 ghost use Rattle.portal_tables_sql.specs.Tables.{Together};
 ghost use Rattle.portal_tables_rows.specs.Holds.{TablePlaces, TablesExist, this_schema_version};
 ghost use Rattle.portal_tables_rows.specs.SchemaVersions.{
@@ -26,7 +26,7 @@ ghost use Rattle.portal_tables_rows.specs.SchemaVersions.{
 };
 ghost use Rattle.portal_tables_rows.specs.SchemaVersions.{IsOneRow};
 
-use portal_tables_sql::our_indexes::{CURRENT_INDEXES, OurIndex};
+use portal_tables_sql::our_indexes::{OUR_INDEXES, OurIndex};
 use portal_tables_sql::our_tables::{CURRENT_TABLES, OUR_TABLES};
 use portal_tables_sql::room::{has_no_action_on, has_table};
 use portal_tables_sql::statements::SELECT_SCHEMA_VERSION;
@@ -122,7 +122,7 @@ fn has_our_index(schema: &Schema, ours: OurIndex) -> bool
 fn has_our_indexes(schema: &Schema) -> bool
     ensures { result ≡ is_indexed schema.now }
 {
-    CURRENT_INDEXES.iter().all(|ours| has_our_index(schema, *ours))
+    OUR_INDEXES.iter().all(|ours| has_our_index(schema, *ours))
 }
 
 /// Whether the indexes of this schema version exist.
@@ -130,7 +130,7 @@ pub fn is_indexed(schema: &Schema) -> bool
     ensures test { result ≡ is_indexed schema.now }
     ensures index { IsTrue result → (places : TablePlaces)
         → TablesExist Together this_schema_version [] schema.now places
-        → TablesExist Together this_schema_version current_indexes schema.now places }
+        → TablesExist Together this_schema_version our_indexes schema.now places }
 {
     let are_made = has_our_indexes(schema);
     are_made

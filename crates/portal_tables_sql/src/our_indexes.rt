@@ -1,17 +1,17 @@
-//! The product's indexes, of the schema versions since 5: the name of each, its table and columns, and the
-//! statement that creates it. No clause of a table finds a row: these do.
+//! The indexes of this schema version: the name of each, its table and columns, and the statement that creates
+//! it. No clause of a table finds a row: these do.
 
 ghost use Rattle.std.specs.Prelude.{◌≡◌};
 ghost use Rattle.portal_tables_sql.specs.Indexes.{described_index};
 
 use crate::our_tables::OurTable;
 use crate::statements::{
-    INDEX_BATCHES_BY_ID, INDEX_BATCHES_BY_ISSUE, INDEX_COUNTS_BY_CODE, INDEX_GRANTS_BY_CODE,
-    INDEX_PLANS_BY_ID, INDEX_REQUESTS_BY_KEY, INDEX_SESSIONS_BY_DEVICE, INDEX_VOUCHERS_BY_BATCH,
+    INDEX_BATCHES_BY_ID, INDEX_BATCHES_BY_ISSUE, INDEX_GRANTS_BY_CODE, INDEX_PLANS_BY_ID,
+    INDEX_REQUESTS_BY_KEY, INDEX_SESSIONS_BY_DEVICE, INDEX_VOUCHERS_BY_BATCH,
     INDEX_VOUCHERS_BY_CODE,
 };
 
-/// An index of the product. `CountsByCode` is of schema version 5.
+/// An index of the product.
 #[derive(Clone, Copy, Debug, PartialEq, Eq)]
 pub enum OurIndex {
     PlansById,
@@ -21,12 +21,11 @@ pub enum OurIndex {
     VouchersByBatch,
     SessionsByDevice,
     GrantsByCode,
-    CountsByCode,
     RequestsByKey,
 }
 
-/// The product's indexes, of all schema versions.
-pub const OUR_INDEXES: [OurIndex; 9] = [
+/// The product's indexes.
+pub const OUR_INDEXES: [OurIndex; 8] = [
     OurIndex::PlansById,
     OurIndex::BatchesById,
     OurIndex::BatchesByIssue,
@@ -34,21 +33,11 @@ pub const OUR_INDEXES: [OurIndex; 9] = [
     OurIndex::VouchersByBatch,
     OurIndex::SessionsByDevice,
     OurIndex::GrantsByCode,
-    OurIndex::CountsByCode,
     OurIndex::RequestsByKey,
 ];
 
-/// The indexes of this schema version.
-pub const CURRENT_INDEXES: [OurIndex; 8] = [
-    OurIndex::PlansById,
-    OurIndex::BatchesById,
-    OurIndex::BatchesByIssue,
-    OurIndex::VouchersByCode,
-    OurIndex::VouchersByBatch,
-    OurIndex::SessionsByDevice,
-    OurIndex::GrantsByCode,
-    OurIndex::RequestsByKey,
-];
+/// The name of the index of `portal_counts`, which schema version 5 has.
+pub const OLD_INDEX_NAME: &[u8] = b"portal_counts_by_code";
 
 impl OurIndex {
     /// The name of the index.
@@ -63,7 +52,6 @@ impl OurIndex {
             OurIndex::VouchersByBatch => b"portal_vouchers_by_batch",
             OurIndex::SessionsByDevice => b"portal_sessions_by_device",
             OurIndex::GrantsByCode => b"portal_grants_by_code",
-            OurIndex::CountsByCode => b"portal_counts_by_code",
             OurIndex::RequestsByKey => b"portal_requests_by_key",
         }
     }
@@ -80,7 +68,6 @@ impl OurIndex {
             OurIndex::VouchersByBatch => OurTable::Vouchers,
             OurIndex::SessionsByDevice => OurTable::Sessions,
             OurIndex::GrantsByCode => OurTable::Grants,
-            OurIndex::CountsByCode => OurTable::Counts,
             OurIndex::RequestsByKey => OurTable::Requests,
         }
     }
@@ -97,7 +84,6 @@ impl OurIndex {
             OurIndex::VouchersByBatch => &[2, 3],
             OurIndex::SessionsByDevice => &[2, 0],
             OurIndex::GrantsByCode => &[2],
-            OurIndex::CountsByCode => &[1],
             OurIndex::RequestsByKey => &[1, 2],
         }
     }
@@ -114,7 +100,6 @@ impl OurIndex {
             OurIndex::VouchersByBatch => INDEX_VOUCHERS_BY_BATCH,
             OurIndex::SessionsByDevice => INDEX_SESSIONS_BY_DEVICE,
             OurIndex::GrantsByCode => INDEX_GRANTS_BY_CODE,
-            OurIndex::CountsByCode => INDEX_COUNTS_BY_CODE,
             OurIndex::RequestsByKey => INDEX_REQUESTS_BY_KEY,
         }
     }

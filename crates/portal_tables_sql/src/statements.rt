@@ -241,9 +241,6 @@ pub const CREATE_COUNTS: &str =
 
 pub const DROP_COUNTS: &str = "DROP TABLE portal_counts";
 
-/// The index by which the count of a voucher is found by its code.
-pub const INDEX_COUNTS_BY_CODE: &str = "CREATE INDEX portal_counts_by_code ON portal_counts (code)";
-
 /// The counts of all vouchers.
 pub const SELECT_OLD_COUNTS: &str = "SELECT code, redeemed FROM portal_counts ORDER BY rowid";
 
