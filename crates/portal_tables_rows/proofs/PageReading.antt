@@ -9,7 +9,7 @@ use Rattle.portal_tables_rows.proofs.Common.{value_cmp, Schema, Table, Term, Sta
 use Rattle.portal_tables_rows.proofs.Common.{means_simple, number, by_column, fields}
 use Rattle.portal_tables_rows.proofs.Common.{IsSelection, first_selected}
 use Rattle.portal_tables_rows.proofs.Common.{field_at, orders_by, by, passes, keys_of}
-use Rattle.portal_tables_rows.proofs.Common.{VoucherRow, vouchers, batches, Contents, voucher_cells}
+use Rattle.portal_tables_rows.proofs.Common.{vouchers, batches, Contents, WholeVoucher, whole_voucher_cells}
 use Rattle.portal_tables_rows.proofs.Common.{batch_cells, Holds, HasTables, ListsAs, IsSimple, Ge, Le, Binary}
 use Rattle.portal_tables_rows.proofs.Cells.{vouchers_in, batches_in}
 use Rattle.portal_tables_rows.proofs.Listing.{number_order, cells_listed}
@@ -87,9 +87,10 @@ between_tests table low high within r =
     ap (λ v. sql_between v (Text low) (Text high)) (sym (field_at table 0 r within))
 
 pub between_rows_are : (old new : State) (low high : List ℕ) (rows : List Row)
-    → Shown texts.between_text (Text low ∷ Text high ∷ []) old new rows → (t : Contents) → Holds old.now t
-    → (all : List Row) × ListsAs voucher_cells (λ v. is_between low high v.code) by_code t.vouchers all
-    × (rows ≡ take 51 all)
+    → Shown texts.between_text (Text low ∷ Text high ∷ []) old new rows → (t : Contents)
+    (h : Holds old.now t) → (all : List Row)
+    × ListsAs whole_voucher_cells (λ w. is_between low high w.row.code) (λ a b. by_code a.row b.row)
+    (h.store our.Vouchers (always _, tt)).whole all × (rows ≡ take 51 all)
 between_rows_are old new low high rows shown t h =
     let place = (h.places our.Vouchers) in
     let table = vouchers place.tree in
@@ -100,10 +101,11 @@ between_rows_are old new low high rows shown t h =
     (orders_by table 0 params (lit< tt)) 51 (texts.between_means old.now.schema place.at place.tree
     (h.tables_exist.tables our.Vouchers (always _, tt)).exists) rows shown in
     let all = subst (λ xs. IsSelection test (by_column 0) xs it.0)
-    (vouchers_in old.now.trees place.tree t.vouchers (h.store our.Vouchers (always _, tt))) it.1 in (
+    (vouchers_in old.now.trees place.tree _ (h.store our.Vouchers (always _, tt)).stored) it.1 in (
       it.0,
-      cells_listed voucher_cells (λ (v : VoucherRow). is_between low high v.code) by_code t.vouchers test
-          (by_column 0) (λ v. between_is v.code low high) (λ a b. value_cmp-Text a.code b.code) it.0 all,
+      cells_listed whole_voucher_cells (λ (w : WholeVoucher). is_between low high w.row.code)
+          (λ a b. by_code a.row b.row) (h.store our.Vouchers (always _, tt)).whole test (by_column 0)
+          (λ w. between_is w.row.code low high) (λ a b. value_cmp-Text a.row.code b.row.code) it.0 all,
       it.2,
     )
 
