@@ -22,7 +22,9 @@ use Rattle.portal_tables_sql.proofs.TableLemmas.{always}
 use Rattle.portal_tables_sql.specs.declared.our_tables.OurTable.TheVariants as our
 use Rattle.portal_tables_rows.specs.Lists.{ListsFirst}
 use Rattle.portal_tables_rows.proofs.Listing.{read_listed, read_first}
-use Rattle.portal_tables_rows.proofs.OwnRows.{own_rows, own_listed, own_first}
+use Rattle.portal_tables_rows.proofs.OwnRows.{has_taken, own_rows, own_listed, own_first}
+use Rattle.std.proofs.lemmas.List.{take-map}
+use Rattle.portal_tables_rows.proofs.Common.{Has}
 use Rattle.portal_tables_rows.proofs.SumLemmas.{rows_exact}
 
 -- what the rows of a result tell, if values with their cells are read
@@ -168,6 +170,27 @@ whole_listed passes cmp ws vs ks rows counts values l = (
       (listed_among (λ (w : WholeVoucher). passes w.row) (λ a b. cmp a.row b.row) ws
       (map whole_voucher_read values) l)),
 )
+
+-- the same of the first of them
+pub first_listed : (limit : ℕ) (passes : VoucherRow → Bool) (cmp : VoucherRow → VoucherRow → Ordering)
+    (ws : List WholeVoucher) (vs : List VoucherRow) (ks : List CountRow)
+    → map (λ (w : WholeVoucher). w.row) ws ≡ vs → map count_of ws ≡ ks → (values : List VoucherValue)
+    → ListsFirst limit (λ (w : WholeVoucher). passes w.row) (λ a b. cmp a.row b.row) ws
+    (map whole_voucher_read values)
+    → ListsFirst limit passes cmp vs (map voucher_read values) × AreAmong (map voucher_count values) ks
+first_listed limit passes cmp ws vs ks rows counts values l =
+    let row = λ (w : WholeVoucher). w.row in (
+      record {
+        all = map row l.all;
+        lists = subst (λ ps. Lists passes cmp ps (map row l.all)) rows
+            (parts_listed row passes cmp ws l.all l.lists);
+        first = sym (rows_of_read values) ∙ ap (map row) l.first ∙ sym (take-map row limit l.all);
+      },
+      subst (λ cs. AreAmong cs ks) (counts_of_read values)
+          (others_among count_of ws (map whole_voucher_read values) ks counts
+          (λ x has. listed_among (λ (w : WholeVoucher). passes w.row) (λ a b. cmp a.row b.row) ws l.all l.lists x
+          (has_taken limit l.all x (subst (λ xs. Has xs x) l.first has)))),
+    )
 
 -- the vouchers that pass a test, in an order
 pub lists_vouchers : {S : Type 0} (g : Ghosts S) {old new : Held S} (sql : List ℕ) (params : Row)

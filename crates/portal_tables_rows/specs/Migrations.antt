@@ -4,6 +4,7 @@ use Rattle.sqlite.specs.Tree.{Trees}
 use Rattle.sqlite.specs.State.{State}
 use Rattle.portal_tables_sql.specs.Stored.{put_by}
 use Rattle.portal_model.specs.Rows.{VoucherRow, SessionRow, CountRow, TotalRow, count_from, total_from}
+use Rattle.portal_ledger.specs.RequestRow.{RequestRow}
 use Rattle.portal_tables_rows.specs.declared.rows.CountValue.{CountValue}
 use Rattle.portal_tables_rows.specs.declared.rows.SessionValue.{SessionValue}
 use Rattle.portal_tables_rows.specs.declared.rows.VoucherValue.{VoucherValue}
@@ -46,14 +47,35 @@ counts_summed t = map (count_from t.grants) t.vouchers
 abbrev pub totals_summed : Contents → List TotalRow
 totals_summed t = map (total_from (rows_for_sums t.plans t.grants)) t.sessions
 
--- with the computed counters if the schema version has none, and without requests if it has no table for them
+-- the counts and the totals: the computed ones if the schema version has none
+abbrev pub counts_after : OldSchema → Contents → List CountRow
+counts_after First t = counts_summed t
+counts_after Second t = t.counts
+counts_after Third t = t.counts
+counts_after Fourth t = t.counts
+counts_after Fifth t = t.counts
+counts_after Sixth t = t.counts
+
+abbrev pub totals_after : OldSchema → Contents → List TotalRow
+totals_after First t = totals_summed t
+totals_after Second t = t.totals
+totals_after Third t = t.totals
+totals_after Fourth t = t.totals
+totals_after Fifth t = t.totals
+totals_after Sixth t = t.totals
+
+-- the requests: none if the schema version has no table for them
+abbrev pub requests_after : OldSchema → Contents → List RequestRow
+requests_after First t = []
+requests_after Second t = []
+requests_after Third t = t.requests
+requests_after Fourth t = t.requests
+requests_after Fifth t = t.requests
+requests_after Sixth t = t.requests
+
 abbrev pub with_later_tables : OldSchema → Contents → Contents
-with_later_tables First t = record t { counts = counts_summed t; totals = totals_summed t; requests = [] }
-with_later_tables Second t = record t { requests = [] }
-with_later_tables Third t = t
-with_later_tables Fourth t = t
-with_later_tables Fifth t = t
-with_later_tables Sixth t = t
+with_later_tables from t = record t
+    { counts = counts_after from t; totals = totals_after from t; requests = requests_after from t }
 
 -- the same rows in this schema version
 abbrev pub migrated_rows : OldSchema → Contents → Contents
@@ -123,12 +145,12 @@ CanMigrate Sixth t = AreOwnRows t
 -- what of the rows is read with their counters: the vouchers
 abbrev pub AreCountedOf : OldSchema → Contents → List VoucherValue → Type 0
 AreCountedOf from t vouchers = (map voucher_read vouchers ≡ t.vouchers)
-    × (map voucher_count vouchers ≡ (with_later_tables from t).counts)
+    × (map voucher_count vouchers ≡ counts_after from t)
 
 -- and the sessions
 abbrev pub AreTotaledOf : OldSchema → Contents → List SessionValue → Type 0
 AreTotaledOf from t sessions = (map session_read sessions ≡ t.sessions)
-    × (map session_total sessions ≡ (with_later_tables from t).totals)
+    × (map session_total sessions ≡ totals_after from t)
 
 -- ---- the steps
 
@@ -140,14 +162,8 @@ totals_read totals = map ends_row totals
 
 -- the rows of the tables that are copied
 abbrev pub with_copied : OldSchema → Contents → Contents
-with_copied First t =
-    record t { vouchers = []; counts = []; sessions = []; totals = []; requests = [] }
-with_copied Second t =
-    record t { vouchers = []; counts = []; sessions = []; totals = []; requests = [] }
-with_copied Third t = record t { vouchers = []; counts = []; sessions = []; totals = [] }
-with_copied Fourth t = record t { vouchers = []; counts = []; sessions = []; totals = [] }
-with_copied Fifth t = record t { vouchers = []; counts = []; sessions = []; totals = [] }
-with_copied Sixth t = record t { vouchers = []; counts = []; sessions = []; totals = [] }
+with_copied from t = record t
+    { vouchers = []; counts = []; sessions = []; totals = []; requests = requests_after from t }
 
 -- the rows with these vouchers inserted, each with its count
 abbrev pub with_whole_vouchers : List WholeVoucher → Contents → Contents

@@ -195,7 +195,7 @@ pub fn list_batch_codes<S: Alter>(
     Ok(codes_of_vouchers(alloc, &vouchers)?)
 }
 
-/// Lists the numbers of the sessions that may be open at the time `at`, ascending. Every other session
+/// Lists the numbers of the sessions that may be open at the time `at`, in the order of the rows. Every other session
 /// has ended by then or has nothing left of its allowance.
 pub fn list_open_numbers<S: Alter>(
     alloc: Global,
@@ -203,8 +203,7 @@ pub fn list_open_numbers<S: Alter>(
     at: Moment,
 ) -> Result<Vec<u64>, RowError>
     ensures { ReadsRow S.Store conn.old conn.new result
-        (λ t numbers. (totals : List TotalRow) × Lists (λ _. true) by_number t.totals totals
-        × (numbers.items ≡ numbers_open at totals))
+        (λ t numbers. numbers.items ≡ numbers_open at t.totals)
         (λ t. AreOwn IsOwnTotal t.totals) }
 {
     let totals: Vec<Total> = read_many(alloc, conn, SELECT_ALL_TOTALS, &[])?;

@@ -1,15 +1,15 @@
 use Rattle.portal_tables_rows.proofs.Common.{arith, subst, sym, ◌∙◌, state, HasCleanDisk}
 use Rattle.portal_tables_rows.proofs.Common.{Has, List}
 use Rattle.portal_tables_rows.proofs.Common.{AreNamesFree, after_migration, version_number}
-use Rattle.portal_tables_rows.proofs.Common.{has_clauses, tables_of}
+use Rattle.portal_tables_rows.proofs.Common.{layout_of, copied_tables}
 use Rattle.portal_tables_rows.proofs.Common.{[], on_err}
 use Rattle.portal_tables_rows.proofs.Common.{Anything, Database, same_now}
 use Rattle.portal_tables_rows.specs.Copying.{AreRead}
 use Rattle.portal_tables_rows.proofs.FreeLemmas.{free_is}
 use Rattle.portal_tables_rows.proofs.FromVersionLemmas.{read_crash, read_done, undone_after}
-use Rattle.portal_tables_rows.proofs.RestoreLemmas.{has_since}
-use Rattle.portal_tables_sql.specs.declared.our_tables.OurTable.{OurTable}
-use Rattle.portal_tables_rows.proofs.from_versions.migrate_with_counters.Goals as goal
+use Rattle.portal_tables_rows.proofs.RestoreLemmas.{has_copied}
+use Rattle.portal_tables_sql.specs.declared.copied_tables.CopiedTable.{CopiedTable}
+use Rattle.portal_tables_rows.proofs.from_versions.migrate_with_rows.Goals as goal
 
 pub returns-clause-done : goal.returns-clause-done
 returns-clause-done g c clean live =
@@ -17,14 +17,14 @@ returns-clause-done g c clean live =
     let b = state g.S.Store c.read_tables.new.conn in
     let free = subst AreNamesFree c.schema.ensures.value
     (free_is c.schema.result.now (sym c.can_add_tables.ensures ∙ c.if-not-can_add_tables.false)) in
-    read_done c.args.from c.as_slice.result.now (after_migration c.args.from c.args.counts.now
-    c.args.totals.now)
+    read_done c.args.from c.as_slice.result.now (after_migration c.args.from c.args.vouchers.now
+    c.args.sessions.now)
     a b (state g.S.Store c.commit_migration.new.conn) c.in_ok-read.ensures.looks free
-    (λ late on t h. subst (λ read. AreRead read (tables_of c.args.from) t) (sym c.as_slice.ensures.value)
-    (subst (λ tables. AreRead c.in_ok-read.read.items tables t) c.tables_of.ensures
-    (c.in_ok-read.ensures.read late on (has_clauses (version_number c.args.from)) (version_number c.args.from)
+    (λ late on t h. subst (λ read. AreRead read (copied_tables c.args.from) t) (sym c.as_slice.ensures.value)
+    (subst (λ tables. AreRead c.in_ok-read.read.items tables t) c.copied_tables.ensures
+    (c.in_ok-read.ensures.read late on (layout_of (version_number c.args.from)) (version_number c.args.from)
     [] t
-    h (λ x has. has_since c.args.from x (subst (λ (xs : List OurTable). Has xs x) c.tables_of.ensures has)))))
+    h (λ x has. has_copied c.args.from x (subst (λ (xs : List CopiedTable). Has xs x) c.copied_tables.ensures has)))))
     (omega (arith, c.commit_migration.ensures.crash.clean)) live
     (c.in_ok-commit_migration.ensures.done clean)
 
@@ -34,14 +34,14 @@ returns-clause-crash g c =
     let b = state g.S.Store c.read_tables.new.conn in
     let free = subst AreNamesFree c.schema.ensures.value
     (free_is c.schema.result.now (sym c.can_add_tables.ensures ∙ c.if-not-can_add_tables.false)) in
-    read_crash c.args.from c.as_slice.result.now (after_migration c.args.from c.args.counts.now
-    c.args.totals.now)
+    read_crash c.args.from c.as_slice.result.now (after_migration c.args.from c.args.vouchers.now
+    c.args.sessions.now)
     a b (state g.S.Store c.commit_migration.new.conn) c.in_ok-read.ensures.looks free
-    (λ late on t h. subst (λ read. AreRead read (tables_of c.args.from) t) (sym c.as_slice.ensures.value)
-    (subst (λ tables. AreRead c.in_ok-read.read.items tables t) c.tables_of.ensures
-    (c.in_ok-read.ensures.read late on (has_clauses (version_number c.args.from)) (version_number c.args.from)
+    (λ late on t h. subst (λ read. AreRead read (copied_tables c.args.from) t) (sym c.as_slice.ensures.value)
+    (subst (λ tables. AreRead c.in_ok-read.read.items tables t) c.copied_tables.ensures
+    (c.in_ok-read.ensures.read late on (layout_of (version_number c.args.from)) (version_number c.args.from)
     [] t
-    h (λ x has. has_since c.args.from x (subst (λ (xs : List OurTable). Has xs x) c.tables_of.ensures has)))))
+    h (λ x has. has_copied c.args.from x (subst (λ (xs : List CopiedTable). Has xs x) c.copied_tables.ensures has)))))
     c.commit_migration.ensures.crash
 
 pub returns-in_err-commit_migration-clause-undone : goal.returns-in_err-commit_migration-clause-undone
@@ -63,12 +63,12 @@ returns-in_err-commit_migration-clause-crash g c =
     let b = state g.S.Store c.read_tables.new.conn in
     let free = subst AreNamesFree c.schema.ensures.value
     (free_is c.schema.result.now (sym c.can_add_tables.ensures ∙ c.if-not-can_add_tables.false)) in
-    read_crash c.args.from c.as_slice.result.now (after_migration c.args.from c.args.counts.now
-    c.args.totals.now)
+    read_crash c.args.from c.as_slice.result.now (after_migration c.args.from c.args.vouchers.now
+    c.args.sessions.now)
     a b (state g.S.Store c.commit_migration.new.conn) c.in_ok-read.ensures.looks free
-    (λ late on t h. subst (λ read. AreRead read (tables_of c.args.from) t) (sym c.as_slice.ensures.value)
-    (subst (λ tables. AreRead c.in_ok-read.read.items tables t) c.tables_of.ensures
-    (c.in_ok-read.ensures.read late on (has_clauses (version_number c.args.from)) (version_number c.args.from)
+    (λ late on t h. subst (λ read. AreRead read (copied_tables c.args.from) t) (sym c.as_slice.ensures.value)
+    (subst (λ tables. AreRead c.in_ok-read.read.items tables t) c.copied_tables.ensures
+    (c.in_ok-read.ensures.read late on (layout_of (version_number c.args.from)) (version_number c.args.from)
     [] t
-    h (λ x has. has_since c.args.from x (subst (λ (xs : List OurTable). Has xs x) c.tables_of.ensures has)))))
+    h (λ x has. has_copied c.args.from x (subst (λ (xs : List CopiedTable). Has xs x) c.copied_tables.ensures has)))))
     c.commit_migration.ensures.crash
