@@ -7,7 +7,8 @@ use Rattle.portal_tables_rows.proofs.Common.{state, State, HasCleanDisk, Shows, 
 use Rattle.portal_tables_rows.proofs.Common.{Plan, new_vouchers, new_counts, Contents, CrashStateHoldsRows}
 use Rattle.portal_tables_rows.proofs.Common.{KeepsOthers, CrashStateHasOthers, MakesRows, CommitsRows}
 use Rattle.portal_tables_rows.proofs.Common.{MayCommitRows, new_voucher, count_row, with_plan, with_plans}
-use Rattle.portal_tables_rows.proofs.Common.{with_voucher, with_vouchers, with_count, with_counts}
+use Rattle.portal_tables_rows.proofs.Common.{with_vouchers, with_counts, with_whole_voucher}
+use Rattle.portal_tables_rows.proofs.Common.{new_whole_voucher}
 use Rattle.sqlite.proofs.StateLemmas.{survives_then}
 use Rattle.portal_tables_rows.proofs.OthersLemmas.{others_none, others_then}
 
@@ -112,33 +113,29 @@ new_vouchers-push batch place [] code = rw add-zero refl
 new_vouchers-push batch place (c ∷ codes) code =
     rw (new_vouchers-push batch (place + 1) codes code, add_assoc, add-suc, one-add) refl
 
+-- the vouchers of a batch, each with a count of 0
+abbrev pub with_issued : List ℕ → List (List ℕ) → Contents → Contents
+with_issued batch codes t = with_counts (new_counts codes) (with_vouchers (new_vouchers batch 0 codes) t)
+
 -- one voucher more
-pub vouchers_then : (batch : List ℕ) (codes : List (List ℕ)) (code : List ℕ) (place : ℕ) (a b c : State)
-    → place ≡ length codes → MakesRows (with_vouchers (new_vouchers batch 0 codes)) a b
-    → MakesRows (with_voucher (new_voucher batch place code)) b c
-    → MakesRows (with_vouchers (new_vouchers batch 0 (codes ++ code ∷ []))) a c
-vouchers_then batch codes code place a b c at p q =
-    steps_same _ (with_vouchers (new_vouchers batch 0 (codes ++ code ∷ []))) a c
-    (λ t. rw (new_vouchers-push batch 0 codes code, zero-add, at) (ap (λ vs. record t { vouchers = vs })
-    (append_assoc t.vouchers (new_vouchers batch 0 codes) (new_voucher batch (length codes) code ∷ []))))
-    (steps_then (with_vouchers (new_vouchers batch 0 codes))
-    (with_voucher (new_voucher batch place code)) a b c p q)
+pub issued_then : (batch : List ℕ) (codes : List (List ℕ)) (code : List ℕ) (place : ℕ) (a b c : State)
+    → place ≡ length codes → MakesRows (with_issued batch codes) a b
+    → MakesRows (with_whole_voucher (new_whole_voucher batch place code)) b c
+    → MakesRows (with_issued batch (codes ++ code ∷ [])) a c
+issued_then batch codes code place a b c at p q =
+    steps_same _ (with_issued batch (codes ++ code ∷ [])) a c
+    (λ t. rw (
+      new_vouchers-push batch 0 codes code,
+      zero-add,
+      at,
+      map-append (λ code. count_row code 0) codes (code ∷ []),
+    ) (ap₂ (λ vs ks. record t { vouchers = vs; counts = ks })
+    (append_assoc t.vouchers (new_vouchers batch 0 codes) (new_voucher batch (length codes) code ∷ []))
+    (append_assoc t.counts (new_counts codes) (count_row code 0 ∷ []))))
+    (steps_then (with_issued batch codes) (with_whole_voucher (new_whole_voucher batch place code)) a b c p q)
 
-pub vouchers_none : (batch : List ℕ) (a : State) → IsTrue a.in_transaction
-    → MakesRows (with_vouchers (new_vouchers batch 0 [])) a a
-vouchers_none batch a inside = steps_same (λ t. t) (with_vouchers []) a a
-    (λ t. ap (λ vs. record t { vouchers = vs }) (sym (append-nil t.vouchers))) (steps_none a inside)
-
-pub counts_none : (a : State) → IsTrue a.in_transaction → MakesRows (with_counts (new_counts [])) a a
-counts_none a inside = steps_same (λ t. t) (with_counts []) a a
-    (λ t. ap (λ ks. record t { counts = ks }) (sym (append-nil t.counts))) (steps_none a inside)
-
--- one count more
-pub counts_then : (codes : List (List ℕ)) (code : List ℕ) (a b c : State)
-    → MakesRows (with_counts (new_counts codes)) a b → MakesRows (with_count (count_row code 0)) b c
-    → MakesRows (with_counts (new_counts (codes ++ code ∷ []))) a c
-counts_then codes code a b c p q =
-    steps_same _ (with_counts (new_counts (codes ++ code ∷ []))) a c
-    (λ t. rw (map-append (λ code. count_row code 0) codes (code ∷ []))
-    (ap (λ ks. record t { counts = ks }) (append_assoc t.counts (new_counts codes) (count_row code 0 ∷ []))))
-    (steps_then (with_counts (new_counts codes)) (with_count (count_row code 0)) a b c p q)
+pub issued_none : (batch : List ℕ) (a : State) → IsTrue a.in_transaction
+    → MakesRows (with_issued batch []) a a
+issued_none batch a inside = steps_same (λ t. t) (with_issued batch []) a a
+    (λ t. ap₂ (λ vs ks. record t { vouchers = vs; counts = ks }) (sym (append-nil t.vouchers))
+    (sym (append-nil t.counts))) (steps_none a inside)

@@ -19,6 +19,12 @@ use Rattle.portal_tables_rows.specs.declared.copies.WholeTable.{WholeTable}
 use Rattle.portal_tables_rows.specs.declared.grants.GrantValue.{GrantValue}
 use Rattle.portal_tables_rows.proofs.MigrateLemmas.{brought}
 use Rattle.portal_tables_rows.proofs.RestoreLemmas.{held_rise}
+use Rattle.portal_tables_rows.proofs.WholeReading.{earlier_held}
+use Rattle.portal_tables_rows.proofs.Common.{lit≤, map-map, Apart, HoldsApart, Result, Ok, Err, IfOk, Vec, Global}
+use Rattle.portal_tables_rows.proofs.Common.{RowError, VoucherRow, SessionRow, CountRow, TotalRow, GrantRow}
+use Rattle.portal_tables_rows.proofs.Common.{voucher_read, voucher_count, session_read, session_total, AreInOrder}
+use Rattle.portal_tables_rows.proofs.Common.{count_read, ends_row}
+use Rattle.portal_model.specs.Rows.{Rows}
 
 -- ---- sums over what was read
 
@@ -37,6 +43,78 @@ totals_are t gs ps ss ms is plans sessions grants =
     is ∙ ap (λ l. map (total_from (rows_for_sums l (map grant_read gs))) (map old_session_read ss)) plans
     ∙ ap (map (total_from (rows_for_sums t.plans (map grant_read gs)))) sessions
     ∙ ap (λ l. map (total_from (rows_for_sums t.plans l)) t.sessions) grants
+
+-- ---- the tables of other versions
+
+pub apart_itself : (db : Database) (t : Contents) → HoldsApart 2 db t → HoldsApart 2 db t
+apart_itself db t held = held
+
+pub first_apart : (db : Database) (t : Contents) → HoldsApart 2 db t → HoldsApart 1 db t
+first_apart db t held = (held.0, earlier_held (Apart held.0) 2 1 [] db t (lit≤ tt) held.1)
+
+-- ---- the vouchers and the sessions with counters that were read of other tables
+
+pub joined_counts : (result : Result (Vec VoucherValue Global) RowError) (vs vs1 : List OldVoucher)
+    (ks ks1 : List CountValue) (rows : List VoucherRow) (counts : List CountRow) → vs ≡ vs1 → ks ≡ ks1
+    → map old_voucher_read vs1 ≡ rows → map count_read ks1 ≡ counts
+    → IfOk result (λ joined. map voucher_read joined.items ≡ map old_voucher_read vs)
+    → IfOk result (λ joined. map voucher_count joined.items ≡ map count_read ks)
+    → IfOk result (λ joined. (map voucher_read joined.items ≡ rows) × (map voucher_count joined.items ≡ counts))
+joined_counts (Ok joined) vs vs1 ks ks1 rows counts same also read found one two =
+    (one ∙ ap (map old_voucher_read) same ∙ read, two ∙ ap (map count_read) also ∙ found)
+joined_counts (Err e) vs vs1 ks ks1 rows counts same also read found one two = tt
+
+pub joined_totals : (result : Result (Vec SessionValue Global) RowError) (ss ss1 : List OldSession)
+    (ms ms1 : List Total) (rows : List SessionRow) (totals : List TotalRow) → ss ≡ ss1 → ms ≡ ms1
+    → map old_session_read ss1 ≡ rows → map ends_row ms1 ≡ totals
+    → IfOk result (λ joined. map session_read joined.items ≡ map old_session_read ss)
+    → IfOk result (λ joined. map session_total joined.items ≡ map ends_row ms)
+    → IfOk result (λ joined. (map session_read joined.items ≡ rows) × (map session_total joined.items ≡ totals))
+joined_totals (Ok joined) ss ss1 ms ms1 rows totals same also read found one two =
+    (one ∙ ap (map old_session_read) same ∙ read, two ∙ ap (map ends_row) also ∙ found)
+joined_totals (Err e) ss ss1 ms ms1 rows totals same also read found one two = tt
+
+-- they are in the order of what they count
+pub in_order_counts : (t : Contents) → AreInOrder t → (vs vs1 : List OldVoucher) (ks ks1 : List CountValue)
+    → vs ≡ vs1 → ks ≡ ks1 → map old_voucher_read vs1 ≡ t.vouchers → map count_read ks1 ≡ t.counts
+    → map (λ (k : CountValue). (count_read k).code) ks ≡ map (λ (v : OldVoucher). (old_voucher_read v).code) vs
+in_order_counts t order vs vs1 ks ks1 same also read found =
+    let code_of = λ (v : VoucherRow). v.code in
+    let counted = λ (k : CountRow). k.code in
+    sym (map-map counted count_read ks) ∙ ap (λ l. map counted (map count_read l)) also ∙ ap (map counted) found
+    ∙ order.counts ∙ sym (ap (λ l. map code_of (map old_voucher_read l)) same ∙ ap (map code_of) read)
+    ∙ map-map code_of old_voucher_read vs
+
+pub in_order_totals : (t : Contents) → AreInOrder t → (ss ss1 : List OldSession) (ms ms1 : List Total)
+    → ss ≡ ss1 → ms ≡ ms1 → map old_session_read ss1 ≡ t.sessions → map ends_row ms1 ≡ t.totals
+    → map (λ (m : Total). m.number) ms ≡ map (λ (s : OldSession). s.number) ss
+in_order_totals t order ss ss1 ms ms1 same also read found =
+    let number_of = λ (s : SessionRow). s.number in
+    let totaled = λ (m : TotalRow). m.number in
+    sym (map-map totaled ends_row ms) ∙ ap (λ l. map totaled (map ends_row l)) also ∙ ap (map totaled) found
+    ∙ order.totals ∙ sym (ap (λ l. map number_of (map old_session_read l)) same ∙ ap (map number_of) read)
+    ∙ map-map number_of old_session_read ss
+
+-- the computed counters are in their order
+pub computed_counts : (vs vs1 : List OldVoucher) (ks ks1 : List CountValue) (grants : List GrantRow)
+    → vs1 ≡ vs → ks ≡ ks1 → counts_read ks1 ≡ map (count_from grants) (map old_voucher_read vs1)
+    → map (λ (k : CountValue). (count_read k).code) ks ≡ map (λ (v : OldVoucher). (old_voucher_read v).code) vs
+computed_counts vs vs1 ks ks1 grants same also is =
+    sym (map-map (λ (k : CountRow). k.code) count_read ks)
+    ∙ ap (λ l. map (λ (k : CountRow). k.code) (counts_read l)) also ∙ ap (map (λ (k : CountRow). k.code)) is
+    ∙ map-map (λ (k : CountRow). k.code) (count_from grants) (map old_voucher_read vs1)
+    ∙ map-map (λ (v : VoucherRow). v.code) old_voucher_read vs1
+    ∙ ap (map (λ (v : OldVoucher). (old_voucher_read v).code)) same
+
+pub computed_totals : (ss ss1 : List OldSession) (ms ms1 : List Total) (rows : Rows)
+    → ss1 ≡ ss → ms ≡ ms1 → totals_read ms1 ≡ map (total_from rows) (map old_session_read ss1)
+    → map (λ (m : Total). m.number) ms ≡ map (λ (s : OldSession). s.number) ss
+computed_totals ss ss1 ms ms1 rows same also is =
+    sym (map-map (λ (m : TotalRow). m.number) ends_row ms)
+    ∙ ap (λ l. map (λ (m : TotalRow). m.number) (totals_read l)) also ∙ ap (map (λ (m : TotalRow). m.number)) is
+    ∙ map-map (λ (m : TotalRow). m.number) (total_from rows) (map old_session_read ss1)
+    ∙ map-map (λ (s : SessionRow). s.number) old_session_read ss1
+    ∙ ap (map (λ (s : OldSession). s.number)) same
 
 -- ---- from the rows that were read
 

@@ -21,7 +21,8 @@ use Rattle.portal_tables_sql.proofs.WholeTexts as texts
 use Rattle.portal_tables_sql.proofs.TableLemmas.{always}
 use Rattle.portal_tables_sql.specs.Copies.{select_of, table_copied}
 use Rattle.portal_tables_sql.specs.Indexes.{our_indexes}
-use Rattle.portal_tables_sql.specs.Tables.{since, table_in, keeps_clauses, vouchers, sessions}
+use Rattle.portal_tables_sql.specs.Tables.{IsLaidOut, is_for_counters, since, table_in, keeps_clauses}
+use Rattle.portal_tables_sql.specs.Tables.{vouchers, sessions}
 use Rattle.portal_tables_sql.specs.Tables.{vouchers_in as old_vouchers, sessions_in as old_sessions}
 use Rattle.portal_tables_sql.specs.Tables.{counts_in as old_counts, totals_in as old_totals}
 use Rattle.portal_tables_sql.specs.declared.copied_tables.CopiedTable.{CopiedTable}
@@ -65,6 +66,14 @@ bare_there schema h = (
   h.0,
   earlier_stand Together this_schema_version this_schema_version our_indexes schema h.0 (lit≤ tt) h.1,
 )
+
+-- each layout has the tables that are copied
+pub laid_out : (x : CopiedTable) (layout : Layout) → IsLaidOut (is_for_counters (table_copied x)) layout
+laid_out copied.Head layout = tt
+laid_out copied.Plans layout = tt
+laid_out copied.Batches layout = tt
+laid_out copied.Grants layout = tt
+laid_out copied.Requests layout = tt
 
 -- ---- each text of a table that is copied, wherever the table is
 

@@ -84,10 +84,6 @@ by_refund a b = ordering_then (option_cmp nat_cmp a.refunded b.refunded) (slice_
 abbrev pub by_code : VoucherRow → VoucherRow → Ordering
 by_code a b = slice_cmp nat_cmp a.code b.code
 
--- by the numbers of the sessions
-abbrev pub by_number : TotalRow → TotalRow → Ordering
-by_number a b = nat_cmp a.number b.number
-
 -- ---- what is read of a voucher
 
 -- of a sale: the batch and the time

@@ -3,7 +3,7 @@
 
 ghost use Rattle.std.specs.Prelude.{◌≡◌, IfOk, IsSome, List, map, filter, true, bytes_eq, All};
 ghost use Rattle.portal_codes.specs.Code.{IsCode, text_of};
-ghost use Rattle.portal_model.specs.Rows.{VoucherRow, TotalRow};
+ghost use Rattle.portal_model.specs.Rows.{VoucherRow};
 ghost use Rattle.portal_tables_rows.specs.Foreign.{AreOwn, IsOwnRefund, IsOwnTotal, IsOwnVoucher, NotForeign};
 ghost use Rattle.portal_tables_rows.specs.Foreign.{IsOfOwn};
 ghost use Rattle.portal_tables_rows.specs.Selects.{ReadsRow};
@@ -18,7 +18,6 @@ ghost use Rattle.portal_tables_rows.specs.Lists.{
   by_place,
   by_refund,
   by_sale,
-  by_number,
   sale_columns,
   sale_read,
 };
@@ -195,8 +194,8 @@ pub fn list_batch_codes<S: Alter>(
     Ok(codes_of_vouchers(alloc, &vouchers)?)
 }
 
-/// Lists the numbers of the sessions that may be open at the time `at`, in the order of the rows. Every other session
-/// has ended by then or has nothing left of its allowance.
+/// Lists the numbers of the sessions that may be open at the time `at`, in the order of the rows. Every other
+/// session has ended by then or has nothing left of its allowance.
 pub fn list_open_numbers<S: Alter>(
     alloc: Global,
     conn: &mut Connection<S>,
