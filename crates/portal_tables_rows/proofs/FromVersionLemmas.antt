@@ -20,7 +20,7 @@ use Rattle.portal_tables_rows.specs.declared.grants.GrantValue.{GrantValue}
 use Rattle.portal_tables_rows.proofs.MigrateLemmas.{brought}
 use Rattle.portal_tables_rows.proofs.RestoreLemmas.{held_rise}
 use Rattle.portal_tables_rows.proofs.WholeReading.{earlier_held}
-use Rattle.portal_tables_rows.proofs.Common.{lit≤, map-map, Apart, HoldsApart, Result, Ok, Err, IfOk, Vec, Global}
+use Rattle.portal_tables_rows.proofs.Common.{lit≤, map-map, Apart, HoldsApart, HoldsFirst, true, false, Result, Ok, Err, IfOk, Vec, Global}
 use Rattle.portal_tables_rows.proofs.Common.{RowError, VoucherRow, SessionRow, CountRow, TotalRow, GrantRow}
 use Rattle.portal_tables_rows.proofs.Common.{voucher_read, voucher_count, session_read, session_total, AreInOrder}
 use Rattle.portal_tables_rows.proofs.Common.{count_read, ends_row}
@@ -51,6 +51,24 @@ apart_itself db t held = held
 
 pub first_apart : (db : Database) (t : Contents) → HoldsApart 2 db t → HoldsApart 1 db t
 first_apart db t held = (held.0, earlier_held (Apart held.0) 2 1 [] db t (lit≤ tt) held.1)
+
+pub first_of_apart : (db : Database) (t : Contents) → HoldsApart 1 db t → HoldsFirst db t
+first_of_apart db t held = (Apart held.0, held.1)
+
+pub apart_first : (db : Database) (t : Contents) → HoldsIn 1 [] db t → HoldsApart 1 db t
+apart_first db t held = (true, held)
+
+pub apart_second : (db : Database) (t : Contents) → HoldsIn 2 [] db t → HoldsApart 2 db t
+apart_second db t held = (true, held)
+
+pub apart_third : (db : Database) (t : Contents) → HoldsIn 3 [] db t → HoldsApart 2 db t
+apart_third db t held = (true, earlier_held (Apart true) 3 2 [] db t (lit≤ tt) held)
+
+pub apart_fourth : (db : Database) (t : Contents) → HoldsIn 4 [] db t → HoldsApart 2 db t
+apart_fourth db t held = (true, earlier_held (Apart true) 4 2 [] db t (lit≤ tt) held)
+
+pub apart_fifth : (db : Database) (t : Contents) → HoldsIn 5 [] db t → HoldsApart 2 db t
+apart_fifth db t held = (false, earlier_held (Apart false) 5 2 [] db t (lit≤ tt) held)
 
 -- ---- the vouchers and the sessions with counters that were read of other tables
 

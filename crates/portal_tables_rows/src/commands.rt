@@ -28,9 +28,7 @@ ghost use Rattle.portal_tables_rows.specs.Commands.{after_report, after_refund, 
 ghost use Rattle.portal_tables_rows.specs.Commands.{after_command_with, with_kept_request};
 
 use crate::column_values::{Total, integer, next};
-use crate::inserts::{
-    insert_batch, insert_grant, insert_plan, insert_session, insert_voucher,
-};
+use crate::inserts::{insert_batch, insert_grant, insert_plan, insert_session, insert_voucher};
 use crate::requests::insert_request;
 use crate::updates::{
     set_closed, set_head_numbers, set_last_moment, set_redeemed, set_refunded, set_session_total,

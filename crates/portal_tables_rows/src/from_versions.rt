@@ -59,9 +59,7 @@ use crate::whole::{
 use sqlite::{Alter, Connection, Error, ErrorCode};
 
 /// Reads the vouchers of a database of schema version 1, and counts the redemptions of each.
-fn read_vouchers_counted<S: Alter>(
-    conn: &mut Connection<S>,
-) -> Result<Vec<VoucherValue>, RowError>
+fn read_vouchers_counted<S: Alter>(conn: &mut Connection<S>) -> Result<Vec<VoucherValue>, RowError>
     ensures { ReadsOpen S.Store Anything (HoldsApart 1) conn.old conn.new result
         (λ t vouchers. (map voucher_read vouchers.items ≡ t.vouchers)
         × (map voucher_count vouchers.items ≡ counts_summed t))

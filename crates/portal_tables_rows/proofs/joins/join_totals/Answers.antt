@@ -1,0 +1,1 @@
+use Rattle.portal_tables_rows.proofs.joins.join_totals.Goals as goal
