@@ -1,7 +1,7 @@
 -- How the statements of a transaction compose.
 use Rattle.portal_tables_rows.proofs.Common.{take_more, map-append, ◌≡◌, true, false, IsTrue, ℕ, ◌+◌, ◌<◌}
-use Rattle.portal_tables_rows.proofs.Common.{map, take, get_or, List, [], ◌∷◌, ◌++◌, length, refl, sym, ap}
-use Rattle.portal_tables_rows.proofs.Common.{subst, subst₂, ◌∙◌, arith, add-zero, zero-add, add_assoc}
+use Rattle.portal_tables_rows.proofs.Common.{map, take, drop, get_or, List, [], ◌∷◌, ◌++◌, length, refl, sym, ap}
+use Rattle.portal_tables_rows.proofs.Common.{subst, subst₂, ◌∙◌, arith, add-zero, zero-add, add_assoc, suc}
 use Rattle.portal_tables_rows.proofs.Common.{add-suc, one-add, append_assoc, append-nil, ap₂, Ghosts, Held}
 use Rattle.portal_tables_rows.proofs.Common.{state, State, HasCleanDisk, Shows, Survives, survives_begin}
 use Rattle.portal_tables_rows.proofs.Common.{Plan, new_vouchers, new_counts, Contents, CrashStateHoldsRows}
@@ -93,6 +93,14 @@ pub made_more : {X Y Z : Type 0} (f : X → Z) (h : Y → Z) (made new : List X)
     → map f new ≡ map h (take (i + 1) ys)
 made_more f h made new x ys i y so_far grown within is one = ap (map f) grown ∙ map-append f made (x ∷ [])
     ∙ ap₂ ◌++◌ so_far (ap (λ z. z ∷ []) one) ∙ sym (more_mapped h ys i y within is)
+
+-- two elements at the same place of lists with the same values
+pub same_at : {X Y Z : Type 0} (f : X → Z) (h : Y → Z) (xs : List X) (ys : List Y) (i : ℕ) (x : X) (y : Y)
+    → i < length xs → i < length ys → x ≡ get_or xs i x → y ≡ get_or ys i y → map f xs ≡ map h ys → f x ≡ h y
+same_at f h (a ∷ xs) (b ∷ ys) 0 x y less also is too same =
+    ap f is ∙ ap (λ l. get_or l 0 (f x)) same ∙ sym (ap h too)
+same_at f h (a ∷ xs) (b ∷ ys) (suc i) x y less also is too same =
+    same_at f h xs ys i x y (omega arith) (omega arith) is too (ap (λ l. drop 1 l) same)
 
 pub plans_none : (a : State) → IsTrue a.in_transaction → MakesRows (with_plans []) a a
 plans_none a inside = steps_same (λ t. t) (with_plans []) a a

@@ -1,7 +1,7 @@
 //! Puts the vouchers and the sessions of a database whose counters are in tables of their own together with
 //! these counters. Both have to be in the same order.
 
-ghost use Rattle.std.specs.Prelude.{◌≡◌, ◌↔◌, IfOk, IfSome, IsTrue, Some, map, option_map};
+ghost use Rattle.std.specs.Prelude.{◌≡◌, ◌↔◌, IfOk, IsTrue, map};
 ghost use Rattle.portal_codes.specs.Code.{text_of};
 ghost use Rattle.portal_tables_rows.specs.Foreign.{NotForeign};
 ghost use Rattle.portal_tables_rows.specs.Read.{
@@ -32,16 +32,11 @@ fn is_same_code(a: &Code, b: &Code) -> bool
 }
 
 /// Joins a voucher with its count. Fails with `ForeignRow` if the count is that of another voucher.
-fn join_count(voucher: &OldVoucher, count: Option<&CountValue>) -> Result<VoucherValue, RowError>
+fn join_count(voucher: &OldVoucher, count: &CountValue) -> Result<VoucherValue, RowError>
     ensures voucher { IfOk result (λ joined. voucher_read joined ≡ old_voucher_read voucher.now) }
-    ensures count { IfOk result
-        (λ joined. option_map (λ k. count_read k.now) count ≡ Some (voucher_count joined)) }
-    ensures own { IfSome count (λ k. (count_read k.now).code ≡ (old_voucher_read voucher.now).code
-        → NotForeign result) }
+    ensures count { IfOk result (λ joined. voucher_count joined ≡ count_read count.now) }
+    ensures own { (count_read count.now).code ≡ (old_voucher_read voucher.now).code → NotForeign result }
 {
-    let Some(count) = count else {
-        return Err(RowError::ForeignRow);
-    };
     if !is_same_code(&count.code, &voucher.code) {
         return Err(RowError::ForeignRow);
     }
@@ -74,21 +69,17 @@ pub(crate) fn join_counts(
     }
     let mut joined = Vec::new(alloc);
     for (at, voucher) in vouchers.iter().enumerate() {
-        joined.push(join_count(voucher, counts.get(at))?)?;
+        joined.push(join_count(voucher, &counts[at])?)?;
     }
     Ok(joined)
 }
 
 /// Joins a session with its total. Fails with `ForeignRow` if the total is that of another session.
-fn join_total(session: &OldSession, total: Option<&Total>) -> Result<SessionValue, RowError>
+fn join_total(session: &OldSession, total: &Total) -> Result<SessionValue, RowError>
     ensures session { IfOk result (λ joined. session_read joined ≡ old_session_read session.now) }
-    ensures total { IfOk result
-        (λ joined. option_map (λ m. ends_row m.now) total ≡ Some (session_total joined)) }
-    ensures own { IfSome total (λ m. m.now.number ≡ session.now.number → NotForeign result) }
+    ensures total { IfOk result (λ joined. session_total joined ≡ ends_row total.now) }
+    ensures own { total.now.number ≡ session.now.number → NotForeign result }
 {
-    let Some(total) = total else {
-        return Err(RowError::ForeignRow);
-    };
     if total.number != session.number {
         return Err(RowError::ForeignRow);
     }
@@ -121,7 +112,7 @@ pub(crate) fn join_totals(
     }
     let mut joined = Vec::new(alloc);
     for (at, session) in sessions.iter().enumerate() {
-        joined.push(join_total(session, totals.get(at))?)?;
+        joined.push(join_total(session, &totals[at])?)?;
     }
     Ok(joined)
 }

@@ -1,6 +1,6 @@
 //! Finds which of the product's tables a schema has, and reads the schema version from the head row.
 
-ghost use Rattle.std.specs.Prelude.{◌≡◌, ℕ, [], true, IsTrue, OnErr, IfOk, IfErr, IfSome, IfNone};
+ghost use Rattle.std.specs.Prelude.{◌≡◌, ℕ, [], false, true, IsTrue, OnErr, IfOk, IfErr, IfSome, IfNone};
 ghost use Rattle.std.specs.List.{list_any};
 ghost use Rattle.sqlite.specs.Held.{state};
 ghost use Rattle.sqlite.specs.State.{HasCleanDisk, IsUnchanged, Survives};
