@@ -71,16 +71,18 @@ CALLS = [
     ("check", "open", result("check")),
     ("check, migrating", "version 1", result("check")),
     ("check, migrating version 4", "version 4", result("check")),
+    ("check, migrating version 5", "version 5", result("check")),
 ]
 
 # The calls of which each request for memory is refused, or every so many of them; of the others those after the store is open.
-WHOLE = ("POST /desk/plans", "check", "check, migrating", "check, migrating version 4")
+WHOLE = ("POST /desk/plans", "check", "check, migrating", "check, migrating version 4", "check, migrating version 5")
 FEWER = 23
 
 # The calls that are refused memory a second time before they are made with memory. Their databases are of older schema versions.
-TWICE = ("check, migrating", "check, migrating version 4")
+TWICE = ("check, migrating", "check, migrating version 4", "check, migrating version 5")
 CASES = Path(__file__).resolve().parent.parent / "cases"
-OLD = {"version 1": "first_version_migrated.txt", "version 4": "fourth_version_migrated.txt"}
+OLD = {"version 1": "first_version_migrated.txt", "version 4": "fourth_version_migrated.txt",
+       "version 5": "fifth_version_migrated.txt"}
 
 
 def is_no_memory(said):
