@@ -77,10 +77,13 @@ refers_to_ours t = list_any (λ (ref : Reference). names_ours ref.parent) t.refe
 abbrev pub hangs_on_ours : Table → Bool
 hangs_on_ours t = not (names_ours t.name) && refers_to_ours t
 
--- one of the product's indexes, of all schema versions, has the name, as SQL compares names
+-- one of the product's indexes, of this schema version, has the name, as SQL compares names
+abbrev pub names_current_index : List ℕ → Bool
+names_current_index name = list_any (λ x. same_name name (described_index x).name) our_indexes
+
+-- of all schema versions
 abbrev pub names_our_index : List ℕ → Bool
-names_our_index name =
-    list_any (λ x. same_name name (described_index x).name) our_indexes || same_name name old_index_name
+names_our_index name = names_current_index name || same_name name old_index_name
 
 -- the index is one of the product's, or was made by a clause
 abbrev pub is_own_index : Index → Bool

@@ -9,6 +9,7 @@ ghost use Rattle.portal_tables_rows.specs.SchemaVersions.{
   is_on_ours,
   is_others_index,
   is_own_index,
+  names_current_index,
   names_our_index,
   names_ours,
 };
@@ -44,11 +45,18 @@ pub fn hangs_on_ours(table: &Table) -> bool
     !names_ours(table.name.as_slice()) && refers_to_ours(table)
 }
 
+/// Whether one of the product's indexes, of this schema version, has this name.
+fn names_current_index(name: &[u8]) -> bool
+    ensures { result ≡ names_current_index name.now }
+{
+    OUR_INDEXES.iter().any(|ours| same_name(name, ours.name()))
+}
+
 /// Whether one of the product's indexes, of all schema versions, has this name.
 fn names_our_index(name: &[u8]) -> bool
     ensures { result ≡ names_our_index name.now }
 {
-    OUR_INDEXES.iter().any(|ours| same_name(name, ours.name())) || same_name(name, OLD_INDEX_NAME)
+    names_current_index(name) || same_name(name, OLD_INDEX_NAME)
 }
 
 /// Whether the index is one of the product's, or was made by a clause.
