@@ -2,6 +2,7 @@
 use Rattle.portal_tables_rows.proofs.Common.{take_more, map-append, ◌≡◌, true, false, IsTrue, ℕ, ◌+◌, ◌<◌}
 use Rattle.portal_tables_rows.proofs.Common.{map, take, drop, get_or, List, [], ◌∷◌, ◌++◌, length, refl, sym, ap}
 use Rattle.portal_tables_rows.proofs.Common.{subst, subst₂, ◌∙◌, arith, add-zero, zero-add, add_assoc, suc}
+use Rattle.portal_tables_rows.proofs.Common.{zero}
 use Rattle.portal_tables_rows.proofs.Common.{add-suc, one-add, append_assoc, append-nil, ap₂, Ghosts, Held}
 use Rattle.portal_tables_rows.proofs.Common.{state, State, HasCleanDisk, Shows, Survives, survives_begin}
 use Rattle.portal_tables_rows.proofs.Common.{Plan, new_vouchers, new_counts, Contents, CrashStateHoldsRows}
@@ -97,7 +98,9 @@ made_more f h made new x ys i y so_far grown within is one = ap (map f) grown �
 -- two elements at the same place of lists with the same values
 pub same_at : {X Y Z : Type 0} (f : X → Z) (h : Y → Z) (xs : List X) (ys : List Y) (i : ℕ) (x : X) (y : Y)
     → i < length xs → i < length ys → x ≡ get_or xs i x → y ≡ get_or ys i y → map f xs ≡ map h ys → f x ≡ h y
-same_at f h (a ∷ xs) (b ∷ ys) 0 x y less also is too same =
+same_at f h [] ys i x y less also is too same = absurd (omega arith)
+same_at f h (a ∷ xs) [] i x y less also is too same = absurd (omega arith)
+same_at f h (a ∷ xs) (b ∷ ys) zero x y less also is too same =
     ap f is ∙ ap (λ l. get_or l 0 (f x)) same ∙ sym (ap h too)
 same_at f h (a ∷ xs) (b ∷ ys) (suc i) x y less also is too same =
     same_at f h xs ys i x y (omega arith) (omega arith) is too (ap (λ l. drop 1 l) same)

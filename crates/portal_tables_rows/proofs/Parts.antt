@@ -33,19 +33,21 @@ module _ {A B : Type 0} (part : A → B) where
   parts_pushed x [] = refl
   parts_pushed x (y ∷ ys) = ap (λ l. part y ∷ l) (parts_pushed x ys)
 
+  put_part : (key : B → ℕ) (new x : A) (xs : List A) (o : Ordering)
+      → map part (put_by (λ a. key (part a)) new xs) ≡ put_by key (part new) (map part xs)
+      → map part (match_ordering o (x ∷ put_by (λ a. key (part a)) new xs) (new ∷ xs) (new ∷ x ∷ xs))
+      ≡ match_ordering o (part x ∷ put_by key (part new) (map part xs)) (part new ∷ map part xs)
+      (part new ∷ part x ∷ map part xs)
+  put_part key new x xs Less later = ap (λ l. part x ∷ l) later
+  put_part key new x xs Equal later = refl
+  put_part key new x xs Greater later = refl
+
   -- one at its place by number
   pub parts_put : (key : B → ℕ) (new : A) (xs : List A)
       → map part (put_by (λ a. key (part a)) new xs) ≡ put_by key (part new) (map part xs)
   parts_put key new [] = refl
-  parts_put key new (x ∷ xs) = placed (value_cmp (number (key (part x))) (number (key (part new))))
-    where
-      placed : (o : Ordering) → map part
-          (match_ordering o (x ∷ put_by (λ a. key (part a)) new xs) (new ∷ xs) (new ∷ x ∷ xs))
-          ≡ match_ordering o (part x ∷ put_by key (part new) (map part xs)) (part new ∷ map part xs)
-          (part new ∷ part x ∷ map part xs)
-      placed Less = ap (λ l. part x ∷ l) (parts_put key new xs)
-      placed Equal = refl
-      placed Greater = refl
+  parts_put key new (x ∷ xs) = put_part key new x xs
+      (value_cmp (number (key (part x))) (number (key (part new)))) (parts_put key new xs)
 
 -- ---- values that are found or listed with their counters
 
