@@ -1,6 +1,7 @@
 -- How the statements of a transaction compose.
 use Rattle.portal_tables_rows.proofs.Common.{take_more, map-append, ◌≡◌, true, false, IsTrue, ℕ, ◌+◌, ◌<◌}
-use Rattle.portal_tables_rows.proofs.Common.{map, take, drop, get_or, List, [], ◌∷◌, ◌++◌, length, refl, sym, ap}
+use Rattle.portal_tables_rows.proofs.Common.{map, take, drop, get_or, List, [], ◌∷◌, ◌++◌, length, refl, sym}
+use Rattle.portal_tables_rows.proofs.Common.{ap}
 use Rattle.portal_tables_rows.proofs.Common.{subst, subst₂, ◌∙◌, arith, add-zero, zero-add, add_assoc, suc}
 use Rattle.portal_tables_rows.proofs.Common.{zero}
 use Rattle.portal_tables_rows.proofs.Common.{add-suc, one-add, append_assoc, append-nil, ap₂, Ghosts, Held}

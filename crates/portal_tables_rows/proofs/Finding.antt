@@ -19,16 +19,11 @@ pub record Tells {T : Type 0} (cells : T → Row) (width : ℕ) (own : Row → T
   pub none : slice_get rows 0 ≡ None → Is None
   pub owns : Own → (row : Row) → slice_get rows 0 ≡ Some row → own (columns width row)
 
--- the same of what follows from it
-pub tells_more : {T : Type 0} {cells : T → Row} {width : ℕ} {own : Row → Type 0} {rows : List Row}
-    {Is More : Option T → Type 0} {Own Whole : Type 0} → ((x : T) → Is (Some x) → More (Some x))
-    → (Is None → More None) → (Whole → Own) → Tells cells width own rows Is Own
-    → Tells cells width own rows More Whole
-tells_more some none owns t = record {
-  some = λ row x got is. some x (t.some row x got is);
-  none = λ got. none (t.none got);
-  owns = λ whole. t.owns (owns whole);
-}
+-- the same where more is known of the rows
+pub tells_of : {T : Type 0} {cells : T → Row} {width : ℕ} {own : Row → Type 0} {rows : List Row}
+    {Is : Option T → Type 0} {Own Whole : Type 0} → (Whole → Own) → Tells cells width own rows Is Own
+    → Tells cells width own rows Is Whole
+tells_of owns t = record { some = t.some; none = t.none; owns = λ whole. t.owns (owns whole) }
 
 -- the row that was found, by what it tells
 told : {T : Type 0} {cells : T → Row} {width : ℕ} {own : Row → Type 0} {rows : List Row}

@@ -3,10 +3,12 @@ use Rattle.portal_tables_rows.proofs.Common.{◌≡◌, IsTrue, map, List, [], a
 use Rattle.portal_tables_rows.proofs.Common.{Database, State, HasCleanDisk, Survives, survives_then}
 use Rattle.portal_tables_rows.proofs.Common.{survives_weaker, IsUndone, same_now, still_open, count_from}
 use Rattle.portal_tables_rows.proofs.Common.{total_from, Total, Contents, Anything, Holds, HoldsIn}
-use Rattle.portal_tables_rows.proofs.Common.{CrashStateHoldsRows, KeepsOthers, CrashStateHasOthers, CountValue}
+use Rattle.portal_tables_rows.proofs.Common.{CrashStateHoldsRows, KeepsOthers, CrashStateHasOthers}
+use Rattle.portal_tables_rows.proofs.Common.{CountValue}
 use Rattle.portal_tables_rows.proofs.Common.{OldVoucher, OldSession, VoucherValue, SessionValue}
 use Rattle.portal_tables_rows.proofs.Common.{old_voucher_read, old_session_read, OldSchema, CommitsFrom}
-use Rattle.portal_tables_rows.proofs.Common.{MayCommitFrom, HasMigrated, MayMigrate, AreCountedOf, AreTotaledOf}
+use Rattle.portal_tables_rows.proofs.Common.{MayCommitFrom, HasMigrated, MayMigrate, AreCountedOf}
+use Rattle.portal_tables_rows.proofs.Common.{AreTotaledOf}
 use Rattle.portal_tables_rows.proofs.Common.{after_migration, migrated_rows, counts_read, totals_read}
 use Rattle.portal_tables_rows.proofs.Common.{counts_summed}
 use Rattle.portal_tables_rows.proofs.Common.{totals_summed, version_number, AreNamesFree, IsReadFree, Trees}
@@ -20,9 +22,11 @@ use Rattle.portal_tables_rows.specs.declared.grants.GrantValue.{GrantValue}
 use Rattle.portal_tables_rows.proofs.MigrateLemmas.{brought}
 use Rattle.portal_tables_rows.proofs.RestoreLemmas.{held_rise}
 use Rattle.portal_tables_rows.proofs.WholeReading.{earlier_held}
-use Rattle.portal_tables_rows.proofs.Common.{lit≤, map-map, Apart, HoldsApart, HoldsFirst, true, false, Result, Ok, Err, IfOk, Vec, Global}
+use Rattle.portal_tables_rows.proofs.Common.{lit≤, map-map, Apart, HoldsApart, HoldsFirst, true, false}
+use Rattle.portal_tables_rows.proofs.Common.{Result, Ok, Err, IfOk, Vec, Global}
 use Rattle.portal_tables_rows.proofs.Common.{RowError, VoucherRow, SessionRow, CountRow, TotalRow, GrantRow}
-use Rattle.portal_tables_rows.proofs.Common.{voucher_read, voucher_count, session_read, session_total, AreInOrder}
+use Rattle.portal_tables_rows.proofs.Common.{voucher_read, voucher_count, session_read, session_total}
+use Rattle.portal_tables_rows.proofs.Common.{AreInOrder}
 use Rattle.portal_tables_rows.proofs.Common.{count_read, ends_row}
 use Rattle.portal_model.specs.Rows.{Rows}
 

@@ -5,7 +5,8 @@ use Rattle.portal_tables_rows.proofs.Common.{SessionRow, GrantRow, TotalRow, hea
 use Rattle.portal_tables_rows.proofs.Common.{vouchers, sessions, grants, HeadRow, batch_cells}
 use Rattle.portal_tables_rows.proofs.Common.{grant_cells, grant_stored, head_stored, plan_cells}
 use Rattle.portal_tables_rows.proofs.Common.{with_plan, with_batch, with_grant, with_head, head_cells}
-use Rattle.portal_tables_rows.proofs.Common.{State, Contents, Holds, KeepsOthers, Stores, less_rowid, whole_row}
+use Rattle.portal_tables_rows.proofs.Common.{State, Contents, Holds, KeepsOthers, Stores, less_rowid}
+use Rattle.portal_tables_rows.proofs.Common.{whole_row}
 use Rattle.portal_tables_rows.proofs.Common.{WholeVoucher, WholeSession, whole_voucher_cells, count_of}
 use Rattle.portal_tables_rows.proofs.Common.{whole_session_cells, whole_session_stored, total_of}
 use Rattle.portal_tables_rows.proofs.Common.{with_whole_voucher, with_whole_session, signed_or_null, put_by}

@@ -7,7 +7,8 @@ use Rattle.portal_tables_rows.proofs.Common.{Held, state, HasCleanDisk, Shown, u
 use Rattle.portal_tables_rows.proofs.Common.{looks_weaker, columns, Anything, Asks, IsSimple, OnlyAsks}
 use Rattle.portal_tables_rows.proofs.Common.{simple_asks, VoucherRow, SessionRow, CountRow, TotalRow}
 use Rattle.portal_tables_rows.proofs.Common.{VoucherValue, voucher_read, voucher_count, whole_voucher_read}
-use Rattle.portal_tables_rows.proofs.Common.{WholeVoucher, WholeSession, whole_voucher_cells, count_of, total_of}
+use Rattle.portal_tables_rows.proofs.Common.{WholeVoucher, WholeSession, whole_voucher_cells, count_of}
+use Rattle.portal_tables_rows.proofs.Common.{total_of}
 use Rattle.portal_tables_rows.proofs.Common.{Contents, Holds, HoldsFirst, HasTables, HasFirst, HoldsApart}
 use Rattle.portal_tables_rows.proofs.Common.{HasApart, HoldsBare, HasBare, subst₂}
 use Rattle.portal_tables_rows.proofs.Common.{IsOfOwn, AreOwn, IsOwnVoucher, NotForeign, BlamesForeign}

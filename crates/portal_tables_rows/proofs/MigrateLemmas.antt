@@ -1,5 +1,6 @@
 -- How the steps of a migration compose, and what they come to.
-use Rattle.portal_tables_rows.proofs.Common.{◌≡◌, IsTrue, ℕ, List, [], ◌∷◌, ◌++◌, map, fold, sym, ap, ap₂, subst}
+use Rattle.portal_tables_rows.proofs.Common.{◌≡◌, IsTrue, ℕ, List, [], ◌∷◌, ◌++◌, map, fold, sym, ap, ap₂}
+use Rattle.portal_tables_rows.proofs.Common.{subst}
 use Rattle.portal_tables_rows.proofs.Common.{◌∙◌, append-nil, append_assoc, map-map, State, put_by}
 use Rattle.portal_tables_rows.proofs.Common.{Contents, MakesRows, Rebuilds, OldSchema, SessionRow, TotalRow}
 use Rattle.portal_tables_rows.proofs.Common.{SessionValue, VoucherValue, WholeSession, WholeVoucher, count_of}

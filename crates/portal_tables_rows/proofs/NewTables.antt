@@ -1,6 +1,7 @@
 -- What a database holds in which the product's tables were created.
 use Rattle.portal_tables_rows.proofs.Common.{◌≡◌, inl, inr, List, [], ◌∷◌, refl, sym, subst, Database, Has}
-use Rattle.portal_tables_rows.proofs.Common.{IsTableAt, HoldsIn, TablePlace, this_schema_version, AreNamesFree}
+use Rattle.portal_tables_rows.proofs.Common.{IsTableAt, HoldsIn, TablePlace, this_schema_version}
+use Rattle.portal_tables_rows.proofs.Common.{AreNamesFree}
 use Rattle.portal_tables_rows.proofs.Common.{no_rows, whole_row, less_rowid, head_stored, plan_cells}
 use Rattle.portal_tables_rows.proofs.Common.{batch_cells, whole_voucher_cells, whole_session_stored}
 use Rattle.portal_tables_rows.proofs.Common.{grant_stored, request_cells}
@@ -30,29 +31,29 @@ new_at after x new = ready_at after (table_of x) new.0 (tree_is Together x new.0
 
 -- and stores no rows
 module _ (after : Database) (new : (x : OurTable) → Has current_tables x → IsNew after x) where
-  head_there : IsNew after our.Head
+  abbrev head_there : IsNew after our.Head
   head_there = new our.Head (inl refl)
 
-  plans_there : IsNew after our.Plans
+  abbrev plans_there : IsNew after our.Plans
   plans_there = new our.Plans (inr (inl refl))
 
-  batches_there : IsNew after our.Batches
+  abbrev batches_there : IsNew after our.Batches
   batches_there = new our.Batches (inr (inr (inl refl)))
 
-  vouchers_there : IsNew after our.Vouchers
+  abbrev vouchers_there : IsNew after our.Vouchers
   vouchers_there = new our.Vouchers (inr (inr (inr (inl refl))))
 
-  sessions_there : IsNew after our.Sessions
+  abbrev sessions_there : IsNew after our.Sessions
   sessions_there = new our.Sessions (inr (inr (inr (inr (inl refl)))))
 
-  grants_there : IsNew after our.Grants
+  abbrev grants_there : IsNew after our.Grants
   grants_there = new our.Grants (inr (inr (inr (inr (inr (inl refl))))))
 
-  requests_there : IsNew after our.Requests
+  abbrev requests_there : IsNew after our.Requests
   requests_there = new our.Requests (inr (inr (inr (inr (inr (inr (inl refl)))))))
 
   -- where each is; a table that this version does not have is nowhere, and its place is not asked for
-  place_there : OurTable → TablePlace
+  abbrev place_there : OurTable → TablePlace
   place_there our.Head = head_there.0
   place_there our.Plans = plans_there.0
   place_there our.Batches = batches_there.0

@@ -1,5 +1,6 @@
 -- Lists of rows with their counters, and the lists of their parts.
-use Rattle.portal_tables_rows.proofs.Common.{◌≡◌, ◌≤◌, ◌<◌, ◌+◌, ℕ, Bool, true, false, cond, List, [], ◌∷◌, ◌++◌}
+use Rattle.portal_tables_rows.proofs.Common.{◌≡◌, ◌≤◌, ◌<◌, ◌+◌, ℕ, Bool, true, false, cond, List, [], ◌∷◌}
+use Rattle.portal_tables_rows.proofs.Common.{◌++◌}
 use Rattle.portal_tables_rows.proofs.Common.{map, filter, length, refl, sym, ap, ap₂, subst, ◌∙◌, arith}
 use Rattle.portal_tables_rows.proofs.Common.{Ordering, Less, Equal, Greater, value_cmp, number, put_by, Some}
 use Rattle.portal_tables_rows.proofs.Common.{None, Has, Finds, FindsLast, has_mapped, has_image, has_along}

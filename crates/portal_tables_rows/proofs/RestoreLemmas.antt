@@ -1,5 +1,6 @@
 -- The tables are made anew with the rows that were read of them.
-use Rattle.portal_tables_rows.proofs.Common.{◌≡◌, ◌≤◌, ◌<◌, lit≤, ℕ, ◌+◌, List, [], ◌∷◌, ◌++◌, map, fold, refl}
+use Rattle.portal_tables_rows.proofs.Common.{◌≡◌, ◌≤◌, ◌<◌, lit≤, ℕ, ◌+◌, List, [], ◌∷◌, ◌++◌, map, fold}
+use Rattle.portal_tables_rows.proofs.Common.{refl}
 use Rattle.portal_tables_rows.proofs.Common.{sym, ap, subst, ◌∙◌, arith, ints, nat_tests, append-nil}
 use Rattle.portal_tables_rows.proofs.Common.{append_assoc, Less, AllByRecursion, Row, Has, State, Database}
 use Rattle.portal_tables_rows.proofs.Common.{value_cmp, value_cmp-Int, number, put_by, all_has}

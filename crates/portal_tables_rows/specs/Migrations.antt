@@ -18,7 +18,8 @@ use Rattle.portal_tables_rows.specs.Contents.{Contents, WholeVoucher, WholeSessi
 use Rattle.portal_tables_rows.specs.Copying.{AreRead}
 use Rattle.portal_tables_rows.specs.Creation.{AreNamesFree}
 use Rattle.portal_tables_rows.specs.Foreign.{AreOwnRows}
-use Rattle.portal_tables_rows.specs.Read.{count_read, voucher_read, voucher_count, session_read, session_total}
+use Rattle.portal_tables_rows.specs.Read.{count_read, voucher_read, voucher_count, session_read}
+use Rattle.portal_tables_rows.specs.Read.{session_total}
 use Rattle.portal_tables_rows.specs.Read.{whole_voucher_read, whole_session_read}
 use Rattle.portal_tables_rows.specs.Steps.{ends_row, with_schema_version}
 use Rattle.portal_tables_rows.specs.Holds.{HoldsIn, Holds, CrashStateHoldsRows, this_schema_version}

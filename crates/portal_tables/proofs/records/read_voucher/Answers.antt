@@ -1,4 +1,5 @@
-use Rattle.portal_tables.proofs.Common.{◌≡◌, Option, None, IfSome, option_map, map, sym, subst, rules, text_of}
+use Rattle.portal_tables.proofs.Common.{◌≡◌, Option, None, IfSome, option_map, map, sym, subst, rules}
+use Rattle.portal_tables.proofs.Common.{text_of}
 use Rattle.portal_tables.proofs.Common.{VoucherRow, vouchers_of, counts_of, Has}
 use Rattle.portal_tables.proofs.Common.{VoucherValue, voucher_read, voucher_count}
 use Rattle.portal_tables.proofs.Common.{voucher_kept, count_kept}

@@ -1,4 +1,5 @@
-use Rattle.portal_tables_rows.proofs.Common.{◌≡◌, rules, refl, ap, sym, ◌∙◌, map, None, Option, option_map, subst}
+use Rattle.portal_tables_rows.proofs.Common.{◌≡◌, rules, refl, ap, sym, ◌∙◌, map, None, Option, option_map}
+use Rattle.portal_tables_rows.proofs.Common.{subst}
 use Rattle.portal_tables_rows.proofs.Common.{IfOk-weaker, state, Finds, HeadRow, ends_row, head_read, map-map}
 use Rattle.portal_tables_rows.proofs.Common.{count_read, count_part, total_part, err_from_is_err_and}
 use Rattle.portal_tables_rows.specs.declared.rows.HeadValue.{HeadValue}

@@ -5,7 +5,7 @@ use Rattle.portal_tables_rows.proofs.Cells.{exact_whole_session}
 use Rattle.portal_tables_rows.proofs.ManyValues.{own_sessions}
 use Rattle.portal_tables_rows.proofs.Parts.{part_has, part_last, part_no_last}
 use Rattle.portal_tables_rows.proofs.Reading.{last_session_rows_are, last_session_plain}
-use Rattle.portal_tables_rows.proofs.Finding.{reads_one, by_last, tells_more}
+use Rattle.portal_tables_rows.proofs.Finding.{reads_one, by_last, tells_of}
 use Rattle.portal_tables_sql.proofs.TableLemmas.{always}
 use Rattle.portal_tables_sql.specs.declared.our_tables.OurTable.TheVariants as our
 use Rattle.portal_tables_rows.proofs.finds.read_last_session_row.Goals as goal
@@ -19,7 +19,7 @@ returns-clause-reads g c =
     reads_one g.S.Store _ _ last_session_plain
     (λ rows shown t h. let was = h.store our.Sessions (always _, tt) in
     let it = last_session_rows_are _ _ text rows shown t h in
-    tells_more (λ x is. is) (λ is. is)
+    tells_of
     (λ own. own_sessions was.whole t.sessions t.totals was.their_rows was.their_totals own.0 own.1)
     (by_last whole_session_cells 8 (λ x. refl) exact_whole_session whole_session_read IsOwnWholeSession 1
     (λ (w : WholeSession). w.row.device) text Text (λ x. refl) same_text text_itself

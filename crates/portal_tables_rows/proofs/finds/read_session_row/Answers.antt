@@ -5,7 +5,7 @@ use Rattle.portal_tables_rows.proofs.Cells.{exact_whole_session}
 use Rattle.portal_tables_rows.proofs.ManyValues.{own_sessions}
 use Rattle.portal_tables_rows.proofs.Parts.{part_found, part_has, part_missing}
 use Rattle.portal_tables_rows.proofs.Reading.{session_rows_are, session_plain}
-use Rattle.portal_tables_rows.proofs.Finding.{reads_one, by_key, tells_more}
+use Rattle.portal_tables_rows.proofs.Finding.{reads_one, by_key, tells_of}
 use Rattle.portal_tables_sql.proofs.TableLemmas.{always}
 use Rattle.portal_tables_sql.specs.declared.our_tables.OurTable.TheVariants as our
 use Rattle.portal_tables_rows.proofs.finds.read_session_row.Goals as goal
@@ -17,7 +17,7 @@ returns-clause-reads g c =
     let n = c.args.number in
     reads_one g.S.Store _ _ session_plain
     (λ rows shown t h. let was = h.store our.Sessions (always _, tt) in
-    tells_more (λ x is. is) (λ is. is)
+    tells_of
     (λ own. own_sessions was.whole t.sessions t.totals was.their_rows was.their_totals own.0 own.1)
     (by_key whole_session_cells 8 (λ x. refl) exact_whole_session whole_session_read IsOwnWholeSession 0
     (λ (w : WholeSession). w.row.number) n number (λ x. refl) same_number number_itself was.whole _ _

@@ -2,7 +2,8 @@ use Rattle.portal_tables_rows.proofs.Common.{arith, ◌∙◌, ◌≡◌, true, 
 use Rattle.portal_tables_rows.proofs.Common.{same_now, still_open, Anything, err_from_is_err_and, Database}
 use Rattle.portal_tables_rows.proofs.Common.{are_names_free, Looks}
 use Rattle.portal_tables_rows.proofs.HeldLemmas.{open_then}
-use Rattle.portal_tables_rows.proofs.FromVersionLemmas.{upgrade_done, upgrade_crash, fails_crash, undone_after}
+use Rattle.portal_tables_rows.proofs.FromVersionLemmas.{upgrade_done, upgrade_crash, fails_crash}
+use Rattle.portal_tables_rows.proofs.FromVersionLemmas.{undone_after}
 use Rattle.portal_tables_rows.proofs.from_versions.migrate_schema.Goals as goal
 
 pub returns-clause-done : goal.returns-clause-done

@@ -1,5 +1,6 @@
 use Rattle.portal_tables_rows.proofs.HeldLemmas.{always_opened, open_fails, open_made, open_own, open_then}
-use Rattle.portal_tables_rows.proofs.FromVersionLemmas.{apart_itself, first_apart, in_order_totals, joined_totals}
+use Rattle.portal_tables_rows.proofs.FromVersionLemmas.{apart_itself, first_apart, in_order_totals}
+use Rattle.portal_tables_rows.proofs.FromVersionLemmas.{joined_totals}
 use Rattle.portal_tables_rows.proofs.from_versions.read_sessions_apart.Goals as goal
 
 pub returns : goal.returns

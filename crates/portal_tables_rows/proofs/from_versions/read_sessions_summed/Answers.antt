@@ -2,7 +2,8 @@ use Rattle.portal_tables_rows.proofs.Common.{◌∙◌, ap, map, sym, old_sessio
 use Rattle.portal_tables_rows.proofs.Common.{totals_summed}
 use Rattle.portal_tables_rows.specs.Sums.{grant_read, rows_for_sums}
 use Rattle.portal_tables_rows.proofs.HeldLemmas.{always_opened, open_fails, open_made, open_own, open_then}
-use Rattle.portal_tables_rows.proofs.FromVersionLemmas.{computed_totals, first_of_apart, joined_totals, totals_are}
+use Rattle.portal_tables_rows.proofs.FromVersionLemmas.{computed_totals, first_of_apart, joined_totals}
+use Rattle.portal_tables_rows.proofs.FromVersionLemmas.{totals_are}
 use Rattle.portal_tables_rows.proofs.from_versions.read_sessions_summed.Goals as goal
 
 pub returns : goal.returns

@@ -1,7 +1,8 @@
 use Rattle.portal_tables_rows.proofs.Common.{◌∙◌, ap, map, sym, lit≤, map-map, Apart, err_from_is_err_and}
 use Rattle.portal_tables_rows.proofs.Common.{CountRow, VoucherRow, IfOk-weaker, count_read, old_voucher_read}
 use Rattle.portal_tables_rows.proofs.HeldLemmas.{always_opened, open_fails, open_made, open_own, open_then}
-use Rattle.portal_tables_rows.proofs.FromVersionLemmas.{first_apart, in_order_counts, joined_counts, apart_itself}
+use Rattle.portal_tables_rows.proofs.FromVersionLemmas.{first_apart, in_order_counts, joined_counts}
+use Rattle.portal_tables_rows.proofs.FromVersionLemmas.{apart_itself}
 use Rattle.portal_tables_rows.proofs.from_versions.read_vouchers_apart.Goals as goal
 
 pub returns : goal.returns

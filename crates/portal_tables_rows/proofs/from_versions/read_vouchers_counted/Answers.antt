@@ -2,7 +2,8 @@ use Rattle.portal_tables_rows.proofs.Common.{◌∙◌, ap, map, sym, old_vouche
 use Rattle.portal_tables_rows.proofs.Common.{counts_summed}
 use Rattle.portal_tables_rows.specs.Sums.{grant_read}
 use Rattle.portal_tables_rows.proofs.HeldLemmas.{always_opened, open_fails, open_made, open_own, open_then}
-use Rattle.portal_tables_rows.proofs.FromVersionLemmas.{computed_counts, counts_are, first_of_apart, joined_counts}
+use Rattle.portal_tables_rows.proofs.FromVersionLemmas.{computed_counts, counts_are, first_of_apart}
+use Rattle.portal_tables_rows.proofs.FromVersionLemmas.{joined_counts}
 use Rattle.portal_tables_rows.proofs.from_versions.read_vouchers_counted.Goals as goal
 
 pub returns : goal.returns

@@ -1,4 +1,5 @@
-use Rattle.portal_tables_rows.proofs.Common.{◌≡◌, map, take, count_from, old_voucher_read, count_read, grant_read}
+use Rattle.portal_tables_rows.proofs.Common.{◌≡◌, map, take, count_from, old_voucher_read, count_read}
+use Rattle.portal_tables_rows.proofs.Common.{grant_read}
 use Rattle.portal_tables_rows.proofs.sums.sum_counts.Given as goal
 
 abbrev pub invariant-loop-voucher : goal.invariant-loop-voucher

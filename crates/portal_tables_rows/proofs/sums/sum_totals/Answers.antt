@@ -1,5 +1,6 @@
 use Rattle.portal_tables_rows.proofs.Common.{sym, ap, ◌∙◌, map, subst, ◌<◌, ◌^◌, take_all, map-map}
-use Rattle.portal_tables_rows.proofs.Common.{total_from, old_session_read, ends_row, grant_read, rows_for_sums}
+use Rattle.portal_tables_rows.proofs.Common.{total_from, old_session_read, ends_row, grant_read}
+use Rattle.portal_tables_rows.proofs.Common.{rows_for_sums}
 use Rattle.portal_tables_rows.proofs.Common.{err_from_is_err_and, has_at, has_mapped, Given}
 use Rattle.portal_tables_rows.proofs.Compose.{made_more}
 use Rattle.portal_tables_rows.specs.declared.rows.OldSession.{OldSession}

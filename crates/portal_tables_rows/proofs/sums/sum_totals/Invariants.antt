@@ -1,4 +1,5 @@
-use Rattle.portal_tables_rows.proofs.Common.{◌≡◌, map, take, total_from, old_session_read, ends_row, grant_read}
+use Rattle.portal_tables_rows.proofs.Common.{◌≡◌, map, take, total_from, old_session_read, ends_row}
+use Rattle.portal_tables_rows.proofs.Common.{grant_read}
 use Rattle.portal_tables_rows.proofs.Common.{rows_for_sums}
 use Rattle.portal_tables_rows.proofs.sums.sum_totals.Given as goal
 

@@ -1,4 +1,5 @@
-use Rattle.portal_tables_rows.proofs.Common.{refl, map, map-map, session_cells, IsOwnSession, old_session_read}
+use Rattle.portal_tables_rows.proofs.Common.{refl, map, map-map, session_cells, IsOwnSession}
+use Rattle.portal_tables_rows.proofs.Common.{old_session_read}
 use Rattle.portal_tables_rows.proofs.Cells.{exact_session}
 use Rattle.portal_tables_rows.proofs.ManyValues.{reads_apart, tells_whole}
 use Rattle.portal_tables_rows.proofs.WholeAsks.{old_sessions_asked}

@@ -1,4 +1,5 @@
-use Rattle.portal_tables_rows.proofs.Common.{refl, map, map-map, voucher_cells, IsOwnVoucher, old_voucher_read}
+use Rattle.portal_tables_rows.proofs.Common.{refl, map, map-map, voucher_cells, IsOwnVoucher}
+use Rattle.portal_tables_rows.proofs.Common.{old_voucher_read}
 use Rattle.portal_tables_rows.proofs.Cells.{exact_voucher}
 use Rattle.portal_tables_rows.proofs.ManyValues.{reads_apart, tells_whole}
 use Rattle.portal_tables_rows.proofs.WholeAsks.{old_vouchers_asked}
