@@ -34,7 +34,8 @@ pub use Rattle.portal_tables_rows.specs.SchemaVersions.{QueryAnswers, IsOneRow, 
 pub use Rattle.portal_tables_rows.specs.SchemaVersions.{is_any_name_taken, is_usable_schema}
 pub use Rattle.portal_tables_rows.specs.SchemaVersions.{hangs_on_ours, is_entangled, is_indexed}
 pub use Rattle.portal_tables_rows.specs.declared.schema_versions.OldSchema.{OldSchema}
-pub use Rattle.portal_tables_rows.specs.declared.schema_versions.OldSchema.TheVariants.{Fifth, First, Fourth, Sixth}
+pub use Rattle.portal_tables_rows.specs.declared.schema_versions.OldSchema.TheVariants.{Fifth, First, Fourth}
+pub use Rattle.portal_tables_rows.specs.declared.schema_versions.OldSchema.TheVariants.{Sixth}
 pub use Rattle.portal_tables_rows.specs.declared.schema_versions.OldSchema.TheVariants.{Second}
 pub use Rattle.portal_tables_rows.specs.declared.schema_versions.OldSchema.TheVariants.{Third}
 pub use Rattle.portal_ledger.proofs.Ledgers.{kept_under, the_held_is_row, the_sound_is_legal}

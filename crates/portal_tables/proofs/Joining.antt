@@ -138,7 +138,8 @@ module _ (h : History) (legal : IsLegal h) (code : List ℕ) (is : IsCode code) 
   pub voucher_joined : (row : VoucherValue) (batch : Batch) (plan : Plan)
       → Finds (λ (x : VoucherRow). x.code) (text_of code) (map voucher_kept (vouchers_of h))
       (Some (voucher_read row))
-      → Has (map count_kept (counts_of h)) (voucher_count row) → batch_of h row.batch ≡ Some batch → plan_of h batch.plan ≡ Some plan
+      → Has (map count_kept (counts_of h)) (voucher_count row) → batch_of h row.batch ≡ Some batch → plan_of h
+      batch.plan ≡ Some plan
       → Some (record {
         code = code;
         batch = row.batch;

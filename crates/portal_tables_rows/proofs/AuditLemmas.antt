@@ -158,7 +158,8 @@ module _ (db : Database) (t : Contents) (held : Holds db t) (head : HeadRow) (ha
       let by_number : IsTable (map session_stored t.sessions) =
       subst IsTable (sym (map-map session_stored (λ (w : WholeSession). w.row) was.whole)
       ∙ ap (map session_stored) was.their_rows)
-      (table_like (λ (w : WholeSession). session_stored w.row) whole_session_stored (λ w. refl) was.whole whole)
+      (table_like (λ (w : WholeSession). session_stored w.row) whole_session_stored (λ w. refl) was.whole
+      whole)
       in
       let up : IsTable (map total_stored t.totals) =
       subst IsTable (sym (map-map total_stored total_of was.whole) ∙ ap (map total_stored) was.their_totals)
@@ -191,7 +192,8 @@ module _ (db : Database) (t : Contents) (held : Holds db t) (head : HeadRow) (ha
   to_agree a =
       let one : a.head.0 ≡ head =
       head_exact a.head.0 head (one_of_number head_stored t.heads
-      (table_of head_stored (db.trees (held.places our.Head).tree) t.heads (held.store our.Head (always _, tt)))
+      (table_of head_stored (db.trees (held.places our.Head).tree) t.heads
+      (held.store our.Head (always _, tt)))
       a.head.0 head a.head.1 has (ap number_cell (a.head.2 ∙ sym first))) in
       record {
         grants = subst (λ (h : HeadRow). h.grants ≡ length t.grants) one a.head.3;

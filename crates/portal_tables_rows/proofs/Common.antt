@@ -50,7 +50,8 @@ pub use Rattle.portal_tables_rows.specs.First.{HoldsFirst}
 pub use Rattle.portal_tables_rows.specs.Foreign.{AreOfOwn, AreOwn, BlamesForeign, IsOfOwn, IsOwnBatch}
 pub use Rattle.portal_tables_rows.specs.Foreign.{IsOwnCount, IsOwnGrant, IsOwnHead, IsOwnPlan, IsOwnRefund}
 pub use Rattle.portal_tables_rows.specs.Foreign.{IsOwnSession, IsOwnTotal, IsOwnVoucher, IsOwnWholeSession}
-pub use Rattle.portal_tables_rows.specs.Foreign.{IsOwnWholeVoucher, IsPrintedCode, IsPrintedDevice, NotForeign}
+pub use Rattle.portal_tables_rows.specs.Foreign.{IsOwnWholeVoucher, IsPrintedCode, IsPrintedDevice}
+pub use Rattle.portal_tables_rows.specs.Foreign.{NotForeign}
 pub use Rattle.portal_tables_rows.specs.Holds.{CrashStateHoldsRows, HasTables, HasTablesIn, Holds}
 pub use Rattle.portal_tables_rows.specs.Holds.{HoldsIn, HoldsTables, IsTableAt, StoresRows, TablePlace}
 pub use Rattle.portal_tables_rows.specs.Holds.{AreSessions, AreVouchers, TablePlaces, layout_of}

@@ -81,7 +81,8 @@ pub joined_counts : (result : Result (Vec VoucherValue Global) RowError) (vs vs1
     → map old_voucher_read vs1 ≡ rows → map count_read ks1 ≡ counts
     → IfOk result (λ joined. map voucher_read joined.items ≡ map old_voucher_read vs)
     → IfOk result (λ joined. map voucher_count joined.items ≡ map count_read ks)
-    → IfOk result (λ joined. (map voucher_read joined.items ≡ rows) × (map voucher_count joined.items ≡ counts))
+    → IfOk result (λ joined. (map voucher_read joined.items ≡ rows) × (map voucher_count joined.items ≡
+    counts))
 joined_counts (Ok joined) vs vs1 ks ks1 rows counts same also read found one two =
     (one ∙ ap (map old_voucher_read) same ∙ read, two ∙ ap (map count_read) also ∙ found)
 joined_counts (Err e) vs vs1 ks ks1 rows counts same also read found one two = tt
@@ -91,7 +92,8 @@ pub joined_totals : (result : Result (Vec SessionValue Global) RowError) (ss ss1
     → map old_session_read ss1 ≡ rows → map ends_row ms1 ≡ totals
     → IfOk result (λ joined. map session_read joined.items ≡ map old_session_read ss)
     → IfOk result (λ joined. map session_total joined.items ≡ map ends_row ms)
-    → IfOk result (λ joined. (map session_read joined.items ≡ rows) × (map session_total joined.items ≡ totals))
+    → IfOk result (λ joined. (map session_read joined.items ≡ rows) × (map session_total joined.items ≡
+    totals))
 joined_totals (Ok joined) ss ss1 ms ms1 rows totals same also read found one two =
     (one ∙ ap (map old_session_read) same ∙ read, two ∙ ap (map ends_row) also ∙ found)
 joined_totals (Err e) ss ss1 ms ms1 rows totals same also read found one two = tt
@@ -99,11 +101,13 @@ joined_totals (Err e) ss ss1 ms ms1 rows totals same also read found one two = t
 -- they are in the order of what they count
 pub in_order_counts : (t : Contents) → AreInOrder t → (vs vs1 : List OldVoucher) (ks ks1 : List CountValue)
     → vs ≡ vs1 → ks ≡ ks1 → map old_voucher_read vs1 ≡ t.vouchers → map count_read ks1 ≡ t.counts
-    → map (λ (k : CountValue). (count_read k).code) ks ≡ map (λ (v : OldVoucher). (old_voucher_read v).code) vs
+    → map (λ (k : CountValue). (count_read k).code) ks ≡ map (λ (v : OldVoucher). (old_voucher_read v).code)
+    vs
 in_order_counts t order vs vs1 ks ks1 same also read found =
     let code_of = λ (v : VoucherRow). v.code in
     let counted = λ (k : CountRow). k.code in
-    sym (map-map counted count_read ks) ∙ ap (λ l. map counted (map count_read l)) also ∙ ap (map counted) found
+    sym (map-map counted count_read ks) ∙ ap (λ l. map counted (map count_read l)) also ∙ ap (map counted)
+    found
     ∙ order.counts ∙ sym (ap (λ l. map code_of (map old_voucher_read l)) same ∙ ap (map code_of) read)
     ∙ map-map code_of old_voucher_read vs
 
@@ -120,7 +124,8 @@ in_order_totals t order ss ss1 ms ms1 same also read found =
 -- the computed counters are in their order
 pub computed_counts : (vs vs1 : List OldVoucher) (ks ks1 : List CountValue) (grants : List GrantRow)
     → vs1 ≡ vs → ks ≡ ks1 → counts_read ks1 ≡ map (count_from grants) (map old_voucher_read vs1)
-    → map (λ (k : CountValue). (count_read k).code) ks ≡ map (λ (v : OldVoucher). (old_voucher_read v).code) vs
+    → map (λ (k : CountValue). (count_read k).code) ks ≡ map (λ (v : OldVoucher). (old_voucher_read v).code)
+    vs
 computed_counts vs vs1 ks ks1 grants same also is =
     sym (map-map (λ (k : CountRow). k.code) count_read ks)
     ∙ ap (λ l. map (λ (k : CountRow). k.code) (counts_read l)) also ∙ ap (map (λ (k : CountRow). k.code)) is
@@ -133,7 +138,8 @@ pub computed_totals : (ss ss1 : List OldSession) (ms ms1 : List Total) (rows : R
     → map (λ (m : Total). m.number) ms ≡ map (λ (s : OldSession). s.number) ss
 computed_totals ss ss1 ms ms1 rows same also is =
     sym (map-map (λ (m : TotalRow). m.number) ends_row ms)
-    ∙ ap (λ l. map (λ (m : TotalRow). m.number) (totals_read l)) also ∙ ap (map (λ (m : TotalRow). m.number)) is
+    ∙ ap (λ l. map (λ (m : TotalRow). m.number) (totals_read l)) also ∙ ap (map (λ (m : TotalRow). m.number))
+    is
     ∙ map-map (λ (m : TotalRow). m.number) (total_from rows) (map old_session_read ss1)
     ∙ map-map (λ (s : SessionRow). s.number) old_session_read ss1
     ∙ ap (map (λ (s : OldSession). s.number)) same

@@ -83,7 +83,8 @@ totals_rows_are old new rows shown t h =
     let three : Row → Row = λ r. column r 0 ∷ column r 6 ∷ column r 7 ∷ [] in
     some_columns texts.all_totals_text table [] (texts.total_terms table) [] texts.total_columns old new
     (λ _. true) (λ r. refl) three
-    (λ r. ap₃ (λ a b c. a ∷ b ∷ c ∷ []) (sym (field_at table 0 r (lit< tt))) (sym (field_at table 6 r (lit< tt)))
+    (λ r. ap₃ (λ a b c. a ∷ b ∷ c ∷ []) (sym (field_at table 0 r (lit< tt)))
+    (sym (field_at table 6 r (lit< tt)))
     (sym (field_at table 7 r (lit< tt))))
     (texts.all_totals_means old.now.schema place.at place.tree (h.tables_exist.tables our.Sessions
     (always _, tt)).exists) was.stored.are.rise rows shown
@@ -152,7 +153,8 @@ module _ (old new : State) (from to : ℕ) (rows : List Row) (t : Contents) (h :
       IsSelection (λ r. sql_within (column r 3) (number from) (number to)) (by_columns 3 0) xs rows)
       (vouchers_in old.now.trees place.tree _ (h.store our.Vouchers (always _, tt)).stored) it in
       cells_listed whole_voucher_cells (λ (w : WholeVoucher). is_within from to w.row.sold)
-      (λ a b. by_sale a.row b.row) (h.store our.Vouchers (always _, tt)).whole (λ r. sql_within (column r 3) (number from) (number to)) (by_columns 3 0)
+      (λ a b. by_sale a.row b.row) (h.store our.Vouchers (always _, tt)).whole
+      (λ r. sql_within (column r 3) (number from) (number to)) (by_columns 3 0)
       (λ w. within_is w.row.sold from to)
       (λ a b. ap₂ ordering_then (option_order a.row.sold b.row.sold)
       (value_cmp-Text a.row.code b.row.code)) rows all
@@ -172,7 +174,8 @@ module _ (old new : State) (from to : ℕ) (rows : List Row) (t : Contents) (h :
       IsSelection (λ r. sql_within (column r 4) (number from) (number to)) (by_columns 4 0) xs rows)
       (vouchers_in old.now.trees place.tree _ (h.store our.Vouchers (always _, tt)).stored) it in
       cells_listed whole_voucher_cells (λ (w : WholeVoucher). is_within from to w.row.refunded)
-      (λ a b. by_refund a.row b.row) (h.store our.Vouchers (always _, tt)).whole (λ r. sql_within (column r 4) (number from) (number to)) (by_columns 4 0)
+      (λ a b. by_refund a.row b.row) (h.store our.Vouchers (always _, tt)).whole
+      (λ r. sql_within (column r 4) (number from) (number to)) (by_columns 4 0)
       (λ w. within_is w.row.refunded from to)
       (λ a b. ap₂ ordering_then (option_order a.row.refunded b.row.refunded)
       (value_cmp-Text a.row.code b.row.code)) rows all

@@ -73,7 +73,8 @@ still_new : (xs : List OurTable) (db after : Database) → HaveMade xs db after 
 still_new [] db after same x new = subst (λ (d : Database). IsNew d x) (sym same) new
 still_new (y ∷ ys) db after made x new = still_new ys made.0 after made.2 x (
   new.0,
-  still_ready db made.0 (table_of y 0) (table_of x) new.0 (tree_is Together x new.0.tree) (idle y) made.1 new.1,
+  still_ready db made.0 (table_of y 0) (table_of x) new.0 (tree_is Together x new.0.tree) (idle y) made.1
+      new.1,
 )
 
 pub all_new : (xs : List OurTable) (db after : Database)

@@ -158,7 +158,8 @@ pub rows_of_read : (vs : List VoucherValue)
 rows_of_read vs = map-map (λ (w : WholeVoucher). w.row) whole_voucher_read vs
 
 -- what is listed of the whole rows is listed of their parts
-whole_listed : (passes : VoucherRow → Bool) (cmp : VoucherRow → VoucherRow → Ordering) (ws : List WholeVoucher)
+whole_listed : (passes : VoucherRow → Bool) (cmp : VoucherRow → VoucherRow → Ordering)
+    (ws : List WholeVoucher)
     (vs : List VoucherRow) (ks : List CountRow) → map (λ (w : WholeVoucher). w.row) ws ≡ vs
     → map count_of ws ≡ ks → (values : List VoucherValue)
     → Lists (λ (w : WholeVoucher). passes w.row) (λ a b. cmp a.row b.row) ws (map whole_voucher_read values)
@@ -189,7 +190,8 @@ first_listed limit passes cmp ws vs ks rows counts values l =
       },
       subst (λ cs. AreAmong cs ks) (counts_of_read values)
           (others_among count_of ws (map whole_voucher_read values) ks counts
-          (λ x has. listed_among (λ (w : WholeVoucher). passes w.row) (λ a b. cmp a.row b.row) ws l.all l.lists x
+          (λ x has. listed_among (λ (w : WholeVoucher). passes w.row) (λ a b. cmp a.row b.row) ws l.all
+          l.lists x
           (has_taken limit l.all x (subst (λ xs. Has xs x) l.first has)))),
     )
 

@@ -39,7 +39,8 @@ plan_rows_are old new id rows shown t h =
     let table = plans place.tree in
     let it = selected texts.plan_text table _ [] (Text id ∷ []) old new texts.plan_columns
     (has_key 0 (Text id)) (key_tests table 0 (Text id) [] (lit< tt) refl) (λ _ _. Equal) (λ _ _. refl)
-    (texts.plan_means old.now.schema place.at place.tree (h.tables_exist.tables our.Plans (always _, tt)).exists)
+    (texts.plan_means old.now.schema place.at place.tree (h.tables_exist.tables our.Plans
+    (always _, tt)).exists)
     rows shown in
     subst (λ xs. IsPermutation (filter (has_key 0 (Text id)) xs) rows)
     (plans_in old.now.trees place.tree t.plans (h.store our.Plans (always _, tt))) it.same
@@ -56,7 +57,8 @@ batch_rows_are old new id rows shown t h =
     let table = batches place.tree in
     let it = selected texts.batch_text table _ [] (Text id ∷ []) old new texts.batch_columns (has_key 0
     (Text id)) (key_tests table 0 (Text id) [] (lit< tt) refl) (λ _ _. Equal) (λ _ _. refl) (texts.batch_means
-    old.now.schema place.at place.tree (h.tables_exist.tables our.Batches (always _, tt)).exists) rows shown in
+    old.now.schema place.at place.tree (h.tables_exist.tables our.Batches (always _, tt)).exists) rows
+    shown in
     subst (λ xs. IsPermutation (filter (has_key 0 (Text id)) xs) rows)
     (batches_in old.now.trees place.tree t.batches (h.store our.Batches (always _, tt))) it.same
 
@@ -99,7 +101,8 @@ session_rows_are old new id rows shown t h =
 pub last_session_plain : (schema : Schema) → HasTables schema
     → IsPlain (understood schema texts.last_session_text)
 last_session_plain schema h = let place = (h.0 our.Sessions) in
-    (texts.last_session_means schema place.at place.tree (h.1.tables our.Sessions (always _, tt)).exists).plain
+    (texts.last_session_means schema place.at place.tree (h.1.tables our.Sessions
+    (always _, tt)).exists).plain
 
 pub last_session_rows_are : (old new : State) (device : List ℕ) (rows : List Row)
     → Shown texts.last_session_text (Text device ∷ []) old new rows → (t : Contents) (h : Holds old.now t)

@@ -210,16 +210,59 @@ IsThere from x = IsTableIn (layout_of (version_number from)) (version_number fro
 had : (from : OldSchema) → AllByRecursion (IsThere from) (tables_of from)
 had First =
     ((lit≤ tt, tt), ((lit≤ tt, tt), ((lit≤ tt, tt), ((lit≤ tt, tt), ((lit≤ tt, tt), ((lit≤ tt, tt), tt))))))
-had Second =
-    ((lit≤ tt, tt), ((lit≤ tt, tt), ((lit≤ tt, tt), ((lit≤ tt, tt), ((lit≤ tt, tt), ((lit≤ tt, tt), ((lit≤ tt, tt), ((lit≤ tt, tt), tt))))))))
-had Third =
-    ((lit≤ tt, tt), ((lit≤ tt, tt), ((lit≤ tt, tt), ((lit≤ tt, tt), ((lit≤ tt, tt), ((lit≤ tt, tt), ((lit≤ tt, tt), ((lit≤ tt, tt), ((lit≤ tt, tt), tt)))))))))
-had Fourth =
-    ((lit≤ tt, tt), ((lit≤ tt, tt), ((lit≤ tt, tt), ((lit≤ tt, tt), ((lit≤ tt, tt), ((lit≤ tt, tt), ((lit≤ tt, tt), ((lit≤ tt, tt), ((lit≤ tt, tt), tt)))))))))
-had Fifth =
-    ((lit≤ tt, tt), ((lit≤ tt, tt), ((lit≤ tt, tt), ((lit≤ tt, tt), ((lit≤ tt, tt), ((lit≤ tt, tt), ((lit≤ tt, tt), ((lit≤ tt, tt), ((lit≤ tt, tt), tt)))))))))
-had Sixth =
-    ((lit≤ tt, tt), ((lit≤ tt, tt), ((lit≤ tt, tt), ((lit≤ tt, tt), ((lit≤ tt, tt), ((lit≤ tt, tt), ((lit≤ tt, tt), tt)))))))
+had Second = (
+  (lit≤ tt, tt),
+  (
+    (lit≤ tt, tt),
+    ((lit≤ tt, tt), ((lit≤ tt, tt), ((lit≤ tt, tt), ((lit≤ tt, tt), ((lit≤ tt, tt), ((lit≤ tt, tt), tt)))))),
+  ),
+)
+had Third = (
+  (lit≤ tt, tt),
+  (
+    (lit≤ tt, tt),
+    (
+      (lit≤ tt, tt),
+      (
+        (lit≤ tt, tt),
+        ((lit≤ tt, tt), ((lit≤ tt, tt), ((lit≤ tt, tt), ((lit≤ tt, tt), ((lit≤ tt, tt), tt))))),
+      ),
+    ),
+  ),
+)
+had Fourth = (
+  (lit≤ tt, tt),
+  (
+    (lit≤ tt, tt),
+    (
+      (lit≤ tt, tt),
+      (
+        (lit≤ tt, tt),
+        ((lit≤ tt, tt), ((lit≤ tt, tt), ((lit≤ tt, tt), ((lit≤ tt, tt), ((lit≤ tt, tt), tt))))),
+      ),
+    ),
+  ),
+)
+had Fifth = (
+  (lit≤ tt, tt),
+  (
+    (lit≤ tt, tt),
+    (
+      (lit≤ tt, tt),
+      (
+        (lit≤ tt, tt),
+        ((lit≤ tt, tt), ((lit≤ tt, tt), ((lit≤ tt, tt), ((lit≤ tt, tt), ((lit≤ tt, tt), tt))))),
+      ),
+    ),
+  ),
+)
+had Sixth = (
+  (lit≤ tt, tt),
+  (
+    (lit≤ tt, tt),
+    ((lit≤ tt, tt), ((lit≤ tt, tt), ((lit≤ tt, tt), ((lit≤ tt, tt), ((lit≤ tt, tt), tt))))),
+  ),
+)
 
 has_table : (from : OldSchema) (x : OurTable) → Has (tables_of from) x → IsThere from x
 has_table from x has = all_has (IsThere from) (tables_of from) x (had from) has
@@ -284,7 +327,8 @@ restored from read a b c d free drops creates adds =
     subst (λ ws. AddsTables ws no_rows (with_copied from t)) (sym is)
     (tables_added from h.places a.now.trees t h.store) in
     record {
-      holds = λ t h is. adds.holds no_rows (with_copied from t) (added t h is) (creates.holds (dropped t h).0);
+      holds = λ t h is. adds.holds no_rows (with_copied from t) (added t h is)
+          (creates.holds (dropped t h).0);
       others = λ t h is.
           let it = dropped t h in
           others_then a.now b.now d.now it.1 (others_then b.now c.now d.now (creates.others it.0)

@@ -68,7 +68,10 @@ refund code at amount old new count ran t h =
     let here = (h.tables_exist.tables our.Vouchers (always _, tt)) in
     let was = h.store our.Vouchers (always _, tt) in
     let passes = λ (w : WholeVoucher). bytes_eq code w.row.code in
-    let set : WholeVoucher → WholeVoucher = λ w. record w { row = record (w.row) { refunded = Some at; amount = Some amount } } in
+    let set : WholeVoucher → WholeVoucher = λ w. record w {
+      row = record (w.row)
+          { refunded = Some at; amount = Some amount };
+    } in
     let k = sets texts.refund_text (Text code ∷ number at ∷ number amount ∷ []) old new count ran
     (vouchers place.tree) here.exists less_rowid whole_voucher_cells (λ n w. Int n ∷ whole_voucher_cells w)
     (opens_keyed whole_voucher_cells) (λ n w. refl) texts.by_code texts.refund_terms here.unacted
@@ -77,7 +80,8 @@ refund code at amount old new count ran t h =
     (λ n w. code_tests code w.row.code n (number at ∷ number amount ∷ []) (drop 1 (whole_voucher_cells w)))
     (λ n w. refl) (λ n w. simp (cast_int, cast_or_null)) in (
       vouchers_now h _ _ (map (λ w. cond (passes w) (set w) w) was.whole)
-          (parts_changed (λ (w : WholeVoucher). w.row) (λ w. cond (passes w) (set w) w) (refunded_if code at amount)
+          (parts_changed (λ (w : WholeVoucher). w.row) (λ w. cond (passes w) (set w) w)
+          (refunded_if code at amount)
           (λ w. part_of_cond (λ (x : WholeVoucher). x.row) (passes w) (set w) w) was.whole
           ∙ ap (map (refunded_if code at amount)) was.their_rows)
           (parts_kept count_of (λ w. cond (passes w) (set w) w)
@@ -105,7 +109,8 @@ set_redeemed code redeemed old new count ran t h =
           (λ w. part_if_same (λ (x : WholeVoucher). x.row) (passes w) (set w) w refl) was.whole
           ∙ was.their_rows)
           (parts_changed count_of (λ w. cond (passes w) (set w) w) (counted_if code redeemed)
-          (λ w. part_of_cond count_of (passes w) (set w) w) was.whole ∙ ap (map (counted_if code redeemed)) was.their_counts) k.0 k.1,
+          (λ w. part_of_cond count_of (passes w) (set w) w) was.whole ∙ ap (map (counted_if code redeemed))
+          was.their_counts) k.0 k.1,
       kept_others old.now (vouchers place.tree) new.now (own_named our.Vouchers) k.0,
     )
 
@@ -201,25 +206,32 @@ set_closed id at old new count ran t h =
     )
 
 pub set_total : (total : TotalRow)
-    → LeadsTo texts.set_total_text (number total.number ∷ or_null total.ends ∷ signed_or_null total.remaining ∷ []) (with_ends total)
+    → LeadsTo texts.set_total_text (number total.number ∷ or_null total.ends ∷ signed_or_null total.remaining
+    ∷ []) (with_ends total)
 set_total total old new count ran t h =
     let place = (h.places our.Sessions) in
     let here = (h.tables_exist.tables our.Sessions (always _, tt)) in
     let was = h.store our.Sessions (always _, tt) in
     let passes = λ (w : WholeSession). nat_eq total.number w.row.number in
-    let set : WholeSession → WholeSession = λ w. record w { ends = total.ends; remaining = total.remaining } in
-    let k = sets texts.set_total_text (number total.number ∷ or_null total.ends ∷ signed_or_null total.remaining ∷ []) old new count ran
+    let set : WholeSession → WholeSession = λ w. record w {
+      ends = total.ends;
+      remaining = total.remaining;
+    } in
+    let k = sets texts.set_total_text (number total.number ∷ or_null total.ends ∷ signed_or_null
+    total.remaining ∷ []) old new count ran
     (sessions place.tree) here.exists whole_row whole_session_stored (λ n w. whole_session_stored w)
     (opens_numbered whole_session_stored) (λ n w. refl) texts.by_number texts.set_total_terms here.unacted
     (texts.set_total_means old.now.schema place.at place.tree here.exists)
     was.whole was.stored passes set (λ r. refl)
-    (λ n w. number_tests total.number w.row.number (or_null total.ends ∷ signed_or_null total.remaining ∷ []) (drop 1 (whole_session_stored w)))
+    (λ n w. number_tests total.number w.row.number (or_null total.ends ∷ signed_or_null total.remaining ∷ [])
+    (drop 1 (whole_session_stored w)))
     (λ n w. refl) (λ n w. simp (cast_null, cast_int, cast_or_null, cast_signed_or_null)) in (
       sessions_now h _ _ (map (λ w. cond (passes w) (set w) w) was.whole)
           (parts_kept (λ (w : WholeSession). w.row) (λ w. cond (passes w) (set w) w)
           (λ w. part_if_same (λ (x : WholeSession). x.row) (passes w) (set w) w refl) was.whole
           ∙ was.their_rows)
           (parts_changed total_of (λ w. cond (passes w) (set w) w) (with_ends_if total)
-          (λ w. part_of_cond total_of (passes w) (set w) w) was.whole ∙ ap (map (with_ends_if total)) was.their_totals) k.0 k.1,
+          (λ w. part_of_cond total_of (passes w) (set w) w) was.whole ∙ ap (map (with_ends_if total))
+          was.their_totals) k.0 k.1,
       kept_others old.now (sessions place.tree) new.now (own_named our.Sessions) k.0,
     )

@@ -107,7 +107,8 @@ pub old_vouchers_asked : OnlyAsks texts.old_vouchers_text
 unfolding everything
 old_vouchers_asked schema c is =
     (understood_idle texts.old_vouchers_text
-    (written.Select (select_of vouchers_name texts.old_voucher_columns None (up (codes "rowid")) None)) 0 (record {
+    (written.Select (select_of vouchers_name texts.old_voucher_columns None (up (codes "rowid")) None)) 0
+    (record {
       parsed = _;
       read = refl;
       is = refl;
@@ -119,7 +120,8 @@ pub old_sessions_asked : OnlyAsks texts.old_sessions_text
 unfolding everything
 old_sessions_asked schema c is =
     (understood_idle texts.old_sessions_text
-    (written.Select (select_of sessions_name texts.old_session_columns None (up (codes "number")) None)) 0 (record {
+    (written.Select (select_of sessions_name texts.old_session_columns None (up (codes "number")) None)) 0
+    (record {
       parsed = _;
       read = refl;
       is = refl;

@@ -112,13 +112,15 @@ whole_rows copied.Batches layout old new rows shown place exists t stored =
     rows shown
     ∙ batches_in old.now.trees place.tree t.batches stored
 whole_rows copied.Grants layout old new rows shown place exists t stored =
-    whole_table (select_of copied.Grants) (table_in layout our.Grants place.tree) texts.all_grants_columns old new
+    whole_table (select_of copied.Grants) (table_in layout our.Grants place.tree) texts.all_grants_columns old
+    new
     (texts.all_grants_means old.now.schema (keeps_clauses layout) place.at place.tree exists) stored.are.rise
     rows shown
     ∙ grants_in old.now.trees place.tree t.grants stored
 whole_rows copied.Requests layout old new rows shown place exists t stored =
     whole_table (select_of copied.Requests) (table_in layout our.Requests place.tree) request_columns old new
-    (texts.all_requests_means old.now.schema (keeps_clauses layout) place.at place.tree exists) stored.are.rise
+    (texts.all_requests_means old.now.schema (keeps_clauses layout) place.at place.tree exists)
+    stored.are.rise
     rows shown
     ∙ requests_in old.now.trees place.tree t.requests stored
 
@@ -198,7 +200,8 @@ pub old_vouchers_simple : (schema : Schema) → HasApart 1 schema →
     IsSimple (understood schema texts.old_vouchers_text)
 old_vouchers_simple schema h = let place = h.1.0 our.Vouchers in
     means_simple schema texts.old_vouchers_text _ _
-    (texts.old_vouchers_means schema h.0 place.at place.tree (h.1.1.tables our.Vouchers (always _, tt)).exists)
+    (texts.old_vouchers_means schema h.0 place.at place.tree (h.1.1.tables our.Vouchers
+    (always _, tt)).exists)
 
 pub old_vouchers_are : (old new : State) (rows : List Row) → Shown texts.old_vouchers_text [] old new rows
     → (t : Contents) → HoldsApart 1 old.now t → rows ≡ map voucher_cells t.vouchers
@@ -214,7 +217,8 @@ pub old_sessions_simple : (schema : Schema) → HasApart 1 schema →
     IsSimple (understood schema texts.old_sessions_text)
 old_sessions_simple schema h = let place = h.1.0 our.Sessions in
     means_simple schema texts.old_sessions_text _ _
-    (texts.old_sessions_means schema h.0 place.at place.tree (h.1.1.tables our.Sessions (always _, tt)).exists)
+    (texts.old_sessions_means schema h.0 place.at place.tree (h.1.1.tables our.Sessions
+    (always _, tt)).exists)
 
 pub old_sessions_are : (old new : State) (rows : List Row) → Shown texts.old_sessions_text [] old new rows
     → (t : Contents) → HoldsApart 1 old.now t → rows ≡ map session_cells t.sessions

@@ -133,8 +133,8 @@ pub record AreInOrder (t : Contents) : Type 0 where
   pub counts : map (λ (k : CountRow). k.code) t.counts ≡ map (λ (v : VoucherRow). v.code) t.vouchers
   pub totals : map (λ (m : TotalRow). m.number) t.totals ≡ map (λ (s : SessionRow). s.number) t.sessions
 
--- The rows can be migrated: this product writes each of them, the computed counters of schema version 1 fit in
--- their columns, and those of a later one are in the order of what they count.
+-- The rows can be migrated: this product writes each of them, the computed counters of schema version 1 fit
+-- in their columns, and those of a later one are in the order of what they count.
 abbrev pub CanMigrate : OldSchema → Contents → Type 0
 CanMigrate First t = AreOwnRows t × SumsFit t.plans t.sessions t.grants
 CanMigrate Second t = AreOwnRows t × AreInOrder t
@@ -194,10 +194,10 @@ after_migration from vouchers sessions t =
 -- changed by f, and the other tables kept. Nothing is committed.
 pub record Rebuilds (from : OldSchema) (read : List WholeTable) (f : Contents → Contents)
     (old new : State) : Type 0 where
-  pub holds : (t : Contents) → HoldsIn (version_number from) [] old.now t → AreRead read (copied_tables from) t
-      → Holds new.now (f t)
-  pub others : (t : Contents) → HoldsIn (version_number from) [] old.now t → AreRead read (copied_tables from) t
-      → KeepsOthers old.now new.now
+  pub holds : (t : Contents) → HoldsIn (version_number from) [] old.now t
+      → AreRead read (copied_tables from) t → Holds new.now (f t)
+  pub others : (t : Contents) → HoldsIn (version_number from) [] old.now t
+      → AreRead read (copied_tables from) t → KeepsOthers old.now new.now
   pub committed : new.committed ≡ old.committed
   pub mode : new.in_transaction ≡ true
 

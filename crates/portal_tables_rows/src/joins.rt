@@ -61,7 +61,8 @@ pub(crate) fn join_counts(
     ensures vouchers { IfOk result
         (λ joined. map voucher_read joined.items ≡ map old_voucher_read vouchers.now) }
     ensures counts { IfOk result (λ joined. map voucher_count joined.items ≡ map count_read counts.now) }
-    ensures own { map (λ k. (count_read k).code) counts.now ≡ map (λ v. (old_voucher_read v).code) vouchers.now
+    ensures own { map (λ k. (count_read k).code) counts.now ≡ map (λ v. (old_voucher_read v).code)
+        vouchers.now
         → NotForeign result }
 {
     if vouchers.len() != counts.len() {

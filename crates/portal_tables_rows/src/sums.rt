@@ -219,7 +219,8 @@ pub fn sum_totals(
 ) -> Result<Vec<Total>, RowError>
     ensures sums { IfOk result
         (λ totals. map ends_row totals.items ≡ map
-        (total_from (rows_for_sums plans.now (map grant_read grants.now))) (map old_session_read sessions.now)) }
+        (total_from (rows_for_sums plans.now (map grant_read grants.now)))
+        (map old_session_read sessions.now)) }
     ensures kept { SumsFit plans.now (map old_session_read sessions.now) (map grant_read grants.now)
         → NotForeign result }
 {

@@ -168,7 +168,8 @@ pub set_total_means : (schema : Schema) (at tree : ℕ) → TableExists schema a
 unfolding everything
 set_total_means schema at tree exists =
     means_is schema set_total_text
-    (update_where sessions_name ((codes "ends", expr.Parameter 2) ∷ (codes "remaining", expr.Parameter 3) ∷ [])
+    (update_where sessions_name ((codes "ends", expr.Parameter 2) ∷ (codes "remaining", expr.Parameter 3) ∷
+    [])
     (codes "number") (expr.Parameter 1))
     3 _ (record { parsed = _; read = refl; is = refl; timeless = refl; counted = refl }) refl (λ base. refl)
     (λ base. simp (exists.named, exists.there, exists.low, exists.typed) refl)

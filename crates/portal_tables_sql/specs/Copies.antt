@@ -28,7 +28,8 @@ select_of copied.Requests =
 
 -- a row with these columns
 abbrev pub insert_of : CopiedTable → List ℕ
-insert_of copied.Head = codes "INSERT INTO portal_head (id, layout, last_moment, grants, sessions) VALUES (?1, "
+insert_of copied.Head = codes
+    "INSERT INTO portal_head (id, layout, last_moment, grants, sessions) VALUES (?1, "
     ++ codes "?2, ?3, ?4, ?5)"
 insert_of copied.Plans =
     codes "INSERT INTO portal_plans (id, price, uses, seconds, bytes, shelf_days, extend) VALUES (?1, "

@@ -289,8 +289,8 @@ create_requests =
 
 -- ---- the description of each table
 
--- a table in each layout, by the number of its tree; the statement that creates it; and the schema version that
--- added it (0: each version has it)
+-- a table in each layout, by the number of its tree; the statement that creates it; and the schema version
+-- that added it (0: each version has it)
 pub record Description : Type 0 where
   pub table : Layout → ℕ → Table
   pub create : List ℕ

@@ -41,7 +41,8 @@ loop-row-preserved g c =
           let is = one.found clean live1 h shown1 in
           let terms = is done.1 in
           let voucher : Some c.voucher_of_row.result ≡ voucher_of h row.code =
-          c.voucher_of_row.ensures.voucher h shown.0 (are row (has_at rows i row within c.row-item.is)) terms in (
+          c.voucher_of_row.ensures.voucher h shown.0 (are row (has_at rows i row within c.row-item.is)) terms
+          in (
             c.in_ok-push.ensures.items
                 ∙ ap₂ (λ xs (o : Option Voucher). xs ++ option_to_list o) done.0 voucher
                 ∙ sym (vouchers_more h rows i row within c.row-item.is),

@@ -16,7 +16,8 @@ loop-whole-preserved g c =
     let more = more_mapped table_read read at c.whole-item.result c.loop-whole-test.true c.whole-item.is in
     subst (λ xs. Inside g.S.Store (Adds (AddsTables xs)) c.args.tx.now c.insert_rows.new.tx (Ok tt))
     (sym more)
-    (one_more_added g.S.Store (λ (w : CopiedTable × List Row). AddsRows w.0 w.1) (map table_read (take at read))
+    (one_more_added g.S.Store (λ (w : CopiedTable × List Row). AddsRows w.0 w.1)
+    (map table_read (take at read))
     (table_read c.whole-item.result) c.loop-whole.invariant
     (subst (λ rows. Inside g.S.Store (Adds (AddsRows c.whole-item.result.table rows)) c.loop-whole.tx
     c.insert_rows.new.tx (Ok tt)) c.as_slice.ensures.value c.in_ok-insert_rows.ensures))

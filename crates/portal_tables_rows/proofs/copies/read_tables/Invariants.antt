@@ -11,7 +11,8 @@ use Rattle.portal_tables_rows.proofs.copies.read_tables.Given as goal
 abbrev pub invariant-loop-table : goal.invariant-loop-table
 invariant-loop-table g l = record {
   looks : ReadsOnly Anything (state g.S.Store l.fn.conn) (state g.S.Store l.conn);
-  read : HasCleanDisk (state g.S.Store l.conn) → IsTrue (state g.S.Store l.fn.conn).is_open → (layout : Layout)
+  read : HasCleanDisk (state g.S.Store l.conn) → IsTrue (state g.S.Store l.fn.conn).is_open →
+      (layout : Layout)
       (schema_version : ℕ) (indexes : List OurIndex) (t : Contents)
       → HoldsTables layout schema_version indexes (state g.S.Store l.fn.conn).now t
       → ((x : CopiedTable) → Has l.tables x → since (table_copied x) ≤ schema_version)

@@ -85,5 +85,6 @@ returns-in_err-migrate_with_rows-clause-foreign g c clean live room t was can =
     let read = (open_then g.S.Store (λ db t held. tt) c.in_ok-vouchers.ensures c.in_ok-sessions.ensures).looks
     in
     rw (told.1, told.2) (c.in_err-migrate_with_rows.ensures.foreign
-    (subst (λ (db : Database). are_names_free db.schema ≡ true) (sym (same_now Anything a b read late live tt))
+    (subst (λ (db : Database). are_names_free db.schema ≡ true) (sym (same_now Anything a b read late live
+    tt))
     room))

@@ -24,7 +24,8 @@ returns-clause-done g c clean live =
     (subst (λ tables. AreRead c.in_ok-read.read.items tables t) c.copied_tables.ensures
     (c.in_ok-read.ensures.read late on (layout_of (version_number c.args.from)) (version_number c.args.from)
     [] t
-    h (λ x has. has_copied c.args.from x (subst (λ (xs : List CopiedTable). Has xs x) c.copied_tables.ensures has)))))
+    h (λ x has. has_copied c.args.from x (subst (λ (xs : List CopiedTable). Has xs x) c.copied_tables.ensures
+    has)))))
     (omega (arith, c.commit_migration.ensures.crash.clean)) live
     (c.in_ok-commit_migration.ensures.done clean)
 
@@ -41,7 +42,8 @@ returns-clause-crash g c =
     (subst (λ tables. AreRead c.in_ok-read.read.items tables t) c.copied_tables.ensures
     (c.in_ok-read.ensures.read late on (layout_of (version_number c.args.from)) (version_number c.args.from)
     [] t
-    h (λ x has. has_copied c.args.from x (subst (λ (xs : List CopiedTable). Has xs x) c.copied_tables.ensures has)))))
+    h (λ x has. has_copied c.args.from x (subst (λ (xs : List CopiedTable). Has xs x) c.copied_tables.ensures
+    has)))))
     c.commit_migration.ensures.crash
 
 pub returns-in_err-commit_migration-clause-undone : goal.returns-in_err-commit_migration-clause-undone
@@ -70,5 +72,6 @@ returns-in_err-commit_migration-clause-crash g c =
     (subst (λ tables. AreRead c.in_ok-read.read.items tables t) c.copied_tables.ensures
     (c.in_ok-read.ensures.read late on (layout_of (version_number c.args.from)) (version_number c.args.from)
     [] t
-    h (λ x has. has_copied c.args.from x (subst (λ (xs : List CopiedTable). Has xs x) c.copied_tables.ensures has)))))
+    h (λ x has. has_copied c.args.from x (subst (λ (xs : List CopiedTable). Has xs x) c.copied_tables.ensures
+    has)))))
     c.commit_migration.ensures.crash

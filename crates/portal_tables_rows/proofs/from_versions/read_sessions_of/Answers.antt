@@ -13,15 +13,18 @@ returns-in-Second g c =
 
 pub returns-in-Third : goal.returns-in-Third
 returns-in-Third g c =
-    rw c.in-Third.is (open_wider g.S.Store (λ schema any. any) apart_third c.read_sessions_apart-in-Third.ensures)
+    rw c.in-Third.is (open_wider g.S.Store (λ schema any. any) apart_third
+    c.read_sessions_apart-in-Third.ensures)
 
 pub returns-in-Fourth : goal.returns-in-Fourth
 returns-in-Fourth g c =
-    rw c.in-Fourth.is (open_wider g.S.Store (λ schema any. any) apart_fourth c.read_sessions_apart-in-Fourth.ensures)
+    rw c.in-Fourth.is (open_wider g.S.Store (λ schema any. any) apart_fourth
+    c.read_sessions_apart-in-Fourth.ensures)
 
 pub returns-in-Fifth : goal.returns-in-Fifth
 returns-in-Fifth g c =
-    rw c.in-Fifth.is (open_wider g.S.Store (λ schema any. any) apart_fifth c.read_sessions_apart-in-Fifth.ensures)
+    rw c.in-Fifth.is (open_wider g.S.Store (λ schema any. any) apart_fifth
+    c.read_sessions_apart-in-Fifth.ensures)
 
 pub returns-in-Sixth : goal.returns-in-Sixth
 returns-in-Sixth g c = rw c.in-Sixth.is (open_own g.S.Store (λ t own. (own.sessions, own.totals))

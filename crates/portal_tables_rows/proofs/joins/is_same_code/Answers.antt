@@ -6,5 +6,7 @@ pub returns : goal.returns
 returns c =
     let a = c.args.a.now in
     let b = c.args.b.now in
-    rw c.eq.ensures (λ on. ap text_of ((bytes_eq-Decides a b).0 on),
-    λ same. (bytes_eq-Decides a b).1 (same_code a b c.signs.ensures.code c.signs-2.ensures.code same))
+    rw c.eq.ensures (
+      λ on. ap text_of ((bytes_eq-Decides a b).0 on),
+      λ same. (bytes_eq-Decides a b).1 (same_code a b c.signs.ensures.code c.signs-2.ensures.code same),
+    )

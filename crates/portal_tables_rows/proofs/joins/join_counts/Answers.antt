@@ -7,11 +7,12 @@ use Rattle.portal_tables_rows.proofs.joins.join_counts.Goals as goal
 pub loop-at-preserved : goal.loop-at-preserved
 loop-at-preserved c = record {
   vouchers = made_more voucher_read old_voucher_read c.loop-at.joined.items c.push.new.self.items _
-  c.args.vouchers.now c.loop-at.at c.index-vouchers-at.result c.loop-at.invariant.vouchers
-  c.in_ok-push.ensures.items c.loop-at-test.true c.index-vouchers-at.is c.in_ok-join_count.ensures.voucher;
+      c.args.vouchers.now c.loop-at.at c.index-vouchers-at.result c.loop-at.invariant.vouchers
+      c.in_ok-push.ensures.items c.loop-at-test.true c.index-vouchers-at.is
+      c.in_ok-join_count.ensures.voucher;
   counts = made_more voucher_count count_read c.loop-at.joined.items c.push.new.self.items _
-  c.args.counts.now c.loop-at.at c.index-counts-at.result c.loop-at.invariant.counts
-  c.in_ok-push.ensures.items (omega arith) c.index-counts-at.is c.in_ok-join_count.ensures.count;
+      c.args.counts.now c.loop-at.at c.index-counts-at.result c.loop-at.invariant.counts
+      c.in_ok-push.ensures.items (omega arith) c.index-counts-at.is c.in_ok-join_count.ensures.count;
 }
 
 pub returns-clause-vouchers : goal.returns-clause-vouchers

@@ -7,11 +7,12 @@ use Rattle.portal_tables_rows.proofs.joins.join_totals.Goals as goal
 pub loop-at-preserved : goal.loop-at-preserved
 loop-at-preserved c = record {
   sessions = made_more session_read old_session_read c.loop-at.joined.items c.push.new.self.items _
-  c.args.sessions.now c.loop-at.at c.index-sessions-at.result c.loop-at.invariant.sessions
-  c.in_ok-push.ensures.items c.loop-at-test.true c.index-sessions-at.is c.in_ok-join_total.ensures.session;
+      c.args.sessions.now c.loop-at.at c.index-sessions-at.result c.loop-at.invariant.sessions
+      c.in_ok-push.ensures.items c.loop-at-test.true c.index-sessions-at.is
+      c.in_ok-join_total.ensures.session;
   totals = made_more session_total ends_row c.loop-at.joined.items c.push.new.self.items _
-  c.args.totals.now c.loop-at.at c.index-totals-at.result c.loop-at.invariant.totals
-  c.in_ok-push.ensures.items (omega arith) c.index-totals-at.is c.in_ok-join_total.ensures.total;
+      c.args.totals.now c.loop-at.at c.index-totals-at.result c.loop-at.invariant.totals
+      c.in_ok-push.ensures.items (omega arith) c.index-totals-at.is c.in_ok-join_total.ensures.total;
 }
 
 pub returns-clause-sessions : goal.returns-clause-sessions

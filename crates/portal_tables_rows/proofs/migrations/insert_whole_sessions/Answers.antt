@@ -13,7 +13,8 @@ loop-session-preserved g c =
     let rows = c.args.sessions.now in
     let at = c.loop-session.session-index in
     let row = c.session-item.result in
-    subst (λ all. Writes g.S.Store (with_whole_sessions all) c.args.tx.now c.insert_whole_session.new.tx (Ok tt))
+    subst (λ all. Writes g.S.Store (with_whole_sessions all) c.args.tx.now c.insert_whole_session.new.tx
+    (Ok tt))
     (sym (more_mapped whole_session_read rows at row c.loop-session-test.true c.session-item.is))
     (writes_by g.S.Store _ (sessions_then (map whole_session_read (take at rows)) (whole_session_read row))
     c.loop-session.invariant c.in_ok-insert_whole_session.ensures)

@@ -13,7 +13,8 @@ loop-voucher-preserved g c =
     let rows = c.args.vouchers.now in
     let at = c.loop-voucher.voucher-index in
     let row = c.voucher-item.result in
-    subst (λ all. Writes g.S.Store (with_whole_vouchers all) c.args.tx.now c.insert_whole_voucher.new.tx (Ok tt))
+    subst (λ all. Writes g.S.Store (with_whole_vouchers all) c.args.tx.now c.insert_whole_voucher.new.tx
+    (Ok tt))
     (sym (more_mapped whole_voucher_read rows at row c.loop-voucher-test.true c.voucher-item.is))
     (writes_by g.S.Store _ (vouchers_then (map whole_voucher_read (take at rows)) (whole_voucher_read row))
     c.loop-voucher.invariant c.in_ok-insert_whole_voucher.ensures)

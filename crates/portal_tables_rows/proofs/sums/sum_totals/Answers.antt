@@ -34,5 +34,6 @@ returns-in_err-total-clause-kept c fits =
     let has = has_mapped old_session_read c.args.sessions.now session (has_at c.args.sessions.now
     c.loop-session.session-index session c.loop-session-test.true c.session-item.is) in
     let bytes = subst (λ (x : Given). x.bytes < 2 ^ 63) (sym given) (fits.given session.number).1 in
-    rw (told.1, told.2) (c.in_err-total.ensures.kept bytes (fits.used (old_session_read session) has) grants given
+    rw (told.1, told.2) (c.in_err-total.ensures.kept bytes (fits.used (old_session_read session) has) grants
+    given
     (fits.ends (old_session_read session) has))
