@@ -417,8 +417,9 @@ net -3.33
             self.setUp()
             plan = {"id": "many", "price": 100, "uses": 101, "seconds": 60, "bytes": 0, "shelf_days": 1, "extend": True}
             code = with_check_character([0] * 15)
-            for kind, words in (("plans", {"plans": [plan]}), ("issue", {"batch": "b1", "plan": "many", "codes": [code]}), ("sell", {"code": code})):
-                self.desk.model.act(kind, words, 1000)
+            self.desk.model.act("plans", {"plans": [plan]}, 1000)
+            self.desk.model.act("issue", {"batch": "b1", "plan": "many", "codes": [code]}, 1000)
+            self.desk.model.act("sell", {"code": code}, 1000)
             for number in range(count):
                 self.desk.model.act("redeem", {"device": f"02:00:00:00:00:{number:02x}", "code": code}, 2000 + number)
             listed, told = self.redemptions(3000, code)

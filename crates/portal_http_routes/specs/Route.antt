@@ -9,8 +9,8 @@ use Rattle.portal_http_routes.specs.declared.Route.TheVariants.{Redemptions}
 use Rattle.portal_http_routes.specs.declared.Role.{Role}
 use Rattle.portal_http_routes.specs.declared.Role.TheVariants.{Guest, Desk, Gateway}
 
--- the table of the routes: of each the pattern of its paths, its method, which is GET if the route only reads,
--- and the role of the callers that may use it
+-- the table of the routes: of each the pattern of its paths, its method, which is GET if the route only
+-- reads, and the role of the callers that may use it
 abbrev pub row_of : Route → List ℕ × List ℕ × Role
 row_of Captive = (codes "/captive", codes "GET", Guest)
 row_of Redeem = (codes "/portal/redeem", codes "POST", Guest)
